@@ -1,0 +1,10 @@
+pub mod BlockLaws
+pub mod ThroughLaws
+pub mod JoinLaws
+pub mod PlainLaws
+pub mod EndLaws
+pub mod JobLaws
+pub mod Stars
+pub mod ApartLaws
+pub mod Examples
+pub mod PermuteLaws

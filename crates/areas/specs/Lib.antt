@@ -1,0 +1,5 @@
+pub mod Blocks
+pub mod Areas
+pub mod Pieces
+pub mod Slots
+pub mod Job

@@ -1,0 +1,1 @@
+// The points that an item is wanted at.

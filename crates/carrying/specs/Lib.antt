@@ -1,0 +1,4 @@
+pub mod Lists
+pub mod Insts
+pub mod Carried
+pub mod Checks

@@ -1,0 +1,3 @@
+pub mod Wants
+pub mod Plan
+pub mod Queries

@@ -1,0 +1,1 @@
+// The lowest fitting cell for each item.

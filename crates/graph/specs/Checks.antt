@@ -1,0 +1,39 @@
+-- Document 01, "Limits and what is turned back": numbers 1, 2 and 3 for the blocks and the edges that an entry is lent.
+use Prim.Native.Nat.{ℕ, _+_, _*_, _≤_}
+use mathlib.Core.Bool.{Bool, not, _||_}
+use mathlib.Core.List.{List}
+use lib.ListN.{length}
+use lib.Dec.{ltb, eqb}
+use Rattle.refusals.specs.declared.Verdict.{Verdict}
+use Rattle.refusals.specs.declared.Refusal.the-variants.{Count, Space}
+use Rattle.refusals.specs.Verdicts.{first, check}
+use Rattle.words.specs.Rows.{rowCount, wholeRows}
+use Rattle.graph.specs.Line.{Stretch, blocksOf, jumpsOf, blockAt, gapAt, pastPoints, lineVerdict, edgeVerdict}
+
+-- number 1: "B 1 to 4,096; edges 16,384"; numbers that are no whole records are no count
+unfoldable pub badCount : List ℕ → List ℕ → Bool
+badCount blocks edges =
+    not (wholeRows 3 blocks) || (ltb (rowCount 3 blocks) 1 || (ltb 4096 (rowCount 3 blocks) || (not (wholeRows 2 edges) || ltb 16384 (rowCount 2 edges))))
+
+abbrev pub countVerdict : List ℕ → List ℕ → Verdict
+countVerdict blocks edges = check Count (badCount blocks edges)
+
+-- number 2 without the block numbers: "a reversed block, a start not the last end plus 1, last end > points"
+abbrev pub badSpan : List Stretch → ℕ → ℕ → Bool
+badSpan bs points i = ltb (blockAt bs i .end) (blockAt bs i .start) || (gapAt bs i || pastPoints bs points i)
+
+-- numbers 1, 2 and 3, lowest first
+unfoldable pub graphVerdict : List ℕ → List ℕ → ℕ → Verdict
+graphVerdict blocks edges points = first (countVerdict blocks edges) (first (lineVerdict (blocksOf blocks) points) (edgeVerdict (blocksOf blocks) (jumpsOf edges)))
+
+-- number 1 for rows of bits: as many words as blocks × row words; a row cut short is no count
+abbrev pub rowsVerdict : ℕ → ℕ → ℕ → Verdict
+rowsVerdict lent n words = check Count (not (eqb lent (n * words)))
+
+-- W: 8 × (the records lent + blocks × row words)
+abbrev pub spaceOf : ℕ → ℕ → ℕ → ℕ
+spaceOf n e rows = 8 * (n + e + rows)
+
+-- number 7: "work space under W", or an answer list shorter than its answer
+abbrev pub spaceVerdict : ℕ → ℕ → ℕ → ℕ → Verdict
+spaceVerdict answer most work space = check Space (ltb answer most || ltb work space)

@@ -1,0 +1,78 @@
+-- `take_up` meets its contract: the last range is widened, kept, or followed by the new one.
+use mathlib.Core.Path.{_≡_}
+use mathlib.Core.Logic.{⊎-elim}
+use native.Mathlib.Omega.{arith}
+use denote.Ref.{now}
+use borrow.Author.Needs.{needs}
+use Rattle.packed.proofs.PackedLaws.{put-first, put-next, put-wider, put-kept}
+use Rattle.packed.proofs.take_up.Statement.{statement}
+use Rattle.packed.proofs.take_up.Tie as tie
+
+add-i : tie.Need-add-i
+add-i c = search needs
+
+sub-i : tie.Need-sub-i
+sub-i c = search needs
+
+mul-last : tie.Need-mul-last
+mul-last c = search needs
+
+slice-read-last : tie.Need-slice-read-last
+slice-read-last c = search needs
+
+end-of-requires : tie.Need-end-of-requires
+end-of-requires c κs = search needs
+
+start-of-requires : tie.Need-start-of-requires
+start-of-requires c κs = search needs
+
+end-of-requires-2 : tie.Need-end-of-requires-2
+end-of-requires-2 c κs = search needs
+
+start-of-requires-2 : tie.Need-start-of-requires-2
+start-of-requires-2 c κs = search needs
+
+pack-requires : tie.Need-pack-requires
+pack-requires c κs = search needs
+
+mul-w : tie.Need-mul-w
+mul-w c = search needs
+
+slice-write-w : tie.Need-slice-write-w
+slice-write-w c = search needs
+
+same-length : tie.Need-same-length
+same-length c = search needs
+
+returns : tie.Need-returns
+returns c =
+    let a = (c .before .before .before .before .before .before .before .before .before .before .args) in
+    rw ((c .pack) .ensures, (c .before .start-of2) .ensures, (c .before .before .before .end-of2) .ensures) (put-wider (now (a .w)) (a .at) (a .k) (omega arith) (a .x) (omega arith) (omega (arith, (c .before .before .before .before .before .before .end-of) .ensures, (c .before .before .before .before .before .start-of) .ensures)) (omega (arith, (c .before .before .before .before .before .before .end-of) .ensures, (c .before .before .before .end-of2) .ensures)))
+
+returns-2 : tie.Need-returns-2
+returns-2 c =
+    let a = (c .before .before .before .before .before .before .before .before .args) in
+    put-kept (now (a .w)) (a .at) (a .k) (omega arith) (a .x) (omega arith) (omega (arith, (c .before .before .before .before .end-of) .ensures, (c .before .before .before .start-of) .ensures)) (omega (arith, (c .before .before .before .before .end-of) .ensures, (c .before .end-of2) .ensures))
+
+add-w : tie.Need-add-w
+add-w c = search needs
+
+mul-w-2 : tie.Need-mul-w-2
+mul-w-2 c = search needs
+
+slice-write-w-2 : tie.Need-slice-write-w-2
+slice-write-w-2 c = search needs
+
+add-result : tie.Need-add-result
+add-result c = search needs
+
+same-length-2 : tie.Need-same-length-2
+same-length-2 c = search needs
+
+returns-3 : tie.Need-returns-3
+returns-3 c =
+    let a = (c .before .before .args) in
+    ⊎-elim (λ w. put-next (now (a .w)) (a .at) (a .k) (omega arith) (a .x) (w .0 .taken) (omega (arith, w .2 .ensures, w .3 .ensures, w .4 .left))) (λ w. put-first (now (a .w)) (a .at) (a .k) (omega arith) (a .x) (omega arith)) (c .if1 .came)
+
+pub take-up-spec : {M : Type 1} → statement M
+take-up-spec = tie.close (tie.spec add-i sub-i mul-last slice-read-last end-of-requires start-of-requires end-of-requires-2 start-of-requires-2 pack-requires mul-w slice-write-w same-length returns returns-2 add-w mul-w-2 slice-write-w-2 add-result same-length-2 returns-3)

@@ -1,0 +1,34 @@
+-- What the functions over words of one work space promise: a range in each word, from a place on.
+use Prim.Native.Nat.{ℕ, _+_, _≤_, _<_}
+use mathlib.Core.Path.{_≡_}
+use mathlib.Core.Logic.{_⊎_}
+use mathlib.Core.List.{List}
+use lib.ListN.{getD, drop}
+use Rattle.words.specs.Regions.{part}
+use Rattle.ranges.specs.Merged.{merged, union}
+use Rattle.ranges.specs.Forms.{unpack, unpacked}
+use Rattle.ranges.specs.Inner.{TakenUp}
+
+-- one range more is taken up into the first k, and nothing else changes
+pub record TakenIn (w₀ w : List ℕ) (at k k′ x : ℕ) : Type 0 where
+  pub taken-up : TakenUp (unpacked (drop at w₀)) (unpacked (drop at w)) k k′ (unpack x)
+  pub before : (i : ℕ) → i < at → getD w i 0 ≡ getD w₀ i 0
+  pub after : (i : ℕ) → at + k′ ≤ i → getD w i 0 ≡ getD w₀ i 0
+
+-- n ranges have become r, merged; nothing outside the n words changes, and what is left of them is free
+pub record MergedIn (w₀ w : List ℕ) (at n r : ℕ) : Type 0 where
+  pub within : r ≤ n
+  pub is : unpacked (part at r w) ≡ merged (unpacked (part at n w₀))
+  pub before : (i : ℕ) → i < at → getD w i 0 ≡ getD w₀ i 0
+  pub after : (i : ℕ) → at + n ≤ i → getD w i 0 ≡ getD w₀ i 0
+
+-- the n words from a on and the m words from b on have none in common
+abbrev pub Clear : ℕ → ℕ → ℕ → ℕ → Type 0
+Clear a n b m = (a + n ≤ b) ⊎ (b + m ≤ a)
+
+-- two lists' ranges have been united at `at`; nothing else changes
+pub record UnitedIn (w₀ w : List ℕ) (one n two m at r : ℕ) : Type 0 where
+  pub within : r ≤ n + m
+  pub is : unpacked (part at r w) ≡ union (unpacked (part one n w₀)) (unpacked (part two m w₀))
+  pub before : (i : ℕ) → i < at → getD w i 0 ≡ getD w₀ i 0
+  pub after : (i : ℕ) → at + r ≤ i → getD w i 0 ≡ getD w₀ i 0

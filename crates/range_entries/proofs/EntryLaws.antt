@@ -1,0 +1,117 @@
+-- The range entries: what a verdict that is fine says of the lists, and what an answer or a refusal leaves.
+use mathlib.Core.Path.{_≡_, refl, sym, ap, _∙_}
+use mathlib.Core.Bool.{Bool, true, false, _||_}
+use mathlib.Core.List.{List, [], _∷_}
+use Prim.Native.Nat.{ℕ, _+_, _≤_}
+use native.Mathlib.Omega.{arith}
+use lib.ListN.{length}
+use borrow.Author.Tests.{ltb-false, eqb-true, not-false}
+use Rattle.refusals.specs.declared.Verdict.{Verdict}
+use Rattle.refusals.specs.declared.Verdict.the-variants.{Fine, Bad}
+use Rattle.refusals.specs.declared.Refusal.{Refusal}
+use Rattle.refusals.specs.declared.Refusal.the-variants.{Count, Space}
+use Rattle.refusals.specs.Verdicts.{inOrder, check, countedOn}
+use Rattle.refusals.specs.Outcomes.{given, unless}
+use Rattle.refusals.proofs.Laws.{first-left, first-right}
+use Rattle.ranges.specs.declared.Range.{Range}
+use Rattle.range_entries.specs.declared.Counted.the-variants.{Ranges, Refused}
+use Rattle.range_entries.specs.declared.Clash.the-variants.{Is, Refused as ClashRefused}
+use Rattle.ranges.specs.Points.{Apart}
+use Rattle.ranges.specs.Forms.{columns, starts, ends}
+use Rattle.range_entries.specs.Entries.{clashing, uneven, badList, pairVerdict, entryVerdict, mergedVerdict, joinedVerdict, unionVerdict, clashesVerdict, Listed}
+use Rattle.ranges.specs.Inner.{Listing}
+use Rattle.ranges.proofs.PointLaws.{or-none}
+use Rattle.range_entries.proofs.CheckLaws.{fine-apart}
+use Rattle.range_entries.proofs.VerdictLaws.{even-list, small-list}
+use Rattle.ranges.proofs.ListingLaws.{listing-length}
+use Rattle.columns.proofs.ColumnLaws.{starts-are, ends-are}
+
+-- ---- a fine verdict
+
+check-none : (r : Refusal) (t : Bool) → check r t ≡ Fine → t ≡ false
+check-none r true e = absurd (let z : _≡_ {A = ℕ} 0 1 = cc in omega arith)
+check-none r false e = refl
+
+module _ (c t : Bool) (v : Verdict) (e : entryVerdict c t v ≡ Fine) where
+  rest : inOrder (check Space t ∷ v ∷ []) ≡ Fine
+  unfolding entryVerdict inOrder
+  rest = first-right _ _ e
+
+  pub count-fine : c ≡ false
+  unfolding entryVerdict inOrder
+  count-fine = check-none Count c (first-left _ _ e)
+
+  pub space-fine : t ≡ false
+  unfolding inOrder
+  space-fine = check-none Space t (first-left _ _ rest)
+
+  pub lists-fine : v ≡ Fine
+  unfolding inOrder
+  lists-fine = first-left _ _ (first-right _ _ rest)
+
+counted-fine : (n : ℕ) (v : Verdict) → countedOn n v ≡ Fine → v ≡ Fine
+counted-fine n Fine e = refl
+counted-fine n (Bad r i) e = absurd (let z : _≡_ {A = ℕ} 0 1 = cc in omega arith)
+
+pub pair-apart-one : (rs ss : List Range) → pairVerdict true rs ss ≡ Fine → Apart rs
+unfolding pairVerdict
+pair-apart-one rs ss e = fine-apart rs (first-left _ _ e)
+
+pub pair-apart-two : (rs ss : List Range) → pairVerdict true rs ss ≡ Fine → Apart ss
+unfolding pairVerdict
+pair-apart-two rs ss e = fine-apart ss (counted-fine (length rs) _ (first-right _ _ e))
+
+even-fine : (n m : ℕ) → uneven n m ≡ false → n ≡ m
+even-fine n m e = eqb-true n m (not-false _ e)
+
+-- what the entries' checks leave
+pub record Columns (ss es : List ℕ) (need : ℕ) (n m : ℕ) : Type 0 where
+  pub even : length ss ≡ length es
+  pub small : length ss ≤ 65536
+  pub answer : n ≡ m
+  pub room : need ≤ n
+
+pub merged-fine : (ss es : List ℕ) (n m : ℕ) → mergedVerdict ss es n m ≡ Fine → Columns ss es (length ss) n m
+merged-fine ss es n m e =
+    let c = or-none (badList ss es) (uneven n m) (count-fine _ _ _ e) in
+    record { even = even-list ss es (c .0); small = small-list ss es (c .0); answer = even-fine n m (c .1); room = ltb-false n (length ss) (space-fine _ _ _ e) }
+
+pub joined-fine : (ss es : List ℕ) (r : Range) (n m : ℕ) → joinedVerdict ss es r n m ≡ Fine → Columns ss es (length ss + 1) n m
+joined-fine ss es r n m e =
+    let c = or-none (badList ss es) (uneven n m) (count-fine _ _ _ e) in
+    record { even = even-list ss es (c .0); small = small-list ss es (c .0); answer = even-fine n m (c .1); room = ltb-false n (length ss + 1) (space-fine _ _ _ e) }
+
+pub record Pair (ss es ts fs : List ℕ) : Type 0 where
+  pub even : length ss ≡ length es
+  pub even-two : length ts ≡ length fs
+  pub one : Apart (columns ss es)
+  pub two : Apart (columns ts fs)
+
+pub union-fine : (ss es ts fs : List ℕ) (n m : ℕ) → unionVerdict ss es ts fs n m ≡ Fine → Columns ss es (length ss + length ts) n m × Pair ss es ts fs
+union-fine ss es ts fs n m e =
+    let c = or-none (badList ss es) (badList ts fs || uneven n m) (count-fine _ _ _ e) in
+    let d = or-none (badList ts fs) (uneven n m) (c .1) in (
+      record { even = even-list ss es (c .0); small = small-list ss es (c .0); answer = even-fine n m (d .1); room = ltb-false n (length ss + length ts) (space-fine _ _ _ e) },
+      record { even = even-list ss es (c .0); even-two = even-list ts fs (d .0); one = pair-apart-one _ _ (lists-fine _ _ _ e); two = pair-apart-two _ _ (lists-fine _ _ _ e) },
+    )
+
+pub clashes-fine : (ss es ts fs : List ℕ) → clashesVerdict ss es ts fs ≡ Fine → Pair ss es ts fs
+clashes-fine ss es ts fs e =
+    let c = or-none (badList ss es) (badList ts fs) (count-fine _ _ _ e) in
+    record { even = even-list ss es (c .0); even-two = even-list ts fs (c .1); one = pair-apart-one _ _ (lists-fine _ _ _ e); two = pair-apart-two _ _ (lists-fine _ _ _ e) }
+
+-- ---- what the answer lists hold
+
+pub listed : (v : Verdict) (rs : List Range) (os oe os′ oe′ : List ℕ) (k : ℕ) → v ≡ Fine → length os ≡ length oe → length os′ ≡ length oe′
+    → Listing (columns os oe) (columns os′ oe′) k rs → Listed (unless v rs) os oe (Ranges k) os′ oe′
+listed v rs os oe os′ oe′ k e h h′ w =
+    rw e (record { answer = ap given (sym (listing-length w)); in-starts = starts-are os oe os′ oe′ h h′ w; in-ends = ends-are os oe os′ oe′ h h′ w })
+
+pub unlisted : (v : Verdict) (rs : List Range) (os oe : List ℕ) (r : Refusal) (i : ℕ) → v ≡ Bad r i → Listed (unless v rs) os oe (Refused r i) os oe
+unlisted v rs os oe r i e = rw e (record { answer = refl; in-starts = refl; in-ends = refl })
+
+pub clash-told : (v : Verdict) (b c : Bool) → v ≡ Fine → b ≡ c → clashing (Is b) ≡ unless v c
+clash-told v b c e h = rw (e, h)
+
+pub clash-refused : (v : Verdict) (c : Bool) (r : Refusal) (i : ℕ) → v ≡ Bad r i → clashing (ClashRefused r i) ≡ unless v c
+clash-refused v c r i e = rw e

@@ -1,0 +1,3 @@
+pub mod CheckLaws
+pub mod VerdictLaws
+pub mod EntryLaws

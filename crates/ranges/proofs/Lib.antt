@@ -1,0 +1,13 @@
+pub mod PointLaws
+pub mod SortLaws
+pub mod MergeLaws
+pub mod JoinLaws
+pub mod ClashLaws
+pub mod FormLaws
+pub mod WordLaws
+pub mod TakeLaws
+pub mod SkipLaws
+pub mod ListingLaws
+pub mod GallopLaws
+pub mod UnionLaws
+pub mod SearchLaws

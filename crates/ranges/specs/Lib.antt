@@ -1,0 +1,4 @@
+pub mod Points
+pub mod Merged
+pub mod Forms
+pub mod Inner

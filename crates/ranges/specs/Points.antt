@@ -1,0 +1,51 @@
+-- Document 01, "Ranges": points, ranges, and what it is for two of them to overlap.
+use Prim.Native.Nat.{ℕ, _≤_, _<_}
+use mathlib.Core.Bool.{Bool, true, false, _&&_, _||_}
+use mathlib.Core.List.{List, [], _∷_, List·Memᴰ}
+use lib.ListN.{getD}
+use lib.Dec.{leb}
+use Rattle.ranges.specs.declared.Range.{Range}
+
+abbrev pub range : ℕ → ℕ → Range
+range s e = record { start = s; end = e }
+
+-- the range at a place of a list
+abbrev pub rangeAt : List Range → ℕ → Range
+rangeAt rs i = getD rs i (range 0 0)
+
+-- "both ends included"
+abbrev pub Within : Range → ℕ → Type 0
+Within r x = (r .start ≤ x) × (x ≤ r .end)
+
+-- x is a point of some range of the list
+abbrev pub Point : List Range → ℕ → Type 0
+Point rs x = (r : Range) × List·Memᴰ r rs × (r .start ≤ x) × (x ≤ r .end)
+
+-- the same as a test
+abbrev pub within : ℕ → Range → Bool
+within x r = leb (r .start) x && leb x (r .end)
+
+abbrev pub inside : ℕ → List Range → Bool
+inside x [] = false
+inside x (r ∷ rs) = within x r || inside x rs
+
+-- `overlaps`: "each starts no later than the other ends"
+abbrev pub overlaps : Range → Range → Bool
+overlaps r s = leb (r .start) (s .end) && leb (s .start) (r .end)
+
+-- "start ≤ end"
+abbrev pub Upright : List Range → Type 0
+Upright rs = (r : Range) → List·Memᴰ r rs → r .start ≤ r .end
+
+-- in order and apart: no range is reversed, and each starts past the end of the one before
+abbrev pub Past : ℕ → List Range → Type 0
+Past x [] = Unit {0}
+Past x (r ∷ rs) = (x < r .start) × (r .start ≤ r .end) × Past (r .end) rs
+
+abbrev pub Apart : List Range → Type 0
+Apart [] = Unit {0}
+Apart (r ∷ rs) = (r .start ≤ r .end) × Past (r .end) rs
+
+-- some point is in both lists
+abbrev pub Common : List Range → List Range → Type 0
+Common rs ss = (x : ℕ) × Point rs x × Point ss x

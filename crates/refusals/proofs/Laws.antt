@@ -1,0 +1,175 @@
+-- Laws of verdicts, one set for every group of records, and that the lowest number wins in document 01's order of checks.
+use Prim.Native.Nat.{ℕ, zero, suc, _+_, _≤_, _<_}
+use native.Mathlib.Numerals.{add-one}
+use native.Mathlib.Omega.{arith}
+use native.Mathlib.Decide.{le-ind, ℕ-discrete}
+use lib.Dec.{lit≤}
+use mathlib.Core.Path.{_≡_, refl, sym, ap, _∙_}
+use mathlib.Core.Logic.{_⊎_, inl, inr}
+use mathlib.Core.Bool.{Bool, true, false, cond}
+use mathlib.Core.List.{List, [], _∷_, List·Memᴰ, List·Memᴰ·cases-cons, List·Memᴰ·not-nil}
+use Rattle.refusals.specs.Verdicts.{first, inOrder, scan, check, countedOn, rankOf}
+use native.Mathlib.Nat.{zero-add}
+use Rattle.refusals.specs.declared.Refusal.{Refusal}
+use Rattle.refusals.specs.declared.Refusal.the-variants.{Count, Line, Edge, Inst, Stray, Piece, Space, Inverted, List as ListFull, Want, Text}
+use Rattle.refusals.specs.declared.Verdict.{Verdict}
+use Rattle.refusals.specs.declared.Verdict.the-variants.{Fine, Bad}
+
+-- ---- the first of two
+
+pub first-fine : (v w : Verdict) → v ≡ Fine → first v w ≡ w
+unfolding first
+first-fine v w e = simp e
+
+pub first-bad : (v w : Verdict) (r : Refusal) (i : ℕ) → v ≡ Bad r i → first v w ≡ Bad r i
+unfolding first
+first-bad v w r i e = simp e
+
+-- a chain of checks, one step more
+pub first-then : (r v a w : Verdict) → r ≡ first v w → v ≡ a → r ≡ first a w
+first-then r v a w p q = p ∙ ap (λ (x : Verdict). first x w) q
+
+-- a chain that is fine was fine at each step
+pub first-left : (v w : Verdict) → first v w ≡ Fine → v ≡ Fine
+unfolding first
+first-left Fine w e = refl
+first-left (Bad r i) w e = e
+
+pub first-right : (v w : Verdict) → first v w ≡ Fine → w ≡ Fine
+unfolding first
+first-right Fine w e = e
+first-right (Bad r i) w e = absurd (let z : _≡_ {A = ℕ} 0 1 = cc in omega arith)
+
+pub first-assoc : (u v w : Verdict) → first (first u v) w ≡ first u (first v w)
+unfolding first
+first-assoc Fine v w = refl
+first-assoc (Bad r i) v w = refl
+
+-- ---- checks in order
+
+module _ (r : Refusal) (t : Bool) (vs : List Verdict) where
+  pub check-bad : t ≡ true → inOrder (check r t ∷ vs) ≡ Bad r 0
+  unfolding inOrder first
+  check-bad e = rw e
+
+  pub check-fine : t ≡ false → inOrder (check r t ∷ vs) ≡ inOrder vs
+  unfolding inOrder first
+  check-fine e = rw e
+
+pub check-last : (v : Verdict) → inOrder (v ∷ []) ≡ v
+unfolding inOrder first
+check-last Fine = refl
+check-last (Bad r i) = refl
+
+-- three checks: a count, the space, and the records
+module _ (r q : Refusal) (b t : Bool) (v : Verdict) where
+  pub three-first : b ≡ true → Bad r 0 ≡ inOrder (check r b ∷ check q t ∷ v ∷ [])
+  three-first e = sym (check-bad r b (check q t ∷ v ∷ []) e)
+
+  pub three-second : b ≡ false → t ≡ true → Bad q 0 ≡ inOrder (check r b ∷ check q t ∷ v ∷ [])
+  three-second e d = sym (check-fine r b (check q t ∷ v ∷ []) e ∙ check-bad q t (v ∷ []) d)
+
+  pub three-third : b ≡ false → t ≡ false → v ≡ inOrder (check r b ∷ check q t ∷ v ∷ [])
+  three-third e d = sym (check-fine r b (check q t ∷ v ∷ []) e ∙ check-fine q t (v ∷ []) d ∙ check-last v)
+
+pub counted-from-none : (v : Verdict) → countedOn 0 v ≡ v
+counted-from-none Fine = refl
+counted-from-none (Bad r i) = ap (Bad r) (zero-add i)
+
+-- ---- the first record whose test is true
+
+module _ (r : Refusal) (t : ℕ → Bool) where
+  pub scan-none : scan r t 0 ≡ Fine
+  unfolding scan
+  scan-none = refl
+
+  pub scan-miss : (i : ℕ) → scan r t i ≡ Fine → t i ≡ false → scan r t (i + 1) ≡ Fine
+  unfolding scan first
+  scan-miss i e h = rw add-one (simp (e, h))
+
+  scan-here : (i : ℕ) → scan r t i ≡ Fine → t i ≡ true → scan r t (suc i) ≡ Bad r i
+  unfolding scan first
+  scan-here i e h = simp (e, h)
+
+  scan-kept : (i n : ℕ) → scan r t n ≡ Bad r i → scan r t (suc n) ≡ Bad r i
+  unfolding scan first
+  scan-kept i n e = simp e
+
+  -- the records after the first offending one are not looked at
+  pub scan-hit : (i n : ℕ) → scan r t i ≡ Fine → t i ≡ true → i < n → scan r t n ≡ Bad r i
+  scan-hit i n e h l = le-ind {n = suc i} (λ m. scan r t m ≡ Bad r i) (scan-here i e h) (λ m _ p. scan-kept i m p) n l
+
+  pub scan-end : (i n : ℕ) → scan r t i ≡ Fine → i ≤ n → n ≤ i → scan r t n ≡ Fine
+  scan-end i n e a b = let q : i ≡ n = omega arith in rw q at e
+
+  scan-last : (n : ℕ) → scan r t (suc n) ≡ Fine → (scan r t n ≡ Fine) × (t n ≡ false)
+  unfolding scan first
+  scan-last n e = go (scan r t n) (t n) refl refl e
+    where
+      go : (v : Verdict) (b : Bool) → scan r t n ≡ v → t n ≡ b → first v (cond b (Bad r n) Fine) ≡ Fine → (scan r t n ≡ Fine) × (t n ≡ false)
+      go Fine true p q h = absurd (let z : _≡_ {A = ℕ} 0 1 = cc in omega arith)
+      go Fine false p q h = (p, q)
+      go (Bad s i) b p q h = absurd (let z : _≡_ {A = ℕ} 0 1 = cc in omega arith)
+
+  -- a group without refusal has no offending record
+  pub scan-fine : (n : ℕ) → scan r t n ≡ Fine → (i : ℕ) → i < n → t i ≡ false
+  scan-fine zero e i l = absurd (omega arith)
+  scan-fine (suc n) e i l =
+      elim (ℕ-discrete i n) [ yes q ↦ rw q (scan-last n e .1) | no q ↦ scan-fine n (scan-last n e .0) i (omega arith) ]
+
+-- ---- the order of checks
+
+-- a check that gives no other refusal than r
+abbrev pub Gives : Refusal → Verdict → Type 0
+Gives r Fine = Unit {0}
+Gives r (Bad s i) = s ≡ r
+
+-- the refusals that the checks of a list give, one each
+abbrev pub Giving : List Refusal → List Verdict → Type 0
+Giving [] [] = Unit {0}
+Giving [] (v ∷ vs) = ⊥
+Giving (r ∷ rs) [] = ⊥
+Giving (r ∷ rs) (v ∷ vs) = Gives r v × Giving rs vs
+
+-- refusals in an order of rising ranks
+abbrev pub From : ℕ → List Refusal → Type 0
+From n [] = Unit {0}
+From n (r ∷ rs) = (n ≤ rankOf r) × From (rankOf r) rs
+
+-- document 01's order: 11 first, then by number
+abbrev pub base : List Refusal
+base = Text ∷ Count ∷ Line ∷ Edge ∷ Inst ∷ Stray ∷ Piece ∷ Space ∷ Inverted ∷ ListFull ∷ Want ∷ []
+
+pub base-rises : From 0 base
+base-rises = (lit≤ tt, (lit≤ tt, (lit≤ tt, (lit≤ tt, (lit≤ tt, (lit≤ tt, (lit≤ tt, (lit≤ tt, (lit≤ tt, (lit≤ tt, (lit≤ tt, tt)))))))))))
+
+no-more : (n : ℕ) (rs : List Refusal) (vs : List Verdict) → From n rs → Giving rs vs → (r : Refusal) (i : ℕ) → List·Memᴰ (Bad r i) vs → n ≤ rankOf r
+no-more n [] [] f g r i m = absurd (List·Memᴰ·not-nil m)
+no-more n (s ∷ rs) (v ∷ vs) f g r i m = go (List·Memᴰ·cases-cons m) (no-more (rankOf s) rs vs (f .1) (g .1) r i)
+  where
+    own : (w : Verdict) → Gives s w → Bad r i ≡ w → r ≡ s
+    own Fine h e = absurd (let z : _≡_ {A = ℕ} 0 1 = cc in omega arith)
+    own (Bad q j) h e = cc
+
+    go : (Bad r i ≡ v) ⊎ List·Memᴰ (Bad r i) vs → (List·Memᴰ (Bad r i) vs → rankOf s ≤ rankOf r) → n ≤ rankOf r
+    go (inl e) k = rw (own v (g .0) e) (f .0)
+    go (inr h) k = let l = k h in let o = f .0 in omega arith
+
+-- what is given has the lowest rank of all that the checks found, whatever list of checks rises
+pub lowest-wins : (n : ℕ) (rs : List Refusal) (vs : List Verdict) → From n rs → Giving rs vs
+    → (r s : Refusal) (i j : ℕ) → inOrder vs ≡ Bad r i → List·Memᴰ (Bad s j) vs → rankOf r ≤ rankOf s
+unfolding inOrder first
+lowest-wins n [] [] f g r s i j e m = absurd (List·Memᴰ·not-nil m)
+lowest-wins n (q ∷ rs) (Fine ∷ vs) f g r s i j e m = go (List·Memᴰ·cases-cons m) (lowest-wins (rankOf q) rs vs (f .1) (g .1) r s i j e)
+  where
+    go : (Bad s j ≡ Fine) ⊎ List·Memᴰ (Bad s j) vs → (List·Memᴰ (Bad s j) vs → rankOf r ≤ rankOf s) → rankOf r ≤ rankOf s
+    go (inl h) k = absurd (let z : _≡_ {A = ℕ} 0 1 = cc in omega arith)
+    go (inr h) k = k h
+lowest-wins n (q ∷ rs) (Bad p l ∷ vs) f g r s i j e m = go (List·Memᴰ·cases-cons m) (no-more (rankOf q) rs vs (f .1) (g .1) s j)
+  where
+    same : r ≡ q
+    same = let h = g .0 in cc
+
+    go : (Bad s j ≡ Bad p l) ⊎ List·Memᴰ (Bad s j) vs → (List·Memᴰ (Bad s j) vs → rankOf q ≤ rankOf s) → rankOf r ≤ rankOf s
+    go (inl h) k = let z : s ≡ r = cc in rw z (omega arith)
+    go (inr h) k = rw same (k h)

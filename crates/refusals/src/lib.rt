@@ -1,0 +1,53 @@
+// The refusals of document 01, and the verdict of a check.
+ghost use mathlib.Core.Path.{_≡_};
+ghost use Rattle.refusals.specs.Verdicts.{numberOf, first};
+
+// What is turned back, by the words of document 01's table.
+pub enum Refusal {
+    Count,
+    Line,
+    Edge,
+    Inst,
+    Stray,
+    Piece,
+    Space,
+    Inverted,
+    List,
+    Want,
+    Text,
+}
+
+// Fine, or a refusal with the index of its first offending record.
+pub enum Verdict {
+    Fine,
+    Bad(Refusal, usize),
+}
+
+// The number of a refusal in document 01's table.
+pub fn number(r: Refusal) -> u32
+    ensures { λ n. ⌜ n ≡ numberOf r ⌝ }
+{
+    match r {
+        Refusal::Count => 1,
+        Refusal::Line => 2,
+        Refusal::Edge => 3,
+        Refusal::Inst => 4,
+        Refusal::Stray => 5,
+        Refusal::Piece => 6,
+        Refusal::Space => 7,
+        Refusal::Inverted => 8,
+        Refusal::List => 9,
+        Refusal::Want => 10,
+        Refusal::Text => 11,
+    }
+}
+
+// The first of two verdicts that is a refusal: checks are made in order, and the first to refuse wins.
+pub fn earlier(v: Verdict, w: Verdict) -> Verdict
+    ensures { λ r. ⌜ r ≡ first v w ⌝ }
+{
+    match v {
+        Verdict::Fine => w,
+        Verdict::Bad(r, i) => Verdict::Bad(r, i),
+    }
+}

@@ -1,0 +1,46 @@
+-- ★1 to ★9 as one table, of the definitions.
+use mathlib.Core.Path.{_≡_}
+use mathlib.Core.Bool.{true, false}
+use mathlib.Core.List.{List, [], _∷_}
+use lib.ListN.{length}
+use Rattle.ranges.specs.Points.{range}
+use Rattle.ranges.specs.Merged.{merged, clashes}
+use Rattle.graph.specs.Paths.{edge}
+use Rattle.areas.specs.Pieces.{plainArea, endingArea}
+use Rattle.areas.proofs.Stars as areas
+use Rattle.fitting.specs.Wants.{orderOf}
+use Rattle.fitting.specs.Plan.{planOf}
+use Rattle.fitting.proofs.Stars as fitting
+use Rattle.soundness.proofs.StarOne.{Star1, star-1}
+
+pub record Table : Type 0 where
+  pub one : Star1
+  -- "merged 5–9, 1–5, 10–12: 1–9, 10–12"
+  pub two : merged (range 5 9 ∷ range 1 5 ∷ range 10 12 ∷ []) ≡ range 1 9 ∷ range 10 12 ∷ []
+  -- "1–4 clashes with 4–6", "not with 5–6"
+  pub three : clashes (range 1 4 ∷ []) (range 4 6 ∷ []) ≡ true
+  pub four : clashes (range 1 4 ∷ []) (range 5 6 ∷ []) ≡ false
+  -- "touch 12–13: that range; with edge 1 to 1 added, 10–19"
+  pub five : (plainArea areas.straight (range 12 13 ∷ []) ≡ range 12 13 ∷ [])
+      × (plainArea (areas.line (edge 0 1 ∷ edge 1 2 ∷ edge 1 1 ∷ [])) (range 12 13 ∷ []) ≡ range 10 19 ∷ [])
+  -- "touches 2–3 and 24–25: 2–25"
+  pub six : plainArea areas.straight (range 2 3 ∷ range 24 25 ∷ []) ≡ range 2 25 ∷ []
+  -- "ending, touch 12–13, end 15: 12–15", "end 12 instead: 12–19, 20–29"
+  pub seven : endingArea areas.straight (range 12 13 ∷ []) (15 ∷ []) ≡ range 12 15 ∷ []
+  pub eight : endingArea areas.straight (range 12 13 ∷ []) (12 ∷ []) ≡ range 12 19 ∷ range 20 29 ∷ []
+  -- "three wants with areas that don't clash, budget 1: two cells, one probe; budget 0: three cells"
+  pub nine : (length (planOf fitting.three 1 (orderOf fitting.three) .cells) ≡ 2) × (planOf fitting.three 1 (orderOf fitting.three) .probes ≡ 1)
+      × (length (planOf fitting.three 0 (orderOf fitting.three) .cells) ≡ 3)
+
+pub stars : Table
+stars = record {
+  one = star-1;
+  two = fitting.star-2;
+  three = fitting.star-3;
+  four = fitting.star-4;
+  five = (areas.star-5, areas.star-5-loop);
+  six = areas.star-6;
+  seven = areas.star-7;
+  eight = areas.star-8;
+  nine = fitting.star-9;
+}

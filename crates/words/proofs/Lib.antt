@@ -1,0 +1,7 @@
+pub mod Points
+pub mod SortLaws
+pub mod HeapLaws
+pub mod RowLaws
+pub mod RegionLaws
+pub mod PasteLaws
+pub mod SearchLaws

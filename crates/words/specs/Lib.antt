@@ -1,0 +1,5 @@
+pub mod Rows
+pub mod Sort
+pub mod Heap
+pub mod Regions
+pub mod Search

@@ -1,0 +1,17 @@
+// Lent numbers: regions of one list, sorting, searching.
+mod heap; // heap.rt: heap sort
+mod regions; // regions.rt: fill, clear and copy
+mod search; // search.rt: binary search
+
+pub use heap::sort;
+pub use heap::sort_part;
+pub use regions::clear;
+pub use regions::copy;
+pub use regions::copy_u32;
+pub use regions::fill;
+pub use regions::narrow;
+pub use regions::widen;
+pub use search::at_most;
+pub use search::at_most_in_rows;
+pub use search::below;
+pub use search::below_in_rows;
