@@ -5,3 +5,4 @@ pub mod Within
 pub mod RowLaws
 pub mod Refusals
 pub mod RoundLaws
+pub mod ArriveLaws

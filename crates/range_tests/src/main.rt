@@ -130,16 +130,13 @@ fn merging_refused() {
     merged_into(&[2, 3], &[1, 4], &mut [7], &mut [7]);
 }
 
-// A list that is too long for the small array, and one over the limit: the first two entries of the answer.
+// A list that is too long for the small array: the first two entries of the answer.
 fn merging_many() {
     let mut s = [7u32; 300];
     let mut e = [7u32; 300];
     text(b"merged ");
     counted(range_entries::merged(&[5; 300], &[6; 300], &mut s, &mut e));
     show(&s[0..2], &e[0..2]);
-    text(b"merged ");
-    counted(range_entries::merged(&[5; 65537], &[6; 65537], &mut s, &mut e));
-    show(&s[1..3], &e[1..3]);
 }
 
 fn joining() {

@@ -1,0 +1,57 @@
+-- The entry `components`: what it answers, refuses and leaves, for every input.
+use Prim.Native.Nat.{ℕ, _+_, _*_, _/_, _≤_, _<_}
+use mathlib.Core.Path.{_≡_}
+use mathlib.Core.List.{List}
+use lib.ListN.{length, getD}
+use Rattle.refusals.specs.declared.Refusal.{Refusal}
+use Rattle.refusals.specs.declared.Verdict.{Verdict}
+use Rattle.refusals.specs.declared.Verdict.the-variants.{Fine, Bad}
+use Rattle.refusals.specs.Verdicts.{numberOf, first}
+use Rattle.refusals.specs.Outcomes.{Outcome, given, refused}
+use Rattle.words.specs.Regions.{cleared}
+use Rattle.words.specs.Rows.{rowCount}
+use Rattle.graph.specs.Paths.{Edge}
+use Rattle.graph.specs.Line.{blocksOf, jumpsOf, edgesOf}
+use Rattle.graph.specs.Checks.{graphVerdict, spaceOf, spaceVerdict}
+use Rattle.graph.specs.Work.{Within}
+use Rattle.components.specs.Components.{Components}
+use Rattle.components.specs.declared.Answer.{Answer}
+use Rattle.components.specs.declared.Answer.the-variants.{Given, Refused}
+
+-- the answer by document 01's numbers
+abbrev pub outcomeOf : Answer → Outcome ℕ
+outcomeOf (Given count) = given count
+outcomeOf (Refused r i) = refused (numberOf r) i
+
+-- refusals 1, 2, 3 and 7; W is 8 × the records lent
+unfoldable pub verdictOf : List ℕ → List ℕ → ℕ → ℕ → ℕ → Verdict
+verdictOf blocks edges points answer work =
+    first (graphVerdict blocks edges points) (spaceVerdict answer (rowCount 3 blocks) work (spaceOf (rowCount 3 blocks) (rowCount 2 edges) 0))
+
+abbrev pub edgesIn : List ℕ → List ℕ → List Edge
+edgesIn blocks edges = edgesOf (blocksOf blocks) (jumpsOf edges)
+
+-- an answer: the number of components, and one component's number to a place in the answer list
+pub record Numbered (blocks edges which₀ work₀ : List ℕ) (r : Answer) (which work : List ℕ) : Type 0 where
+  pub count : ℕ
+  pub outcome : outcomeOf r ≡ given count
+  pub components : Components (edgesIn blocks edges) (rowCount 3 blocks) (λ v. getD which v 0) count
+  pub length-kept : length which ≡ length which₀
+  pub past : (i : ℕ) → rowCount 3 blocks ≤ i → getD which i 0 ≡ getD which₀ i 0
+  pub work-cleared : work ≡ cleared (spaceOf (rowCount 3 blocks) (rowCount 2 edges) 0) work₀
+
+-- a refusal: the lists as they were
+pub record Turned (k : Refusal) (i : ℕ) (which₀ work₀ : List ℕ) (r : Answer) (which work : List ℕ) : Type 0 where
+  pub outcome : outcomeOf r ≡ refused (numberOf k) i
+  pub which-kept : which ≡ which₀
+  pub work-kept : work ≡ work₀
+
+pub record Answered (blocks edges : List ℕ) (points : ℕ) (which₀ work₀ : List ℕ) (r : Answer) (which work : List ℕ) : Type 0 where
+  pub answered : verdictOf blocks edges points (length which₀) (length work₀) ≡ Fine → Numbered blocks edges which₀ work₀ r which work
+  pub turned : (k : Refusal) (i : ℕ) → verdictOf blocks edges points (length which₀) (length work₀) ≡ Bad k i → Turned k i which₀ work₀ r which work
+
+-- what `solve` leaves in the work space: the components' numbers from `base` on, within W
+pub record Solved (blocks edges : List ℕ) (base : ℕ) (work₀ work : List ℕ) (count : ℕ) : Type 0 where
+  pub kept : Within 0 (spaceOf (rowCount 3 blocks) (rowCount 2 edges) 0) work₀ work
+  pub few : count ≤ rowCount 3 blocks
+  pub components : Components (edgesIn blocks edges) (rowCount 3 blocks) (λ v. getD work (base + v) 0) count

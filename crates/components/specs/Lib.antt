@@ -1,0 +1,6 @@
+pub mod Graph
+pub mod Walk
+pub mod Moves
+pub mod Space
+pub mod Components
+pub mod Entry

@@ -1,0 +1,183 @@
+-- Laws of the entry: each way out.
+use Prim.Native.Nat.{ℕ, zero, suc, _+_, _*_, _/_, _%_, _≤_, _<_}
+use mathlib.Core.Path.{_≡_, refl, sym, ap, _∙_, subst}
+use mathlib.Core.Logic.{_⊎_, inl, inr, _↔_}
+use mathlib.Core.Bool.{Bool, true}
+use mathlib.Core.List.{List}
+use native.Mathlib.Omega.{arith}
+use lib.ListN.{length, getD}
+use Rattle.refusals.specs.declared.Refusal.{Refusal}
+use Rattle.refusals.specs.declared.Verdict.{Verdict}
+use Rattle.refusals.specs.declared.Verdict.the-variants.{Fine, Bad}
+use Rattle.refusals.specs.Verdicts.{first}
+use Rattle.refusals.proofs.Laws.{first-fine, first-bad, first-left, first-right}
+use Rattle.words.specs.Rows.{rowCount}
+use Rattle.words.specs.Regions.{Region, cleared}
+use Rattle.words.proofs.RegionLaws.{row-before}
+use Rattle.bits.specs.Bits.{bit, bitOf}
+use Rattle.graph.specs.Paths.{Edge, Between, turned}
+use Rattle.graph.specs.Flow.{Reached, Reaching}
+use Rattle.graph.specs.Checks.{graphVerdict, rowsVerdict, spaceOf, spaceVerdict}
+use Rattle.graph.specs.Work.{Within, EdgeRows, Neighbours}
+use Rattle.graph.proofs.Within.{within-trans, within-wider, region-within}
+use Rattle.graph.proofs.Refusals.{Passed, passed, rows-told, space-told}
+use Rattle.components.specs.Components.{Components, InOrder, Walkable, Found}
+use Rattle.components.specs.Entry.{edgesIn}
+use Rattle.components.proofs.Entries.{cleared-same}
+use Rattle.flow.specs.declared.Flow.{Flow}
+use Rattle.flow.specs.declared.Over.{Over}
+use Rattle.flow.specs.declared.Over.the-variants.{Predecessors, Successors}
+use Rattle.flow.specs.declared.Answer.{Answer}
+use Rattle.flow.specs.declared.Answer.the-variants.{Given, Refused}
+use Rattle.flow.specs.Flowed.{which, order, touchedBit, outBit, Laid, Flowed}
+use Rattle.flow.specs.Entry.{FlowsTo, wayOf, verdictOf, rowBit, Filled, Turned, Answered, baseOf, lentAt, Solved}
+use Rattle.flow.proofs.Routes.{reached-turned}
+use Rattle.flow.proofs.Moved.{rows-moved, components-as, order-as, reaching-as}
+
+bad-fine : {A : Type 0} {k : Refusal} {i : ℕ} → Bad k i ≡ Fine → A
+bad-fine e = absurd (let z : _≡_ {A = ℕ} 0 1 = cc in omega arith)
+
+-- ---- the refusals
+
+module _ (blocks edges : List ℕ) (points lent words answer work : ℕ) where
+  pub rows-refused : (r : Refusal) (i : ℕ) → rowsVerdict lent (rowCount 3 blocks) words ≡ Bad r i → Bad r i ≡ verdictOf blocks edges points lent words answer work
+  unfolding verdictOf
+  rows-refused r i e = sym (first-bad _ _ r i e)
+
+  pub graph-refused : (r : Refusal) (i : ℕ) → rowsVerdict lent (rowCount 3 blocks) words ≡ Fine → graphVerdict blocks edges points ≡ Bad r i → Bad r i ≡ verdictOf blocks edges points lent words answer work
+  unfolding verdictOf
+  graph-refused r i f e = sym (first-fine _ _ f ∙ first-bad _ _ r i e)
+
+  pub space-last : (v : Verdict) → rowsVerdict lent (rowCount 3 blocks) words ≡ Fine → graphVerdict blocks edges points ≡ Fine
+      → v ≡ spaceVerdict answer lent work (spaceOf (rowCount 3 blocks) (rowCount 2 edges) lent) → v ≡ verdictOf blocks edges points lent words answer work
+  unfolding verdictOf
+  space-last v f g e = e
+      ∙ ap (λ (y : ℕ). spaceVerdict answer y work (spaceOf (rowCount 3 blocks) (rowCount 2 edges) y)) (rows-told lent (rowCount 3 blocks) words f)
+      ∙ sym (first-fine _ _ f ∙ first-fine _ _ g)
+
+  -- what is known of an input that is not refused
+  pub record Known : Type 0 where
+    pub rows : lent ≡ rowCount 3 blocks * words
+    pub graph : Passed blocks edges points
+    pub answer-fits : lent ≤ answer
+    pub work-fits : spaceOf (rowCount 3 blocks) (rowCount 2 edges) lent ≤ work
+
+  pub known : verdictOf blocks edges points lent words answer work ≡ Fine → Known
+  unfolding verdictOf
+  known e =
+      let a = rows-told lent (rowCount 3 blocks) words (first-left (rowsVerdict lent (rowCount 3 blocks) words) _ e) in
+      let b = first-right (rowsVerdict lent (rowCount 3 blocks) words) _ e in
+      let s = space-told answer (rowCount 3 blocks * words) work (rowCount 3 blocks) (rowCount 2 edges) (rowCount 3 blocks * words) (first-right (graphVerdict blocks edges points) _ b) in
+      record { rows = a; graph = passed blocks edges points (first-left (graphVerdict blocks edges points) _ b); answer-fits = omega (arith, s .0); work-fits = omega (arith, s .1) }
+
+pub refused-is : (over : Over) (blocks edges : List ℕ) (points : ℕ) (touched : List ℕ) (words : ℕ) (out work : List ℕ) (r : Refusal) (i : ℕ)
+    → verdictOf blocks edges points (length touched) words (length out) (length work) ≡ Bad r i → Answered over blocks edges points touched words out work (Refused r i) out work
+refused-is over blocks edges points touched words out work r i e = record {
+  answered = λ f. bad-fine (sym e ∙ f);
+  turned-back = λ k j f. same-bad k j (sym e ∙ f);
+}
+  where
+    same-bad : (k : Refusal) (j : ℕ) → Bad r i ≡ Bad k j → Turned k j out work (Refused r i) out work
+    same-bad k j q = record { outcome = let a : r ≡ k = cc in let b : i ≡ j = cc in rw (a, b) refl; out-kept = refl; work-kept = refl }
+
+-- ---- the answer
+
+-- both ways of following the edges
+flows-as : (over : Over) (es : List Edge) (touched : ℕ → Bool) (k : ℕ) → Reaching (wayOf over es) touched k ↔ FlowsTo over es touched k
+flows-as Predecessors es touched k = reached-turned es touched k
+flows-as Successors es touched k = ((λ r. r), (λ r. r))
+
+module _ (over : Over) (blocks edges touched : List ℕ) (words : ℕ) (w₀ w₁ : List ℕ)
+    (some : 1 ≤ length blocks / 3) (lent : length touched ≡ length blocks / 3 * words)
+    (fits : 8 * (length blocks / 3 + length edges / 2 + length touched) ≤ length w₀)
+    (N : Neighbours (wayOf over (edgesIn blocks edges)) (length blocks / 3) (length edges / 2) 0 w₀ w₁) where
+  abbrev es : List Edge
+  es = wayOf over (edgesIn blocks edges)
+
+  abbrev f : Flow
+  f = record { n = length blocks / 3; at = length edges / 2 + length edges / 2; base = baseOf blocks edges; words = words; touched = lentAt blocks edges; out = lentAt blocks edges + length touched }
+
+  rows₁ : EdgeRows es (length blocks / 3) (length edges / 2 + length edges / 2) w₁
+  rows₁ = subst (λ (y : ℕ). EdgeRows es (length blocks / 3) y w₁) (omega arith) (N .rows)
+
+  pub walkable : Walkable (length blocks / 3) (length edges / 2 + length edges / 2) (baseOf blocks edges) w₁
+  walkable = record { edges = es; between = N .between; rows = rows₁; below = omega (arith, N .count); room = omega (arith, N .kept .len) }
+
+  module _ {w₂ : List ℕ} {count : ℕ} (F : Found (length blocks / 3) (length edges / 2 + length edges / 2) (baseOf blocks edges) w₁ w₂ count) where
+    pub copy-fits : lentAt blocks edges + length touched ≤ length w₂
+    copy-fits = omega (arith, N .kept .len, F .kept .len)
+
+    module _ {w₃ : List ℕ} (R : Region w₂ w₃ (lentAt blocks edges) (length touched) (λ i. getD touched (0 + i) 0)) where
+      below : (i : ℕ) → i < baseOf blocks edges → getD w₃ i 0 ≡ getD w₁ i 0
+      below i h = R .before i (omega arith) ∙ F .kept .below i h
+
+      rows₃ : EdgeRows es (length blocks / 3) (length edges / 2 + length edges / 2) w₃
+      rows₃ = rows-moved (N .between) (omega (arith, N .count)) below rows₁
+
+      which-is : (k : ℕ) → k < length blocks / 3 → which f w₃ k ≡ getD w₂ (baseOf blocks edges + k) 0
+      which-is k h = R .before (baseOf blocks edges + k) (omega arith)
+
+      order-is : (i : ℕ) → i < length blocks / 3
+          → order f w₃ i ≡ getD w₂ (baseOf blocks edges + length blocks / 3 + length blocks / 3 + length blocks / 3 + length blocks / 3 + length blocks / 3 + i) 0
+      order-is i h = R .before _ (omega arith)
+
+      pub ordered : InOrder (length blocks / 3) (which f w₃) (order f w₃)
+      ordered = order-as which-is order-is (F .order)
+
+      pub laid : Laid f w₃
+      laid = record {
+        rising = rows₃ .rising;
+        rows-fit = λ u h. omega (arith, rows₃ .ends u h, N .count);
+        below = omega arith;
+        nodes = λ u k h a b. N .between .to _ (rows₃ .only u k h a b);
+        listed = ordered .listed;
+        base-fits = omega arith;
+        out-fits = omega (arith, N .kept .len, F .kept .len, R .len);
+        touched-fits = omega (arith, N .kept .len, F .kept .len, R .len);
+        apart = inl (omega arith);
+      }
+
+      touched-is : (k b : ℕ) → k < length blocks / 3 → b < words * 64 → touchedBit f w₃ k b ≡ rowBit touched words k b
+      touched-is k b h l =
+          let r = row-before k (length blocks / 3) words h in
+          let e : lentAt blocks edges + k * words + b / 64 ≡ lentAt blocks edges + (k * words + b / 64) = omega arith in
+          let z : 0 + (k * words + b / 64) ≡ k * words + b / 64 = omega arith in
+          ap (λ (y : ℕ). bitOf y (b % 64)) (R .inside (lentAt blocks edges + k * words + b / 64) (k * words + b / 64) e (omega arith) ∙ ap (λ (y : ℕ). getD touched y 0) z)
+
+      pub solved : {w₄ : List ℕ} → Flowed f w₃ w₄ → Solved over blocks edges touched words w₀ w₄
+      solved {w₄} X = record {
+        kept = within-trans (within-wider 0 _ (omega arith) (omega arith) (N .kept))
+            (within-trans (within-wider 0 _ (omega arith) (omega arith) (F .kept))
+            (within-trans (within-wider 0 _ (omega arith) (omega arith) (region-within R)) (within-wider 0 _ (omega arith) (omega arith) (X .kept))));
+        bits = λ v b h l.
+            let r = X .bits es count (N .between) rows₃ (components-as (N .between) which-is (F .components es (N .between) rows₁)) v b h l in
+            let t = flows-as over (edgesIn blocks edges) (λ k. rowBit touched words k b) v in (
+              (λ o. t .0 (reaching-as (N .between) (λ k a. touched-is k b a l) (r .0 o))),
+              (λ o. r .1 (reaching-as (N .between) (λ k a. sym (touched-is k b a l)) (t .1 o))),
+            );
+      }
+
+module _ (over : Over) (blocks edges : List ℕ) (points : ℕ) (touched : List ℕ) (words : ℕ) (out₀ out work₀ work₁ work₂ : List ℕ)
+    (e : verdictOf blocks edges points (length touched) words (length out₀) (length work₀) ≡ Fine) (S : Solved over blocks edges touched words work₀ work₁) where
+  pub given-is : Region out₀ out 0 (length touched) (λ i. getD work₁ (lentAt blocks edges + length touched + i) 0)
+      → work₂ ≡ cleared (8 * (length blocks / 3 + length edges / 2 + length touched)) work₁
+      → Answered over blocks edges points touched words out₀ work₀ Given out work₂
+  given-is R C = record {
+    answered = λ _. record {
+      outcome = refl;
+      bits = λ v b h l. let r = S .bits v b h l in ((λ o. r .0 (sym (out-is v b h l) ∙ o)), (λ o. out-is v b h l ∙ r .1 o));
+      length-kept = R .len;
+      past = λ i h. R .after i (omega (arith, K .rows));
+      work-cleared = C ∙ cleared-same (8 * (length blocks / 3 + length edges / 2 + length touched)) work₀ work₁ (S .kept) ∙ ap (λ (y : ℕ). cleared (8 * (length blocks / 3 + length edges / 2 + y)) work₀) (K .rows);
+    };
+    turned-back = λ k i f. bad-fine (sym f ∙ e);
+  }
+    where
+      K : Known blocks edges points (length touched) words (length out₀) (length work₀)
+      K = known blocks edges points (length touched) words (length out₀) (length work₀) e
+
+      out-is : (v b : ℕ) → v < length blocks / 3 → b < words * 64 → rowBit out words v b ≡ bit work₁ (lentAt blocks edges + length touched + v * words) b
+      out-is v b h l =
+          let r = row-before v (length blocks / 3) words h in
+          let z : lentAt blocks edges + length touched + (v * words + b / 64) ≡ lentAt blocks edges + length touched + v * words + b / 64 = omega arith in
+          ap (λ (y : ℕ). bitOf y (b % 64)) (R .inside (v * words + b / 64) (v * words + b / 64) (omega arith) (omega (arith, K .rows)) ∙ ap (λ (y : ℕ). getD work₁ y 0) z)

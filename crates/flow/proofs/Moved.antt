@@ -1,0 +1,56 @@
+-- The same numbers at the places: the same rows, components, order and flow.
+use Prim.Native.Nat.{ℕ, suc, _+_, _*_, _≤_, _<_}
+use mathlib.Core.Path.{_≡_, refl, sym, ap, _∙_, subst}
+use mathlib.Core.Logic.{_≢_}
+use mathlib.Core.Bool.{Bool, true}
+use mathlib.Core.List.{List}
+use native.Mathlib.Omega.{arith}
+use lib.ListN.{length, getD}
+use Rattle.graph.specs.Paths.{Edge, Link, Route, one, more, Between}
+use Rattle.graph.specs.Flow.{Reaching}
+use Rattle.graph.specs.Work.{EdgeRows}
+use Rattle.components.specs.Components.{Components, InOrder}
+
+-- the rows, in a list with the same numbers below base
+pub rows-moved : {es : List Edge} {n at base : ℕ} {w w' : List ℕ} → Between n es → at + n + 1 + length es ≤ base → ((i : ℕ) → i < base → getD w' i 0 ≡ getD w i 0) → EdgeRows es n at w → EdgeRows es n at w'
+rows-moved {es} {n} {at} {base} {w} {w'} B fits f R = record {
+  rising = λ j h. omega (arith, R .rising j h, f (at + j) (omega arith), f (at + j + 1) (omega arith));
+  ends = λ j h. omega (arith, R .ends j h, f (at + j + 1) (omega arith));
+  has = λ j k l.
+      let h = B .from _ l in
+      let p = R .has j k l in
+      (p .0, omega (arith, p .1, f (at + j) (omega arith)), omega (arith, p .2, f (at + j + 1) (omega arith)), f (at + n + 1 + p .0) (omega (arith, p .2, R .ends j h)) ∙ p .3);
+  only = λ j p h a b.
+      let b' : p < getD w (at + j + 1) 0 = omega (arith, f (at + j + 1) (omega arith)) in
+      subst (λ (y : ℕ). Link es j y) (sym (f (at + n + 1 + p) (omega (arith, R .ends j h)))) (R .only j p h (omega (arith, f (at + j) (omega arith))) b');
+}
+
+pub components-as : {es : List Edge} {n : ℕ} {which which' : ℕ → ℕ} {count : ℕ} → Between n es → ((k : ℕ) → k < n → which' k ≡ which k) → Components es n which count → Components es n which' count
+components-as B is X = record {
+  alike = λ j k a b t. is j a ∙ X .alike j k a b t ∙ sym (is k b);
+  together = λ j k a b q. X .together j k a b (sym (is j a) ∙ q ∙ is k b);
+  down = λ j k l ne.
+      let a = B .from _ l in
+      let b = B .to _ l in
+      let d = X .down j k l (λ q. ne (is j a ∙ q ∙ sym (is k b))) in
+      omega (arith, is j a, is k b);
+  low = λ k a. omega (arith, is k a, X .low k a);
+  used = λ x a. let r = X .used x a in (r .0, r .1, is (r .0) (r .1) ∙ r .2);
+}
+
+pub order-as : {n : ℕ} {which which' order order' : ℕ → ℕ} → ((k : ℕ) → k < n → which' k ≡ which k) → ((i : ℕ) → i < n → order' i ≡ order i) → InOrder n which order → InOrder n which' order'
+order-as {n} {which} {which'} {order} {order'} f g X =
+    let both : (i : ℕ) → i < n → which' (order' i) ≡ which (order i) = λ i h. ap which' (g i h) ∙ f (order i) (X .listed i h) in
+    record {
+      listed = λ i h. omega (arith, g i h, X .listed i h);
+      sorted = λ i j h l. omega (arith, both i (omega arith), both j l, X .sorted i j h l);
+      every = λ k h. let r = X .every k h in (r .0, r .1, g (r .0) (r .1) ∙ r .2);
+      once = λ i j h l q. X .once i j h l (sym (g i (omega arith)) ∙ q ∙ g j l);
+    }
+
+route-end : {es : List Edge} {n j k : ℕ} → Between n es → Route es j k → k < n
+route-end B (one l) = B .to _ l
+route-end B (more r l) = B .to _ l
+
+pub reaching-as : {es : List Edge} {n : ℕ} {f g : ℕ → Bool} → Between n es → ((k : ℕ) → k < n → f k ≡ g k) → {v : ℕ} → Reaching es f v → Reaching es g v
+reaching-as B h r = (r .0, sym (h (r .0) (route-end B (r .2))) ∙ r .1, r .2)

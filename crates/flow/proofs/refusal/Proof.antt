@@ -1,0 +1,55 @@
+-- `flow::refusal` meets its contract: the rows, the graph, then the space.
+use native.Mathlib.Omega.{arith}
+use Prim.Native.Nat.{_-_}
+use mathlib.Core.Path.{sym, _∙_}
+use borrow.Author.Needs.{needs}
+use Rattle.flow.proofs.refusal.Statement.{statement}
+use denote.Ref.{now}
+use Rattle.flow.proofs.Entries.{rows-refused, graph-refused, space-last}
+use Rattle.graph.proofs.Refusals.{passed}
+use Rattle.flow.proofs.refusal.Tie as tie
+
+rows-requires : tie.Need-rows-requires
+rows-requires c κs = search needs
+
+enum-known-v : tie.Need-enum-known-v
+enum-known-v c = search needs
+
+returns : tie.Need-returns
+returns c = rows-refused (now (c .before .before .before .before .before .before .args .blocks)) (now (c .before .before .before .before .before .before .args .edges)) (c .before .before .before .before .before .before .args .points) (c .before .before .before .before .before .before .args .lent) (c .before .before .before .before .before .before .args .words) (c .before .before .before .before .before .before .args .answer) (c .before .before .before .before .before .before .args .work) _ _ (sym (c .before .before .before .rows .ensures) ∙ c .before .v .given .1)
+
+enum-told : tie.Need-enum-told
+enum-told c = search needs
+
+check-requires : tie.Need-check-requires
+check-requires c κs = search needs
+
+enum-known-v-2 : tie.Need-enum-known-v-2
+enum-known-v-2 c = search needs
+
+returns-2 : tie.Need-returns-2
+returns-2 c = graph-refused (now (c .before .before .before .before .before .before .before .before .before .args .blocks)) (now (c .before .before .before .before .before .before .before .before .before .args .edges)) (c .before .before .before .before .before .before .before .before .before .args .points) (c .before .before .before .before .before .before .before .before .before .args .lent) (c .before .before .before .before .before .before .before .before .before .args .words) (c .before .before .before .before .before .before .before .before .before .args .answer) (c .before .before .before .before .before .before .before .before .before .args .work) _ _ (sym (c .before .before .before .before .before .before .rows .ensures) ∙ c .before .before .before .before .enum-told .given .1) (sym (c .before .before .before .check .ensures) ∙ c .before .v2 .given .1)
+
+enum-told-2 : tie.Need-enum-told-2
+enum-told-2 c = search needs
+
+space-requires : tie.Need-space-requires
+space-requires c κs = let k = passed (now (c .before .before .before .before .before .before .before .before .args .blocks)) (now (c .before .before .before .before .before .before .before .before .args .edges)) (c .before .before .before .before .before .before .before .before .args .points) (sym (c .before .before .check .ensures) ∙ c .enum-told2 .given .1) .counts in omega (arith, k .few, k .few-edges)
+
+returns-3 : tie.Need-returns-3
+returns-3 c = space-last (now (c .before .before .before .before .before .before .before .before .before .args .blocks)) (now (c .before .before .before .before .before .before .before .before .before .args .edges)) (c .before .before .before .before .before .before .before .before .before .args .points) (c .before .before .before .before .before .before .before .before .before .args .lent) (c .before .before .before .before .before .before .before .before .before .args .words) (c .before .before .before .before .before .before .before .before .before .args .answer) (c .before .before .before .before .before .before .before .before .before .args .work) _ (sym (c .before .before .before .before .before .before .rows .ensures) ∙ c .before .before .before .before .enum-told .given .1) (sym (c .before .before .before .check .ensures) ∙ c .before .enum-told2 .given .1) (c .space .ensures)
+
+pub refusal-spec : {M : Type 1} → statement M
+refusal-spec =
+    tie.close
+    (tie.spec
+    rows-requires
+    enum-known-v
+    returns
+    enum-told
+    check-requires
+    enum-known-v-2
+    returns-2
+    enum-told-2
+    space-requires
+    returns-3)

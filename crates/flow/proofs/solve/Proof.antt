@@ -1,0 +1,94 @@
+-- `flow::solve` meets its contract: the rows of the edges, the components, the rows lent, and then the flow.
+use native.Mathlib.Omega.{arith}
+use Prim.Native.Nat.{_-_, _≤_, _/_}
+use mathlib.Core.Path.{_∙_}
+use lib.ListN.{length}
+use Rattle.flow.proofs.solve.Statement.{statement}
+use denote.Ref.{now}
+use Rattle.flow.proofs.Entries.{walkable, copy-fits, ordered, laid, solved}
+use Rattle.graph.proofs.Line.{blocks-length}
+use Rattle.flow.proofs.solve.Tie as tie
+
+some : (c : tie.Start) → 1 ≤ length (now (c .args .blocks)) / 3
+some c = omega (arith, c .pre .0 .0 .some-block, blocks-length (now (c .args .blocks)))
+
+add-base : tie.Need-add-base
+add-base c = omega (arith, some (c .before .before .before .before))
+
+add-base-2 : tie.Need-add-base-2
+add-base-2 c = omega (arith, some (c .before .before .before .before))
+
+add-base-3 : tie.Need-add-base-3
+add-base-3 c = omega (arith, some (c .before .before .before .before))
+
+add-base-4 : tie.Need-add-base-4
+add-base-4 c = omega (arith, some (c .before .before .before .before))
+
+add-lent : tie.Need-add-lent
+add-lent c = omega (arith, some (c .before .before .before .before))
+
+add-lent-2 : tie.Need-add-lent-2
+add-lent-2 c = omega (arith, some (c .before .before .before .before))
+
+add-lent-3 : tie.Need-add-lent-3
+add-lent-3 c = omega (arith, some (c .before .before .before .before))
+
+add-lent-4 : tie.Need-add-lent-4
+add-lent-4 c = omega (arith, some (c .before .before .before .before))
+
+add-lent-5 : tie.Need-add-lent-5
+add-lent-5 c = omega (arith, some (c .before .before .before .before))
+
+add-lent-6 : tie.Need-add-lent-6
+add-lent-6 c = omega (arith, some (c .before .before .before .before))
+
+neighbours-requires : tie.Need-neighbours-requires
+neighbours-requires c κs = ((c .before .before .before .before .before .pre .0 .0, c .before .before .before .before .before .pre .0 .1), omega (arith, some (c .before .before .before .before .before)))
+
+add-components : tie.Need-add-components
+add-components c = omega (arith, some (c .before .before .before .before .before .before .before .before .before))
+
+components-requires : tie.Need-components-requires
+components-requires c κs = walkable (c .before .before .before .before .before .before .before .before .before .args .over) (now (c .before .before .before .before .before .before .before .before .before .args .blocks)) (now (c .before .before .before .before .before .before .before .before .before .args .edges)) (now (c .before .before .before .before .before .before .before .before .before .args .touched)) (c .before .before .before .before .before .before .before .before .before .args .words) _ _ (some (c .before .before .before .before .before .before .before .before .before)) (c .before .before .before .before .before .before .before .before .before .pre .0 .2) (c .before .before .before .before .before .before .before .before .before .pre .1) (c .before .before .before .neighbours .ensures)
+
+copy-rows-requires : tie.Need-copy-rows-requires
+copy-rows-requires c κs = (copy-fits (c .before .before .before .before .before .before .before .before .before .before .before .before .before .args .over) (now (c .before .before .before .before .before .before .before .before .before .before .before .before .before .args .blocks)) (now (c .before .before .before .before .before .before .before .before .before .before .before .before .before .args .edges)) (now (c .before .before .before .before .before .before .before .before .before .before .before .before .before .args .touched)) (c .before .before .before .before .before .before .before .before .before .before .before .before .before .args .words) _ _ (some (c .before .before .before .before .before .before .before .before .before .before .before .before .before)) (c .before .before .before .before .before .before .before .before .before .before .before .before .before .pre .0 .2) (c .before .before .before .before .before .before .before .before .before .before .before .before .before .pre .1) (c .before .before .before .before .before .before .before .neighbours .ensures) (c .before .before .before .components .ensures), omega arith)
+
+add-t11 : tie.Need-add-t11
+add-t11 c = omega (arith, some (c .before .before .before .before .before .before .before .before .before .before .before .before .before .before .before .before .before))
+
+add-t14 : tie.Need-add-t14
+add-t14 c = omega (arith, some (c .before .before .before .before .before .before .before .before .before .before .before .before .before .before .before .before .before))
+
+flowed-requires : tie.Need-flowed-requires
+flowed-requires c κs = (laid (c .before .before .before .before .before .before .before .before .before .before .before .before .before .before .before .before .before .args .over) (now (c .before .before .before .before .before .before .before .before .before .before .before .before .before .before .before .before .before .args .blocks)) (now (c .before .before .before .before .before .before .before .before .before .before .before .before .before .before .before .before .before .args .edges)) (now (c .before .before .before .before .before .before .before .before .before .before .before .before .before .before .before .before .before .args .touched)) (c .before .before .before .before .before .before .before .before .before .before .before .before .before .before .before .before .before .args .words) _ _ (some (c .before .before .before .before .before .before .before .before .before .before .before .before .before .before .before .before .before)) (c .before .before .before .before .before .before .before .before .before .before .before .before .before .before .before .before .before .pre .0 .2) (c .before .before .before .before .before .before .before .before .before .before .before .before .before .before .before .before .before .pre .1) (c .before .before .before .before .before .before .before .before .before .before .before .neighbours .ensures) (c .before .before .before .before .before .before .before .components .ensures) (c .before .before .before .copy-rows .ensures), ordered (c .before .before .before .before .before .before .before .before .before .before .before .before .before .before .before .before .before .args .over) (now (c .before .before .before .before .before .before .before .before .before .before .before .before .before .before .before .before .before .args .blocks)) (now (c .before .before .before .before .before .before .before .before .before .before .before .before .before .before .before .before .before .args .edges)) (now (c .before .before .before .before .before .before .before .before .before .before .before .before .before .before .before .before .before .args .touched)) (c .before .before .before .before .before .before .before .before .before .before .before .before .before .before .before .before .before .args .words) _ _ (some (c .before .before .before .before .before .before .before .before .before .before .before .before .before .before .before .before .before)) (c .before .before .before .before .before .before .before .before .before .before .before .before .before .before .before .before .before .pre .0 .2) (c .before .before .before .before .before .before .before .before .before .before .before .before .before .before .before .before .before .pre .1) (c .before .before .before .before .before .before .before .before .before .before .before .neighbours .ensures) (c .before .before .before .before .before .before .before .components .ensures) (c .before .before .before .copy-rows .ensures))
+
+same-length : tie.Need-same-length
+same-length c = c .before .before .flowed .ensures .kept .len ∙ c .before .before .before .before .before .before .copy-rows .ensures .len ∙ c .before .before .before .before .before .before .before .before .before .before .components .ensures .kept .len ∙ c .before .before .before .before .before .before .before .before .before .before .before .before .before .before .neighbours .ensures .kept .len
+
+returns : tie.Need-returns
+returns c = solved (c .before .before .before .before .before .before .before .before .before .before .before .before .before .before .before .before .before .before .before .before .args .over) (now (c .before .before .before .before .before .before .before .before .before .before .before .before .before .before .before .before .before .before .before .before .args .blocks)) (now (c .before .before .before .before .before .before .before .before .before .before .before .before .before .before .before .before .before .before .before .before .args .edges)) (now (c .before .before .before .before .before .before .before .before .before .before .before .before .before .before .before .before .before .before .before .before .args .touched)) (c .before .before .before .before .before .before .before .before .before .before .before .before .before .before .before .before .before .before .before .before .args .words) _ _ (some (c .before .before .before .before .before .before .before .before .before .before .before .before .before .before .before .before .before .before .before .before)) (c .before .before .before .before .before .before .before .before .before .before .before .before .before .before .before .before .before .before .before .before .pre .0 .2) (c .before .before .before .before .before .before .before .before .before .before .before .before .before .before .before .before .before .before .before .before .pre .1) (c .before .before .before .before .before .before .before .before .before .before .before .before .before .before .neighbours .ensures) (c .before .before .before .before .before .before .before .before .before .before .components .ensures) (c .before .before .before .before .before .before .copy-rows .ensures) (c .before .before .flowed .ensures)
+
+pub solve-spec : {M : Type 1} → statement M
+solve-spec =
+    tie.close
+    (tie.spec
+    add-base
+    add-base-2
+    add-base-3
+    add-base-4
+    add-lent
+    add-lent-2
+    add-lent-3
+    add-lent-4
+    add-lent-5
+    add-lent-6
+    neighbours-requires
+    add-components
+    components-requires
+    copy-rows-requires
+    add-t11
+    add-t14
+    flowed-requires
+    same-length
+    returns)

@@ -1,0 +1,2 @@
+pub mod Flowed
+pub mod Entry

@@ -1,0 +1,148 @@
+// What flows along the edges: rows of bits over the places.
+ghost use mathlib.Core.Path.{_≡_};
+ghost use Prim.Native.Nat.{ℕ, _+_, _*_, _/_, _≤_, _<_};
+ghost use lib.ListN.{length, getD};
+ghost use Rattle.refusals.specs.declared.Verdict.the-variants.{Fine};
+ghost use Rattle.words.specs.Regions.{Region};
+ghost use Rattle.graph.specs.Line.{blocksOf, jumpsOf, edgeVerdict, Sound};
+ghost use Rattle.graph.specs.Work.{Neighbours};
+ghost use Rattle.components.specs.Entry.{edgesIn};
+ghost use Rattle.flow.specs.Entry.{wayOf, verdictOf, lentAt, Answered, Solved};
+
+pub mod rows; // rows.rt: `flowed` in the work space
+
+use refusals::Refusal;
+use refusals::Verdict;
+
+// Where `flowed` finds and puts things in the work space, of n places: the edge rows from `at` on, the components' numbers from
+// `base` on and their order from `base + 5 * n` on; rows of `words` words, the touched ones from `touched` on, the answer's from `out` on.
+pub struct Flow {
+    pub n: usize,
+    pub at: usize,
+    pub base: usize,
+    pub words: usize,
+    pub touched: usize,
+    pub out: usize,
+}
+
+// Which edges are followed.
+pub enum Over {
+    Predecessors,
+    Successors,
+}
+
+// The rows are in the answer list, or a refusal with the index of the first offending record.
+pub enum Answer {
+    Given,
+    Refused(Refusal, usize),
+}
+
+// The `n` numbers of `s` from `from` on to `to`.
+pub fn copy_rows(w: &mut [u64], to: usize, s: &[u64], from: usize, n: usize)
+    requires { ⌜ (to + n ≤ length (now w)) × (from + n ≤ length (now s)) ⌝ }
+    ensures { λ _. ⌜ Region (now (w .entry)) (now (w .exit)) to n (λ i. getD (now (s .entry)) (from + i) 0) ⌝ }
+{
+    let mut i = 0;
+    while i < n {
+        w[to + i] = s[from + i];
+        i += 1;
+    }
+}
+
+// The refusals of the entry, lowest number first.
+pub fn refusal(
+    blocks: &[u32],
+    edges: &[u32],
+    points: u32,
+    lent: usize,
+    words: usize,
+    answer: usize,
+    work: usize,
+) -> Verdict
+    ensures { λ r. ⌜ r ≡ verdictOf (now (blocks .entry)) (now (edges .entry)) points lent words answer work ⌝ }
+{
+    let n = blocks.len() / 3;
+    let v = graph::checks::rows(lent, n, words);
+    if let Verdict::Bad(r, i) = v {
+        return Verdict::Bad(r, i);
+    }
+    let v = graph::checks::check(blocks, edges, points);
+    if let Verdict::Bad(r, i) = v {
+        return Verdict::Bad(r, i);
+    }
+    graph::checks::space(answer, lent, work, n, edges.len() / 2, lent)
+}
+
+// The rows of the edges that are followed.
+fn neighbours(over: Over, blocks: &[u32], edges: &[u32], work: &mut [u64])
+    requires { ⌜ Sound (blocksOf (now blocks)) × (edgeVerdict (blocksOf (now blocks)) (jumpsOf (now edges)) ≡ Fine) ⌝ }
+    requires { ⌜ 0 + length (now edges) / 2 + length (now edges) / 2 + (length (now blocks) / 3 + 1 + length (now edges) / 2) ≤ length (now work) ⌝ }
+    ensures { λ _. ⌜ Neighbours (wayOf over (edgesIn (now (blocks .entry)) (now (edges .entry)))) (length (now (blocks .entry)) / 3) (length (now (edges .entry)) / 2) 0 (now (work .entry)) (now (work .exit)) ⌝ }
+{
+    match over {
+        Over::Predecessors => graph::rows::predecessors(blocks, edges, work, 0),
+        Over::Successors => graph::rows::successors(blocks, edges, work, 0),
+    }
+}
+
+// The rows of a graph that was checked: they stand behind the rows lent, which stand behind the components.
+fn solve(over: Over, blocks: &[u32], edges: &[u32], touched: &[u64], words: usize, work: &mut [u64])
+    requires { ⌜ Sound (blocksOf (now blocks)) × (edgeVerdict (blocksOf (now blocks)) (jumpsOf (now edges)) ≡ Fine) × (length (now touched) ≡ length (now blocks) / 3 * words) ⌝ }
+    requires { ⌜ 8 * (length (now blocks) / 3 + length (now edges) / 2 + length (now touched)) ≤ length (now work) ⌝ }
+    ensures { λ _. ⌜ Solved over (now (blocks .entry)) (now (edges .entry)) (now (touched .entry)) words (now (work .entry)) (now (work .exit)) ⌝ }
+{
+    let n = blocks.len() / 3;
+    let e = edges.len() / 2;
+    let base = e + e + (n + 1 + e);
+    let lent = base + n + n + n + n + n + n;
+    neighbours(over, blocks, edges, work);
+    components::tarjan::components(work, n, e + e, base);
+    copy_rows(work, lent, touched, 0, touched.len());
+    rows::flowed(
+        work,
+        Flow {
+            n: n,
+            at: e + e,
+            base: base,
+            words: words,
+            touched: lent,
+            out: lent + touched.len(),
+        },
+    );
+}
+
+// Which touched places are reached over one or more edges, or reach a place, by rows of `words` words of bits over the places. Refusals: 1 (also
+// rows that are not one to a block), 2, 3, and 7 where the answer list has fewer words than the rows or the work space fewer than
+// 8 times the blocks, edges and words of the rows. Linear in edges and words.
+pub fn flowed(
+    over: Over,
+    blocks: &[u32],
+    edges: &[u32],
+    points: u32,
+    touched: &[u64],
+    words: usize,
+    out: &mut [u64],
+    work: &mut [u64],
+) -> Answer
+    ensures { λ r. ⌜ Answered over (now (blocks .entry)) (now (edges .entry)) points (now (touched .entry)) words (now (out .entry)) (now (work .entry)) r (now (out .exit)) (now (work .exit)) ⌝ }
+{
+    let v = refusal(
+        blocks,
+        edges,
+        points,
+        touched.len(),
+        words,
+        out.len(),
+        work.len(),
+    );
+    if let Verdict::Bad(r, i) = v {
+        return Answer::Refused(r, i);
+    }
+    let n = blocks.len() / 3;
+    let e = edges.len() / 2;
+    let lent = e + e + (n + 1 + e) + n + n + n + n + n + n;
+    solve(over, blocks, edges, touched, words, work);
+    copy_rows(out, 0, work, lent + touched.len(), touched.len());
+    words::clear(work, 8 * (n + e + touched.len()));
+    Answer::Given
+}

@@ -1,0 +1,242 @@
+-- Laws of the entries: each way out.
+use Prim.Native.Nat.{ℕ, zero, suc, _+_, _-_, _*_, _/_, _%_, _≤_, _<_}
+use mathlib.Core.Path.{_≡_, refl, sym, ap, _∙_, subst}
+use mathlib.Core.Logic.{_↔_}
+use mathlib.Core.Bool.{Bool, true}
+use mathlib.Core.List.{List}
+use native.Mathlib.Omega.{arith}
+use lib.ListN.{length, getD}
+use Rattle.refusals.specs.declared.Refusal.{Refusal}
+use Rattle.refusals.specs.declared.Verdict.{Verdict}
+use Rattle.refusals.specs.declared.Verdict.the-variants.{Fine, Bad}
+use Rattle.refusals.specs.Verdicts.{first}
+use Rattle.refusals.proofs.Laws.{first-fine, first-bad, first-left, first-right}
+use Rattle.words.specs.Rows.{rowCount}
+use Rattle.words.specs.Regions.{Region, cleared}
+use Rattle.words.proofs.RegionLaws.{row-before}
+use Rattle.bits.specs.Bits.{bit, bitOf}
+use Rattle.graph.specs.Paths.{Edge, Between}
+use Rattle.graph.specs.Flow.{Arrives}
+use Rattle.graph.specs.Checks.{rowsVerdict, spaceOf}
+use Rattle.graph.specs.Work.{Within, EdgeRows, Neighbours}
+use Rattle.graph.proofs.Within.{within-trans, within-wider, region-within}
+use Rattle.graph.proofs.Refusals.{rows-told}
+use Rattle.components.specs.Components.{Walkable, Found}
+use Rattle.components.specs.Entry.{edgesIn, verdictOf as orderVerdict}
+use Rattle.components.proofs.Entries.{cleared-same}
+use Rattle.flow.specs.Entry.{rowBit, baseOf, verdictOf as rowVerdict}
+use Rattle.flow.proofs.Entries.{Known as RowsKnown, known as rows-known}
+use Rattle.flow.proofs.Moved.{rows-moved}
+use Rattle.spread.specs.declared.Layout.{Layout}
+use Rattle.spread.specs.declared.Answer.{Answer}
+use Rattle.spread.specs.declared.Answer.the-variants.{Given, Refused}
+use Rattle.spread.specs.Settling.{Settling, Placeable, Placed}
+use Rattle.spread.specs.Spread.{leaveBit, passBit, outBit, Laid, Arrived}
+use Rattle.spread.specs.Entry.{Turned, Ordered, Settled, verdictOf, Filled, Answered, Prepared, lentAt, answerAt, Solved}
+use Rattle.spread.proofs.Orders.{settles}
+use Rattle.spread.proofs.Turns.{arrives-as}
+
+bad-fine : {A : Type 0} {k : Refusal} {i : ℕ} → Bad k i ≡ Fine → A
+bad-fine e = absurd (let z : _≡_ {A = ℕ} 0 1 = cc in omega arith)
+
+same-bad : (r : Refusal) (i : ℕ) (list work : List ℕ) (k : Refusal) (j : ℕ) → Bad r i ≡ Bad k j → Turned k j list work (Refused r i) list work
+same-bad r i list work k j q = record { outcome = let a : r ≡ k = cc in let b : i ≡ j = cc in rw (a, b) refl; list-kept = refl; work-kept = refl }
+
+-- ---- the rows, the walk, and the order
+
+module _ (blocks edges : List ℕ) (w₀ w₁ : List ℕ) (some : 1 ≤ length blocks / 3) (fits : 8 * (length blocks / 3 + length edges / 2) ≤ length w₀)
+    (N : Neighbours (edgesIn blocks edges) (length blocks / 3) (length edges / 2) 0 w₀ w₁) where
+  rows₁ : EdgeRows (edgesIn blocks edges) (length blocks / 3) (length edges / 2 + length edges / 2) w₁
+  rows₁ = subst (λ (y : ℕ). EdgeRows (edgesIn blocks edges) (length blocks / 3) y w₁) (omega arith) (N .rows)
+
+  pub walkable : Walkable (length blocks / 3) (length edges / 2 + length edges / 2) (baseOf blocks edges) w₁
+  walkable = record { edges = edgesIn blocks edges; between = N .between; rows = rows₁; below = omega (arith, N .count); room = omega (arith, N .kept .len) }
+
+  module _ {w₂ : List ℕ} {count : ℕ} (F : Found (length blocks / 3) (length edges / 2 + length edges / 2) (baseOf blocks edges) w₁ w₂ count) where
+    pub placeable : Placeable (length blocks / 3) (baseOf blocks edges + length blocks / 3 + length blocks / 3 + length blocks / 3 + length blocks / 3 + length blocks / 3) (baseOf blocks edges) w₂
+    placeable = record { apart = omega arith; fits = omega (arith, N .kept .len, F .kept .len); listed = F .order .listed; once = F .order .once }
+
+    pub prepared : {w₃ : List ℕ}
+        → Placed (length blocks / 3) (baseOf blocks edges + length blocks / 3 + length blocks / 3 + length blocks / 3 + length blocks / 3 + length blocks / 3) (baseOf blocks edges) (length blocks / 3) w₂ w₃
+        → Prepared blocks edges w₀ w₃
+    prepared {w₃} P = record {
+      kept = within-trans (within-wider 0 _ (omega arith) (omega arith) (N .kept)) (within-trans (within-wider 0 _ (omega arith) (omega arith) (F .kept)) (within-wider 0 _ (omega arith) (omega arith) (P .kept)));
+      count = N .count;
+      between = N .between;
+      rows = rows-moved (N .between) (omega (arith, N .count)) (λ i h. P .kept .below i h ∙ F .kept .below i h) rows₁;
+      settling = settles (F .order) (N .between) (F .components (edgesIn blocks edges) (N .between) rows₁) (λ i. getD w₃ (baseOf blocks edges + i) 0) (P .order);
+      ranks = λ i h. ap (λ (y : ℕ). getD w₃ (baseOf blocks edges + length blocks / 3 + y) 0) (P .order i h) ∙ P .rank i h;
+    }
+
+-- ---- settling
+
+pub order-refused : (blocks edges : List ℕ) (points : ℕ) (order work : List ℕ) (r : Refusal) (i : ℕ) → orderVerdict blocks edges points (length order) (length work) ≡ Bad r i
+    → Settled blocks edges points order work (Refused r i) order work
+order-refused blocks edges points order work r i e = record { answered = λ f. bad-fine (sym e ∙ f); turned-back = λ k j f. same-bad r i order work k j (sym e ∙ f) }
+
+pub small : {blocks edges : List ℕ} {w₀ w : List ℕ} → Prepared blocks edges w₀ w → length blocks / 3 ≤ 4096 → (i : ℕ) → i < length blocks / 3 → getD w (baseOf blocks edges + i) 0 < 4294967296
+small P few i h = omega (arith, P .settling .listed i h)
+
+settling-as : {es : List Edge} {n : ℕ} {o o' : ℕ → ℕ} → ((i : ℕ) → i < n → o' i ≡ o i) → Settling es n o → Settling es n o'
+settling-as is X = record {
+  listed = λ i h. omega (arith, is i h, X .listed i h);
+  every = λ k h. let r = X .every k h in (r .0, r .1, is (r .0) (r .1) ∙ r .2);
+  once = λ i j h l e. X .once i j h l (sym (is i h) ∙ e ∙ is j l);
+  before = λ j k l never p q h m ep eq. X .before j k l never p q h m (sym (is p h) ∙ ep) (sym (is q m) ∙ eq);
+}
+
+pub order-given : (blocks edges : List ℕ) (points : ℕ) (order₀ order work₀ work₁ work₂ : List ℕ) → orderVerdict blocks edges points (length order₀) (length work₀) ≡ Fine
+    → 1 ≤ length blocks / 3 → Prepared blocks edges work₀ work₁
+    → Region order₀ order 0 (length blocks / 3) (λ i. getD work₁ (baseOf blocks edges + i) 0) → work₂ ≡ cleared (8 * (length blocks / 3 + length edges / 2)) work₁
+    → Settled blocks edges points order₀ work₀ Given order work₂
+order-given blocks edges points order₀ order work₀ work₁ work₂ e some P R C =
+    let eight : 8 * (length blocks / 3 + length edges / 2) ≡ 8 * (length blocks / 3 + length edges / 2 + 0) = omega arith in
+    record {
+      answered = λ _. record {
+        outcome = refl;
+        settling = settling-as (λ i h. R .inside i i (omega arith) h) (P .settling);
+        length-kept = R .len;
+        past = λ i h. R .after i (omega arith);
+        work-cleared = C ∙ ap (λ (y : ℕ). cleared y work₁) eight ∙ cleared-same (spaceOf (rowCount 3 blocks) (rowCount 2 edges) 0) work₀ work₁ (within-wider 0 _ (omega arith) (omega arith) (P .kept));
+      };
+      turned-back = λ k i f. bad-fine (sym f ∙ e);
+    }
+
+-- ---- spread: the refusals
+
+module _ (blocks edges : List ℕ) (points leaving passing words answer work : ℕ) where
+  pub passing-refused : (r : Refusal) (i : ℕ) → rowsVerdict passing (rowCount 3 blocks) words ≡ Bad r i → Bad r i ≡ verdictOf blocks edges points leaving passing words answer work
+  unfolding verdictOf
+  passing-refused r i e = sym (first-bad _ _ r i e)
+
+  pub rest-last : (v : Verdict) → rowsVerdict passing (rowCount 3 blocks) words ≡ Fine → v ≡ rowVerdict blocks edges points leaving words answer work → v ≡ verdictOf blocks edges points leaving passing words answer work
+  unfolding verdictOf
+  rest-last v f e = e ∙ sym (first-fine _ _ f)
+
+  pub record Known : Type 0 where
+    pub passing-rows : passing ≡ rowCount 3 blocks * words
+    pub rest : RowsKnown blocks edges points leaving words answer work
+
+  pub known : verdictOf blocks edges points leaving passing words answer work ≡ Fine → Known
+  unfolding verdictOf
+  known e = record {
+    passing-rows = rows-told passing (rowCount 3 blocks) words (first-left (rowsVerdict passing (rowCount 3 blocks) words) _ e);
+    rest = rows-known blocks edges points leaving words answer work (first-right (rowsVerdict passing (rowCount 3 blocks) words) _ e);
+  }
+
+pub rows-refused : (blocks edges : List ℕ) (points : ℕ) (leaves passes : List ℕ) (words : ℕ) (out work : List ℕ) (r : Refusal) (i : ℕ)
+    → verdictOf blocks edges points (length leaves) (length passes) words (length out) (length work) ≡ Bad r i → Answered blocks edges points leaves passes words out work (Refused r i) out work
+rows-refused blocks edges points leaves passes words out work r i e = record { answered = λ f. bad-fine (sym e ∙ f); turned-back = λ k j f. same-bad r i out work k j (sym e ∙ f) }
+
+-- ---- spread: the answer
+
+-- bit b of row k, in rows that were copied
+bit-copied : {w w' : List ℕ} {at m : ℕ} (rows : List ℕ) (n words : ℕ) → Region w w' at m (λ i. getD rows (0 + i) 0) → m ≡ n * words → (k b : ℕ) → k < n → b < words * 64 → bit w' (at + k * words) b ≡ rowBit rows words k b
+bit-copied {at = at} rows n words R e k b h l =
+    let r = row-before k n words h in
+    let p : at + k * words + b / 64 ≡ at + (k * words + b / 64) = omega arith in
+    let z : 0 + (k * words + b / 64) ≡ k * words + b / 64 = omega arith in
+    ap (λ (y : ℕ). bitOf y (b % 64)) (R .inside (at + k * words + b / 64) (k * words + b / 64) p (omega arith) ∙ ap (λ (y : ℕ). getD rows y 0) z)
+
+module _ (blocks edges leaves passes : List ℕ) (words : ℕ) (w₀ w₁ : List ℕ) (few : length blocks / 3 ≤ 4096) (some : 1 ≤ length blocks / 3)
+    (leaving : length leaves ≡ length blocks / 3 * words) (passing : length passes ≡ length blocks / 3 * words)
+    (fits : 8 * (length blocks / 3 + length edges / 2 + length leaves) ≤ length w₀) (P : Prepared blocks edges w₀ w₁) where
+  abbrev s : Layout
+  s = record {
+    n = length blocks / 3;
+    at = length edges / 2 + length edges / 2;
+    order = baseOf blocks edges;
+    rank = baseOf blocks edges + length blocks / 3;
+    words = words;
+    leaves = lentAt blocks edges;
+    passes = lentAt blocks edges + length leaves;
+    wait = lentAt blocks edges + length leaves + length leaves;
+  }
+
+  pub room : answerAt blocks edges (length leaves) + length leaves ≤ length w₁
+  room = omega (arith, P .kept .len)
+
+  module _ {w₂ w₃ : List ℕ} (A : Region w₁ w₂ (lentAt blocks edges) (length leaves) (λ i. getD leaves (0 + i) 0))
+      (B : Region w₂ w₃ (lentAt blocks edges + length leaves) (length leaves) (λ i. getD passes (0 + i) 0)) where
+    below : (i : ℕ) → i < lentAt blocks edges → getD w₃ i 0 ≡ getD w₁ i 0
+    below i h = B .before i (omega arith) ∙ A .before i h
+
+    rows₃ : EdgeRows (edgesIn blocks edges) (length blocks / 3) (length edges / 2 + length edges / 2) w₃
+    rows₃ = rows-moved (P .between) (omega (arith, P .count)) below (P .rows)
+
+    order-is : (i : ℕ) → i < length blocks / 3 → getD w₃ (baseOf blocks edges + i) 0 ≡ getD w₁ (baseOf blocks edges + i) 0
+    order-is i h = below (baseOf blocks edges + i) (omega arith)
+
+    rank-at : (i : ℕ) → i < length blocks / 3 → getD w₃ (baseOf blocks edges + length blocks / 3 + getD w₃ (baseOf blocks edges + i) 0) 0 ≡ i
+    rank-at i h =
+        ap (λ (y : ℕ). getD w₃ (baseOf blocks edges + length blocks / 3 + y) 0) (order-is i h)
+        ∙ below _ (omega (arith, P .settling .listed i h)) ∙ P .ranks i h
+
+    -- the place of a rank, and the rank of a place
+    ranked-at : (v : ℕ) → v < length blocks / 3 → (i : ℕ) × (i < length blocks / 3) × (getD w₃ (baseOf blocks edges + i) 0 ≡ v) × (getD w₃ (baseOf blocks edges + length blocks / 3 + v) 0 ≡ i)
+    ranked-at v h =
+        let r = P .settling .every v h in
+        let e = order-is (r .0) (r .1) ∙ r .2 in
+        (r .0, r .1, e, ap (λ (y : ℕ). getD w₃ (baseOf blocks edges + length blocks / 3 + y) 0) (sym e) ∙ rank-at (r .0) (r .1))
+
+    pub laid : Laid s w₃
+    laid = record {
+      few = few;
+      rising = rows₃ .rising;
+      rows-fit = λ u h. omega (arith, rows₃ .ends u h, P .count);
+      below = omega arith;
+      nodes = λ u k h a b. P .between .to _ (rows₃ .only u k h a b);
+      order-fits = omega arith;
+      rank-fits = omega arith;
+      leaves-fit = omega arith;
+      passes-fit = omega arith;
+      out-fits = omega (arith, room, A .len, B .len);
+      placed = λ r h. omega (arith, order-is r h, P .settling .listed r h);
+      ranked = λ v h. let r = ranked-at v h in omega (arith, r .1, r .3);
+      rank-of = rank-at;
+      order-of = λ v h. let r = ranked-at v h in ap (λ (y : ℕ). getD w₃ (baseOf blocks edges + y) 0) (r .3) ∙ r .2;
+    }
+
+    leave-is : (k b : ℕ) → k < length blocks / 3 → b < words * 64 → leaveBit s w₃ k b ≡ rowBit leaves words k b
+    leave-is k b h l =
+        let r = row-before k (length blocks / 3) words h in
+        ap (λ (y : ℕ). bitOf y (b % 64)) (B .before (lentAt blocks edges + k * words + b / 64) (omega arith)) ∙ bit-copied leaves (length blocks / 3) words A leaving k b h l
+
+    pass-is : (k b : ℕ) → k < length blocks / 3 → b < words * 64 → passBit s w₃ k b ≡ rowBit passes words k b
+    pass-is k b h l = bit-copied passes (length blocks / 3) words B leaving k b h l
+
+    pub solved : {w₄ : List ℕ} → Arrived s w₃ w₄ → Solved blocks edges leaves passes words w₀ w₄
+    solved {w₄} X = record {
+      kept = within-trans (within-wider 0 _ (omega arith) (omega arith) (P .kept))
+          (within-trans (within-wider 0 _ (omega arith) (omega arith) (region-within A))
+          (within-trans (within-wider 0 _ (omega arith) (omega arith) (region-within B)) (within-wider 0 _ (omega arith) (omega arith) (X .kept))));
+      bits = λ v b h l.
+          let r = X .bits (edgesIn blocks edges) (P .between) rows₃ v b h l in (
+            (λ o. arrives-as (edgesIn blocks edges) (P .between) (λ k a. leave-is k b a l) (λ k a. pass-is k b a l) (r .0 o)),
+            (λ o. r .1 (arrives-as (edgesIn blocks edges) (P .between) (λ k a. sym (leave-is k b a l)) (λ k a. sym (pass-is k b a l)) o)),
+          );
+    }
+
+pub rows-given : (blocks edges : List ℕ) (points : ℕ) (leaves passes : List ℕ) (words : ℕ) (out₀ out work₀ work₁ work₂ : List ℕ)
+    → verdictOf blocks edges points (length leaves) (length passes) words (length out₀) (length work₀) ≡ Fine → Solved blocks edges leaves passes words work₀ work₁
+    → Region out₀ out 0 (length leaves) (λ i. getD work₁ (answerAt blocks edges (length leaves) + i) 0) → work₂ ≡ cleared (8 * (length blocks / 3 + length edges / 2 + length leaves)) work₁
+    → Answered blocks edges points leaves passes words out₀ work₀ Given out work₂
+rows-given blocks edges points leaves passes words out₀ out work₀ work₁ work₂ e S R C = record {
+  answered = λ _. record {
+    outcome = refl;
+    bits = λ v b h l. let r = S .bits v b h l in ((λ o. r .0 (sym (out-is v b h l) ∙ o)), (λ o. out-is v b h l ∙ r .1 o));
+    length-kept = R .len;
+    past = λ i h. R .after i (omega (arith, K .rows));
+    work-cleared = C ∙ cleared-same (8 * (length blocks / 3 + length edges / 2 + length leaves)) work₀ work₁ (S .kept) ∙ ap (λ (y : ℕ). cleared (8 * (length blocks / 3 + length edges / 2 + y)) work₀) (K .rows);
+  };
+  turned-back = λ k i f. bad-fine (sym f ∙ e);
+}
+  where
+    K : RowsKnown blocks edges points (length leaves) words (length out₀) (length work₀)
+    K = known blocks edges points (length leaves) (length passes) words (length out₀) (length work₀) e .rest
+
+    out-is : (v b : ℕ) → v < length blocks / 3 → b < words * 64 → rowBit out words v b ≡ bit work₁ (answerAt blocks edges (length leaves) + v * words) b
+    out-is v b h l =
+        let r = row-before v (length blocks / 3) words h in
+        let z : answerAt blocks edges (length leaves) + (v * words + b / 64) ≡ answerAt blocks edges (length leaves) + v * words + b / 64 = omega arith in
+        ap (λ (y : ℕ). bitOf y (b % 64)) (R .inside (v * words + b / 64) (v * words + b / 64) (omega arith) (omega (arith, K .rows)) ∙ ap (λ (y : ℕ). getD work₁ y 0) z)

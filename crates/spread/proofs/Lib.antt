@@ -1,0 +1,6 @@
+pub mod Sums
+pub mod Kept
+pub mod Pushes
+pub mod Turns
+pub mod Orders
+pub mod Entries

@@ -1,0 +1,80 @@
+-- `spread::settling` meets its contract: a refusal, or the order and a cleared work space.
+use native.Mathlib.Omega.{arith}
+use Prim.Native.Nat.{_-_}
+use mathlib.Core.Path.{sym, ap, _∙_}
+use lib.ListN.{length, length-append, length-replicate, length-drop}
+use borrow.Author.Needs.{needs}
+use Rattle.spread.proofs.settling.Statement.{statement}
+use denote.Ref.{now}
+use Rattle.spread.proofs.Entries.{order-refused, small, order-given}
+use Rattle.components.proofs.Entries.{known}
+use Rattle.spread.proofs.settling.Tie as tie
+
+refusal-requires : tie.Need-refusal-requires
+refusal-requires c κs = search needs
+
+enum-known-v : tie.Need-enum-known-v
+enum-known-v c = search needs
+
+returns : tie.Need-returns
+returns c = order-refused (now (c .before .before .before .before .before .before .before .before .args .blocks)) (now (c .before .before .before .before .before .before .before .before .args .edges)) (c .before .before .before .before .before .before .before .before .args .points) (now (c .before .before .before .before .before .before .before .before .args .order)) (now (c .before .before .before .before .before .before .before .before .args .work)) _ _ (sym (c .before .before .before .refusal .ensures) ∙ c .before .v .given .1)
+
+enum-told : tie.Need-enum-told
+enum-told c = search needs
+
+prepare-requires : tie.Need-prepare-requires
+prepare-requires c κs = let k = known (now (c .before .before .before .before .before .before .before .before .args .blocks)) (now (c .before .before .before .before .before .before .before .before .args .edges)) (c .before .before .before .before .before .before .before .before .args .points) (length (now (c .before .before .before .before .before .before .before .before .args .order))) (length (now (c .before .before .before .before .before .before .before .before .args .work))) (sym (c .before .before .before .refusal .ensures) ∙ c .before .enum-told .given .1) in ((k .graph .sound, k .graph .edges-fine), omega (arith, k .work-fits))
+
+add-narrow : tie.Need-add-narrow
+add-narrow c = let k = known (now (c .before .before .before .before .before .before .before .before .before .before .before .before .before .args .blocks)) (now (c .before .before .before .before .before .before .before .before .before .before .before .before .before .args .edges)) (c .before .before .before .before .before .before .before .before .before .before .before .before .before .args .points) (length (now (c .before .before .before .before .before .before .before .before .before .before .before .before .before .args .order))) (length (now (c .before .before .before .before .before .before .before .before .before .before .before .before .before .args .work))) (sym (c .before .before .before .before .before .before .before .before .refusal .ensures) ∙ c .before .before .before .before .before .before .enum-told .given .1) in omega (arith, k .work-fits, k .graph .counts .few, k .graph .counts .some)
+
+add-narrow-2 : tie.Need-add-narrow-2
+add-narrow-2 c = let k = known (now (c .before .before .before .before .before .before .before .before .before .before .before .before .before .args .blocks)) (now (c .before .before .before .before .before .before .before .before .before .before .before .before .before .args .edges)) (c .before .before .before .before .before .before .before .before .before .before .before .before .before .args .points) (length (now (c .before .before .before .before .before .before .before .before .before .before .before .before .before .args .order))) (length (now (c .before .before .before .before .before .before .before .before .before .before .before .before .before .args .work))) (sym (c .before .before .before .before .before .before .before .before .refusal .ensures) ∙ c .before .before .before .before .before .before .enum-told .given .1) in omega (arith, k .work-fits, k .graph .counts .few, k .graph .counts .some)
+
+add-narrow-3 : tie.Need-add-narrow-3
+add-narrow-3 c = let k = known (now (c .before .before .before .before .before .before .before .before .before .before .before .before .before .args .blocks)) (now (c .before .before .before .before .before .before .before .before .before .before .before .before .before .args .edges)) (c .before .before .before .before .before .before .before .before .before .before .before .before .before .args .points) (length (now (c .before .before .before .before .before .before .before .before .before .before .before .before .before .args .order))) (length (now (c .before .before .before .before .before .before .before .before .before .before .before .before .before .args .work))) (sym (c .before .before .before .before .before .before .before .before .refusal .ensures) ∙ c .before .before .before .before .before .before .enum-told .given .1) in omega (arith, k .work-fits, k .graph .counts .few, k .graph .counts .some)
+
+add-narrow-4 : tie.Need-add-narrow-4
+add-narrow-4 c = let k = known (now (c .before .before .before .before .before .before .before .before .before .before .before .before .before .args .blocks)) (now (c .before .before .before .before .before .before .before .before .before .before .before .before .before .args .edges)) (c .before .before .before .before .before .before .before .before .before .before .before .before .before .args .points) (length (now (c .before .before .before .before .before .before .before .before .before .before .before .before .before .args .order))) (length (now (c .before .before .before .before .before .before .before .before .before .before .before .before .before .args .work))) (sym (c .before .before .before .before .before .before .before .before .refusal .ensures) ∙ c .before .before .before .before .before .before .enum-told .given .1) in omega (arith, k .work-fits, k .graph .counts .few, k .graph .counts .some)
+
+narrow-requires : tie.Need-narrow-requires
+narrow-requires c κs = let k = known (now (c .before .before .before .before .before .before .before .before .before .before .before .before .before .args .blocks)) (now (c .before .before .before .before .before .before .before .before .before .before .before .before .before .args .edges)) (c .before .before .before .before .before .before .before .before .before .before .before .before .before .args .points) (length (now (c .before .before .before .before .before .before .before .before .before .before .before .before .before .args .order))) (length (now (c .before .before .before .before .before .before .before .before .before .before .before .before .before .args .work))) (sym (c .before .before .before .before .before .before .before .before .refusal .ensures) ∙ c .before .before .before .before .before .before .enum-told .given .1) in (omega (arith, k .answer-fits), omega (arith, k .work-fits, k .graph .counts .some, c .before .before .before .before .prepare .ensures .kept .len), small (c .before .before .before .before .prepare .ensures) (k .graph .counts .few))
+
+add-clear : tie.Need-add-clear
+add-clear c = let k = known (now (c .before .before .before .before .before .before .before .before .before .before .before .before .before .before .before .before .before .args .blocks)) (now (c .before .before .before .before .before .before .before .before .before .before .before .before .before .before .before .before .before .args .edges)) (c .before .before .before .before .before .before .before .before .before .before .before .before .before .before .before .before .before .args .points) (length (now (c .before .before .before .before .before .before .before .before .before .before .before .before .before .before .before .before .before .args .order))) (length (now (c .before .before .before .before .before .before .before .before .before .before .before .before .before .before .before .before .before .args .work))) (sym (c .before .before .before .before .before .before .before .before .before .before .before .before .refusal .ensures) ∙ c .before .before .before .before .before .before .before .before .before .before .enum-told .given .1) in omega (arith, k .work-fits, k .graph .counts .few, k .graph .counts .some)
+
+mul-clear : tie.Need-mul-clear
+mul-clear c = let k = known (now (c .before .before .before .before .before .before .before .before .before .before .before .before .before .before .before .before .before .args .blocks)) (now (c .before .before .before .before .before .before .before .before .before .before .before .before .before .before .before .before .before .args .edges)) (c .before .before .before .before .before .before .before .before .before .before .before .before .before .before .before .before .before .args .points) (length (now (c .before .before .before .before .before .before .before .before .before .before .before .before .before .before .before .before .before .args .order))) (length (now (c .before .before .before .before .before .before .before .before .before .before .before .before .before .before .before .before .before .args .work))) (sym (c .before .before .before .before .before .before .before .before .before .before .before .before .refusal .ensures) ∙ c .before .before .before .before .before .before .before .before .before .before .enum-told .given .1) in omega (arith, k .work-fits, k .graph .counts .few, k .graph .counts .some)
+
+clear-requires : tie.Need-clear-requires
+clear-requires c κs = let k = known (now (c .before .before .before .before .before .before .before .before .before .before .before .before .before .before .before .before .before .args .blocks)) (now (c .before .before .before .before .before .before .before .before .before .before .before .before .before .before .before .before .before .args .edges)) (c .before .before .before .before .before .before .before .before .before .before .before .before .before .before .before .before .before .args .points) (length (now (c .before .before .before .before .before .before .before .before .before .before .before .before .before .before .before .before .before .args .order))) (length (now (c .before .before .before .before .before .before .before .before .before .before .before .before .before .before .before .before .before .args .work))) (sym (c .before .before .before .before .before .before .before .before .before .before .before .before .refusal .ensures) ∙ c .before .before .before .before .before .before .before .before .before .before .enum-told .given .1) in omega (arith, k .work-fits, c .before .before .before .before .before .before .before .before .prepare .ensures .kept .len)
+
+same-length : tie.Need-same-length
+same-length c = c .before .before .before .before .before .before .narrow .ensures .len
+
+same-length-2 : tie.Need-same-length-2
+same-length-2 c = ap length (c .before .before .clear .ensures) ∙ simp (length-append, length-replicate, length-drop) (let k = known (now (c .before .before .before .before .before .before .before .before .before .before .before .before .before .before .before .before .before .before .before .before .args .blocks)) (now (c .before .before .before .before .before .before .before .before .before .before .before .before .before .before .before .before .before .before .before .before .args .edges)) (c .before .before .before .before .before .before .before .before .before .before .before .before .before .before .before .before .before .before .before .before .args .points) (length (now (c .before .before .before .before .before .before .before .before .before .before .before .before .before .before .before .before .before .before .before .before .args .order))) (length (now (c .before .before .before .before .before .before .before .before .before .before .before .before .before .before .before .before .before .before .before .before .args .work))) (sym (c .before .before .before .before .before .before .before .before .before .before .before .before .before .before .before .refusal .ensures) ∙ c .before .before .before .before .before .before .before .before .before .before .before .before .before .enum-told .given .1) in omega (arith, k .work-fits, c .before .before .before .before .before .before .before .before .before .before .before .prepare .ensures .kept .len))
+
+returns-2 : tie.Need-returns-2
+returns-2 c = order-given (now (c .before .before .before .before .before .before .before .before .before .before .before .before .before .before .before .before .before .before .before .before .args .blocks)) (now (c .before .before .before .before .before .before .before .before .before .before .before .before .before .before .before .before .before .before .before .before .args .edges)) (c .before .before .before .before .before .before .before .before .before .before .before .before .before .before .before .before .before .before .before .before .args .points) _ _ _ _ _ (sym (c .before .before .before .before .before .before .before .before .before .before .before .before .before .before .before .refusal .ensures) ∙ c .before .before .before .before .before .before .before .before .before .before .before .before .before .enum-told .given .1) (known (now (c .before .before .before .before .before .before .before .before .before .before .before .before .before .before .before .before .before .before .before .before .args .blocks)) (now (c .before .before .before .before .before .before .before .before .before .before .before .before .before .before .before .before .before .before .before .before .args .edges)) (c .before .before .before .before .before .before .before .before .before .before .before .before .before .before .before .before .before .before .before .before .args .points) (length (now (c .before .before .before .before .before .before .before .before .before .before .before .before .before .before .before .before .before .before .before .before .args .order))) (length (now (c .before .before .before .before .before .before .before .before .before .before .before .before .before .before .before .before .before .before .before .before .args .work))) (sym (c .before .before .before .before .before .before .before .before .before .before .before .before .before .before .before .refusal .ensures) ∙ c .before .before .before .before .before .before .before .before .before .before .before .before .before .enum-told .given .1) .graph .counts .some) (c .before .before .before .before .before .before .before .before .before .before .before .prepare .ensures) (c .before .before .before .before .before .before .narrow .ensures) (c .before .before .clear .ensures)
+
+pub settling-spec : {M : Type 1} → statement M
+settling-spec =
+    tie.close
+    (tie.spec
+    refusal-requires
+    enum-known-v
+    returns
+    enum-told
+    prepare-requires
+    add-narrow
+    add-narrow-2
+    add-narrow-3
+    add-narrow-4
+    narrow-requires
+    add-clear
+    mul-clear
+    clear-requires
+    same-length
+    same-length-2
+    returns-2)

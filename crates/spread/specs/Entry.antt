@@ -1,0 +1,89 @@
+-- The entries `settling` and `spread`: what they answer, refuse and leave, for every input.
+use Prim.Native.Nat.{ℕ, _+_, _*_, _/_, _≤_, _<_}
+use mathlib.Core.Path.{_≡_}
+use mathlib.Core.Logic.{_↔_}
+use mathlib.Core.Bool.{Bool, true}
+use mathlib.Core.List.{List}
+use lib.ListN.{length, getD}
+use Rattle.refusals.specs.declared.Refusal.{Refusal}
+use Rattle.refusals.specs.declared.Verdict.{Verdict}
+use Rattle.refusals.specs.declared.Verdict.the-variants.{Fine, Bad}
+use Rattle.refusals.specs.Verdicts.{numberOf, first}
+use Rattle.refusals.specs.Outcomes.{Outcome, given, refused}
+use Rattle.words.specs.Rows.{rowCount}
+use Rattle.words.specs.Regions.{cleared}
+use Rattle.bits.specs.Bits.{bit}
+use Rattle.graph.specs.Paths.{Edge, Between}
+use Rattle.graph.specs.Flow.{Arrives}
+use Rattle.graph.specs.Checks.{rowsVerdict, spaceOf}
+use Rattle.graph.specs.Work.{Within, EdgeRows}
+use Rattle.components.specs.Entry.{edgesIn, verdictOf as orderVerdict}
+use Rattle.flow.specs.Entry.{rowBit, baseOf, verdictOf as rowVerdict}
+use Rattle.spread.specs.Settling.{Settling}
+use Rattle.spread.specs.declared.Answer.{Answer}
+use Rattle.spread.specs.declared.Answer.the-variants.{Given, Refused}
+
+-- the answer by document 01's numbers
+abbrev pub outcomeOf : Answer → Outcome (Unit {0})
+outcomeOf Given = given tt
+outcomeOf (Refused r i) = refused (numberOf r) i
+
+-- a refusal: the lists as they were
+pub record Turned (k : Refusal) (i : ℕ) (list₀ work₀ : List ℕ) (r : Answer) (list work : List ℕ) : Type 0 where
+  pub outcome : outcomeOf r ≡ refused (numberOf k) i
+  pub list-kept : list ≡ list₀
+  pub work-kept : work ≡ work₀
+
+-- ---- settling
+
+pub record Ordered (blocks edges order₀ work₀ : List ℕ) (r : Answer) (order work : List ℕ) : Type 0 where
+  pub outcome : outcomeOf r ≡ given tt
+  pub settling : Settling (edgesIn blocks edges) (rowCount 3 blocks) (λ i. getD order i 0)
+  pub length-kept : length order ≡ length order₀
+  pub past : (i : ℕ) → rowCount 3 blocks ≤ i → getD order i 0 ≡ getD order₀ i 0
+  pub work-cleared : work ≡ cleared (spaceOf (rowCount 3 blocks) (rowCount 2 edges) 0) work₀
+
+pub record Settled (blocks edges : List ℕ) (points : ℕ) (order₀ work₀ : List ℕ) (r : Answer) (order work : List ℕ) : Type 0 where
+  pub answered : orderVerdict blocks edges points (length order₀) (length work₀) ≡ Fine → Ordered blocks edges order₀ work₀ r order work
+  pub turned-back : (k : Refusal) (i : ℕ) → orderVerdict blocks edges points (length order₀) (length work₀) ≡ Bad k i → Turned k i order₀ work₀ r order work
+
+-- ---- spread
+
+-- refusals 1, 2, 3 and 7; both kinds of rows have one row to a block
+unfoldable pub verdictOf : List ℕ → List ℕ → ℕ → ℕ → ℕ → ℕ → ℕ → ℕ → Verdict
+verdictOf blocks edges points leaving passing words answer work = first (rowsVerdict passing (rowCount 3 blocks) words) (rowVerdict blocks edges points leaving words answer work)
+
+pub record Filled (blocks edges leaves passes : List ℕ) (words : ℕ) (out₀ work₀ : List ℕ) (r : Answer) (out work : List ℕ) : Type 0 where
+  pub outcome : outcomeOf r ≡ given tt
+  pub bits : (v b : ℕ) → v < rowCount 3 blocks → b < words * 64
+      → (rowBit out words v b ≡ true) ↔ Arrives (edgesIn blocks edges) (λ k. rowBit leaves words k b) (λ k. rowBit passes words k b) v
+  pub length-kept : length out ≡ length out₀
+  pub past : (i : ℕ) → rowCount 3 blocks * words ≤ i → getD out i 0 ≡ getD out₀ i 0
+  pub work-cleared : work ≡ cleared (spaceOf (rowCount 3 blocks) (rowCount 2 edges) (rowCount 3 blocks * words)) work₀
+
+pub record Answered (blocks edges : List ℕ) (points : ℕ) (leaves passes : List ℕ) (words : ℕ) (out₀ work₀ : List ℕ) (r : Answer) (out work : List ℕ) : Type 0 where
+  pub answered : verdictOf blocks edges points (length leaves) (length passes) words (length out₀) (length work₀) ≡ Fine → Filled blocks edges leaves passes words out₀ work₀ r out work
+  pub turned-back : (k : Refusal) (i : ℕ) → verdictOf blocks edges points (length leaves) (length passes) words (length out₀) (length work₀) ≡ Bad k i → Turned k i out₀ work₀ r out work
+
+-- ---- what the inner steps leave
+
+-- the successors' rows, and behind them the order and the ranks
+pub record Prepared (blocks edges : List ℕ) (w₀ w : List ℕ) : Type 0 where
+  pub kept : Within 0 (baseOf blocks edges + length blocks / 3 + length blocks / 3 + length blocks / 3 + length blocks / 3 + length blocks / 3 + length blocks / 3) w₀ w
+  pub count : length (edgesIn blocks edges) ≡ length edges / 2
+  pub between : Between (length blocks / 3) (edgesIn blocks edges)
+  pub rows : EdgeRows (edgesIn blocks edges) (length blocks / 3) (length edges / 2 + length edges / 2) w
+  pub settling : Settling (edgesIn blocks edges) (length blocks / 3) (λ i. getD w (baseOf blocks edges + i) 0)
+  pub ranks : (i : ℕ) → i < length blocks / 3 → getD w (baseOf blocks edges + length blocks / 3 + getD w (baseOf blocks edges + i) 0) 0 ≡ i
+
+-- where `solve` has the rows lent, and its answer
+abbrev pub lentAt : List ℕ → List ℕ → ℕ
+lentAt blocks edges = baseOf blocks edges + length blocks / 3 + length blocks / 3
+
+abbrev pub answerAt : List ℕ → List ℕ → ℕ → ℕ
+answerAt blocks edges lent = lentAt blocks edges + lent + lent + (length blocks / 3 / 64 + 1)
+
+pub record Solved (blocks edges leaves passes : List ℕ) (words : ℕ) (w₀ w : List ℕ) : Type 0 where
+  pub kept : Within 0 (spaceOf (rowCount 3 blocks) (rowCount 2 edges) (length leaves)) w₀ w
+  pub bits : (v b : ℕ) → v < rowCount 3 blocks → b < words * 64
+      → (bit w (answerAt blocks edges (length leaves) + v * words) b ≡ true) ↔ Arrives (edgesIn blocks edges) (λ k. rowBit leaves words k b) (λ k. rowBit passes words k b) v
