@@ -1,0 +1,67 @@
+-- `fit` meets its contract: the items are ordered, then placed.
+use Rattle.fit.proofs.RunLaws.{in-order, zeros, fitted, cells-few}
+use native.Mathlib.Omega.{arith}
+use borrow.Author.Needs.{needs}
+use Rattle.fit.proofs.fit.Statement.{statement}
+use Rattle.fit.proofs.fit.Tie as tie
+
+add-order : tie.Need-add-order
+add-order c = search needs
+
+mul-order : tie.Need-mul-order
+mul-order c = search needs
+
+add-order-2 : tie.Need-add-order-2
+add-order-2 c = search needs
+
+order-requires : tie.Need-order-requires
+order-requires c κs = search needs
+
+mul-fill : tie.Need-mul-fill
+mul-fill c = search needs
+
+add-fill : tie.Need-add-fill
+add-fill c = search needs
+
+fill-requires : tie.Need-fill-requires
+fill-requires c κs = search needs
+
+place-requires : tie.Need-place-requires
+place-requires c κs = (in-order (c .before .before .before .before .before .before .before .before .before .before .pre) ((c .before .before .before .before .before .before .before .order) .ensures) ((c .before .before .before .fill) .ensures), zeros (c .before .before .before .before .before .before .before .before .before .before .pre) ((c .before .before .before .before .before .before .before .order) .ensures) ((c .before .before .before .fill) .ensures))
+
+mul-depth : tie.Need-mul-depth
+mul-depth c = search needs
+
+add-depth : tie.Need-add-depth
+add-depth c = search needs
+
+depth-requires : tie.Need-depth-requires
+depth-requires c κs = omega (arith, (c .before .before .before .before .before .before .before .before .before .before .before .before .before .before .pre) .few, (c .before .before .before .before .before .before .before .before .before .before .before .before .before .before .pre) .room, cells-few (c .before .before .before .before .before .before .before .before .before .before .before .before .before .before .pre) ((c .before .before .before .before .before .before .before .before .before .before .before .order) .ensures) ((c .before .before .before .before .before .before .before .fill) .ensures) ((c .before .before .before .place) .ensures))
+
+sub-t20 : tie.Need-sub-t20
+sub-t20 c = search needs
+
+same-length : tie.Need-same-length
+same-length c = search needs
+
+returns : tie.Need-returns
+returns c = fitted (c .before .before .before .before .before .before .before .before .before .before .before .before .before .before .before .before .pre) ((c .before .before .before .before .before .before .before .before .before .before .before .before .before .order) .ensures) ((c .before .before .before .before .before .before .before .before .before .fill) .ensures) _ ((c .before .before .before .before .before .place) .ensures) ((c .before .depth) .ensures)
+
+pub fit-spec : {M : Type 1} → statement M
+fit-spec =
+    tie.close
+    (tie.spec
+    add-order
+    mul-order
+    add-order-2
+    order-requires
+    mul-fill
+    add-fill
+    fill-requires
+    place-requires
+    mul-depth
+    add-depth
+    depth-requires
+    sub-t20
+    same-length
+    returns)

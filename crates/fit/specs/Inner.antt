@@ -1,0 +1,110 @@
+-- What the functions of fitting promise each other: a cell's members are linked, latest first, by their places in the order.
+use Prim.Native.Nat.{ℕ, zero, suc, _+_, _-_, _*_, _/_, _%_, _^_, _<_, _≤_, max}
+use mathlib.Core.Path.{_≡_}
+use mathlib.Core.Logic.{_⊎_}
+use mathlib.Core.Bool.{Bool, true, false, _&&_}
+use mathlib.Core.Option.{Option, some}
+use mathlib.Core.List.{List, [], _∷_}
+use lib.ListN.{length, getD, set}
+use Rattle.ranges.specs.declared.Range.{Range}
+use Rattle.ranges.specs.Points.{Upright, Apart}
+use Rattle.ranges.specs.Forms.{unpacked}
+use Rattle.words.specs.Regions.{part}
+use Rattle.fitting.specs.Wants.{Want, wantAt, orderOf}
+use Rattle.fitting.specs.Plan.{Cell, cellAt, joinable, Plan, put, depthOf}
+use Rattle.order.specs.Keys.{sizeOf, alignOf}
+use Rattle.fit.specs.declared.Progress.{Progress}
+use Rattle.fit.specs.Tables.{areaIn, wantsIn, Lent, Shown, planIn}
+
+-- the places that a link leads to: a link is 0, or one more than a place
+unfoldable pub places : (ℕ → ℕ) → ℕ → ℕ → List ℕ
+places next zero m = []
+places next (suc f) zero = []
+places next (suc f) (suc q) = q ∷ places next f (next q)
+
+-- links fall: the place that is linked comes before
+abbrev pub chain : (ℕ → ℕ) → ℕ → List ℕ
+chain next m = places next m m
+
+abbrev pub Falls : (ℕ → ℕ) → ℕ → Type 0
+Falls next k = (q : ℕ) → q < k → next q ≤ q
+
+-- every member has an area, and none clashes
+unfoldable pub allow : (ℕ → Option (List Range)) → List ℕ → List Range → Bool
+allow area [] a = true
+allow area (q ∷ ms) a = joinable (area q) a && allow area ms a
+
+-- the tables: the order from items + 2 * n on, the cells' heads from items + 3 * n on, the links by place from items + 4 * n on
+abbrev pub orderAt : List ℕ → ℕ → ℕ → ℕ → ℕ
+orderAt w items n q = getD w (items + 2 * n + q) 0
+
+abbrev pub headAt : List ℕ → ℕ → ℕ → ℕ → ℕ
+headAt w items n c = getD w (items + 3 * n + c) 0
+
+abbrev pub nextAt : List ℕ → ℕ → ℕ → ℕ → ℕ
+nextAt w items n q = getD w (items + 4 * n + q) 0
+
+-- the area of the item at a place of the order
+abbrev pub areaAt : List ℕ → ℕ → ℕ → ℕ → ℕ → Option (List Range)
+areaAt w at items n q = areaIn w at (getD w (items + orderAt w items n q) 0)
+
+-- the tables can be read: k places are linked
+pub record Linked (w : List ℕ) (at items n k : ℕ) : Type 0 where
+  pub lent : Lent w at items n
+  pub k-le : k ≤ n
+  pub known : (q : ℕ) → q < n → orderAt w items n q < n
+  pub falls : Falls (nextAt w items n) k
+
+-- the cell's members allow an area
+abbrev pub opens : List ℕ → ℕ → ℕ → ℕ → List Range → ℕ → Bool
+opens w at items n a c = allow (areaAt w at items n) (chain (nextAt w items n) (headAt w items n c)) a
+
+-- the first of `most` cells that does
+pub record Probed (w : List ℕ) (at items n most : ℕ) (a : List Range) (r : ℕ) : Type 0 where
+  pub within : r ≤ most
+  pub hit : r < most → opens w at items n a r ≡ true
+  pub miss : (c : ℕ) → c < r → opens w at items n a c ≡ false
+
+-- the item at place k of the order has entered cell c, whose size and alignment are now `word` and whose other members `link` leads to
+abbrev pub enteredIn : List ℕ → ℕ → ℕ → ℕ → ℕ → ℕ → ℕ → ℕ → List ℕ
+enteredIn w items n k i c link word =
+    set (set (set (set w (items + 4 * n + k) link) (items + 3 * n + c) (k + 1)) (items + 5 * n + c) word) (items + 6 * n + i) c
+
+-- the tables hold the plan of the first k places; w₁ holds the wants and the order
+pub record Holds (w₁ w : List ℕ) (at items n budget k cells left : ℕ) (p : Plan) : Type 0 where
+  pub len : length w ≡ length w₁
+  pub tables : (x : ℕ) → (x < items + 3 * n) ⊎ (items + 7 * n ≤ x) → getD w x 0 ≡ getD w₁ x 0
+  pub k-le : k ≤ n
+  pub falls : Falls (nextAt w items n) k
+  pub cells-is : cells ≡ length (p .cells)
+  pub cells-le : cells ≤ k
+  pub left-is : left + p .probes ≡ budget
+  pub shown : Shown w items n p
+  pub heads : (c : ℕ) → c < cells → headAt w items n c ≤ k
+  pub neat : (c : ℕ) (rs : List Range) → cellAt (p .cells) c .area ≡ some rs → Apart rs
+  pub same : (c : ℕ) → c < cells → (a : List Range) → Upright a → joinable (cellAt (p .cells) c .area) a ≡ opens w at items n a c
+
+-- the order table is the order of the wants
+pub record InOrder (w : List ℕ) (at items n : ℕ) : Type 0 where
+  pub lent : Lent w at items n
+  pub is : (k : ℕ) → k < n → orderAt w items n k ≡ getD (orderOf (wantsIn w at items n)) k 0
+
+-- the item at place k can be put: so many cells are there, and each one's members are linked
+pub record Ready (w : List ℕ) (at items n k cells : ℕ) : Type 0 where
+  pub linked : Linked w at items n k
+  pub k-lt : k < n
+  pub cells-le : cells ≤ k
+  pub heads : (c : ℕ) → c < cells → headAt w items n c ≤ k
+
+-- one item more: where the tables held a plan, they hold the plan with the item put
+pub record Stepped (w₀ w : List ℕ) (at items n k cells left : ℕ) (r : Progress) : Type 0 where
+  pub keeps : (w₁ : List ℕ) (budget : ℕ) (p : Plan) → Lent w₁ at items n → ((q : ℕ) → q < n → orderAt w₁ items n q < n) → Holds w₁ w₀ at items n budget k cells left p
+      → Holds w₁ w at items n budget (k + 1) (r .cells) (r .left) (put (wantsIn w₁ at items n) budget (orderAt w₁ items n k) p)
+
+-- every item put
+pub record Placed (w₁ w : List ℕ) (at items n budget : ℕ) (r : Progress) : Type 0 where
+  pub holds : Holds w₁ w at items n budget n (r .cells) (r .left) (planIn w₁ at items n budget)
+
+-- r is the sum of the sizes of the cells whose words stand from `at` on
+pub record Summed (w : List ℕ) (at cells r : ℕ) : Type 0 where
+  pub is : (cs : List Cell) → length cs ≡ cells → ((c : ℕ) → c < cells → sizeOf (getD w (at + c) 0) ≡ cellAt cs c .size) → r ≡ depthOf cs

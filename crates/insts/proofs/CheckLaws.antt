@@ -1,0 +1,331 @@
+-- What each way out of a check comes to: numbers 1, 4 and 5.
+use Prim.Native.Nat.{ℕ, zero, suc, _+_, _-_, _*_, _/_, _%_, _≤_, _<_}
+use native.Mathlib.Numerals.{add-one}
+use native.Mathlib.Nat.{add-zero}
+use native.Mathlib.Omega.{arith}
+use mathlib.Core.Path.{_≡_, refl, sym, ap, _∙_}
+use mathlib.Core.Logic.{_≢_}
+use mathlib.Core.Bool.{Bool, true, false, cond, not, _||_, _&&_}
+use mathlib.Core.List.{List, [], _∷_}
+use lib.ListN.{length, getD}
+use lib.Dec.{eqb, leb, ltb}
+use borrow.Author.Tests.{eq-eqb, ne-eqb, lt-ltb, le-ltb, le-leb, lt-leb, eqb-true, ltb-false, leb-false, not-false}
+use Rattle.refusals.specs.declared.Verdict.{Verdict}
+use Rattle.refusals.specs.declared.Verdict.the-variants.{Fine, Bad}
+use Rattle.refusals.specs.declared.Refusal.{Refusal}
+use Rattle.refusals.specs.declared.Refusal.the-variants.{Count, Inst as InstWord, Stray}
+use Rattle.refusals.specs.Verdicts.{first, scan, check}
+use Rattle.refusals.proofs.Laws.{first-fine, first-bad, first-left, first-right}
+use Rattle.words.specs.Rows.{tabulate, rowCount, field, records}
+use Rattle.words.specs.Sort.{Rising}
+use Rattle.words.specs.Search.{Splits}
+use Rattle.words.proofs.Points.{cut, same}
+use Rattle.words.proofs.RowLaws.{length-records, getD-records}
+use Rattle.graph.specs.Line.{Stretch, blocksOf, blockAt, placeIn, Sound}
+use Rattle.graph.proofs.Line.{blocks-length, number-is, start-is, end-is, place-of-number, place-lt, number-of-place}
+use Rattle.carrying.specs.Lists.{any}
+use Rattle.carrying.specs.Insts.{Operand, Inst, instOf, instsOf, instAt, isSet}
+use Rattle.carrying.specs.Carried.{Mention, mentionsOf}
+use Rattle.carrying.specs.Checks.{misplaced, badRegister, badOperand, badFlags, badPositions, badInst, instVerdict, crossingVerdict, absent, mentionAt, addressVerdict, endVerdict}
+use Rattle.insts.specs.Counts.{badRows, rowsVerdict, mostVerdict, blockCounts, offset, addUp, instCounts, codeCounts}
+use Rattle.insts.specs.Rows.{operandAt, operandsFrom, placing, rowInst, AddsUp}
+use Rattle.insts.proofs.DealtLaws.{scan-same, insts-length, inst-at, placed-is}
+
+-- ---- number 1
+
+pub bad-fine : {r : Refusal} {i : ℕ} → Bad r i ≡ Fine → ⊥
+bad-fine e = let z : _≡_ {A = ℕ} 0 1 = cc in omega arith
+
+module _ (w m n : ℕ) where
+  pub rows-cut : n % w ≢ 0 → Bad Count 0 ≡ rowsVerdict w m n
+  rows-cut h = simp (ne-eqb (n % w) 0 h)
+
+  pub rows-many : n % w ≡ 0 → m < n / w → Bad Count 0 ≡ rowsVerdict w m n
+  rows-many h l = simp (eq-eqb (n % w) 0 h, lt-ltb m (n / w) l)
+
+  pub rows-fine : n % w ≡ 0 → n / w ≤ m → Fine ≡ rowsVerdict w m n
+  rows-fine h l = simp (eq-eqb (n % w) 0 h, le-ltb m (n / w) l)
+
+  pub rows-whole : rowsVerdict w m n ≡ Fine → n % w ≡ 0
+  rows-whole v = same (n % w) 0 (λ e. e) (λ e. absurd (bad-fine (rows-cut e ∙ v)))
+
+  pub rows-few : rowsVerdict w m n ≡ Fine → n / w ≤ m
+  rows-few v = cut (n / w) m (λ e. e) (λ e. absurd (bad-fine (rows-many (rows-whole v) e ∙ v)))
+
+pub most-many : (m n : ℕ) → m < n → Bad Count 0 ≡ mostVerdict m n
+most-many m n h = simp (lt-ltb m n h)
+
+pub most-fine : (m n : ℕ) → n ≤ m → Fine ≡ mostVerdict m n
+most-fine m n h = simp (le-ltb m n h)
+
+pub most-few : (m n : ℕ) → mostVerdict m n ≡ Fine → n ≤ m
+most-few m n v = cut n m (λ e. e) (λ e. absurd (bad-fine (most-many m n e ∙ v)))
+
+module _ (blocks : List ℕ) where
+  pub no-rows : (r : Refusal) (i : ℕ) → rowsVerdict 3 4096 (length blocks) ≡ Bad r i → Bad r i ≡ blockCounts blocks
+  no-rows r i e = sym (first-bad _ _ r i e)
+
+  pub no-block : rowsVerdict 3 4096 (length blocks) ≡ Fine → length blocks / 3 < 1 → Bad Count 0 ≡ blockCounts blocks
+  no-block e h = sym (first-fine _ _ e ∙ rw (lt-ltb (length blocks / 3) 1 h))
+
+  pub blocks-fine : rowsVerdict 3 4096 (length blocks) ≡ Fine → 1 ≤ length blocks / 3 → Fine ≡ blockCounts blocks
+  blocks-fine e h = sym (first-fine _ _ e ∙ rw (le-ltb (length blocks / 3) 1 h))
+
+  pub blocks-few : blockCounts blocks ≡ Fine → length blocks / 3 ≤ 4096
+  blocks-few v = rows-few 3 4096 (length blocks) (first-left _ _ v)
+
+  none-lent : length blocks / 3 < 1 → Bad Count 0 ≡ check Count (ltb (length blocks / 3) 1)
+  none-lent h = simp (lt-ltb (length blocks / 3) 1 h)
+
+  pub blocks-some : blockCounts blocks ≡ Fine → 1 ≤ length blocks / 3
+  blocks-some v =
+      cut 1 (length blocks / 3) (λ e. e)
+      (λ e. absurd (bad-fine (none-lent e ∙ first-right (rowsVerdict 3 4096 (length blocks)) (check Count (ltb (length blocks / 3) 1)) v)))
+
+module _ (insts operands : List ℕ) where
+  pub sum-off : offset insts (rowCount 9 insts) ≢ rowCount 2 operands → Bad Count 0 ≡ addUp insts operands
+  sum-off h = simp (ne-eqb (offset insts (rowCount 9 insts)) (rowCount 2 operands) h)
+
+  pub sum-fine : AddsUp insts operands → Fine ≡ addUp insts operands
+  sum-fine h = simp (eq-eqb (offset insts (rowCount 9 insts)) (rowCount 2 operands) h)
+
+  pub insts-bad : (r : Refusal) (i : ℕ) → rowsVerdict 9 65536 (length insts) ≡ Bad r i → Bad r i ≡ instCounts insts operands
+  unfolding instCounts
+  insts-bad r i e = sym (first-bad _ _ r i e)
+
+  pub operands-bad : (r : Refusal) (i : ℕ) → rowsVerdict 9 65536 (length insts) ≡ Fine → rowsVerdict 2 262144 (length operands) ≡ Bad r i → Bad r i ≡ instCounts insts operands
+  unfolding instCounts
+  operands-bad r i e f = sym (first-fine _ _ e ∙ first-bad _ _ r i f)
+
+  pub sum-last : rowsVerdict 9 65536 (length insts) ≡ Fine → rowsVerdict 2 262144 (length operands) ≡ Fine → addUp insts operands ≡ instCounts insts operands
+  unfolding instCounts
+  sum-last e f = sym (first-fine _ _ e ∙ first-fine _ _ f)
+
+  -- what a fine verdict says
+  pub record InstsCounted : Type 0 where
+    pub few : length insts / 9 ≤ 65536
+    pub few-operands : length operands / 2 ≤ 262144
+    pub adds : AddsUp insts operands
+
+  pub insts-counted : instCounts insts operands ≡ Fine → InstsCounted
+  unfolding instCounts
+  insts-counted v =
+      let a = first-left (rowsVerdict 9 65536 (length insts)) _ v in
+      let b = first-right (rowsVerdict 9 65536 (length insts)) _ v in
+      let d = first-right (rowsVerdict 2 262144 (length operands)) (addUp insts operands) b in
+      record {
+        few = rows-few 9 65536 (length insts) a;
+        few-operands = rows-few 2 262144 (length operands) (first-left (rowsVerdict 2 262144 (length operands)) (addUp insts operands) b);
+        adds = same _ _ (λ e. e) (λ e. absurd (bad-fine (sum-off e ∙ d)));
+      }
+
+-- the chain of all counts
+pub counts-chain : (v : ℕ) (insts operands crossings locals addresses ends : List ℕ) {a b c d e f g h i j r : Verdict}
+    → a ≡ mostVerdict 65535 v → b ≡ instCounts insts operands → c ≡ mostVerdict 65536 (length crossings) → d ≡ rowsVerdict 2 2048 (length locals)
+    → e ≡ rowsVerdict 2 65536 (length addresses) → f ≡ rowsVerdict 2 65536 (length ends)
+    → g ≡ first e f → h ≡ first d g → i ≡ first c h → j ≡ first b i → r ≡ first a j
+    → r ≡ codeCounts v insts operands crossings locals addresses ends
+unfolding codeCounts
+counts-chain v insts operands crossings locals addresses ends ea eb ec ed ee ef eg eh ei ej er = cc
+
+-- ---- number 4: the block of an instruction
+
+module _ (s : List ℕ) (S : Sound (blocksOf s)) where
+  -- what is known of the block at a place
+  record Held (k : ℕ) : Type 0 where
+    here : k < length (blocksOf s)
+    start : blockAt (blocksOf s) k .start ≡ field 3 s k 1
+    end : blockAt (blocksOf s) k .end ≡ field 3 s k 2
+    number : blockAt (blocksOf s) k .number ≡ getD s (3 * k) 0
+
+  held : (k : ℕ) → k < length s / 3 → Held k
+  held k h = record { here = rw (blocks-length s) h; start = start-is s k h; end = end-is s k h; number = number-is s k h }
+
+  pub starts-rise : Rising (λ i. field 3 s i 1) (length s / 3)
+  starts-rise k h =
+      let a = held k (omega arith) in
+      let b = held (k + 1) h in
+      let n = blocks-length s in
+      let g = rw (← add-one k) at (S .gapless k (let z = add-one k in omega arith)) in
+      let u = S .upright k (a .here) in
+      omega arith
+
+  -- the search finds the one block that has the point
+  pub search-found : (r k e : ℕ) → Splits (λ i. leb (field 3 s i 1) e) (length s / 3) r → k < length s / 3
+      → blockAt (blocksOf s) k .start ≤ e → e ≤ blockAt (blocksOf s) k .end → r ≡ k + 1
+  search-found r k e p h a b =
+      cut r k
+      (λ l. absurd (let z = leb-false (field 3 s k 1) e (p .fails k l h) in let q = held k h .start in omega arith))
+      (λ l. cut r (k + 1) (λ m. omega arith)
+      (λ m. absurd (
+      let z = p .holds (k + 1) m in
+      let n = blocks-length s in
+      let w = p .within in
+      let q = held (k + 1) (omega arith) .start in
+      let g = rw (← add-one k) at (S .gapless k (let y = add-one k in omega arith)) in
+      cut (field 3 s (k + 1) 1) e (λ y. omega arith) (λ y. let o : _≡_ {A = ℕ} 0 1 = cc (lt-leb (field 3 s (k + 1) 1) e y) in omega arith))))
+
+  module _ (number early late : ℕ) where
+    bs : List Stretch
+    bs = blocksOf s
+
+    -- no block, or one that has not both points
+    pub not-in : ((k : ℕ) → k < length s / 3 → blockAt (blocksOf s) k .number ≡ number → blockAt (blocksOf s) k .start ≤ early → late ≤ blockAt (blocksOf s) k .end → ⊥)
+        → true ≡ misplaced (blocksOf s) (placing number early late)
+    not-in f =
+        cut (length (blocksOf s)) number
+        (λ h. sym (rw (le-leb _ _ h)))
+        (λ h.
+        let p = place-lt S number h in
+        let n = blocks-length s in
+        rw (lt-leb (length (blocksOf s)) number h)
+        (cut (blockAt (blocksOf s) (placeIn (blocksOf s) number) .start) early
+        (λ a. rw (le-ltb early (blockAt (blocksOf s) (placeIn (blocksOf s) number) .start) a)
+        (cut late (blockAt (blocksOf s) (placeIn (blocksOf s) number) .end)
+        (λ b. absurd (f (placeIn (blocksOf s) number) (omega arith) (number-of-place S number h) a b))
+        (λ b. sym (lt-ltb _ _ b))))
+        (λ a. rw (lt-ltb early (blockAt (blocksOf s) (placeIn (blocksOf s) number) .start) a) refl)))
+
+    pub found-in : (k : ℕ) → k < length s / 3 → getD s (3 * k) 0 ≡ number → field 3 s k 1 ≤ early
+        → ltb (field 3 s k 2) late ≡ misplaced (blocksOf s) (placing number early late)
+    found-in k h e l =
+        let a = held k h in
+        let n : blockAt (blocksOf s) k .number ≡ number = a .number ∙ e in
+        let b : number < length (blocksOf s) = rw n at (S .numbered k (a .here)) in
+        let p : placeIn (blocksOf s) number ≡ k = rw n at (place-of-number S k (a .here)) in
+        let st = a .start in
+        rw (lt-leb (length (blocksOf s)) number b)
+        (rw p
+        (rw (le-ltb early (blockAt (blocksOf s) k .start) (omega arith))
+        (ap (λ (x : ℕ). ltb x late) (sym (a .end)))))
+
+-- ---- number 4: an instruction
+
+module _ (a b c d e : ℕ) where
+  pub fields-1 : 1 < a → true ≡ ((ltb 1 a || (ltb 1 b || ltb 1 c)) || (ltb 256 d || ltb 256 e))
+  fields-1 h = simp (lt-ltb 1 a h)
+
+  pub fields-2 : a ≤ 1 → 1 < b → true ≡ ((ltb 1 a || (ltb 1 b || ltb 1 c)) || (ltb 256 d || ltb 256 e))
+  fields-2 h i = simp (le-ltb 1 a h, lt-ltb 1 b i)
+
+  pub fields-3 : a ≤ 1 → b ≤ 1 → 1 < c → true ≡ ((ltb 1 a || (ltb 1 b || ltb 1 c)) || (ltb 256 d || ltb 256 e))
+  fields-3 h i j = simp (le-ltb 1 a h, le-ltb 1 b i, lt-ltb 1 c j)
+
+  pub fields-4 : a ≤ 1 → b ≤ 1 → c ≤ 1 → 256 < d → true ≡ ((ltb 1 a || (ltb 1 b || ltb 1 c)) || (ltb 256 d || ltb 256 e))
+  fields-4 h i j k = simp (le-ltb 1 a h, le-ltb 1 b i, le-ltb 1 c j, lt-ltb 256 d k)
+
+  pub fields-5 : a ≤ 1 → b ≤ 1 → c ≤ 1 → d ≤ 256 → ltb 256 e ≡ ((ltb 1 a || (ltb 1 b || ltb 1 c)) || (ltb 256 d || ltb 256 e))
+  fields-5 h i j k = simp (le-ltb 1 a h, le-ltb 1 b i, le-ltb 1 c j, le-ltb 256 d k)
+
+pub points-1 : (late early : ℕ) (t : Bool) → late < early → true ≡ ltb late early || t
+points-1 late early t h = simp (lt-ltb late early h)
+
+pub points-2 : (late early placed : ℕ) (t : Bool) → early ≤ late → placed ≢ 1 → false ≡ ltb late early || isSet placed && t
+points-2 late early placed t h i = simp (le-ltb late early h, ne-eqb placed 1 i)
+
+pub points-3 : (late early placed : ℕ) (t r : Bool) → early ≤ late → placed ≡ 1 → r ≡ t → r ≡ ltb late early || isSet placed && t
+points-3 late early placed t r h i e = e ∙ simp (le-ltb late early h, eq-eqb placed 1 i)
+
+split : (a b c d e : Bool) → (a || (b || (c || (d || e)))) ≡ ((a || b) || ((c || d) || e))
+split true b c d e = refl
+split false true c d e = refl
+split false false true d e = refl
+split false false false true e = refl
+split false false false false e = refl
+
+-- an instruction in three parts
+pub inst-split : (bs : List Stretch) (v : ℕ) (insts operands : List ℕ) (i : ℕ) → AddsUp insts operands → i < rowCount 9 insts
+    → badInst bs v (instAt (instsOf insts operands) i)
+    ≡ ((ltb (field 9 insts i 3) (field 9 insts i 2) || isSet (field 9 insts i 0) && misplaced bs (rowInst insts i))
+    || ((badFlags (rowInst insts i) || badPositions (rowInst insts i)) || any (badOperand v) (operandsFrom operands (offset insts i) (field 9 insts i 8))))
+unfolding badInst
+inst-split bs v insts operands i adds h =
+    ap (badInst bs v) (inst-at insts operands adds i h)
+    ∙ split (ltb (field 9 insts i 3) (field 9 insts i 2)) (isSet (field 9 insts i 0) && misplaced bs (rowInst insts i)) (badFlags (rowInst insts i)) (badPositions (rowInst insts i))
+    (any (badOperand v) (operandsFrom operands (offset insts i) (field 9 insts i 8)))
+
+module _ (bs : List Stretch) (v : ℕ) (insts operands : List ℕ) (i : ℕ) (adds : AddsUp insts operands) (h : i < rowCount 9 insts) where
+  abbrev Points : Bool
+  Points = ltb (field 9 insts i 3) (field 9 insts i 2) || isSet (field 9 insts i 0) && misplaced bs (rowInst insts i)
+
+  abbrev Fields : Bool
+  Fields = badFlags (rowInst insts i) || badPositions (rowInst insts i)
+
+  abbrev Operands : Bool
+  Operands = any (badOperand v) (operandsFrom operands (offset insts i) (field 9 insts i 8))
+
+  pub by-points : Points ≡ true → true ≡ badInst bs v (instAt (instsOf insts operands) i)
+  by-points e = sym (inst-split bs v insts operands i adds h ∙ ap (λ (t : Bool). t || (Fields || Operands)) e)
+
+  pub by-fields : Points ≡ false → Fields ≡ true → true ≡ badInst bs v (instAt (instsOf insts operands) i)
+  by-fields e f =
+      sym (inst-split bs v insts operands i adds h ∙ ap (λ (t : Bool). t || (Fields || Operands)) e ∙ ap (λ (t : Bool). t || Operands) f)
+
+  pub by-operands : Points ≡ false → Fields ≡ false → Operands ≡ badInst bs v (instAt (instsOf insts operands) i)
+  by-operands e f =
+      sym (inst-split bs v insts operands i adds h ∙ ap (λ (t : Bool). t || (Fields || Operands)) e ∙ ap (λ (t : Bool). t || Operands) f)
+
+-- ---- number 4: crossings; number 5
+
+pub crossing-is : (v : ℕ) (xs : List ℕ) → scan InstWord (λ n. leb (v + 256) (field 1 xs n 0)) (rowCount 1 xs) ≡ crossingVerdict v xs
+crossing-is v xs =
+    let e : rowCount 1 xs ≡ length xs = omega arith in
+    ap (scan InstWord (λ n. leb (v + 256) (field 1 xs n 0))) e
+    ∙ scan-same InstWord (λ n. leb (v + 256) (field 1 xs n 0)) (λ n. badRegister v (getD xs n 0)) (length xs)
+    (λ i h. let z : 1 * i + 0 ≡ i = omega arith in ap (λ (k : ℕ). leb (v + 256) (getD xs k 0)) z)
+
+module _ (insts operands s : List ℕ) where
+  pub mentions-length : length (mentionsOf s) ≡ rowCount 2 s
+  mentions-length = length-records {A = Mention} 2 (λ f. record { inst = f 0; local = f 1 }) s
+
+  pub inst-is : (i : ℕ) → i < rowCount 2 s → mentionAt (mentionsOf s) i .inst ≡ getD s (2 * i) 0
+  inst-is i h =
+      ap (λ (m : Mention). m .inst) (getD-records 2 (λ f. record { inst = f 0; local = f 1 }) s i (record { inst = 0; local = 0 }) h) ∙ ap (λ (k : ℕ). getD s k 0) (add-zero (2 * i))
+
+  pub unplaced-same : (x : ℕ) → (leb (rowCount 9 insts) x || not (isSet (field 9 insts x 0)))
+      ≡ (absent (instsOf insts operands) x || not (isSet (instAt (instsOf insts operands) x .placed)))
+  unplaced-same x =
+      cut (rowCount 9 insts) x
+      (λ h. rw (insts-length insts operands) (rw (le-leb (rowCount 9 insts) x h) refl))
+      (λ h. rw (insts-length insts operands, placed-is insts operands x h))
+
+  pub address-is : (i : ℕ) (r : Bool) → i < rowCount 2 s → r ≡ (leb (rowCount 9 insts) (getD s (2 * i) 0) || not (isSet (field 9 insts (getD s (2 * i) 0) 0)))
+      → (absent (instsOf insts operands) (mentionAt (mentionsOf s) i .inst) || not (isSet (instAt (instsOf insts operands) (mentionAt (mentionsOf s) i .inst) .placed))) ≡ r
+  address-is i r h e =
+      ap (λ (x : ℕ). absent (instsOf insts operands) x || not (isSet (instAt (instsOf insts operands) x .placed))) (inst-is i h)
+      ∙ sym (unplaced-same (getD s (2 * i) 0)) ∙ sym e
+
+  pub end-is-below : scan Stray (λ n. leb (rowCount 9 insts) (field 2 s n 0)) (rowCount 2 s) ≡ endVerdict (instsOf insts operands) (mentionsOf s)
+  end-is-below =
+      ap (scan Stray (λ n. leb (rowCount 9 insts) (field 2 s n 0))) (sym mentions-length)
+      ∙ scan-same Stray _ _ (length (mentionsOf s)) (λ i h.
+      let l : i < rowCount 2 s = rw mentions-length at h in
+      rw (insts-length insts operands) (ap (leb (rowCount 9 insts)) (ap (λ (k : ℕ). getD s k 0) (add-zero (2 * i)) ∙ sym (inst-is i l))))
+
+-- the verdicts do not depend on the operands
+pub address-whatever : (insts operands s : List ℕ) → addressVerdict (instsOf insts []) (mentionsOf s) ≡ addressVerdict (instsOf insts operands) (mentionsOf s)
+address-whatever insts operands s =
+    scan-same Stray _ _ (length (mentionsOf s)) (λ i h.
+    sym (unplaced-same insts [] s (mentionAt (mentionsOf s) i .inst)) ∙ unplaced-same insts operands s (mentionAt (mentionsOf s) i .inst))
+
+pub end-whatever : (insts operands s : List ℕ) → endVerdict (instsOf insts []) (mentionsOf s) ≡ endVerdict (instsOf insts operands) (mentionsOf s)
+end-whatever insts operands s =
+    scan-same Stray _ _ (length (mentionsOf s)) (λ i h. ap (λ (n : ℕ). leb n (mentionAt (mentionsOf s) i .inst)) (insts-length insts [] ∙ sym (insts-length insts operands)))
+
+pub unplaced-1 : (n x : ℕ) (t : Bool) → n ≤ x → true ≡ leb n x || t
+unplaced-1 n x t h = simp (le-leb n x h)
+
+pub unplaced-2 : (n x p : ℕ) → x < n → not (eqb p 1) ≡ leb n x || not (isSet p)
+unplaced-2 n x p h = simp (lt-leb n x h)
+
+-- ---- operands
+
+module _ (v : ℕ) (o : Operand) where
+  pub operand-flag : 1 < o .def → badOperand v o ≡ true
+  operand-flag h = rw (lt-ltb 1 (o .def) h)
+
+  pub operand-register : o .def ≤ 1 → v + 256 ≤ o .register → badOperand v o ≡ true
+  operand-register h l = rw (le-ltb 1 (o .def) h) (le-leb _ _ l)
+
+  pub operand-fine : o .def ≤ 1 → o .register < v + 256 → badOperand v o ≡ false
+  operand-fine h l = rw (le-ltb 1 (o .def) h) (lt-leb _ _ l)

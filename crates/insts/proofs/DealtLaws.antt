@@ -1,0 +1,153 @@
+-- Laws of the lent rows: an instruction by its index, lists by a test over an index, and scans of equal tests.
+use Prim.Native.Nat.{ℕ, zero, suc, _+_, _-_, _*_, _/_, _≤_, _<_}
+use native.Mathlib.Numerals.{add-one}
+use native.Mathlib.Nat.{add-assoc, add-zero, zero-add}
+use native.Mathlib.Omega.{arith}
+use mathlib.Core.Path.{_≡_, refl, sym, ap, _∙_}
+use mathlib.Core.Bool.{Bool, true, false, cond, _||_}
+use mathlib.Core.List.{List, [], _∷_, _++_}
+use lib.ListN.{length, getD, take, drop}
+use lib.Seq.{drop-drop}
+use Rattle.refusals.specs.declared.Refusal.{Refusal}
+use Rattle.refusals.specs.declared.Verdict.the-variants.{Fine, Bad}
+use Rattle.refusals.specs.Verdicts.{first, scan}
+use Rattle.words.proofs.Points.{same}
+use Rattle.words.specs.Rows.{tabulate, rowCount, field, records}
+use Rattle.words.proofs.RowLaws.{length-tabulate, getD-tabulate, take-tabulate, drop-tabulate, tabulate-suc, tabulate-eq, mem-tabulate, length-records}
+use Rattle.graph.specs.Work.{sumOf}
+use Rattle.carrying.specs.Lists.{any}
+use Rattle.carrying.specs.Insts.{Operand, Inst, instOf, dealt, instsOf, noInst, instAt}
+use Rattle.carrying.proofs.ListLaws.{any-true}
+use Rattle.insts.specs.Counts.{offset}
+use Rattle.insts.specs.Rows.{operandAt, operandsFrom, rowInst, AddsUp}
+
+-- ---- scans of tests that agree
+
+pub scan-same : (r : Refusal) (t u : ℕ → Bool) (n : ℕ) → ((i : ℕ) → i < n → t i ≡ u i) → scan r t n ≡ scan r u n
+unfolding scan
+scan-same r t u zero h = refl
+scan-same r t u (suc n) h = rw (scan-same r t u n (λ i l. h i (omega arith)), h n (omega arith))
+
+-- ---- some of the first n values of g passes
+
+module _ {A : Type 0} (f : A → Bool) where
+  any-last : (l : List A) (a : A) → any f (l ++ (a ∷ [])) ≡ any f l || f a
+  unfolding any
+  any-last [] a = or-no (f a)
+    where
+      or-no : (t : Bool) → t || false ≡ t
+      or-no true = refl
+      or-no false = refl
+  any-last (b ∷ l) a = ap (λ (t : Bool). f b || t) (any-last l a) ∙ shift (f b) (any f l) (f a)
+    where
+      shift : (s t u : Bool) → s || (t || u) ≡ (s || t) || u
+      shift true t u = refl
+      shift false t u = refl
+
+  module _ (g : ℕ → A) where
+    pub any-none : any f (tabulate 0 g) ≡ false
+    unfolding any tabulate
+    any-none = refl
+
+    pub any-next : (k : ℕ) → any f (tabulate (k + 1) g) ≡ any f (tabulate k g) || f (g k)
+    any-next k = ap (λ (i : ℕ). any f (tabulate i g)) (add-one k) ∙ ap (any f) (tabulate-suc k g) ∙ any-last (tabulate k g) (g k)
+
+    pub any-miss : (k : ℕ) → any f (tabulate k g) ≡ false → f (g k) ≡ false → any f (tabulate (k + 1) g) ≡ false
+    any-miss k e h = any-next k ∙ rw (e, h)
+
+    pub any-hit : (k n : ℕ) → k < n → f (g k) ≡ true → any f (tabulate n g) ≡ true
+    any-hit k n h e = any-true f (tabulate n g) (g k) (mem-tabulate n g k h) e
+
+-- ---- sums
+
+pub sum-front : (f : ℕ → ℕ) (n : ℕ) → sumOf f (suc n) ≡ f 0 + sumOf (λ k. f (suc k)) n
+unfolding sumOf
+sum-front f zero = zero-add (f 0) ∙ sym (add-zero (f 0))
+sum-front f (suc n) = ap (λ (x : ℕ). x + f (suc n)) (sum-front f n) ∙ add-assoc (f 0) (sumOf (λ k. f (suc k)) n) (f (suc n))
+
+pub sum-start : (f : ℕ → ℕ) → 0 ≡ sumOf f 0
+unfolding sumOf
+sum-start f = refl
+
+pub sum-next : (f : ℕ → ℕ) (n : ℕ) → sumOf f (n + 1) ≡ sumOf f n + f n
+unfolding sumOf
+sum-next f n = rw add-one
+
+pub sum-within : (f : ℕ → ℕ) (n m : ℕ) → n < m → sumOf f n + f n ≤ sumOf f m
+unfolding sumOf
+sum-within f n zero h = absurd (omega arith)
+sum-within f n (suc m) h =
+    same n m (λ e. rw e (omega arith)) (λ e. let l = sum-within f n m (omega arith) in omega arith)
+
+-- ---- an instruction by its index
+
+-- how many operands the first n rows take
+abbrev skipped : List (ℕ → ℕ) → ℕ → ℕ
+skipped fs zero = 0
+skipped [] (suc n) = 0
+skipped (f ∷ fs) (suc n) = f 8 + skipped fs n
+
+skipped-sum : (m n : ℕ) (g : ℕ → ℕ → ℕ) → n ≤ m → skipped (tabulate m g) n ≡ sumOf (λ k. g k 8) n
+unfolding tabulate
+skipped-sum m zero g h = sum-start (λ k. g k 8)
+skipped-sum zero (suc n) g h = absurd (omega arith)
+skipped-sum (suc m) (suc n) g h =
+    ap (λ (x : ℕ). g 0 8 + x) (skipped-sum m n (λ i. g (suc i)) (omega arith)) ∙ sym (sum-front (λ k. g k 8) n)
+
+abbrev nothing : ℕ → ℕ
+nothing f = 0
+
+dealt-at : (fs : List (ℕ → ℕ)) (os : List Operand) (n : ℕ) → n < length fs
+    → getD (dealt fs os) n noInst ≡ instOf (getD fs n nothing) (take (getD fs n nothing 8) (drop (skipped fs n) os))
+unfolding dealt
+dealt-at [] os n h = absurd (omega arith)
+dealt-at (f ∷ fs) os zero h = refl
+dealt-at (f ∷ fs) os (suc n) h =
+    dealt-at fs (drop (f 8) os) n (omega arith)
+    ∙ ap (λ (l : List Operand). instOf (getD fs n nothing) (take (getD fs n nothing 8) l)) (drop-drop (skipped fs n) (f 8) os)
+
+dealt-length : (fs : List (ℕ → ℕ)) (os : List Operand) → length (dealt fs os) ≡ length fs
+unfolding dealt
+dealt-length [] os = refl
+dealt-length (f ∷ fs) os = ap suc (dealt-length fs (drop (f 8) os))
+
+module _ (insts operands : List ℕ) where
+  pub insts-length : length (instsOf insts operands) ≡ rowCount 9 insts
+  insts-length = dealt-length (records 9 (λ f. f) insts) _ ∙ length-tabulate (rowCount 9 insts) _
+
+  -- an instruction's fields do not depend on the operands
+  row-at : (i : ℕ) → i < rowCount 9 insts
+      → instAt (instsOf insts operands) i ≡ instOf (field 9 insts i) (take (field 9 insts i 8) (drop (offset insts i) (records 2 (λ f. record { def = f 0; register = f 1 }) operands)))
+  row-at i h =
+      let l : i < length (records 9 (λ f. f) insts) = rw (length-tabulate (rowCount 9 insts) (λ i. field 9 insts i)) h in
+      let e : getD (records 9 (λ f. f) insts) i nothing ≡ field 9 insts i = getD-tabulate (rowCount 9 insts) (λ i. field 9 insts i) i nothing h in
+      dealt-at (records 9 (λ f. f) insts) (records 2 (λ f. record { def = f 0; register = f 1 }) operands) i l
+      ∙ ap (λ (f : ℕ → ℕ). instOf f (take (f 8) (drop (skipped (records 9 (λ f. f) insts) i) (records 2 (λ f. record { def = f 0; register = f 1 }) operands)))) e
+      ∙ ap (λ (k : ℕ). instOf (field 9 insts i) (take (field 9 insts i 8) (drop k (records 2 (λ f. record { def = f 0; register = f 1 }) operands))))
+      (skipped-sum (rowCount 9 insts) i (λ i. field 9 insts i) (omega arith))
+
+  module _ (adds : AddsUp insts operands) where
+    pub operands-within : (i : ℕ) → i < rowCount 9 insts → offset insts i + field 9 insts i 8 ≤ rowCount 2 operands
+    operands-within i h = rw adds at (sum-within (λ k. field 9 insts k 8) i (rowCount 9 insts) h)
+
+    -- its operands are those from its offset on
+    pub inst-at : (i : ℕ) → i < rowCount 9 insts
+        → instAt (instsOf insts operands) i ≡ instOf (field 9 insts i) (operandsFrom operands (offset insts i) (field 9 insts i 8))
+    inst-at i h =
+        row-at i h
+        ∙ ap (λ (l : List Operand). instOf (field 9 insts i) (take (field 9 insts i 8) l)) (drop-tabulate (offset insts i) (rowCount 2 operands) (operandAt operands) (omega (arith, operands-within i h)))
+        ∙ ap (instOf (field 9 insts i)) (take-tabulate (field 9 insts i 8) (rowCount 2 operands - offset insts i) (λ p. operandAt operands (offset insts i + p)) (omega (arith, operands-within i h)))
+
+  -- the fields of an instruction that is there
+  module _ (i : ℕ) (h : i < rowCount 9 insts) where
+    pub placed-is : instAt (instsOf insts operands) i .placed ≡ field 9 insts i 0
+    placed-is = ap (λ (x : Inst). x .placed) (row-at i h)
+
+    pub early-is : instAt (instsOf insts operands) i .early ≡ field 9 insts i 2
+    early-is = ap (λ (x : Inst). x .early) (row-at i h)
+
+    pub late-is : instAt (instsOf insts operands) i .late ≡ field 9 insts i 3
+    late-is = ap (λ (x : Inst). x .late) (row-at i h)
+
+    pub lea-is : instAt (instsOf insts operands) i .lea ≡ field 9 insts i 4
+    lea-is = ap (λ (x : Inst). x .lea) (row-at i h)

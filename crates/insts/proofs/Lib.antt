@@ -1,0 +1,2 @@
+pub mod DealtLaws
+pub mod CheckLaws

@@ -1,0 +1,85 @@
+-- `insts::checks::bad_points` meets its contract: a law for each way out.
+use native.Mathlib.Omega.{arith}
+use Prim.Native.Nat.{ℕ, suc, _+_, _-_, _*_, _/_, _%_, _≤_, _<_}
+use mathlib.Core.Path.{_≡_, refl, sym, ap, _∙_}
+use mathlib.Core.Bool.{Bool, true, false}
+use lib.ListN.{length, getD}
+use denote.Ref.{now}
+use borrow.Author.Needs.{needs}
+use Rattle.insts.proofs.CheckLaws.{points-1, points-2, points-3}
+use Rattle.words.specs.Rows.{rowCount, field}
+use native.Mathlib.Nat.{add-zero}
+use Rattle.graph.specs.Line.{blocksOf}
+use Rattle.carrying.specs.Checks.{misplaced}
+use Rattle.insts.specs.Rows.{rowInst}
+use Rattle.insts.proofs.checks.bad_points.Statement.{statement}
+use Rattle.insts.proofs.checks.bad_points.Tie as tie
+
+mul-at : tie.Need-mul-at
+mul-at c = omega arith
+
+add-early : tie.Need-add-early
+add-early c = omega arith
+
+mul-early : tie.Need-mul-early
+mul-early c = omega arith
+
+shared-slice-read-early : tie.Need-shared-slice-read-early
+shared-slice-read-early c = omega arith
+
+add-late : tie.Need-add-late
+add-late c = omega arith
+
+mul-late : tie.Need-mul-late
+mul-late c = omega arith
+
+shared-slice-read-late : tie.Need-shared-slice-read-late
+shared-slice-read-late c = omega arith
+
+returns : tie.Need-returns
+returns c = points-1 (field 9 (((c .before .before .before .before .before .args) .insts .now)) ((c .before .before .before .before .before .args) .i) 3) (field 9 (((c .before .before .before .before .before .args) .insts .now)) ((c .before .before .before .before .before .args) .i) 2) _ (omega arith)
+
+mul-if2 : tie.Need-mul-if2
+mul-if2 c = omega arith
+
+shared-slice-read-if2 : tie.Need-shared-slice-read-if2
+shared-slice-read-if2 c = omega arith
+
+returns-2 : tie.Need-returns-2
+returns-2 c = (let z : getD (((c .before .before .before .before .before .before .before .args) .insts .now)) (9 * (c .before .before .before .before .before .before .before .args) .i + 0) 0 ≡ getD (((c .before .before .before .before .before .before .before .args) .insts .now)) (9 * (c .before .before .before .before .before .before .before .args) .i) 0 = ap (λ (k : ℕ). getD (((c .before .before .before .before .before .before .before .args) .insts .now)) k 0) (add-zero (9 * (c .before .before .before .before .before .before .before .args) .i)) in points-2 (field 9 (((c .before .before .before .before .before .before .before .args) .insts .now)) ((c .before .before .before .before .before .before .before .args) .i) 3) (field 9 (((c .before .before .before .before .before .before .before .args) .insts .now)) ((c .before .before .before .before .before .before .before .args) .i) 2) (field 9 (((c .before .before .before .before .before .before .before .args) .insts .now)) ((c .before .before .before .before .before .before .before .args) .i) 0) _ (omega arith) (λ q. c .if2 .taken (omega arith)))
+
+add-outside : tie.Need-add-outside
+add-outside c = omega arith
+
+mul-outside : tie.Need-mul-outside
+mul-outside c = omega arith
+
+shared-slice-read-outside : tie.Need-shared-slice-read-outside
+shared-slice-read-outside c = omega arith
+
+outside-requires : tie.Need-outside-requires
+outside-requires c κs = ((c .before .before .before .before .before .before .before .before .pre) .0, omega arith)
+
+returns-3 : tie.Need-returns-3
+returns-3 c = (let z : getD (((c .before .before .before .before .before .before .before .before .before .args) .insts .now)) (9 * (c .before .before .before .before .before .before .before .before .before .args) .i + 0) 0 ≡ getD (((c .before .before .before .before .before .before .before .before .before .args) .insts .now)) (9 * (c .before .before .before .before .before .before .before .before .before .args) .i) 0 = ap (λ (k : ℕ). getD (((c .before .before .before .before .before .before .before .before .before .args) .insts .now)) k 0) (add-zero (9 * (c .before .before .before .before .before .before .before .before .before .args) .i)) in points-3 (field 9 (((c .before .before .before .before .before .before .before .before .before .args) .insts .now)) ((c .before .before .before .before .before .before .before .before .before .args) .i) 3) (field 9 (((c .before .before .before .before .before .before .before .before .before .args) .insts .now)) ((c .before .before .before .before .before .before .before .before .before .args) .i) 2) (field 9 (((c .before .before .before .before .before .before .before .before .before .args) .insts .now)) ((c .before .before .before .before .before .before .before .before .before .args) .i) 0) (misplaced (blocksOf (((c .before .before .before .before .before .before .before .before .before .args) .blocks .now))) (rowInst (((c .before .before .before .before .before .before .before .before .before .args) .insts .now)) ((c .before .before .before .before .before .before .before .before .before .args) .i))) _ (omega arith) (omega arith) (c .outside .ensures))
+
+pub bad-points-spec : {M : Type 1} → statement M
+bad-points-spec =
+    tie.close
+    (tie.spec
+    mul-at
+    add-early
+    mul-early
+    shared-slice-read-early
+    add-late
+    mul-late
+    shared-slice-read-late
+    returns
+    mul-if2
+    shared-slice-read-if2
+    returns-2
+    add-outside
+    mul-outside
+    shared-slice-read-outside
+    outside-requires
+    returns-3)

@@ -1,0 +1,32 @@
+-- `insts::checks::crossing` meets its contract: rows of one number.
+use native.Mathlib.Omega.{arith}
+use Prim.Native.Nat.{ℕ, suc, _+_, _-_, _*_, _/_, _%_, _≤_, _<_}
+use mathlib.Core.Path.{_≡_, refl, sym, ap, _∙_}
+use mathlib.Core.Bool.{Bool, true, false}
+use lib.ListN.{length, getD}
+use denote.Ref.{now}
+use borrow.Author.Needs.{needs}
+use Rattle.insts.proofs.CheckLaws.{crossing-is}
+use Rattle.words.specs.Rows.{rowCount, field}
+use Rattle.refusals.specs.Verdicts.{scan}
+use Rattle.refusals.specs.declared.Verdict.the-variants.{Fine, Bad}
+use Rattle.refusals.specs.declared.Refusal.the-variants.{Count, Inst as InstWord, Stray}
+use Rattle.refusals.proofs.Laws.{scan-none, scan-miss, scan-hit, scan-end}
+use lib.Dec.{leb}
+use Rattle.insts.proofs.checks.crossing.Statement.{statement}
+use Rattle.insts.proofs.checks.crossing.Tie as tie
+
+wide-requires : tie.Need-wide-requires
+wide-requires c κs = omega arith
+
+add-below : tie.Need-add-below
+add-below c = omega arith
+
+below-requires : tie.Need-below-requires
+below-requires c κs = omega arith
+
+returns : tie.Need-returns
+returns c = c .below .ensures ∙ ap (λ (x : ℕ). scan InstWord (λ n. leb (x + 256) (field 1 (((c .before .before .before .args) .crossings .now)) n 0)) (rowCount 1 (((c .before .before .before .args) .crossings .now)))) ((c .before .wide) .ensures) ∙ crossing-is ((c .before .before .before .args) .v) (((c .before .before .before .args) .crossings .now))
+
+pub crossing-spec : {M : Type 1} → statement M
+crossing-spec = tie.close (tie.spec wide-requires add-below below-requires returns)

@@ -1,0 +1,85 @@
+-- `insts::checks::inst` meets its contract: no instruction before i is refused.
+use native.Mathlib.Omega.{arith}
+use Prim.Native.Nat.{ℕ, suc, _+_, _-_, _*_, _/_, _%_, _≤_, _<_}
+use mathlib.Core.Path.{_≡_, refl, sym, ap, _∙_}
+use mathlib.Core.Bool.{Bool, true, false}
+use lib.ListN.{length, getD}
+use denote.Ref.{now}
+use borrow.Author.Needs.{needs}
+use Rattle.refusals.specs.Verdicts.{scan}
+use Rattle.refusals.specs.declared.Verdict.the-variants.{Fine, Bad}
+use Rattle.refusals.specs.declared.Refusal.the-variants.{Count, Inst as InstWord, Stray}
+use Rattle.refusals.proofs.Laws.{scan-none, scan-miss, scan-hit, scan-end}
+use Rattle.words.specs.Rows.{rowCount, field}
+use Rattle.graph.specs.Line.{blocksOf}
+use Rattle.carrying.specs.Insts.{instsOf, instAt}
+use Rattle.carrying.specs.Checks.{badInst}
+use Rattle.insts.specs.Counts.{offset}
+use Rattle.insts.proofs.DealtLaws.{operands-within, insts-length, sum-start, sum-next}
+use Rattle.insts.proofs.checks.inst.Statement.{statement}
+use Rattle.insts.proofs.checks.inst.Tie as tie
+
+abbrev Inv-loop : tie.InvT-loop
+Inv-loop blocks v insts operands n from₀ i₀ from i = (n ≡ length insts / 9) × (i ≤ n) × (from ≡ offset insts i) × (scan InstWord (λ k. badInst (blocksOf blocks) v (instAt (instsOf insts operands) k)) i ≡ Fine)
+
+abbrev μ-loop : tie.MeasureT-loop
+μ-loop blocks v insts operands n from₀ i₀ from i = n - i
+
+loop-holds : tie.Need-loop-holds Inv-loop μ-loop
+loop-holds c = (omega arith, omega arith, sum-start _, scan-none _ _)
+
+bad-inst-requires : tie.Need-bad-inst-requires Inv-loop μ-loop
+bad-inst-requires c κs = (((c .before .before .before .before .before .pre) .0, omega arith, (c .before .before .before .before .before .pre) .1), ((c .before .loop) .inv .2, (c .before .before .before .before .before .pre) .2))
+
+returns : tie.Need-returns Inv-loop μ-loop
+returns c = sym (scan-hit _ _ _ _ ((c .before .before .before .loop) .inv .3) (sym ((c .before .bad-inst) .ensures) ∙ c .if1 .taken) (omega (arith, insts-length (((c .before .before .before .before .before .before .before .args) .insts .now)) (((c .before .before .before .before .before .before .before .args) .operands .now)))))
+
+mul-wide : tie.Need-mul-wide Inv-loop μ-loop
+mul-wide c = omega arith
+
+add-wide : tie.Need-add-wide Inv-loop μ-loop
+add-wide c = omega arith
+
+mul-wide-2 : tie.Need-mul-wide-2 Inv-loop μ-loop
+mul-wide-2 c = omega arith
+
+shared-slice-read-wide : tie.Need-shared-slice-read-wide Inv-loop μ-loop
+shared-slice-read-wide c = omega arith
+
+wide-requires : tie.Need-wide-requires Inv-loop μ-loop
+wide-requires c κs = omega arith
+
+add-from : tie.Need-add-from Inv-loop μ-loop
+add-from c = omega (arith, operands-within (((c .before .before .before .before .before .before .before .before .before .args) .insts .now)) (((c .before .before .before .before .before .before .before .before .before .args) .operands .now)) ((c .before .before .before .before .before .before .before .before .before .pre) .1) ((c .before .before .before .before .before .loop) .i) (omega arith))
+
+add-i : tie.Need-add-i Inv-loop μ-loop
+add-i c = omega arith
+
+loop-less : tie.Need-loop-less Inv-loop μ-loop
+loop-less c = omega arith
+
+loop-again : tie.Need-loop-again Inv-loop μ-loop
+loop-again c = (omega arith, omega arith, ap (λ (x : ℕ). x + (c .wide) .result) ((c .before .before .before .before .before .loop) .inv .2) ∙ ap (λ (x : ℕ). offset (((c .before .before .before .before .before .before .before .before .before .args) .insts .now)) ((c .before .before .before .before .before .loop) .i) + x) ((c .wide) .ensures) ∙ sym (sum-next (λ k. field 9 (((c .before .before .before .before .before .before .before .before .before .args) .insts .now)) k 8) ((c .before .before .before .before .before .loop) .i)), scan-miss _ _ _ ((c .before .before .before .before .before .loop) .inv .3) (sym ((c .before .before .before .bad-inst) .ensures) ∙ (c .before .before .if1) .left))
+
+returns-2 : tie.Need-returns-2 Inv-loop μ-loop
+returns-2 c = sym (scan-end _ _ _ _ ((c .before .loop) .inv .3) (omega (arith, insts-length (((c .before .before .before .before .before .args) .insts .now)) (((c .before .before .before .before .before .args) .operands .now)))) (omega (arith, insts-length (((c .before .before .before .before .before .args) .insts .now)) (((c .before .before .before .before .before .args) .operands .now)))))
+
+pub inst-spec : {M : Type 1} → statement M
+inst-spec =
+    tie.close
+    (tie.spec
+    Inv-loop
+    μ-loop
+    loop-holds
+    bad-inst-requires
+    returns
+    mul-wide
+    add-wide
+    mul-wide-2
+    shared-slice-read-wide
+    wide-requires
+    add-from
+    add-i
+    loop-less
+    loop-again
+    returns-2)

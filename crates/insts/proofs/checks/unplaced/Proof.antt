@@ -1,0 +1,39 @@
+-- `insts::checks::unplaced` meets its contract: a law for each way out.
+use native.Mathlib.Omega.{arith}
+use Prim.Native.Nat.{ℕ, suc, _+_, _-_, _*_, _/_, _%_, _≤_, _<_}
+use mathlib.Core.Path.{_≡_, refl, sym, ap, _∙_}
+use mathlib.Core.Bool.{Bool, true, false}
+use lib.ListN.{length, getD}
+use denote.Ref.{now}
+use borrow.Author.Needs.{needs}
+use Rattle.insts.proofs.CheckLaws.{unplaced-1, unplaced-2}
+use native.Mathlib.Nat.{add-zero}
+use Rattle.carrying.specs.Insts.{isSet}
+use mathlib.Core.Bool.{not, _||_}
+use lib.Dec.{leb, eqb}
+use Rattle.words.specs.Rows.{field}
+use Rattle.insts.proofs.checks.unplaced.Statement.{statement}
+use Rattle.insts.proofs.checks.unplaced.Tie as tie
+
+wide-requires : tie.Need-wide-requires
+wide-requires c κs = omega arith
+
+returns : tie.Need-returns
+returns c = unplaced-1 (length (((c .before .before .before .args) .insts .now)) / 9) ((c .before .before .before .args) .number) (not (isSet (field 9 (((c .before .before .before .args) .insts .now)) ((c .before .before .before .args) .number) 0))) (omega arith)
+
+mul-result : tie.Need-mul-result
+mul-result c = omega arith
+
+mul-result-2 : tie.Need-mul-result-2
+mul-result-2 c = omega arith
+
+shared-slice-read-result : tie.Need-shared-slice-read-result
+shared-slice-read-result c = omega arith
+
+returns-2 : tie.Need-returns-2
+returns-2 c = ap (λ (x : ℕ). not (eqb (getD (((c .before .before .before .before .args) .insts .now)) (9 * x) 0) 1)) ((c .before .before .wide) .ensures) ∙ unplaced-2 (length (((c .before .before .before .before .args) .insts .now)) / 9) ((c .before .before .before .before .args) .number) (getD (((c .before .before .before .before .args) .insts .now)) (9 * (c .before .before .before .before .args) .number) 0) (omega arith) ∙ ap (λ (k : ℕ). leb (length (((c .before .before .before .before .args) .insts .now)) / 9) ((c .before .before .before .before .args) .number) || not (isSet (getD (((c .before .before .before .before .args) .insts .now)) k 0))) (sym (add-zero (9 * (c .before .before .before .before .args) .number)))
+
+pub unplaced-spec : {M : Type 1} → statement M
+unplaced-spec =
+    tie.close
+    (tie.spec wide-requires returns mul-result mul-result-2 shared-slice-read-result returns-2)

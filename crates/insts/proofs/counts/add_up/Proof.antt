@@ -1,0 +1,24 @@
+-- `insts::counts::add_up` meets its contract: the counts add up, or not.
+use native.Mathlib.Omega.{arith}
+use Prim.Native.Nat.{ℕ, suc, _+_, _-_, _*_, _/_, _%_, _≤_, _<_}
+use mathlib.Core.Path.{_≡_, refl, sym, ap, _∙_}
+use mathlib.Core.Bool.{Bool, true, false}
+use lib.ListN.{length, getD}
+use denote.Ref.{now}
+use borrow.Author.Needs.{needs}
+use Rattle.insts.proofs.CheckLaws.{sum-off, sum-fine}
+use Rattle.insts.specs.Counts.{offset}
+use Rattle.insts.proofs.counts.add_up.Statement.{statement}
+use Rattle.insts.proofs.counts.add_up.Tie as tie
+
+operand-sum-requires : tie.Need-operand-sum-requires
+operand-sum-requires c κs = (c .before .before .pre)
+
+returns : tie.Need-returns
+returns c = sum-off (((c .before .before .before .before .args) .insts .now)) (((c .before .before .before .before .args) .operands .now)) (λ q. c .if1 .taken ((c .before .operand-sum) .ensures ∙ q))
+
+returns-2 : tie.Need-returns-2
+returns-2 c = sum-fine (((c .before .before .before .before .args) .insts .now)) (((c .before .before .before .before .args) .operands .now)) (sym ((c .before .operand-sum) .ensures) ∙ c .if1 .left)
+
+pub add-up-spec : {M : Type 1} → statement M
+add-up-spec = tie.close (tie.spec operand-sum-requires returns returns-2)

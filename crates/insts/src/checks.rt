@@ -1,0 +1,201 @@
+// Refusals 4 and 5 about instructions, crossings, addresses and ends, in linear time and without work space.
+ghost use mathlib.Core.Path.{_≡_};
+ghost use mathlib.Core.Bool.{not, _||_, _&&_};
+ghost use Prim.Native.Nat.{_+_, _*_, _/_, _≤_, _<_};
+ghost use mathlib.Core.List.{[]};
+ghost use lib.ListN.{length};
+ghost use lib.Dec.{leb, ltb};
+ghost use Rattle.refusals.specs.Verdicts.{first, scan};
+ghost use Rattle.words.specs.Rows.{rowCount, field};
+ghost use Rattle.graph.specs.Line.{blocksOf, lineVerdict, Sound};
+ghost use Rattle.carrying.specs.Lists.{any};
+ghost use Rattle.carrying.specs.Insts.{instsOf, instAt, isSet};
+ghost use Rattle.carrying.specs.Carried.{mentionsOf};
+ghost use Rattle.carrying.specs.Checks.{misplaced, badOperand, badFlags, badPositions, badInst, instVerdict, crossingVerdict, addressVerdict, endVerdict};
+ghost use Rattle.insts.specs.Counts.{offset};
+ghost use Rattle.insts.specs.Rows.{operandsFrom, placing, rowInst, AddsUp};
+use refusals::Refusal;
+use refusals::Verdict;
+
+fn wide(x: u32) -> usize
+    ensures { λ r. ⌜ r ≡ x ⌝ }
+{
+    x as usize
+}
+
+// The first row whose field `f` is at least `limit`.
+pub fn below(s: &[u32], width: usize, f: usize, limit: usize, word: Refusal) -> Verdict
+    requires { ⌜ f < width ⌝ }
+    ensures { λ r. ⌜ r ≡ scan word (λ n. leb limit (field width (now (s .entry)) n f)) (rowCount width (now (s .entry))) ⌝ }
+{
+    let n = s.len() / width;
+    let mut i = 0;
+    while i < n {
+        if limit <= wide(s[width * i + f]) {
+            return Verdict::Bad(word, i);
+        }
+        i += 1;
+    }
+    Verdict::Fine
+}
+
+// Whether a placed instruction is in no block or outside its block's points. The block that has its early point is looked for in the line; then its number must be the instruction's.
+fn outside(blocks: &[u32], number: u32, early: u32, late: u32) -> bool
+    requires { ⌜ Sound (blocksOf (now blocks)) × (early ≤ late) ⌝ }
+    ensures { λ r. ⌜ r ≡ misplaced (blocksOf (now (blocks .entry))) (placing number early late) ⌝ }
+{
+    let n = blocks.len() / 3;
+    let k = words::at_most_in_rows(blocks, 3, 1, n, early);
+    if k == 0 {
+        return true;
+    }
+    let at = k - 1;
+    if blocks[3 * at] != number {
+        return true;
+    }
+    blocks[3 * at + 2] < late
+}
+
+// Whether one of `n` operands from `from` on has a flag or a register out of range.
+fn bad_operands(operands: &[u32], from: usize, n: usize, v: u32) -> bool
+    requires { ⌜ (from + n ≤ length (now operands) / 2) × (v ≤ 65535) ⌝ }
+    ensures { λ r. ⌜ r ≡ any (badOperand v) (operandsFrom (now (operands .entry)) from n) ⌝ }
+{
+    let top = v + 256;
+    let mut p = 0;
+    while p < n {
+        let i = from + p;
+        if 1 < operands[2 * i] {
+            return true;
+        }
+        if top <= operands[2 * i + 1] {
+            return true;
+        }
+        p += 1;
+    }
+    false
+}
+
+// Whether a flag or a position is out of range.
+fn bad_fields(insts: &[u32], i: usize) -> bool
+    requires { ⌜ i < length (now insts) / 9 ⌝ }
+    ensures { λ r. ⌜ r ≡ (badFlags (rowInst (now (insts .entry)) i) || badPositions (rowInst (now (insts .entry)) i)) ⌝ }
+{
+    let at = 9 * i;
+    if 1 < insts[at] {
+        return true;
+    }
+    if 1 < insts[at + 4] {
+        return true;
+    }
+    if 1 < insts[at + 5] {
+        return true;
+    }
+    if 256 < insts[at + 6] {
+        return true;
+    }
+    256 < insts[at + 7]
+}
+
+// Whether an instruction is reversed, or placed in no block or outside its points.
+fn bad_points(blocks: &[u32], insts: &[u32], i: usize) -> bool
+    requires { ⌜ Sound (blocksOf (now blocks)) × (i < length (now insts) / 9) ⌝ }
+    ensures { λ r. ⌜ r ≡ (ltb (field 9 (now (insts .entry)) i 3) (field 9 (now (insts .entry)) i 2) || isSet (field 9 (now (insts .entry)) i 0) && misplaced (blocksOf (now (blocks .entry))) (rowInst (now (insts .entry)) i)) ⌝ }
+{
+    let at = 9 * i;
+    let early = insts[at + 2];
+    let late = insts[at + 3];
+    if late < early {
+        return true;
+    }
+    if insts[at] != 1 {
+        return false;
+    }
+    outside(blocks, insts[at + 1], early, late)
+}
+
+// Whether instruction `i`, whose operands begin at `from`, is refused.
+fn bad_inst(blocks: &[u32], v: u32, insts: &[u32], operands: &[u32], i: usize, from: usize) -> bool
+    requires { ⌜ Sound (blocksOf (now blocks)) × (i < length (now insts) / 9) × AddsUp (now insts) (now operands) ⌝ }
+    requires { ⌜ (from ≡ offset (now insts) i) × (v ≤ 65535) ⌝ }
+    ensures { λ r. ⌜ r ≡ badInst (blocksOf (now (blocks .entry))) v (instAt (instsOf (now (insts .entry)) (now (operands .entry))) i) ⌝ }
+{
+    if bad_points(blocks, insts, i) {
+        return true;
+    }
+    if bad_fields(insts, i) {
+        return true;
+    }
+    bad_operands(operands, from, wide(insts[9 * i + 8]), v)
+}
+
+// Refusal 4: the first instruction that is refused; an operand counts as its instruction.
+pub fn inst(blocks: &[u32], v: u32, insts: &[u32], operands: &[u32]) -> Verdict
+    requires { ⌜ Sound (blocksOf (now blocks)) × AddsUp (now insts) (now operands) × (v ≤ 65535) ⌝ }
+    ensures { λ r. ⌜ r ≡ instVerdict (blocksOf (now (blocks .entry))) v (instsOf (now (insts .entry)) (now (operands .entry))) ⌝ }
+{
+    let n = insts.len() / 9;
+    let mut from = 0;
+    let mut i = 0;
+    while i < n {
+        if bad_inst(blocks, v, insts, operands, i, from) {
+            return Verdict::Bad(Refusal::Inst, i);
+        }
+        from += wide(insts[9 * i + 8]);
+        i += 1;
+    }
+    Verdict::Fine
+}
+
+// Refusal 4: the first crossing of no register.
+pub fn crossing(v: u32, crossings: &[u32]) -> Verdict
+    requires { ⌜ v ≤ 65535 ⌝ }
+    ensures { λ r. ⌜ r ≡ crossingVerdict v (now (crossings .entry)) ⌝ }
+{
+    below(crossings, 1, 0, wide(v) + 256, Refusal::Inst)
+}
+
+// Whether there is no placed instruction with this number.
+pub fn unplaced(insts: &[u32], number: u32) -> bool
+    ensures { λ r. ⌜ r ≡ (leb (length (now (insts .entry)) / 9) number || not (isSet (field 9 (now (insts .entry)) number 0))) ⌝ }
+{
+    let at = wide(number);
+    if insts.len() / 9 <= at {
+        return true;
+    }
+    insts[9 * at] != 1
+}
+
+// Refusal 5: the first address at an absent or unplaced instruction, whatever the operands.
+pub fn address(insts: &[u32], addresses: &[u32]) -> Verdict
+    ensures { λ r. ⌜ r ≡ addressVerdict (instsOf (now (insts .entry)) []) (mentionsOf (now (addresses .entry))) ⌝ }
+{
+    let n = addresses.len() / 2;
+    let mut i = 0;
+    while i < n {
+        if unplaced(insts, addresses[2 * i]) {
+            return Verdict::Bad(Refusal::Stray, i);
+        }
+        i += 1;
+    }
+    Verdict::Fine
+}
+
+// Refusal 5: the first end at an absent instruction, whatever the operands.
+pub fn end(insts: &[u32], ends: &[u32]) -> Verdict
+    ensures { λ r. ⌜ r ≡ endVerdict (instsOf (now (insts .entry)) []) (mentionsOf (now (ends .entry))) ⌝ }
+{
+    below(ends, 2, 0, insts.len() / 9, Refusal::Stray)
+}
+
+// Refusals 2 and 4 of the blocks and the instructions.
+pub fn located(points: u32, v: u32, blocks: &[u32], insts: &[u32], operands: &[u32]) -> Verdict
+    requires { ⌜ (1 ≤ length (now blocks) / 3) × (length (now blocks) / 3 ≤ 4096) × AddsUp (now insts) (now operands) × (v ≤ 65535) ⌝ }
+    ensures { λ r. ⌜ r ≡ first (lineVerdict (blocksOf (now (blocks .entry))) points) (instVerdict (blocksOf (now (blocks .entry))) v (instsOf (now (insts .entry)) (now (operands .entry)))) ⌝ }
+{
+    let line = graph::checks::line(blocks, points);
+    if let Verdict::Bad(r, i) = line {
+        return Verdict::Bad(r, i);
+    }
+    inst(blocks, v, insts, operands)
+}

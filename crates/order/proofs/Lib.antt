@@ -1,0 +1,3 @@
+pub mod SameOrder
+pub mod RankLaws
+pub mod PassLaws

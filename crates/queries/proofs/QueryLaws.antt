@@ -1,0 +1,184 @@
+-- The queries: the checks' ways out, and an item by its index.
+use Prim.Native.Nat.{ℕ, zero, suc, _+_, _-_, _*_, _≤_, _<_}
+use native.Mathlib.Omega.{arith}
+use native.Mathlib.Nat.{add-zero}
+use mathlib.Core.Path.{_≡_, refl, ap, sym, _∙_, subst}
+use mathlib.Core.Bool.{Bool, true, false, cond, not, _||_}
+use mathlib.Core.Option.{Option, some, none}
+use mathlib.Core.List.{List, [], _∷_, _++_}
+use lib.ListN.{length, getD, getElem?, take, drop}
+use lib.Dec.{leb, ltb, eqb}
+use borrow.Author.Tests.{ltb-false, lt-ltb, le-ltb, le-leb, lt-leb}
+use Rattle.refusals.specs.declared.Verdict.{Verdict}
+use Rattle.refusals.specs.declared.Verdict.the-variants.{Fine, Bad}
+use Rattle.refusals.specs.declared.Refusal.{Refusal}
+use Rattle.refusals.specs.declared.Refusal.the-variants.{Count, Want}
+use Rattle.refusals.specs.Verdicts.{inOrder, first, scan, check}
+use Rattle.refusals.specs.Outcomes.{Outcome, given, refused, unless, after}
+use Rattle.refusals.proofs.Laws.{check-bad, check-fine, check-last, first-fine, first-bad, first-left, first-right}
+use Rattle.words.specs.Rows.{rowCount, wholeRows, field, records, tabulate}
+use Rattle.words.proofs.RowLaws.{length-tabulate, take-tabulate, drop-tabulate}
+use Rattle.ranges.proofs.PointLaws.{or-none}
+use Rattle.ranges.specs.declared.Range.{Range}
+use Rattle.fitting.specs.Queries.{Item, Room, Slots, slotsOf, itemsOf, areasOf, partOf, cellIn, local, slot, saved, cap}
+use Rattle.queries.specs.declared.Place.the-variants.{At, Absent, Refused as PlaceRefused}
+use Rattle.queries.specs.declared.Saving.the-variants.{Cells, Refused as SavedRefused}
+use Rattle.queries.specs.Entry.{placeOf, savedOf, badCount, noCell, itemsVerdict, surplus, planVerdict, roomRow, capRows, CappedBy}
+use Rattle.words.proofs.PasteLaws.{Filling, fill-above}
+use Rattle.wants.specs.Entry.{flat}
+use Rattle.wants.proofs.FlatLaws.{flat-length}
+
+-- ---- the checks
+
+module _ (cells items : List ℕ) (locals : ℕ) where
+  -- the last two of the checks
+  rest-is : badCount cells items locals ≡ false → planVerdict cells items locals ≡ first (itemsVerdict cells items) (surplus cells items)
+  unfolding planVerdict inOrder
+  rest-is e = check-fine Count (badCount cells items locals) (itemsVerdict cells items ∷ surplus cells items ∷ []) e ∙ ap (first (itemsVerdict cells items)) (check-last (surplus cells items))
+
+  pub plan-count : badCount cells items locals ≡ true → Bad Count 0 ≡ planVerdict cells items locals
+  unfolding planVerdict
+  plan-count e = sym (check-bad Count (badCount cells items locals) (itemsVerdict cells items ∷ surplus cells items ∷ []) e)
+
+  pub plan-item : badCount cells items locals ≡ false → (r : Refusal) (i : ℕ) → itemsVerdict cells items ≡ Bad r i → Bad r i ≡ planVerdict cells items locals
+  plan-item e r i f = sym (rest-is e ∙ first-bad (itemsVerdict cells items) (surplus cells items) r i f)
+
+  pub plan-surplus : badCount cells items locals ≡ false → itemsVerdict cells items ≡ Fine → rowCount 4 items < rowCount 2 cells → Bad Want (rowCount 4 items) ≡ planVerdict cells items locals
+  plan-surplus e f h =
+      sym (rest-is e ∙ first-fine (itemsVerdict cells items) (surplus cells items) f ∙ ap (λ (t : Bool). cond t (Bad Want (rowCount 4 items)) Fine) (lt-ltb (rowCount 4 items) (rowCount 2 cells) h))
+
+  pub plan-fine : badCount cells items locals ≡ false → itemsVerdict cells items ≡ Fine → rowCount 2 cells ≤ rowCount 4 items → Fine ≡ planVerdict cells items locals
+  plan-fine e f h =
+      sym (rest-is e ∙ first-fine (itemsVerdict cells items) (surplus cells items) f ∙ ap (λ (t : Bool). cond t (Bad Want (rowCount 4 items)) Fine) (le-ltb (rowCount 4 items) (rowCount 2 cells) h))
+
+  -- what holds of a plan that is not refused
+  pub record Sound : Type 0 where
+    pub whole : (locals ≤ rowCount 4 items) × (rowCount 4 items ≤ 4096)
+    pub enough : rowCount 2 cells ≤ rowCount 4 items
+
+  counted : planVerdict cells items locals ≡ Fine → badCount cells items locals ≡ false
+  counted e = go (badCount cells items locals) refl
+    where
+      go : (t : Bool) → badCount cells items locals ≡ t → badCount cells items locals ≡ false
+      go true f = let q = plan-count f in let z : _≡_ {A = ℕ} 0 1 = cc in absurd (omega arith)
+      go false f = f
+
+  surplus-none : surplus cells items ≡ Fine → rowCount 2 cells ≤ rowCount 4 items
+  surplus-none e = go (ltb (rowCount 4 items) (rowCount 2 cells)) refl
+    where
+      go : (t : Bool) → ltb (rowCount 4 items) (rowCount 2 cells) ≡ t → rowCount 2 cells ≤ rowCount 4 items
+      go true f = let q : surplus cells items ≡ Bad Want (rowCount 4 items) = ap (λ (t : Bool). cond t (Bad Want (rowCount 4 items)) Fine) f in let z : _≡_ {A = ℕ} 0 1 = cc in absurd (omega arith)
+      go false f = ltb-false _ _ f
+
+  pub sound : planVerdict cells items locals ≡ Fine → Sound
+  sound e =
+      let c = counted e in
+      let (a, b) = or-none (not (wholeRows 2 cells)) _ c in
+      let (d, f) = or-none (not (wholeRows 4 items)) _ b in
+      let (g, h) = or-none (ltb (rowCount 4 items) locals) _ f in
+      let (k, l) = or-none (ltb 2048 locals) _ h in
+      record {
+        whole = (ltb-false (rowCount 4 items) locals g, omega (arith, ltb-false (rowCount 4 items) locals g, ltb-false 2048 locals k, ltb-false 2048 (rowCount 4 items - locals) l));
+        enough = surplus-none (first-right (itemsVerdict cells items) (surplus cells items) (sym (rest-is c) ∙ e));
+      }
+
+-- ---- an item by its index
+
+module _ {A : Type 0} where
+  there : (n : ℕ) (f : ℕ → A) (i : ℕ) → i < n → getElem? (tabulate n f) i ≡ some (f i)
+  unfolding tabulate
+  there zero f i h = absurd (omega arith)
+  there (suc n) f zero h = refl
+  there (suc n) f (suc i) h = there n (λ j. f (suc j)) i (omega arith)
+
+  not-there : (n : ℕ) (f : ℕ → A) (i : ℕ) → n ≤ i → getElem? (tabulate n f) i ≡ none
+  unfolding tabulate
+  not-there zero f i h = refl
+  not-there (suc n) f zero h = absurd (omega arith)
+  not-there (suc n) f (suc i) h = not-there n (λ j. f (suc j)) i (omega arith)
+
+abbrev itemAt : List ℕ → ℕ → Item
+itemAt s i = record { cell = field 4 s i 0; area = partOf (areasOf []) (field 4 s i 1) (field 4 s i 2) (field 4 s i 3) }
+
+module _ (cells items : List ℕ) (locals : ℕ) (S : Sound cells items locals) where
+  locals-are : slotsOf locals cells items [] .locals ≡ tabulate locals (itemAt items)
+  locals-are = take-tabulate locals (rowCount 4 items) (itemAt items) (S .whole .0)
+
+  slots-are : slotsOf locals cells items [] .slots ≡ tabulate (rowCount 4 items - locals) (λ i. itemAt items (locals + i))
+  slots-are = drop-tabulate locals (rowCount 4 items) (itemAt items) (S .whole .0)
+
+  cell-at : (i : ℕ) → getD items (4 * i) 0 ≡ field 4 items i 0
+  cell-at i = ap (λ (k : ℕ). getD items k 0) (sym (add-zero (4 * i)))
+
+  pub local-at : (i : ℕ) → i < locals → local (slotsOf locals cells items []) i ≡ some (getD items (4 * i) 0)
+  local-at i h =
+      ap (λ (l : List Item). cellIn (getElem? l i)) locals-are ∙ ap cellIn (there locals (itemAt items) i h) ∙ ap some (sym (cell-at i))
+
+  pub local-none : (i : ℕ) → locals ≤ i → local (slotsOf locals cells items []) i ≡ none
+  local-none i h = ap (λ (l : List Item). cellIn (getElem? l i)) locals-are ∙ ap cellIn (not-there locals (itemAt items) i h)
+
+  pub slot-at : (i : ℕ) → locals + i < rowCount 4 items → slot (slotsOf locals cells items []) i ≡ some (getD items (4 * (locals + i)) 0)
+  slot-at i h =
+      ap (λ (l : List Item). cellIn (getElem? l i)) slots-are
+      ∙ ap cellIn (there (rowCount 4 items - locals) (λ j. itemAt items (locals + j)) i (omega arith)) ∙ ap some (sym (cell-at (locals + i)))
+
+  pub slot-none : (i : ℕ) → rowCount 4 items ≤ locals + i → slot (slotsOf locals cells items []) i ≡ none
+  slot-none i h =
+      ap (λ (l : List Item). cellIn (getElem? l i)) slots-are ∙ ap cellIn (not-there (rowCount 4 items - locals) (λ j. itemAt items (locals + j)) i (omega arith))
+
+  pub saved-is : saved (slotsOf locals cells items []) ≡ rowCount 4 items - rowCount 2 cells
+  saved-is =
+      let a : length (slotsOf locals cells items [] .locals) ≡ locals = ap length locals-are ∙ length-tabulate locals (itemAt items) in
+      let b : length (slotsOf locals cells items [] .slots) ≡ rowCount 4 items - locals = ap length slots-are ∙ length-tabulate (rowCount 4 items - locals) (λ i. itemAt items (locals + i)) in
+      let c : length (slotsOf locals cells items [] .cells) ≡ rowCount 2 cells = length-tabulate (rowCount 2 cells) _ in
+      omega (arith, a, b, c, S .whole .0)
+
+-- ---- outcomes
+
+pub place-told : (v : Verdict) (o : Option ℕ) (c : ℕ) → v ≡ Fine → o ≡ some c → placeOf (At c) ≡ unless v o
+place-told v o c e f = rw (e, f)
+
+pub place-none : (v : Verdict) (o : Option ℕ) → v ≡ Fine → o ≡ none → placeOf Absent ≡ unless v o
+place-none v o e f = rw (e, f)
+
+pub place-refused : (v : Verdict) (o : Option ℕ) (r : Refusal) (i : ℕ) → v ≡ Bad r i → placeOf (PlaceRefused r i) ≡ unless v o
+place-refused v o r i e = rw e
+
+pub saved-told : (v : Verdict) (n m : ℕ) → v ≡ Fine → n ≡ m → savedOf (Cells n) ≡ unless v m
+saved-told v n m e f = rw (e, f)
+
+pub saved-refused : (v : Verdict) (m : ℕ) (r : Refusal) (i : ℕ) → v ≡ Bad r i → savedOf (SavedRefused r i) ≡ unless v m
+saved-refused v m r i e = rw e
+
+-- ---- an item's cell
+
+pub names-none : (cells items : List ℕ) (i : ℕ) → rowCount 2 cells ≤ getD items (4 * i) 0 → noCell cells items i ≡ true
+names-none cells items i h = ap (λ (k : ℕ). leb (rowCount 2 cells) (getD items k 0)) (add-zero (4 * i)) ∙ le-leb (rowCount 2 cells) (getD items (4 * i) 0) h
+
+pub names-one : (cells items : List ℕ) (i : ℕ) → getD items (4 * i) 0 < rowCount 2 cells → noCell cells items i ≡ false
+names-one cells items i h = ap (λ (k : ℕ). leb (rowCount 2 cells) (getD items k 0)) (add-zero (4 * i)) ∙ lt-leb (rowCount 2 cells) (getD items (4 * i) 0) h
+
+-- ---- `cap`
+
+abbrev pub capRow : List ℕ → ℕ → ℕ → List ℕ
+capRow cells most i = roomRow (cap most (record { size = field 2 cells i 0; align = field 2 cells i 1 }))
+
+-- what stands from the next row on is as it was
+pub row-was : {d s m : List ℕ} (n i : ℕ) → Filling d 0 m (2 * n) s (2 * i) → (getD s (2 * i) 0 ≡ field 2 d i 0) × (getD s (2 * i + 1) 0 ≡ field 2 d i 1)
+row-was {d} {s} {m} n i f =
+    (fill-above f (2 * i) (omega arith) ∙ ap (λ (k : ℕ). getD d k 0) (sym (add-zero (2 * i))), fill-above f (2 * i + 1) (omega arith))
+
+pub capped-refused : (cells : List ℕ) (count most : ℕ) → not (wholeRows 2 cells) || (ltb (rowCount 2 cells) count || ltb 4096 count) ≡ true → CappedBy cells count most (Bad Count 0) cells
+capped-refused cells count most e = record {
+  answer = sym (ap (λ (t : Bool). check Count t) e);
+  in-cells = sym (ap (λ (t : Bool). after (unless (check Count t) (capRows cells count most)) (λ l. l) cells) e);
+}
+
+pub capped-told : (cells cells′ : List ℕ) (count most : ℕ) → not (wholeRows 2 cells) || (ltb (rowCount 2 cells) count || ltb 4096 count) ≡ false
+    → cells′ ≡ capRows cells count most ++ drop (2 * count) cells → CappedBy cells count most Fine cells′
+capped-told cells cells′ count most e f =
+    record {
+      answer = sym (ap (λ (t : Bool). check Count t) e);
+      in-cells = f ∙ ap (λ (k : ℕ). capRows cells count most ++ drop k cells) (sym (flat-length 2 count (capRow cells most) (λ i h. refl)))
+          ∙ sym (ap (λ (t : Bool). after (unless (check Count t) (capRows cells count most)) (λ l. l) cells) e);
+    }

@@ -1,0 +1,61 @@
+-- `slot` meets its contract: refused, told or absent.
+use Rattle.queries.specs.Entry.{planVerdict}
+use Rattle.fitting.specs.Queries.{slotsOf, local, slot, saved}
+use Rattle.queries.proofs.QueryLaws.{sound, local-at, local-none, slot-at, slot-none, saved-is, place-told, place-none, place-refused, saved-told, saved-refused}
+use mathlib.Core.List.{[]}
+use denote.Ref.{now}
+use native.Mathlib.Omega.{arith}
+use Prim.Native.Nat.{_+_, _*_}
+use mathlib.Core.Path.{sym, _∙_}
+use borrow.Author.Needs.{needs}
+use Rattle.queries.proofs.slot.Statement.{statement}
+use Rattle.queries.proofs.slot.Tie as tie
+
+plan-requires : tie.Need-plan-requires
+plan-requires c κs = search needs
+
+enum-known-v : tie.Need-enum-known-v
+enum-known-v c = search needs
+
+returns : tie.Need-returns
+returns c = let a = (c .before .before .before .before .before .before .args) in place-refused (planVerdict (now (a .cells)) (now (a .items)) (a .locals)) (slot (slotsOf (a .locals) (now (a .cells)) (now (a .items)) []) (a .i)) _ _ (sym ((c .before .before .before .plan) .ensures) ∙ (c .before .v) .given .1)
+
+enum-told : tie.Need-enum-told
+enum-told c = search needs
+
+add-at : tie.Need-add-at
+add-at c = search needs
+
+mul-t12 : tie.Need-mul-t12
+mul-t12 c = search needs
+
+mul-t13 : tie.Need-mul-t13
+mul-t13 c = search needs
+
+shared-slice-read-t15 : tie.Need-shared-slice-read-t15
+shared-slice-read-t15 c = search needs
+
+cast-t16 : tie.Need-cast-t16
+cast-t16 c = omega (arith, (c .shared-slice-known3) .given (4 * ((c .before .before .before .before .before .before .before .args) .locals + (c .before .before .before .before .before .before .before .args) .i)))
+
+returns-2 : tie.Need-returns-2
+returns-2 c = let a = (c .before .before .before .before .before .before .before .args) in place-told (planVerdict (now (a .cells)) (now (a .items)) (a .locals)) (slot (slotsOf (a .locals) (now (a .cells)) (now (a .items)) []) (a .i)) _ (sym ((c .before .before .before .before .plan) .ensures) ∙ (c .before .before .enum-told) .given .1) (slot-at (now (a .cells)) (now (a .items)) (a .locals) (sound (now (a .cells)) (now (a .items)) (a .locals) (sym ((c .before .before .before .before .plan) .ensures) ∙ (c .before .before .enum-told) .given .1)) (a .i) (omega arith))
+
+returns-3 : tie.Need-returns-3
+returns-3 c = let a = (c .before .before .before .before .before .before .args) in place-none (planVerdict (now (a .cells)) (now (a .items)) (a .locals)) (slot (slotsOf (a .locals) (now (a .cells)) (now (a .items)) []) (a .i)) (sym ((c .before .before .before .plan) .ensures) ∙ (c .before .enum-told) .given .1) (slot-none (now (a .cells)) (now (a .items)) (a .locals) (sound (now (a .cells)) (now (a .items)) (a .locals) (sym ((c .before .before .before .plan) .ensures) ∙ (c .before .enum-told) .given .1)) (a .i) (omega arith))
+
+pub slot-spec : {M : Type 1} → statement M
+slot-spec =
+    tie.close
+    (tie.spec
+    plan-requires
+    enum-known-v
+    returns
+    enum-told
+    add-at
+    mul-t12
+    mul-t13
+    shared-slice-read-t15
+    cast-t16
+    returns-2
+    returns-3)

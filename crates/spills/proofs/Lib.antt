@@ -1,0 +1,4 @@
+pub mod CheckLaws
+pub mod SpilledLaws
+pub mod MovedLaws
+pub mod MovedEntry

@@ -1,0 +1,110 @@
+-- `spills::moved::position` meets its contract: a law for each kind.
+use native.Mathlib.Omega.{arith}
+use Prim.Native.Nat.{ℕ, suc, _+_, _-_, _*_, _/_, _%_, _≤_, _<_}
+use mathlib.Core.Path.{_≡_, refl, sym, ap, _∙_}
+use mathlib.Core.Bool.{Bool, true, false}
+use lib.ListN.{length, getD}
+use denote.Ref.{now}
+use borrow.Author.Needs.{needs}
+use Rattle.spills.proofs.MovedLaws.{inst-there-0, inst-there-1, block-there-2, block-there-3, spot-0, spot-1, spot-2, spot-3, spot-over}
+use Rattle.graph.specs.Line.{blocksOf, placeIn}
+use Rattle.graph.proofs.Line.{blocks-length, place-lt}
+use Rattle.spills.proofs.moved.position.Statement.{statement}
+use Rattle.spills.proofs.moved.position.Tie as tie
+
+mul-t8 : tie.Need-mul-t8
+mul-t8 c = omega arith
+
+add-t9 : tie.Need-add-t9
+add-t9 c = omega arith
+
+mul-t10 : tie.Need-mul-t10
+mul-t10 c = omega arith
+
+shared-slice-read-t12 : tie.Need-shared-slice-read-t12
+shared-slice-read-t12 c = let h = inst-there-0 (blocksOf (((c .before .before .before .before .before .args) .blocks .now))) (((c .before .before .before .before .before .args) .insts .now)) ((c .before .before .before .before .before .args) .kind) ((c .before .before .before .before .before .args) .number) ((c .before .before .before .before .before .pre) .1) (omega arith) in omega arith
+
+mul-t14 : tie.Need-mul-t14
+mul-t14 c = omega arith
+
+add-t15 : tie.Need-add-t15
+add-t15 c = omega arith
+
+mul-t16 : tie.Need-mul-t16
+mul-t16 c = omega arith
+
+shared-slice-read-t18 : tie.Need-shared-slice-read-t18
+shared-slice-read-t18 c = let h = inst-there-1 (blocksOf (((c .before .before .before .before .before .args) .blocks .now))) (((c .before .before .before .before .before .args) .insts .now)) ((c .before .before .before .before .before .args) .kind) ((c .before .before .before .before .before .args) .number) ((c .before .before .before .before .before .pre) .1) (omega arith) in omega arith
+
+place-of-requires : tie.Need-place-of-requires
+place-of-requires c κs = let n = blocks-length (((c .before .before .before .before .args) .blocks .now)) in let h = block-there-2 (blocksOf (((c .before .before .before .before .args) .blocks .now))) (((c .before .before .before .before .args) .insts .now)) ((c .before .before .before .before .args) .kind) ((c .before .before .before .before .args) .number) ((c .before .before .before .before .pre) .1) (omega arith) in omega arith
+
+mul-t21 : tie.Need-mul-t21
+mul-t21 c = let n = blocks-length (((c .before .before .before .before .before .before .args) .blocks .now)) in let h = block-there-2 (blocksOf (((c .before .before .before .before .before .before .args) .blocks .now))) (((c .before .before .before .before .before .before .args) .insts .now)) ((c .before .before .before .before .before .before .args) .kind) ((c .before .before .before .before .before .before .args) .number) ((c .before .before .before .before .before .before .pre) .1) (omega arith) in let p : (c .before .place-of) .result .0 ≡ placeIn (blocksOf (((c .before .before .before .before .before .before .args) .blocks .now))) ((c .before .before .before .before .before .before .args) .number) = (c .before .place-of) .ensures ∙ (c .before .before .before .before .before .before .pre) .0 .1 .place ((c .before .before .before .before .before .before .args) .number) h in let l = place-lt ((c .before .before .before .before .before .before .pre) .0 .0) ((c .before .before .before .before .before .before .args) .number) h in omega arith
+
+add-t22 : tie.Need-add-t22
+add-t22 c = let n = blocks-length (((c .before .before .before .before .before .before .args) .blocks .now)) in let h = block-there-2 (blocksOf (((c .before .before .before .before .before .before .args) .blocks .now))) (((c .before .before .before .before .before .before .args) .insts .now)) ((c .before .before .before .before .before .before .args) .kind) ((c .before .before .before .before .before .before .args) .number) ((c .before .before .before .before .before .before .pre) .1) (omega arith) in let p : (c .before .place-of) .result .0 ≡ placeIn (blocksOf (((c .before .before .before .before .before .before .args) .blocks .now))) ((c .before .before .before .before .before .before .args) .number) = (c .before .place-of) .ensures ∙ (c .before .before .before .before .before .before .pre) .0 .1 .place ((c .before .before .before .before .before .before .args) .number) h in let l = place-lt ((c .before .before .before .before .before .before .pre) .0 .0) ((c .before .before .before .before .before .before .args) .number) h in omega arith
+
+mul-t23 : tie.Need-mul-t23
+mul-t23 c = let n = blocks-length (((c .before .before .before .before .before .before .args) .blocks .now)) in let h = block-there-2 (blocksOf (((c .before .before .before .before .before .before .args) .blocks .now))) (((c .before .before .before .before .before .before .args) .insts .now)) ((c .before .before .before .before .before .before .args) .kind) ((c .before .before .before .before .before .before .args) .number) ((c .before .before .before .before .before .before .pre) .1) (omega arith) in let p : (c .before .place-of) .result .0 ≡ placeIn (blocksOf (((c .before .before .before .before .before .before .args) .blocks .now))) ((c .before .before .before .before .before .before .args) .number) = (c .before .place-of) .ensures ∙ (c .before .before .before .before .before .before .pre) .0 .1 .place ((c .before .before .before .before .before .before .args) .number) h in let l = place-lt ((c .before .before .before .before .before .before .pre) .0 .0) ((c .before .before .before .before .before .before .args) .number) h in omega arith
+
+shared-slice-read-t25 : tie.Need-shared-slice-read-t25
+shared-slice-read-t25 c = let n = blocks-length (((c .before .before .before .before .before .before .before .args) .blocks .now)) in let h = block-there-2 (blocksOf (((c .before .before .before .before .before .before .before .args) .blocks .now))) (((c .before .before .before .before .before .before .before .args) .insts .now)) ((c .before .before .before .before .before .before .before .args) .kind) ((c .before .before .before .before .before .before .before .args) .number) ((c .before .before .before .before .before .before .before .pre) .1) (omega arith) in let p : (c .before .before .place-of) .result .0 ≡ placeIn (blocksOf (((c .before .before .before .before .before .before .before .args) .blocks .now))) ((c .before .before .before .before .before .before .before .args) .number) = (c .before .before .place-of) .ensures ∙ (c .before .before .before .before .before .before .before .pre) .0 .1 .place ((c .before .before .before .before .before .before .before .args) .number) h in let l = place-lt ((c .before .before .before .before .before .before .before .pre) .0 .0) ((c .before .before .before .before .before .before .before .args) .number) h in omega arith
+
+place-of-requires-2 : tie.Need-place-of-requires-2
+place-of-requires-2 c κs = let n = blocks-length (((c .before .before .before .before .args) .blocks .now)) in let h = block-there-3 (blocksOf (((c .before .before .before .before .args) .blocks .now))) (((c .before .before .before .before .args) .insts .now)) ((c .before .before .before .before .args) .kind) ((c .before .before .before .before .args) .number) ((c .before .before .before .before .pre) .1) (omega arith) in omega arith
+
+mul-t28 : tie.Need-mul-t28
+mul-t28 c = let n = blocks-length (((c .before .before .before .before .before .before .args) .blocks .now)) in let h = block-there-3 (blocksOf (((c .before .before .before .before .before .before .args) .blocks .now))) (((c .before .before .before .before .before .before .args) .insts .now)) ((c .before .before .before .before .before .before .args) .kind) ((c .before .before .before .before .before .before .args) .number) ((c .before .before .before .before .before .before .pre) .1) (omega arith) in let p : (c .before .place-of2) .result .0 ≡ placeIn (blocksOf (((c .before .before .before .before .before .before .args) .blocks .now))) ((c .before .before .before .before .before .before .args) .number) = (c .before .place-of2) .ensures ∙ (c .before .before .before .before .before .before .pre) .0 .1 .place ((c .before .before .before .before .before .before .args) .number) h in let l = place-lt ((c .before .before .before .before .before .before .pre) .0 .0) ((c .before .before .before .before .before .before .args) .number) h in omega arith
+
+add-t29 : tie.Need-add-t29
+add-t29 c = let n = blocks-length (((c .before .before .before .before .before .before .args) .blocks .now)) in let h = block-there-3 (blocksOf (((c .before .before .before .before .before .before .args) .blocks .now))) (((c .before .before .before .before .before .before .args) .insts .now)) ((c .before .before .before .before .before .before .args) .kind) ((c .before .before .before .before .before .before .args) .number) ((c .before .before .before .before .before .before .pre) .1) (omega arith) in let p : (c .before .place-of2) .result .0 ≡ placeIn (blocksOf (((c .before .before .before .before .before .before .args) .blocks .now))) ((c .before .before .before .before .before .before .args) .number) = (c .before .place-of2) .ensures ∙ (c .before .before .before .before .before .before .pre) .0 .1 .place ((c .before .before .before .before .before .before .args) .number) h in let l = place-lt ((c .before .before .before .before .before .before .pre) .0 .0) ((c .before .before .before .before .before .before .args) .number) h in omega arith
+
+mul-t30 : tie.Need-mul-t30
+mul-t30 c = let n = blocks-length (((c .before .before .before .before .before .before .args) .blocks .now)) in let h = block-there-3 (blocksOf (((c .before .before .before .before .before .before .args) .blocks .now))) (((c .before .before .before .before .before .before .args) .insts .now)) ((c .before .before .before .before .before .before .args) .kind) ((c .before .before .before .before .before .before .args) .number) ((c .before .before .before .before .before .before .pre) .1) (omega arith) in let p : (c .before .place-of2) .result .0 ≡ placeIn (blocksOf (((c .before .before .before .before .before .before .args) .blocks .now))) ((c .before .before .before .before .before .before .args) .number) = (c .before .place-of2) .ensures ∙ (c .before .before .before .before .before .before .pre) .0 .1 .place ((c .before .before .before .before .before .before .args) .number) h in let l = place-lt ((c .before .before .before .before .before .before .pre) .0 .0) ((c .before .before .before .before .before .before .args) .number) h in omega arith
+
+shared-slice-read-t32 : tie.Need-shared-slice-read-t32
+shared-slice-read-t32 c = let n = blocks-length (((c .before .before .before .before .before .before .before .args) .blocks .now)) in let h = block-there-3 (blocksOf (((c .before .before .before .before .before .before .before .args) .blocks .now))) (((c .before .before .before .before .before .before .before .args) .insts .now)) ((c .before .before .before .before .before .before .before .args) .kind) ((c .before .before .before .before .before .before .before .args) .number) ((c .before .before .before .before .before .before .before .pre) .1) (omega arith) in let p : (c .before .before .place-of2) .result .0 ≡ placeIn (blocksOf (((c .before .before .before .before .before .before .before .args) .blocks .now))) ((c .before .before .before .before .before .before .before .args) .number) = (c .before .before .place-of2) .ensures ∙ (c .before .before .before .before .before .before .before .pre) .0 .1 .place ((c .before .before .before .before .before .before .before .args) .number) h in let l = place-lt ((c .before .before .before .before .before .before .before .pre) .0 .0) ((c .before .before .before .before .before .before .before .args) .number) h in omega arith
+
+returns : tie.Need-returns
+returns c = spot-0 (((c .before .before .before .before .before .args) .blocks .now)) (((c .before .before .before .before .before .args) .insts .now)) ((c .before .before .before .before .before .args) .kind) ((c .before .before .before .before .before .args) .number) (omega arith) (inst-there-0 (blocksOf (((c .before .before .before .before .before .args) .blocks .now))) (((c .before .before .before .before .before .args) .insts .now)) ((c .before .before .before .before .before .args) .kind) ((c .before .before .before .before .before .args) .number) ((c .before .before .before .before .before .pre) .1) (omega arith))
+
+returns-2 : tie.Need-returns-2
+returns-2 c = spot-1 (((c .before .before .before .before .before .args) .blocks .now)) (((c .before .before .before .before .before .args) .insts .now)) ((c .before .before .before .before .before .args) .kind) ((c .before .before .before .before .before .args) .number) (omega arith) (inst-there-1 (blocksOf (((c .before .before .before .before .before .args) .blocks .now))) (((c .before .before .before .before .before .args) .insts .now)) ((c .before .before .before .before .before .args) .kind) ((c .before .before .before .before .before .args) .number) ((c .before .before .before .before .before .pre) .1) (omega arith))
+
+returns-3 : tie.Need-returns-3
+returns-3 c = let n = blocks-length (((c .before .before .before .before .before .before .before .args) .blocks .now)) in let h = block-there-2 (blocksOf (((c .before .before .before .before .before .before .before .args) .blocks .now))) (((c .before .before .before .before .before .before .before .args) .insts .now)) ((c .before .before .before .before .before .before .before .args) .kind) ((c .before .before .before .before .before .before .before .args) .number) ((c .before .before .before .before .before .before .before .pre) .1) (omega arith) in let p : (c .before .before .place-of) .result .0 ≡ placeIn (blocksOf (((c .before .before .before .before .before .before .before .args) .blocks .now))) ((c .before .before .before .before .before .before .before .args) .number) = (c .before .before .place-of) .ensures ∙ (c .before .before .before .before .before .before .before .pre) .0 .1 .place ((c .before .before .before .before .before .before .before .args) .number) h in let l = place-lt ((c .before .before .before .before .before .before .before .pre) .0 .0) ((c .before .before .before .before .before .before .before .args) .number) h in spot-2 (((c .before .before .before .before .before .before .before .args) .blocks .now)) (((c .before .before .before .before .before .before .before .args) .insts .now)) ((c .before .before .before .before .before .before .before .args) .kind) ((c .before .before .before .before .before .before .before .args) .number) ((c .before .before .place-of) .result .0) (omega arith) p (omega arith)
+
+returns-4 : tie.Need-returns-4
+returns-4 c = let n = blocks-length (((c .before .before .before .before .before .before .before .args) .blocks .now)) in let h = block-there-3 (blocksOf (((c .before .before .before .before .before .before .before .args) .blocks .now))) (((c .before .before .before .before .before .before .before .args) .insts .now)) ((c .before .before .before .before .before .before .before .args) .kind) ((c .before .before .before .before .before .before .before .args) .number) ((c .before .before .before .before .before .before .before .pre) .1) (omega arith) in let p : (c .before .before .place-of2) .result .0 ≡ placeIn (blocksOf (((c .before .before .before .before .before .before .before .args) .blocks .now))) ((c .before .before .before .before .before .before .before .args) .number) = (c .before .before .place-of2) .ensures ∙ (c .before .before .before .before .before .before .before .pre) .0 .1 .place ((c .before .before .before .before .before .before .before .args) .number) h in let l = place-lt ((c .before .before .before .before .before .before .before .pre) .0 .0) ((c .before .before .before .before .before .before .before .args) .number) h in spot-3 (((c .before .before .before .before .before .before .before .args) .blocks .now)) (((c .before .before .before .before .before .before .before .args) .insts .now)) ((c .before .before .before .before .before .before .before .args) .kind) ((c .before .before .before .before .before .before .before .args) .number) ((c .before .before .place-of2) .result .0) (omega arith) p (omega arith)
+
+returns-5 : tie.Need-returns-5
+returns-5 c = spot-over (((c .before .before .before .before .args) .blocks .now)) (((c .before .before .before .before .args) .insts .now)) ((c .before .before .before .before .args) .kind) ((c .before .before .before .before .args) .number) (omega arith)
+
+pub position-spec : {M : Type 1} → statement M
+position-spec =
+    tie.close
+    (tie.spec
+    mul-t8
+    add-t9
+    mul-t10
+    shared-slice-read-t12
+    mul-t14
+    add-t15
+    mul-t16
+    shared-slice-read-t18
+    place-of-requires
+    mul-t21
+    add-t22
+    mul-t23
+    shared-slice-read-t25
+    place-of-requires-2
+    mul-t28
+    add-t29
+    mul-t30
+    shared-slice-read-t32
+    returns
+    returns-2
+    returns-3
+    returns-4
+    returns-5)

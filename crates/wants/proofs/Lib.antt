@@ -1,0 +1,4 @@
+pub mod PartLaws
+pub mod FlatLaws
+pub mod LoadLaws
+pub mod EntryLaws

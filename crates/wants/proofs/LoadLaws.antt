@@ -1,0 +1,151 @@
+-- The loaded tables hold the wants that were lent.
+use Prim.Native.Nat.{ℕ, suc, _+_, _-_, _*_, _/_, _%_, _^_, _≤_, _<_}
+use native.Mathlib.Omega.{arith}
+use native.Mathlib.Nat.{add-zero}
+use native.Mathlib.Decide.{ℕ-discrete}
+use mathlib.Core.Path.{_≡_, refl, ap, sym, _∙_, subst}
+use mathlib.Core.Logic.{_⊎_, inl, inr}
+use mathlib.Core.Bool.{Bool, true, false, cond}
+use mathlib.Core.Option.{Option, some, none}
+use mathlib.Core.List.{List, [], _∷_}
+use lib.ListN.{length, getD, take, drop}
+use lib.Seq.{ext-getD}
+use lib.Dec.{eqb}
+use borrow.Author.Tests.{eq-eqb, ne-eqb}
+use Rattle.words.specs.Rows.{rowCount, field, records, tabulate}
+use Rattle.words.specs.Regions.{Region, part}
+use Rattle.words.proofs.RegionLaws.{length-part, getD-part}
+use Rattle.words.proofs.RowLaws.{tabulate-eq}
+use Rattle.ranges.specs.declared.Range.{Range}
+use Rattle.ranges.specs.Points.{range, rangeAt, Apart}
+use Rattle.ranges.specs.Forms.{unpack, unpacked}
+use Rattle.ranges.proofs.FormLaws.{unpacked-length, unpacked-at, unpack-pack}
+use Rattle.fitting.specs.Wants.{Want}
+use Rattle.fitting.specs.Queries.{areasOf, partOf}
+use Rattle.order.specs.Keys.{sizeOf, alignOf}
+use Rattle.fit.specs.Tables.{firstOf, countOf, rangesAt, areaIn, wantIn, wantsIn, Proper, Lent}
+use Rattle.fit.proofs.TableLaws.{area-none, area-some}
+use Rattle.wants.specs.Entry.{wantsOf, badPart, badWant}
+use Rattle.wants.specs.Inner.{itemWord, areaWordAt, itemWordAt, wantWordAt, Loaded}
+use Rattle.wants.proofs.PartLaws.{part-length, part-at, part-fine, areas-length}
+
+-- ---- words
+
+pub word-none : (present first count : ℕ) → present ≡ 0 → itemWord present first count ≡ 0
+word-none present first count e = ap (λ (t : Bool). cond t 0 (first * 2 ^ 32 + count + 1)) (eq-eqb present 0 e)
+
+pub word-some : (present first count : ℕ) → (present ≡ 0 → ⊥) → itemWord present first count ≡ first * 2 ^ 32 + count + 1
+word-some present first count d = ap (λ (t : Bool). cond t 0 (first * 2 ^ 32 + count + 1)) (ne-eqb present 0 d)
+
+pub area-word : (s : List ℕ) (i : ℕ) → getD s (2 * i) 0 * 2 ^ 32 + getD s (2 * i + 1) 0 ≡ areaWordAt s i
+area-word s i = ap (λ (k : ℕ). getD s k 0 * 2 ^ 32 + getD s (2 * i + 1) 0) (sym (add-zero (2 * i)))
+
+pub want-word : (s : List ℕ) (i : ℕ) → getD s (5 * i) 0 * 2 ^ 32 + getD s (5 * i + 1) 0 ≡ wantWordAt s i
+want-word s i = ap (λ (k : ℕ). getD s k 0 * 2 ^ 32 + getD s (5 * i + 1) 0) (sym (add-zero (5 * i)))
+
+-- ---- the three passes
+
+pub loaded : {w₀ w₁ w₂ w₃ wants areas : List ℕ} {n ranges : ℕ} → Region w₀ w₁ 0 ranges (areaWordAt areas) → Region w₁ w₂ ranges n (itemWordAt wants) → Region w₂ w₃ (ranges + n) n (wantWordAt wants)
+    → Loaded w₀ w₃ wants areas n ranges
+loaded {w₀} {w₁} {w₂} {w₃} {wants} {areas} {n} {ranges} a b c = record {
+  len = c .len ∙ b .len ∙ a .len;
+  area = λ i h. c .before i (omega arith) ∙ b .before i h ∙ a .inside i i (omega arith) h;
+  item = λ i h. c .before (ranges + i) (omega arith) ∙ b .inside (ranges + i) i refl h;
+  want = λ i h. c .inside (ranges + n + i) i refl h;
+  rest = λ x h. c .after x (omega arith) ∙ b .after x (omega arith) ∙ a .after x (omega arith);
+}
+
+-- a part that is in the area list begins no later than its end
+pub first-small : (wants areas : List ℕ) → rowCount 2 areas ≤ 65536 → ((i : ℕ) → i < rowCount 5 wants → badWant (areasOf areas) wants i ≡ false)
+    → (i : ℕ) → i < rowCount 5 wants → 0 < field 5 wants i 2 → field 5 wants i 3 ≤ 65536
+first-small wants areas short fine i h q =
+    let a = part-fine (areasOf areas) (field 5 wants i 2) (field 5 wants i 3) (field 5 wants i 4) (fine i h) (λ e. omega arith) in
+    omega (arith, a .0, areas-length areas)
+
+-- ---- what they hold
+
+module _ {w₀ w wants areas : List ℕ} (L : Loaded w₀ w wants areas (rowCount 5 wants) (rowCount 2 areas))
+    (small : (x : ℕ) → getD areas x 0 < 2 ^ 32) (narrow : (x : ℕ) → getD wants x 0 < 2 ^ 32)
+    (few : rowCount 5 wants ≤ 4096) (short : rowCount 2 areas ≤ 65536) (room : rowCount 2 areas + 7 * rowCount 5 wants ≤ length w₀)
+    (fine : (i : ℕ) → i < rowCount 5 wants → badWant (areasOf areas) wants i ≡ false) where
+  range-is : (i : ℕ) → i < rowCount 2 areas → unpack (getD w i 0) ≡ range (getD areas (2 * i) 0) (getD areas (2 * i + 1) 0)
+  range-is i h =
+      ap unpack (L .area i h ∙ sym (area-word areas i)) ∙ unpack-pack (getD areas (2 * i) 0) (getD areas (2 * i + 1) 0) (small (2 * i + 1))
+
+  ranges-are : (first count : ℕ) → first + count ≤ rowCount 2 areas → unpacked (part first count w) ≡ take count (drop first (areasOf areas))
+  ranges-are first count h =
+      ext-getD (range 0 0) (unpacked (part first count w)) (take count (drop first (areasOf areas))) (len ∙ sym (part-length areas first count h)) at
+    where
+      len : length (unpacked (part first count w)) ≡ count
+      len = unpacked-length (part first count w) ∙ length-part first count w (omega (arith, L .len))
+
+      at : (i : ℕ) → i < length (unpacked (part first count w)) → rangeAt (unpacked (part first count w)) i ≡ rangeAt (take count (drop first (areasOf areas))) i
+      at i q =
+          let l : i < count = rw len at q in
+          unpacked-at (part first count w) i ∙ ap unpack (getD-part first count w i l) ∙ range-is (first + i) (omega arith) ∙ sym (part-at areas first count h i l)
+
+  module _ (i : ℕ) (h : i < rowCount 5 wants) where
+    present-part : (field 5 wants i 2 ≡ 0 → ⊥) → (field 5 wants i 3 + field 5 wants i 4 ≤ rowCount 2 areas) × Apart (take (field 5 wants i 4) (drop (field 5 wants i 3) (areasOf areas)))
+    present-part d =
+        let (a, b) = part-fine (areasOf areas) (field 5 wants i 2) (field 5 wants i 3) (field 5 wants i 4) (fine i h) d in
+        (rw (areas-length areas) at a, b)
+
+    first-is : (field 5 wants i 2 ≡ 0 → ⊥) → firstOf (itemWordAt wants i) ≡ field 5 wants i 3
+    first-is d =
+        let e = word-some (field 5 wants i 2) (field 5 wants i 3) (field 5 wants i 4) d in
+        let k = narrow (5 * i + 4) in
+        ap firstOf e ∙ omega arith
+
+    count-is : (field 5 wants i 2 ≡ 0 → ⊥) → countOf (itemWordAt wants i) ≡ field 5 wants i 4
+    count-is d =
+        let e = word-some (field 5 wants i 2) (field 5 wants i 3) (field 5 wants i 4) d in
+        let k = narrow (5 * i + 4) in
+        ap countOf e ∙ omega arith
+
+    ranges-is : (field 5 wants i 2 ≡ 0 → ⊥) → rangesAt w 0 (itemWordAt wants i) ≡ take (field 5 wants i 4) (drop (field 5 wants i 3) (areasOf areas))
+    ranges-is d =
+        let z : 0 + firstOf (itemWordAt wants i) ≡ field 5 wants i 3 = omega (arith, first-is d) in
+        ap (λ (k : ℕ). unpacked (part k (countOf (itemWordAt wants i)) w)) z ∙ ap (λ (k : ℕ). unpacked (part (field 5 wants i 3) k w)) (count-is d)
+        ∙ ranges-are (field 5 wants i 3) (field 5 wants i 4) (present-part d .0)
+
+    area-is : areaIn w 0 (getD w (rowCount 2 areas + i) 0) ≡ partOf (areasOf areas) (field 5 wants i 2) (field 5 wants i 3) (field 5 wants i 4)
+    area-is = ap (areaIn w 0) (L .item i h) ∙ go (ℕ-discrete (field 5 wants i 2) 0)
+      where
+        go : Dec (field 5 wants i 2 ≡ 0) → areaIn w 0 (itemWordAt wants i) ≡ partOf (areasOf areas) (field 5 wants i 2) (field 5 wants i 3) (field 5 wants i 4)
+        go (yes e) =
+            area-none w 0 (itemWordAt wants i) (word-none (field 5 wants i 2) (field 5 wants i 3) (field 5 wants i 4) e)
+            ∙ sym (ap (λ (t : Bool). cond t none (some (take (field 5 wants i 4) (drop (field 5 wants i 3) (areasOf areas))))) (eq-eqb (field 5 wants i 2) 0 e))
+        go (no d) =
+            area-some w 0 (itemWordAt wants i) (omega (arith, word-some (field 5 wants i 2) (field 5 wants i 3) (field 5 wants i 4) d)) ∙ ap some (ranges-is d)
+            ∙ sym (ap (λ (t : Bool). cond t none (some (take (field 5 wants i 4) (drop (field 5 wants i 3) (areasOf areas))))) (ne-eqb (field 5 wants i 2) 0 d))
+
+    proper-is : 0 < itemWordAt wants i → Proper w 0 (rowCount 2 areas) (itemWordAt wants i)
+    proper-is q = go (ℕ-discrete (field 5 wants i 2) 0)
+      where
+        go : Dec (field 5 wants i 2 ≡ 0) → Proper w 0 (rowCount 2 areas) (itemWordAt wants i)
+        go (yes e) = absurd (omega (arith, word-none (field 5 wants i 2) (field 5 wants i 3) (field 5 wants i 4) e))
+        go (no d) = record { inside = omega (arith, first-is d, count-is d, present-part d .0); neat = rw (ranges-is d) (present-part d .1) }
+
+    size-is : sizeOf (getD w (rowCount 2 areas + rowCount 5 wants + i) 0) ≡ field 5 wants i 0
+    size-is = ap sizeOf (L .want i h) ∙ omega (arith, narrow (5 * i + 1))
+
+    align-is : alignOf (getD w (rowCount 2 areas + rowCount 5 wants + i) 0) ≡ field 5 wants i 1
+    align-is = ap alignOf (L .want i h) ∙ omega (arith, narrow (5 * i + 1))
+
+    want-same : wantIn w 0 (rowCount 2 areas) (rowCount 5 wants) i ≡ record { size = field 5 wants i 0; align = field 5 wants i 1; area = partOf (areasOf areas) (field 5 wants i 2) (field 5 wants i 3) (field 5 wants i 4) }
+    want-same =
+        let a = size-is in
+        let b = align-is in
+        let c = area-is in
+        cc
+
+  pub lent : Lent w 0 (rowCount 2 areas) (rowCount 5 wants)
+  lent = record {
+    few = few;
+    room = omega (arith, L .len);
+    proper = λ i h q. rw (L .item i h) (proper-is i h (rw (L .item i h) at q));
+  }
+
+  pub wants-are : wantsIn w 0 (rowCount 2 areas) (rowCount 5 wants) ≡ wantsOf (areasOf areas) wants
+  wants-are = tabulate-eq (rowCount 5 wants) (wantIn w 0 (rowCount 2 areas) (rowCount 5 wants))
+      (λ i. record { size = field 5 wants i 0; align = field 5 wants i 1; area = partOf (areasOf areas) (field 5 wants i 2) (field 5 wants i 3) (field 5 wants i 4) }) want-same

@@ -1,0 +1,73 @@
+// Fitting alone: the lowest fitting cell for each of the wants that are lent.
+ghost use mathlib.Core.Path.{_≡_};
+ghost use lib.ListN.{length};
+ghost use Rattle.wants.specs.Entry.{planFor, outcome, FittedAlone};
+ghost use Rattle.wants.specs.Inner.{Granted, Answered};
+use refusals::Refusal;
+use refusals::Verdict;
+
+mod checks; // checks.rt: refusals 1, 7 and 10
+mod tables; // tables.rt: from the lent rows into the work space, and back
+
+// A plan's cells, the probes spent and its depth, or a refusal.
+pub enum Fitted {
+    Plan(usize, u64, u64),
+    Refused(Refusal, usize),
+}
+
+// Puts each want into the lowest cell that has an area and doesn't clash with it, while budget is left: alignment falling, size falling, index rising.
+// Wants are rows of size, alignment, present, first and count; areas rows of start and end; the wants of `locals` locals come first.
+// Cells come back as rows of size and alignment, items as rows of cell, present, first and count.
+// Refuses lengths that are no whole rows, a count over its limit (1), an answer list under the wants or a work space under W = 8 × (wants + ranges) (7),
+// a want whose part is outside the list, reversed, unsorted or overlapping itself (10).
+pub fn fit_wants(
+    wants: &[u32],
+    areas: &[u32],
+    locals: u32,
+    budget: u32,
+    cells: &mut [u32],
+    items: &mut [u32],
+    work: &mut [u64],
+) -> Fitted
+    ensures { λ r. ⌜ FittedAlone (now (wants .entry)) (now (areas .entry))
+        (outcome (now (wants .entry)) (now (areas .entry)) locals budget (length (now (cells .entry))) (length (now (items .entry))) (length (now (work .entry))))
+        (now (cells .entry)) (now (items .entry)) (now (work .entry)) r (now (cells .exit)) (now (items .exit)) (now (work .exit)) ⌝ }
+{
+    let v = checks::refusal(
+        wants,
+        areas,
+        locals,
+        budget,
+        cells.len(),
+        items.len(),
+        work.len(),
+    );
+    if let Verdict::Bad(r, i) = v {
+        return Fitted::Refused(r, i);
+    }
+    let f = answer(wants, areas, budget, cells, items, work);
+    Fitted::Plan(f.cells, f.probes, f.depth)
+}
+
+// The plan is made in the work space; only then are the answer lists written, and the work space cleared.
+fn answer(
+    wants: &[u32],
+    areas: &[u32],
+    budget: u32,
+    cells: &mut [u32],
+    items: &mut [u32],
+    work: &mut [u64],
+) -> fit::Counts
+    requires { ⌜ Granted (now wants) (now areas) (length (now cells)) (length (now items)) (length (now work)) ⌝ }
+    ensures { λ r. ⌜ Answered (now (wants .entry)) (now (areas .entry)) (planFor (now (wants .entry)) (now (areas .entry)) budget)
+        (now (cells .entry)) (now (items .entry)) (now (work .entry)) r (now (cells .exit)) (now (items .exit)) (now (work .exit)) ⌝ }
+{
+    let n = wants.len() / 5;
+    let ranges = areas.len() / 2;
+    tables::load(work, wants, areas, n, ranges);
+    let f = fit::fit(work, 0, ranges, n, budget as u64);
+    tables::write_cells(cells, work, ranges + 5 * n, f.cells);
+    tables::write_items(items, work, wants, ranges + 6 * n, n);
+    words::clear(work, 8 * (n + ranges));
+    f
+}
