@@ -1,5 +1,8 @@
 // Runs the range entries on document 01's examples and on corner cases, and prints what they answer and leave: held to the file `stdout`.
-// Every answer list has 7s at first, so that an entry that is written past the answer, or by a refusal, shows.
+// Every answer list has 7s at first, so that an entry that is written past the answer, or by a refusal, shows. A case is a line of text: four columns
+// of numbers, the starts and the ends of one list and of another, a comma after each number and a bar after each column.
+ghost use Prim.Native.Nat.{ℕ, _≤_};
+ghost use lib.ListN.{length};
 use range_entries::Clash;
 use range_entries::Counted;
 use refusals::Refusal;
@@ -107,25 +110,129 @@ fn overlaps(a: u32, b: u32, c: u32, d: u32) {
     }
 }
 
-fn merging() {
-    // document 01's second example; nothing; one point; the largest point
-    merged(&[5, 1, 10], &[9, 5, 12]);
-    merged(&[], &[]);
-    merged(&[3], &[3]);
-    merged(&[4294967295, 0], &[4294967295, 4294967294]);
-    // touching ranges stay apart, nested and equal ones are joined
-    merged(&[1, 5], &[4, 9]);
-    merged(&[1, 2, 1, 1], &[9, 3, 9, 2]);
-    merged(&[7, 5, 3, 1], &[7, 5, 3, 1]);
+// The numbers of a case, and where each column ends; what is past the room is left out.
+fn read(case: &[u8], numbers: &mut [u32], ends: &mut [usize]) {
+    let mut i = 0;
+    let mut n = 0;
+    let mut c = 0;
+    let mut x = 0u64;
+    while i < case.len() {
+        let b = case[i];
+        i += 1;
+        if b == b'|' {
+            if c < ends.len() {
+                ends[c] = n;
+                c += 1;
+            }
+        } else {
+            if b == b',' {
+                if n < numbers.len() {
+                    numbers[n] = x as u32;
+                    n += 1;
+                }
+                x = 0;
+            } else {
+                x = (x * 10 + (b % 16) as u64) % 0x1_0000_0000;
+            }
+        }
+    }
 }
 
+// Runs an entry on four columns; the second list is for `merged` nothing and for `joined` one range.
+fn run(entry: u32, start: &[u32], end: &[u32], other_start: &[u32], other_end: &[u32]) {
+    match entry {
+        0 => merged(start, end),
+        1 => {
+            if other_start.len() > 0 {
+                if other_end.len() > 0 {
+                    joined(start, end, other_start[0], other_end[0]);
+                }
+            }
+        }
+        2 => union(start, end, other_start, other_end),
+        _ => clashes(start, end, other_start, other_end),
+    }
+}
+
+// Runs it on the columns that end at a, b, c and d.
+fn split(entry: u32, n: &[u32], a: usize, b: usize, c: usize, d: usize) {
+    if a > b {
+        return;
+    }
+    if b > c {
+        return;
+    }
+    if c > d {
+        return;
+    }
+    if d > n.len() {
+        return;
+    }
+    run(entry, &n[0..a], &n[a..b], &n[b..c], &n[c..d]);
+}
+
+fn case(entry: u32, text: &[u8]) {
+    let mut n = [0u32; 32];
+    let mut e = [0usize; 4];
+    read(text, &mut n, &mut e);
+    let a = e[0];
+    let b = e[1];
+    let c = e[2];
+    let d = e[3];
+    split(entry, &n, a, b, c, d);
+}
+
+// Where the line that begins at `from` ends.
+fn line_end(text: &[u8], from: usize) -> usize
+    requires { ⌜ from ≤ length (now text) ⌝ }
+    ensures { λ r. ⌜ (from ≤ r) × (r ≤ length (now (text .entry))) ⌝ }
+{
+    let mut i = from;
+    while i < text.len() {
+        if text[i] == b'\n' {
+            return i;
+        }
+        i += 1;
+    }
+    i
+}
+
+// Runs an entry on the cases of a text, one a line.
+fn cases(entry: u32, text: &[u8]) {
+    let mut i = 0;
+    while i < text.len() {
+        let end = line_end(text, i);
+        case(entry, &text[i..end]);
+        i = end + 1;
+    }
+}
+
+// Document 01's second example; nothing; one point; the largest point; touching ranges stay apart, nested and equal ones are joined;
+// columns of different lengths; a reversed range.
+fn merging() {
+    cases(
+        0,
+        b"5,1,10,|9,5,12,|||
+||||
+3,|3,|||
+4294967295,0,|4294967295,4294967294,|||
+1,5,|4,9,|||
+1,2,1,1,|9,3,9,2,|||
+7,5,3,1,|7,5,3,1,|||
+1,2,|3,|||
+1,9,8,|3,8,7,|||
+",
+    );
+}
+
+// Answer columns of different lengths, and too little room.
 fn merging_refused() {
-    // columns of different lengths, in the list and in the answer; too little room; a reversed range
-    merged(&[1, 2], &[3]);
     merged_into(&[1], &[3], &mut [7, 7], &mut [7]);
     merged_into(&[1, 5], &[3, 6], &mut [7], &mut [7]);
-    merged(&[1, 9, 8], &[3, 8, 7]);
-    // the count comes before the room, the room before the range
+}
+
+// The count comes before the room, the room before the range.
+fn merging_refused_first() {
     merged_into(&[2, 3], &[1], &mut [7], &mut [7]);
     merged_into(&[2, 3], &[1, 4], &mut [7], &mut [7]);
 }
@@ -140,50 +247,52 @@ fn merging_many() {
 }
 
 fn joining() {
-    joined(&[], &[], 3, 5);
-    joined(&[1], &[4], 5, 9);
-    joined(&[1], &[4], 6, 9);
-    joined(&[1], &[4], 4, 9);
-    joined(&[1, 8], &[4, 9], 10, 10);
-    joined(&[0], &[4294967295], 0, 1);
-    joined(&[1, 5], &[0, 4], 2, 1);
-    joined(&[1, 5], &[2, 6], 2, 1);
-    joined(&[1, 2, 3, 4], &[1, 2, 3, 4], 6, 6);
+    cases(
+        1,
+        b"||3,|5,|
+1,|4,|5,|9,|
+1,|4,|6,|9,|
+1,|4,|4,|9,|
+1,8,|4,9,|10,|10,|
+0,|4294967295,|0,|1,|
+1,5,|0,4,|2,|1,|
+1,5,|2,6,|2,|1,|
+1,2,3,4,|1,2,3,4,|6,|6,|
+",
+    );
 }
 
 fn uniting() {
-    union(&[1, 10], &[4, 12], &[4, 20], &[6, 21]);
-    union(&[], &[], &[2], &[3]);
-    union(&[2], &[3], &[], &[]);
-    union(&[], &[], &[], &[]);
-    union(&[1], &[4], &[5], &[6]);
-    union(&[3], &[5], &[3], &[4]);
-    union(&[1, 5], &[2, 6], &[3, 7, 0], &[3, 8, 1]);
-    union(&[1, 5, 4], &[2, 6, 4], &[0, 7], &[0, 8]);
-    union(&[1, 3, 5, 7], &[1, 3, 5, 7], &[9, 11, 13], &[9, 11, 13]);
+    cases(
+        2,
+        b"1,10,|4,12,|4,20,|6,21,|
+||2,|3,|
+2,|3,|||
+||||
+1,|4,|5,|6,|
+3,|5,|3,|4,|
+1,5,|2,6,|3,7,0,|3,8,1,|
+1,5,4,|2,6,4,|0,7,|0,8,|
+1,3,5,7,|1,3,5,7,|9,11,13,|9,11,13,|
+",
+    );
 }
 
+// Document 01's third and fourth example; a long list against a short one, where ranges are skipped; refusals.
 fn clashing() {
-    // document 01's third and fourth example
-    clashes(&[1], &[4], &[4], &[6]);
-    clashes(&[1], &[4], &[5], &[6]);
-    clashes(&[], &[], &[5], &[6]);
-    clashes(
-        &[1, 3, 5, 7, 9, 11, 13, 15, 17, 19],
-        &[1, 3, 5, 7, 9, 11, 13, 15, 17, 19],
-        &[2, 19],
-        &[2, 30],
+    cases(
+        3,
+        b"1,|4,|4,|6,|
+1,|4,|5,|6,|
+||5,|6,|
+1,3,5,7,9,11,13,15,17,19,|1,3,5,7,9,11,13,15,17,19,|2,19,|2,30,|
+1,3,5,7,9,11,13,15,17,19,|1,3,5,7,9,11,13,15,17,19,|2,18,20,|2,18,30,|
+4294967295,|4294967295,|0,|4294967295,|
+1,2,|1,|0,|4,|
+1,3,|2,4,|5,6,6,|5,6,6,|
+1,3,|2,2,|5,|4,|
+",
     );
-    clashes(
-        &[1, 3, 5, 7, 9, 11, 13, 15, 17, 19],
-        &[1, 3, 5, 7, 9, 11, 13, 15, 17, 19],
-        &[2, 18, 20],
-        &[2, 18, 30],
-    );
-    clashes(&[4294967295], &[4294967295], &[0], &[4294967295]);
-    clashes(&[1, 2], &[1], &[0], &[4]);
-    clashes(&[1, 3], &[2, 4], &[5, 6, 6], &[5, 6, 6]);
-    clashes(&[1, 3], &[2, 2], &[5], &[4]);
 }
 
 fn main() {
@@ -192,6 +301,7 @@ fn main() {
     overlaps(4, 1, 0, 9);
     merging();
     merging_refused();
+    merging_refused_first();
     merging_many();
     joining();
     uniting();
