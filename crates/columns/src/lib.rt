@@ -11,10 +11,6 @@ ghost use Rattle.ranges.specs.Merged.{clashes, union, joined};
 ghost use Rattle.ranges.specs.Forms.{columns};
 ghost use Rattle.ranges.specs.Inner.{TakenUp, Listing, Galloped, oneFirst};
 
-mod merging; // merging.rt: `merged`, by way of words
-
-pub use merging::merge;
-
 // Takes a range up into the first k of the answer: the last is widened where they share a point, else it is appended.
 fn take_up(out_start: &mut [u32], out_end: &mut [u32], k: usize, s: u32, e: u32) -> usize
     requires { ⌜ (length (now «out_start») ≡ length (now «out_end»)) × (k < length (now «out_start»)) ⌝ }

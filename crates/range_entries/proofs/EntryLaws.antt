@@ -18,11 +18,12 @@ use Rattle.range_entries.specs.declared.Counted.the-variants.{Ranges, Re
 use Rattle.range_entries.specs.declared.Clash.the-variants.{Is, Refused as ClashRefused}
 use Rattle.ranges.specs.Points.{Apart}
 use Rattle.ranges.specs.Forms.{columns, starts, ends}
-use Rattle.range_entries.specs.Entries.{clashing, uneven, badList, pairVerdict, entryVerdict, mergedVerdict, joinedVerdict, unionVerdict, clashesVerdict, Listed}
+use Rattle.range_checks.specs.Verdicts.{uneven, badList, pairVerdict, entryVerdict, mergedVerdict, joinedVerdict, unionVerdict, clashesVerdict}
+use Rattle.range_entries.specs.Entries.{clashing, Listed}
 use Rattle.ranges.specs.Inner.{Listing}
 use Rattle.ranges.proofs.PointLaws.{or-none}
-use Rattle.range_entries.proofs.CheckLaws.{fine-apart}
-use Rattle.range_entries.proofs.VerdictLaws.{even-list, small-list}
+use Rattle.range_checks.proofs.CheckLaws.{fine-apart}
+use Rattle.range_checks.proofs.VerdictLaws.{even-list, small-list}
 use Rattle.ranges.proofs.ListingLaws.{listing-length}
 use Rattle.columns.proofs.ColumnLaws.{starts-are, ends-are}
 

@@ -1,3 +1,1 @@
-pub mod CheckLaws
-pub mod VerdictLaws
 pub mod EntryLaws

@@ -6,8 +6,6 @@ ghost use Rattle.range_entries.specs.Entries.{mergedOf, joinedOf, unionO
 use refusals::Refusal;
 use refusals::Verdict;
 
-mod checks; // checks.rt: refusals 1, 7 and 10
-
 // The answer of an entry that writes ranges: how many it wrote, or its refusal.
 pub enum Counted {
     Ranges(usize),
@@ -26,11 +24,11 @@ pub fn merged(start: &[u32], end: &[u32], out_start: &mut [u32], out_end: &mut [
     ensures { λ r. ⌜ Listed (mergedOf (now (start .entry)) (now (end .entry)) (length (now («out_start» .entry))) (length (now («out_end» .entry))))
         (now («out_start» .entry)) (now («out_end» .entry)) r (now («out_start» .exit)) (now («out_end» .exit)) ⌝ }
 {
-    let v = checks::merged(start, end, out_start.len(), out_end.len());
+    let v = range_checks::merged(start, end, out_start.len(), out_end.len());
     if let Verdict::Bad(r, i) = v {
         return Counted::Refused(r, i);
     }
-    Counted::Ranges(columns::merge(start, end, out_start, out_end))
+    Counted::Ranges(merging::merge(start, end, out_start, out_end))
 }
 
 // The list with one range more: its last range lengthened where the new one starts on the point after its end, else the new one appended.
@@ -46,7 +44,7 @@ pub fn joined(
     ensures { λ r. ⌜ Listed (joinedOf (now (start .entry)) (now (end .entry)) (range «new_start» «new_end») (length (now («out_start» .entry))) (length (now («out_end» .entry))))
         (now («out_start» .entry)) (now («out_end» .entry)) r (now («out_start» .exit)) (now («out_end» .exit)) ⌝ }
 {
-    let v = checks::joined(
+    let v = range_checks::joined(
         start,
         end,
         new_start,
@@ -73,7 +71,7 @@ pub fn union(
     ensures { λ r. ⌜ Listed (unionOf (now (start .entry)) (now (end .entry)) (now («other_start» .entry)) (now («other_end» .entry)) (length (now («out_start» .entry))) (length (now («out_end» .entry))))
         (now («out_start» .entry)) (now («out_end» .entry)) r (now («out_start» .exit)) (now («out_end» .exit)) ⌝ }
 {
-    let v = checks::union(
+    let v = range_checks::union(
         start,
         end,
         other_start,
@@ -91,7 +89,7 @@ pub fn union(
 pub fn clashes(start: &[u32], end: &[u32], other_start: &[u32], other_end: &[u32]) -> Clash
     ensures { λ r. ⌜ clashing r ≡ clashesOf (now (start .entry)) (now (end .entry)) (now («other_start» .entry)) (now («other_end» .entry)) ⌝ }
 {
-    let v = checks::clashes(start, end, other_start, other_end);
+    let v = range_checks::clashes(start, end, other_start, other_end);
     if let Verdict::Bad(r, i) = v {
         return Clash::Refused(r, i);
     }

@@ -1,0 +1,57 @@
+-- `wrong` meets its contract: one law for each way out.
+use denote.Ref.{now}
+use borrow.Author.Needs.{needs}
+use borrow.Author.Tests.{not-true, not-false}
+use Rattle.range_checks.proofs.CheckLaws.{wrong-reversed, wrong-loose, wrong-front, wrong-close}
+use Rattle.range_checks.proofs.wrong.Statement.{statement}
+use Rattle.range_checks.proofs.wrong.Tie as tie
+
+mul-if1 : tie.Need-mul-if1
+mul-if1 c = search needs
+
+shared-slice-read-if1 : tie.Need-shared-slice-read-if1
+shared-slice-read-if1 c = search needs
+
+mul-if1-2 : tie.Need-mul-if1-2
+mul-if1-2 c = search needs
+
+shared-slice-read-if1-2 : tie.Need-shared-slice-read-if1-2
+shared-slice-read-if1-2 c = search needs
+
+returns : tie.Need-returns
+returns c =
+    let a = c .before .before .before .args in
+    wrong-reversed (now (a .start)) (now (a .end)) (c .before .before .before .pre .0) (a .i) (a .ordered) (c .if1 .taken)
+
+returns-2 : tie.Need-returns-2
+returns-2 c =
+    let a = c .before .before .before .before .args in
+    wrong-loose (now (a .start)) (now (a .end)) (c .before .before .before .before .pre .0) (a .i) (a .ordered) (c .before .if1 .left) (not-true _ (c .if2 .taken))
+
+returns-3 : tie.Need-returns-3
+returns-3 c =
+    let a = c .before .before .before .before .before .args in
+    wrong-front (now (a .start)) (now (a .end)) (c .before .before .before .before .before .pre .0) (a .i) (a .ordered) (c .before .before .if1 .left) (not-false _ (c .before .if2 .left)) (c .if3 .taken)
+
+mul-result : tie.Need-mul-result
+mul-result c = search needs
+
+shared-slice-read-result : tie.Need-shared-slice-read-result
+shared-slice-read-result c = search needs
+
+sub-result : tie.Need-sub-result
+sub-result c = search needs
+
+mul-result-2 : tie.Need-mul-result-2
+mul-result-2 c = search needs
+
+shared-slice-read-result-2 : tie.Need-shared-slice-read-result-2
+shared-slice-read-result-2 c = search needs
+
+returns-4 : tie.Need-returns-4
+returns-4 c =
+    let a = c .before .before .before .before .before .before .before .args in
+    wrong-close (now (a .start)) (now (a .end)) (c .before .before .before .before .before .before .before .pre .0) (a .i) (a .ordered) (c .before .before .before .before .if1 .left) (not-false _ (c .before .before .before .if2 .left)) (c .before .before .if3 .left)
+
+pub wrong-spec : {M : Type 1} → statement M
+wrong-spec = tie.close (tie.spec mul-if1 shared-slice-read-if1 mul-if1-2 shared-slice-read-if1-2 returns returns-2 returns-3 mul-result shared-slice-read-result sub-result mul-result-2 shared-slice-read-result-2 returns-4)

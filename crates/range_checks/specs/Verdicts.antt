@@ -1,0 +1,59 @@
+-- What the range entries refuse: document 01, "Limits and what is turned back", numbers 1, 7 and 10.
+use Prim.Native.Nat.{ℕ, zero, suc, _+_}
+use mathlib.Core.Bool.{Bool, true, false, not, _&&_, _||_}
+use mathlib.Core.List.{List, [], _∷_}
+use lib.ListN.{length}
+use lib.Dec.{leb, ltb, eqb}
+use Rattle.refusals.specs.declared.Verdict.{Verdict}
+use Rattle.refusals.specs.declared.Refusal.the-variants.{Count, Space, Want}
+use Rattle.refusals.specs.Verdicts.{first, inOrder, scan, check, countedOn}
+use Rattle.ranges.specs.declared.Range.{Range}
+use Rattle.ranges.specs.Points.{rangeAt}
+use Rattle.ranges.specs.Forms.{columns}
+
+-- number 1: two columns of one list that differ in length, or a list lent that is over its limit
+abbrev pub uneven : ℕ → ℕ → Bool
+uneven n m = not (eqb n m)
+
+abbrev pub badList : List ℕ → List ℕ → Bool
+badList ss es = uneven (length ss) (length es) || ltb 65536 (length ss)
+
+-- number 10: "a reversed range"
+abbrev pub reversedAt : List Range → ℕ → Bool
+reversedAt rs i = ltb (rangeAt rs i .end) (rangeAt rs i .start)
+
+-- number 10: "unsorted or overlapping itself": a range that starts no later than the one before ends
+abbrev pub closeAt : List Range → ℕ → Bool
+closeAt rs zero = false
+closeAt rs (suc i) = leb (rangeAt rs (suc i) .start) (rangeAt rs i .end)
+
+-- the verdict of one list: reversed ranges, and where it is to be in order and apart, close ones too
+abbrev pub wrongAt : Bool → List Range → ℕ → Bool
+wrongAt ordered rs i = reversedAt rs i || ordered && closeAt rs i
+
+unfoldable pub listVerdict : Bool → List Range → Verdict
+listVerdict ordered rs = scan Want (wrongAt ordered rs) (length rs)
+
+-- of two: "a second list's ranges are counted on from the first"
+unfoldable pub pairVerdict : Bool → List Range → List Range → Verdict
+pairVerdict ordered rs ss = first (listVerdict ordered rs) (countedOn (length rs) (listVerdict ordered ss))
+
+-- numbers 1, 7 and 10, in this order
+unfoldable pub entryVerdict : Bool → Bool → Verdict → Verdict
+entryVerdict count space lists = inOrder (check Count count ∷ check Space space ∷ lists ∷ [])
+
+-- of each entry, by the lent columns and the lengths of the answer's two columns: "a range answer under the ranges lent"
+abbrev pub mergedVerdict : List ℕ → List ℕ → ℕ → ℕ → Verdict
+mergedVerdict ss es n m = entryVerdict (badList ss es || uneven n m) (ltb n (length ss)) (listVerdict false (columns ss es))
+
+-- the list is counted first, then the new range
+abbrev pub joinedVerdict : List ℕ → List ℕ → Range → ℕ → ℕ → Verdict
+joinedVerdict ss es r n m = entryVerdict (badList ss es || uneven n m) (ltb n (length ss + 1)) (pairVerdict false (columns ss es) (r ∷ []))
+
+abbrev pub unionVerdict : List ℕ → List ℕ → List ℕ → List ℕ → ℕ → ℕ → Verdict
+unionVerdict ss es ts fs n m =
+    entryVerdict (badList ss es || (badList ts fs || uneven n m)) (ltb n (length ss + length ts)) (pairVerdict true (columns ss es) (columns ts fs))
+
+-- it has no answer list
+abbrev pub clashesVerdict : List ℕ → List ℕ → List ℕ → List ℕ → Verdict
+clashesVerdict ss es ts fs = entryVerdict (badList ss es || badList ts fs) false (pairVerdict true (columns ss es) (columns ts fs))
