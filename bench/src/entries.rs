@@ -1,0 +1,47 @@
+//! The component's entries: a slice is a pointer and then its length.
+extern "C" {
+    fn slots_flowed(
+        over: u32, blocks: *const u32, blocks_len: usize, edges: *const u32, edges_len: usize, points: u32,
+        touched: *const u64, touched_len: usize, words: usize, out: *mut u64, out_len: usize, work: *mut u64, work_len: usize,
+    ) -> u64;
+    fn slots_spread(
+        blocks: *const u32, blocks_len: usize, edges: *const u32, edges_len: usize, points: u32, leaves: *const u64, leaves_len: usize,
+        passes: *const u64, passes_len: usize, words: usize, out: *mut u64, out_len: usize, work: *mut u64, work_len: usize,
+    ) -> u64;
+    fn slots_fit_wants(
+        wants: *const u32, wants_len: usize, areas: *const u32, areas_len: usize, locals: u32, budget: u32, cells: *mut u32, cells_len: usize,
+        items: *mut u32, items_len: usize, counts: *mut u64, counts_len: usize, work: *mut u64, work_len: usize,
+    ) -> u64;
+}
+
+pub fn flowed(over: u32, blocks: &[u32], edges: &[u32], points: u32, touched: &[u64], words: usize, out: &mut [u64], work: &mut [u64]) -> u64 {
+    // SAFETY: each pointer is a slice's, with that slice's length.
+    unsafe {
+        slots_flowed(
+            over, blocks.as_ptr(), blocks.len(), edges.as_ptr(), edges.len(), points, touched.as_ptr(), touched.len(), words,
+            out.as_mut_ptr(), out.len(), work.as_mut_ptr(), work.len(),
+        )
+    }
+}
+
+#[allow(clippy::too_many_arguments)]
+pub fn spread(blocks: &[u32], edges: &[u32], points: u32, leaves: &[u64], passes: &[u64], words: usize, out: &mut [u64], work: &mut [u64]) -> u64 {
+    // SAFETY: as above.
+    unsafe {
+        slots_spread(
+            blocks.as_ptr(), blocks.len(), edges.as_ptr(), edges.len(), points, leaves.as_ptr(), leaves.len(), passes.as_ptr(), passes.len(),
+            words, out.as_mut_ptr(), out.len(), work.as_mut_ptr(), work.len(),
+        )
+    }
+}
+
+#[allow(clippy::too_many_arguments)]
+pub fn fit_wants(wants: &[u32], areas: &[u32], locals: u32, budget: u32, cells: &mut [u32], items: &mut [u32], counts: &mut [u64], work: &mut [u64]) -> u64 {
+    // SAFETY: as above.
+    unsafe {
+        slots_fit_wants(
+            wants.as_ptr(), wants.len(), areas.as_ptr(), areas.len(), locals, budget, cells.as_mut_ptr(), cells.len(), items.as_mut_ptr(),
+            items.len(), counts.as_mut_ptr(), counts.len(), work.as_mut_ptr(), work.len(),
+        )
+    }
+}

@@ -1,0 +1,38 @@
+-- `slots::plan_code` meets its contract.
+use borrow.Author.Needs.{needs}
+use Rattle.slots.proofs.CodeLaws.{plan-told, plan-refused}
+use Rattle.slots.proofs.plan_code.Statement.{statement}
+use Rattle.slots.proofs.plan_code.Tie as tie
+
+enum-known-f : tie.Need-enum-known-f
+enum-known-f c = search needs
+
+tell-requires : tie.Need-tell-requires
+tell-requires c κs = search needs
+
+enum-known-f-2 : tie.Need-enum-known-f-2
+enum-known-f-2 c = search needs
+
+refused-requires : tie.Need-refused-requires
+refused-requires c κs = search needs
+
+same-length : tie.Need-same-length
+same-length c = search needs
+
+returns : tie.Need-returns
+returns c = plan-told _ ((c .before .before .before .before .before .f) .given .1) ((c .before .before .tell) .ensures)
+
+returns-2 : tie.Need-returns-2
+returns-2 c = plan-refused _ ((c .before .before .f2) .given .1) ((c .refused) .ensures)
+
+pub plan-code-spec : {M : Type 1} → statement M
+plan-code-spec =
+    tie.close
+    (tie.spec
+    enum-known-f
+    tell-requires
+    enum-known-f-2
+    refused-requires
+    same-length
+    returns
+    returns-2)

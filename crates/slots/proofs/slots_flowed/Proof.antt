@@ -1,0 +1,34 @@
+-- `slots::slots_flowed` meets its contract.
+use mathlib.Core.Path.{sym}
+use borrow.Author.Needs.{needs}
+use Rattle.slots.proofs.slots_flowed.Statement.{statement}
+use Rattle.slots.proofs.slots_flowed.Tie as tie
+
+over-of-requires : tie.Need-over-of-requires
+over-of-requires c κs = search needs
+
+flowed-requires : tie.Need-flowed-requires
+flowed-requires c κs = search needs
+
+flow-code-requires : tie.Need-flow-code-requires
+flow-code-requires c κs = search needs
+
+same-length : tie.Need-same-length
+same-length c = search needs
+
+same-length-2 : tie.Need-same-length-2
+same-length-2 c = search needs
+
+returns : tie.Need-returns
+returns c = record { told = (c .before .before .before .before .before .flowed) .result; answer = (c .flow-code) .ensures; holds = rw (sym ((c .before .before .before .before .before .before .before .before .over-of) .ensures)) ((c .before .before .before .before .before .flowed) .ensures) }
+
+pub slots-flowed-spec : {M : Type 1} → statement M
+slots-flowed-spec =
+    tie.close
+    (tie.spec
+    over-of-requires
+    flowed-requires
+    flow-code-requires
+    same-length
+    same-length-2
+    returns)
