@@ -21,19 +21,17 @@ use Rattle.graph.specs.Checks.{rowsVerdict, spaceOf}
 use Rattle.graph.specs.Work.{Within, EdgeRows, Neighbours}
 use Rattle.graph.proofs.Within.{within-trans, within-wider, region-within}
 use Rattle.graph.proofs.Refusals.{rows-told}
-use Rattle.components.specs.Components.{Walkable, Found}
 use Rattle.components.specs.Entry.{edgesIn, verdictOf as orderVerdict}
 use Rattle.components.proofs.Entries.{cleared-same}
+use Rattle.postorder.specs.Settling.{Settling, Walkable, Ordered as InOrder}
 use Rattle.flow.specs.Entry.{rowBit, baseOf, verdictOf as rowVerdict}
 use Rattle.flow.proofs.Entries.{Known as RowsKnown, known as rows-known}
 use Rattle.flow.proofs.Moved.{rows-moved}
 use Rattle.spread.specs.declared.Layout.{Layout}
 use Rattle.spread.specs.declared.Answer.{Answer}
 use Rattle.spread.specs.declared.Answer.the-variants.{Given, Refused}
-use Rattle.spread.specs.Settling.{Settling, Placeable, Placed}
 use Rattle.spread.specs.Spread.{leaveBit, passBit, outBit, Laid, Arrived}
 use Rattle.spread.specs.Entry.{Turned, Ordered, Settled, verdictOf, Filled, Answered, Prepared, lentAt, answerAt, Solved}
-use Rattle.spread.proofs.Orders.{settles}
 use Rattle.spread.proofs.Turns.{arrives-as}
 
 bad-fine : {A : Type 0} {k : Refusal} {i : ℕ} → Bad k i ≡ Fine → A
@@ -42,7 +40,7 @@ bad-fine e = absurd (let z : _≡_ {A = ℕ} 0 1 = cc in omega arith)
 same-bad : (r : Refusal) (i : ℕ) (list work : List ℕ) (k : Refusal) (j : ℕ) → Bad r i ≡ Bad k j → Turned k j list work (Refused r i) list work
 same-bad r i list work k j q = record { outcome = let a : r ≡ k = cc in let b : i ≡ j = cc in rw (a, b) refl; list-kept = refl; work-kept = refl }
 
--- ---- the rows, the walk, and the order
+-- ---- the rows, and the order
 
 module _ (blocks edges : List ℕ) (w₀ w₁ : List ℕ) (some : 1 ≤ length blocks / 3) (fits : 8 * (length blocks / 3 + length edges / 2) ≤ length w₀)
     (N : Neighbours (edgesIn blocks edges) (length blocks / 3) (length edges / 2) 0 w₀ w₁) where
@@ -52,21 +50,15 @@ module _ (blocks edges : List ℕ) (w₀ w₁ : List ℕ) (some : 1 ≤ length b
   pub walkable : Walkable (length blocks / 3) (length edges / 2 + length edges / 2) (baseOf blocks edges) w₁
   walkable = record { edges = edgesIn blocks edges; between = N .between; rows = rows₁; below = omega (arith, N .count); room = omega (arith, N .kept .len) }
 
-  module _ {w₂ : List ℕ} {count : ℕ} (F : Found (length blocks / 3) (length edges / 2 + length edges / 2) (baseOf blocks edges) w₁ w₂ count) where
-    pub placeable : Placeable (length blocks / 3) (baseOf blocks edges + length blocks / 3 + length blocks / 3 + length blocks / 3 + length blocks / 3 + length blocks / 3) (baseOf blocks edges) w₂
-    placeable = record { apart = omega arith; fits = omega (arith, N .kept .len, F .kept .len); listed = F .order .listed; once = F .order .once }
-
-    pub prepared : {w₃ : List ℕ}
-        → Placed (length blocks / 3) (baseOf blocks edges + length blocks / 3 + length blocks / 3 + length blocks / 3 + length blocks / 3 + length blocks / 3) (baseOf blocks edges) (length blocks / 3) w₂ w₃
-        → Prepared blocks edges w₀ w₃
-    prepared {w₃} P = record {
-      kept = within-trans (within-wider 0 _ (omega arith) (omega arith) (N .kept)) (within-trans (within-wider 0 _ (omega arith) (omega arith) (F .kept)) (within-wider 0 _ (omega arith) (omega arith) (P .kept)));
-      count = N .count;
-      between = N .between;
-      rows = rows-moved (N .between) (omega (arith, N .count)) (λ i h. P .kept .below i h ∙ F .kept .below i h) rows₁;
-      settling = settles (F .order) (N .between) (F .components (edgesIn blocks edges) (N .between) rows₁) (λ i. getD w₃ (baseOf blocks edges + i) 0) (P .order);
-      ranks = λ i h. ap (λ (y : ℕ). getD w₃ (baseOf blocks edges + length blocks / 3 + y) 0) (P .order i h) ∙ P .rank i h;
-    }
+  pub prepared : {w₂ : List ℕ} → InOrder (length blocks / 3) (length edges / 2 + length edges / 2) (baseOf blocks edges) w₁ w₂ → Prepared blocks edges w₀ w₂
+  prepared {w₂} P = record {
+    kept = within-trans (within-wider 0 _ (omega arith) (omega arith) (N .kept)) (within-wider 0 _ (omega arith) (omega arith) (P .kept));
+    count = N .count;
+    between = N .between;
+    rows = rows-moved (N .between) (omega (arith, N .count)) (P .kept .below) rows₁;
+    settling = P .settling (edgesIn blocks edges) (N .between) rows₁;
+    ranks = P .ranks;
+  }
 
 -- ---- settling
 

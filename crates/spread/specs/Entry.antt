@@ -19,7 +19,7 @@ use Rattle.graph.specs.Checks.{rowsVerdict, spaceOf}
 use Rattle.graph.specs.Work.{Within, EdgeRows}
 use Rattle.components.specs.Entry.{edgesIn, verdictOf as orderVerdict}
 use Rattle.flow.specs.Entry.{rowBit, baseOf, verdictOf as rowVerdict}
-use Rattle.spread.specs.Settling.{Settling}
+use Rattle.postorder.specs.Settling.{Settling}
 use Rattle.spread.specs.declared.Answer.{Answer}
 use Rattle.spread.specs.declared.Answer.the-variants.{Given, Refused}
 
@@ -69,7 +69,7 @@ pub record Answered (blocks edges : List ℕ) (points : ℕ) (leaves passes : Li
 
 -- the successors' rows, and behind them the order and the ranks
 pub record Prepared (blocks edges : List ℕ) (w₀ w : List ℕ) : Type 0 where
-  pub kept : Within 0 (baseOf blocks edges + length blocks / 3 + length blocks / 3 + length blocks / 3 + length blocks / 3 + length blocks / 3 + length blocks / 3) w₀ w
+  pub kept : Within 0 (baseOf blocks edges + length blocks / 3 + length blocks / 3 + length blocks / 3 + length blocks / 3) w₀ w
   pub count : length (edgesIn blocks edges) ≡ length edges / 2
   pub between : Between (length blocks / 3) (edgesIn blocks edges)
   pub rows : EdgeRows (edgesIn blocks edges) (length blocks / 3) (length edges / 2 + length edges / 2) w

@@ -1,3 +1,2 @@
 pub mod Spread
-pub mod Settling
 pub mod Entry

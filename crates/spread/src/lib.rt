@@ -6,7 +6,6 @@ ghost use Rattle.refusals.specs.declared.Verdict.the-variants.{Fine};
 ghost use Rattle.graph.specs.Line.{blocksOf, jumpsOf, edgeVerdict, Sound};
 ghost use Rattle.spread.specs.Entry.{verdictOf, Settled, Answered, Prepared, Solved};
 
-pub mod order; // order.rt: the order of the places
 pub mod rows; // rows.rt: `spread` in the work space
 
 use refusals::Refusal;
@@ -42,8 +41,7 @@ fn prepare(blocks: &[u32], edges: &[u32], work: &mut [u64])
     let e = edges.len() / 2;
     let base = e + e + (n + 1 + e);
     graph::rows::successors(blocks, edges, work, 0);
-    components::tarjan::components(work, n, e + e, base);
-    order::backwards(work, n, base + n + n + n + n + n, base);
+    postorder::order(work, n, e + e, base);
 }
 
 // The places in an order where, loops aside, each comes after the places that have an edge to it. Refusals: 1, 2, 3, and 7 where the answer list

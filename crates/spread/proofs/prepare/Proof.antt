@@ -1,4 +1,4 @@
--- `spread::prepare` meets its contract: the rows, the walk, and the order.
+-- `spread::prepare` meets its contract: the rows, and the order.
 use native.Mathlib.Omega.{arith}
 use Prim.Native.Nat.{_-_, _≤_, _/_}
 use mathlib.Core.Path.{_∙_}
@@ -6,7 +6,7 @@ use lib.ListN.{length}
 use Rattle.spread.proofs.prepare.Statement.{statement}
 use denote.Ref.{now}
 use Rattle.graph.proofs.Line.{blocks-length}
-use Rattle.spread.proofs.Entries.{walkable, placeable, prepared}
+use Rattle.spread.proofs.Entries.{walkable, prepared}
 use Rattle.spread.proofs.prepare.Tie as tie
 
 some : (c : tie.Start) → 1 ≤ length (now (c .args .blocks)) / 3
@@ -25,54 +25,19 @@ add-base-4 : tie.Need-add-base-4
 add-base-4 c = omega (arith, some (c .before .before .before))
 
 successors-requires : tie.Need-successors-requires
-successors-requires c κs = ((c .before .before .before .before .pre .0 .0, c .before .before .before .before .pre .0 .1), omega (arith, some (c .before .before .before .before)))
+successors-requires c κs = (((c .before .before .before .before .pre) .0 .0, (c .before .before .before .before .pre) .0 .1), omega (arith, some (c .before .before .before .before)))
 
-add-components : tie.Need-add-components
-add-components c = omega (arith, some (c .before .before .before .before .before .before .before .before))
+add-order : tie.Need-add-order
+add-order c = omega (arith, some (c .before .before .before .before .before .before .before .before))
 
-components-requires : tie.Need-components-requires
-components-requires c κs = walkable (now (c .before .before .before .before .before .before .before .before .args .blocks)) (now (c .before .before .before .before .before .before .before .before .args .edges)) _ _ (some (c .before .before .before .before .before .before .before .before)) (c .before .before .before .before .before .before .before .before .pre .1) (c .before .before .before .successors .ensures)
-
-add-backwards : tie.Need-add-backwards
-add-backwards c = omega (arith, some (c .before .before .before .before .before .before .before .before .before .before .before .before))
-
-add-backwards-2 : tie.Need-add-backwards-2
-add-backwards-2 c = omega (arith, some (c .before .before .before .before .before .before .before .before .before .before .before .before))
-
-add-backwards-3 : tie.Need-add-backwards-3
-add-backwards-3 c = omega (arith, some (c .before .before .before .before .before .before .before .before .before .before .before .before))
-
-add-backwards-4 : tie.Need-add-backwards-4
-add-backwards-4 c = omega (arith, some (c .before .before .before .before .before .before .before .before .before .before .before .before))
-
-add-backwards-5 : tie.Need-add-backwards-5
-add-backwards-5 c = omega (arith, some (c .before .before .before .before .before .before .before .before .before .before .before .before))
-
-backwards-requires : tie.Need-backwards-requires
-backwards-requires c κs = placeable (now (c .before .before .before .before .before .before .before .before .before .before .before .before .args .blocks)) (now (c .before .before .before .before .before .before .before .before .before .before .before .before .args .edges)) _ _ (some (c .before .before .before .before .before .before .before .before .before .before .before .before)) (c .before .before .before .before .before .before .before .before .before .before .before .before .pre .1) (c .before .before .before .before .before .before .before .successors .ensures) (c .before .before .before .components .ensures)
+order-requires : tie.Need-order-requires
+order-requires c κs = walkable (now ((c .before .before .before .before .before .before .before .before .args) .blocks)) (now ((c .before .before .before .before .before .before .before .before .args) .edges)) _ _ (some (c .before .before .before .before .before .before .before .before)) ((c .before .before .before .before .before .before .before .before .pre) .1) ((c .before .before .before .successors) .ensures)
 
 same-length : tie.Need-same-length
-same-length c = c .before .before .backwards .ensures .kept .len ∙ c .before .before .before .before .before .before .components .ensures .kept .len ∙ c .before .before .before .before .before .before .before .before .before .before .successors .ensures .kept .len
+same-length c = (c .before .before .order) .ensures .kept .len ∙ (c .before .before .before .before .before .before .successors) .ensures .kept .len
 
 returns : tie.Need-returns
-returns c = prepared (now (c .before .before .before .before .before .before .before .before .before .before .before .before .before .before .before .args .blocks)) (now (c .before .before .before .before .before .before .before .before .before .before .before .before .before .before .before .args .edges)) _ _ (some (c .before .before .before .before .before .before .before .before .before .before .before .before .before .before .before)) (c .before .before .before .before .before .before .before .before .before .before .before .before .before .before .before .pre .1) (c .before .before .before .before .before .before .before .before .before .before .successors .ensures) (c .before .before .before .before .before .before .components .ensures) (c .before .before .backwards .ensures)
+returns c = prepared (now ((c .before .before .before .before .before .before .before .before .before .before .before .args) .blocks)) (now ((c .before .before .before .before .before .before .before .before .before .before .before .args) .edges)) _ _ (some (c .before .before .before .before .before .before .before .before .before .before .before)) ((c .before .before .before .before .before .before .before .before .before .before .before .pre) .1) ((c .before .before .before .before .before .before .successors) .ensures) ((c .before .before .order) .ensures)
 
 pub prepare-spec : {M : Type 1} → statement M
-prepare-spec =
-    tie.close
-    (tie.spec
-    add-base
-    add-base-2
-    add-base-3
-    add-base-4
-    successors-requires
-    add-components
-    components-requires
-    add-backwards
-    add-backwards-2
-    add-backwards-3
-    add-backwards-4
-    add-backwards-5
-    backwards-requires
-    same-length
-    returns)
+prepare-spec = tie.close (tie.spec add-base add-base-2 add-base-3 add-base-4 successors-requires add-order order-requires same-length returns)

@@ -1,0 +1,3 @@
+pub mod Settling
+pub mod Walk
+pub mod Space
