@@ -40,15 +40,16 @@ fn turn(w: &mut [u64], n: usize, at: usize, base: usize, z: Counts) -> Counts
     let end = w[at + u + 1] as usize;
     if k <= end {
         let v = w[at + n + k] as usize;
+        let looked = (k + 1) as u64;
         if w[next + v] == 0 {
             push(w, n, at, base, v, depth);
-            w[next + u] = (k + 1) as u64;
+            w[next + u] = looked;
             return Counts {
                 depth: depth + 1,
                 left: left,
             };
         }
-        w[next + u] = (k + 1) as u64;
+        w[next + u] = looked;
         return Counts {
             depth: depth,
             left: left,

@@ -61,6 +61,9 @@ mul-v c = omega (arith, top _ _ _ _ _ _ ((c .before .before .before .before .bef
 slice-read-v : tie.Need-slice-read-v
 slice-read-v c = omega (arith, top _ _ _ _ _ _ ((c .before .before .before .before .before .before .pre) .0) ((c .before .before .before .before .before .before .pre) .1), (c .before .if1) .taken)
 
+add-looked : tie.Need-add-looked
+add-looked c = omega (arith, top _ _ _ _ _ _ ((c .before .before .before .before .before .before .pre) .0) ((c .before .before .before .before .before .before .pre) .1), (c .before .if1) .taken)
+
 add-if2 : tie.Need-add-if2
 add-if2 c = omega (arith, top _ _ _ _ _ _ ((c .before .before .before .before .before .before .pre) .0) ((c .before .before .before .before .before .before .pre) .1), v-ok _ _ _ _ _ _ ((c .before .before .before .before .before .before .pre) .0) ((c .before .if1) .taken) ((c .before .before .before .before .before .before .pre) .1))
 
@@ -76,17 +79,14 @@ push-requires c κs = (v-ok _ _ _ _ _ _ ((c .before .before .before .before .bef
 add-w : tie.Need-add-w
 add-w c = omega (arith, top _ _ _ _ _ _ ((c .before .before .before .before .before .before .before .before .before .before .before .before .pre) .0) ((c .before .before .before .before .before .before .before .before .before .before .before .before .pre) .1))
 
-add-w-2 : tie.Need-add-w-2
-add-w-2 c = omega (arith, top _ _ _ _ _ _ ((c .before .before .before .before .before .before .before .before .before .before .before .before .pre) .0) ((c .before .before .before .before .before .before .before .before .before .before .before .before .pre) .1))
-
 mul-w : tie.Need-mul-w
 mul-w c = omega (arith, top _ _ _ _ _ _ ((c .before .before .before .before .before .before .before .before .before .before .before .before .pre) .0) ((c .before .before .before .before .before .before .before .before .before .before .before .before .pre) .1))
 
 slice-write-w : tie.Need-slice-write-w
 slice-write-w c = rw ((c .before .before .push) .ensures) (simp length-set (omega (arith, top _ _ _ _ _ _ ((c .before .before .before .before .before .before .before .before .before .before .before .before .pre) .0) ((c .before .before .before .before .before .before .before .before .before .before .before .before .pre) .1))))
 
-add-t35 : tie.Need-add-t35
-add-t35 c = omega (arith, top _ _ _ _ _ _ ((c .before .before .before .before .before .before .before .before .before .before .before .before .pre) .0) ((c .before .before .before .before .before .before .before .before .before .before .before .before .pre) .1), room-for _ _ _ _ _ _ ((c .before .before .before .before .before .before .before .before .before .before .before .before .pre) .0) ((c .before .before .before .before .before .before .before .if1) .taken) ((c .before .before .before .before .before .before .before .before .before .before .before .before .pre) .1) ((c .before .before .before .before .if2) .taken))
+add-t36 : tie.Need-add-t36
+add-t36 c = omega (arith, top _ _ _ _ _ _ ((c .before .before .before .before .before .before .before .before .before .before .before .before .pre) .0) ((c .before .before .before .before .before .before .before .before .before .before .before .before .pre) .1), room-for _ _ _ _ _ _ ((c .before .before .before .before .before .before .before .before .before .before .before .before .pre) .0) ((c .before .before .before .before .before .before .before .if1) .taken) ((c .before .before .before .before .before .before .before .before .before .before .before .before .pre) .1) ((c .before .before .before .before .if2) .taken))
 
 returns : tie.Need-returns
 returns c = rw ((c .before .before .push) .ensures) (turn-new _ _ _ _ _ _ ((c .before .before .before .before .before .before .before .before .before .before .before .before .pre) .0) ((c .before .before .before .before .before .before .before .if1) .taken) ((c .before .before .before .before .before .before .before .before .before .before .before .before .pre) .1) ((c .before .before .before .before .if2) .taken) _ refl)
@@ -94,11 +94,8 @@ returns c = rw ((c .before .before .push) .ensures) (turn-new _ _ _ _ _ _ ((c .b
 same-length : tie.Need-same-length
 same-length c = returns c .kept .len
 
-add-w-3 : tie.Need-add-w-3
-add-w-3 c = omega (arith, top _ _ _ _ _ _ ((c .before .before .before .before .before .before .before .before .pre) .0) ((c .before .before .before .before .before .before .before .before .pre) .1))
-
-add-w-4 : tie.Need-add-w-4
-add-w-4 c = omega (arith, top _ _ _ _ _ _ ((c .before .before .before .before .before .before .before .before .pre) .0) ((c .before .before .before .before .before .before .before .before .pre) .1))
+add-w-2 : tie.Need-add-w-2
+add-w-2 c = omega (arith, top _ _ _ _ _ _ ((c .before .before .before .before .before .before .before .before .pre) .0) ((c .before .before .before .before .before .before .before .before .pre) .1))
 
 mul-w-2 : tie.Need-mul-w-2
 mul-w-2 c = omega (arith, top _ _ _ _ _ _ ((c .before .before .before .before .before .before .before .before .pre) .0) ((c .before .before .before .before .before .before .before .before .pre) .1))
@@ -118,8 +115,8 @@ sub-last c = omega (arith, top _ _ _ _ _ _ ((c .before .before .before .before .
 add-rank : tie.Need-add-rank
 add-rank c = omega (arith, top _ _ _ _ _ _ ((c .before .before .before .before .before .pre) .0) ((c .before .before .before .before .before .pre) .1))
 
-add-w-5 : tie.Need-add-w-5
-add-w-5 c = omega (arith, top _ _ _ _ _ _ ((c .before .before .before .before .before .pre) .0) ((c .before .before .before .before .before .pre) .1))
+add-w-3 : tie.Need-add-w-3
+add-w-3 c = omega (arith, top _ _ _ _ _ _ ((c .before .before .before .before .before .pre) .0) ((c .before .before .before .before .before .pre) .1))
 
 mul-w-3 : tie.Need-mul-w-3
 mul-w-3 c = omega (arith, top _ _ _ _ _ _ ((c .before .before .before .before .before .pre) .0) ((c .before .before .before .before .before .pre) .1))
@@ -127,8 +124,8 @@ mul-w-3 c = omega (arith, top _ _ _ _ _ _ ((c .before .before .before .before .b
 slice-write-w-3 : tie.Need-slice-write-w-3
 slice-write-w-3 c = omega (arith, top _ _ _ _ _ _ ((c .before .before .before .before .before .pre) .0) ((c .before .before .before .before .before .pre) .1))
 
-add-w-6 : tie.Need-add-w-6
-add-w-6 c = omega (arith, top _ _ _ _ _ _ ((c .before .before .before .before .before .pre) .0) ((c .before .before .before .before .before .pre) .1))
+add-w-4 : tie.Need-add-w-4
+add-w-4 c = omega (arith, top _ _ _ _ _ _ ((c .before .before .before .before .before .pre) .0) ((c .before .before .before .before .before .pre) .1))
 
 mul-w-4 : tie.Need-mul-w-4
 mul-w-4 c = omega (arith, top _ _ _ _ _ _ ((c .before .before .before .before .before .pre) .0) ((c .before .before .before .before .before .pre) .1))
@@ -164,29 +161,28 @@ turn-spec =
     add-v-2
     mul-v
     slice-read-v
+    add-looked
     add-if2
     mul-if2
     slice-read-if2
     push-requires
     add-w
-    add-w-2
     mul-w
     slice-write-w
-    add-t35
+    add-t36
     same-length
     returns
-    add-w-3
-    add-w-4
+    add-w-2
     mul-w-2
     slice-write-w-2
     same-length-2
     returns-2
     sub-last
     add-rank
-    add-w-5
+    add-w-3
     mul-w-3
     slice-write-w-3
-    add-w-6
+    add-w-4
     mul-w-4
     slice-write-w-4
     same-length-3
