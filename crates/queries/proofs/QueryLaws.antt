@@ -25,8 +25,7 @@ use Rattle.queries.specs.declared.Place.the-variants.{At, Absent, Refuse
 use Rattle.queries.specs.declared.Saving.the-variants.{Cells, Refused as SavedRefused}
 use Rattle.queries.specs.Entry.{placeOf, savedOf, badCount, noCell, itemsVerdict, surplus, planVerdict, roomRow, capRows, CappedBy}
 use Rattle.words.proofs.PasteLaws.{Filling, fill-above}
-use Rattle.wants.specs.Entry.{flat}
-use Rattle.wants.proofs.FlatLaws.{flat-length}
+use Rattle.words.proofs.FlatLaws.{flat-length}
 
 -- ---- the checks
 

@@ -11,9 +11,8 @@ use Rattle.refusals.specs.declared.Verdict.the-variants.{Fine, Bad}
 use Rattle.refusals.specs.declared.Refusal.the-variants.{Count, Space, Want}
 use Rattle.refusals.specs.Verdicts.{numberOf, inOrder, first, scan, check}
 use Rattle.refusals.specs.Outcomes.{Outcome, given, refused, unless, after}
-use Rattle.words.specs.Rows.{rowCount, wholeRows, field, records, tabulate}
+use Rattle.words.specs.Rows.{rowCount, wholeRows, field, records, tabulate, flat}
 use Rattle.fitting.specs.Queries.{Room, Slots, slotsOf, local, slot, saved, cap, roomsOf}
-use Rattle.wants.specs.Entry.{flat}
 use Rattle.queries.specs.declared.Place.{Place}
 use Rattle.queries.specs.declared.Place.the-variants.{At, Absent, Refused as PlaceRefused}
 use Rattle.queries.specs.declared.Saving.{Saving}

@@ -16,7 +16,8 @@ use Rattle.refusals.specs.Verdicts.{first, scan, countedOn}
 use Rattle.refusals.proofs.Laws.{first-fine, first-bad, three-first, three-second, three-third}
 use Rattle.ranges.specs.declared.Range.{Range}
 use Rattle.ranges.specs.Points.{range}
-use Rattle.range_checks.specs.Verdicts.{uneven, badList, listVerdict, pairVerdict, entryVerdict}
+use Rattle.ranges.specs.Lent.{listVerdict}
+use Rattle.range_checks.specs.Verdicts.{uneven, badList, pairVerdict, entryVerdict}
 use Rattle.ranges.proofs.PointLaws.{or-none}
 
 -- a list that is no bad one has columns of one length

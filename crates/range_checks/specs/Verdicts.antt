@@ -1,14 +1,14 @@
 -- What the range entries refuse: document 01, "Limits and what is turned back", numbers 1, 7 and 10.
-use Prim.Native.Nat.{ℕ, zero, suc, _+_}
-use mathlib.Core.Bool.{Bool, true, false, not, _&&_, _||_}
+use Prim.Native.Nat.{ℕ, _+_}
+use mathlib.Core.Bool.{Bool, true, false, not, _||_}
 use mathlib.Core.List.{List, [], _∷_}
 use lib.ListN.{length}
-use lib.Dec.{leb, ltb, eqb}
+use lib.Dec.{ltb, eqb}
 use Rattle.refusals.specs.declared.Verdict.{Verdict}
-use Rattle.refusals.specs.declared.Refusal.the-variants.{Count, Space, Want}
-use Rattle.refusals.specs.Verdicts.{first, inOrder, scan, check, countedOn}
+use Rattle.refusals.specs.declared.Refusal.the-variants.{Count, Space}
+use Rattle.refusals.specs.Verdicts.{first, inOrder, check, countedOn}
 use Rattle.ranges.specs.declared.Range.{Range}
-use Rattle.ranges.specs.Points.{rangeAt}
+use Rattle.ranges.specs.Lent.{listVerdict}
 use Rattle.ranges.specs.Forms.{columns}
 
 -- number 1: two columns of one list that differ in length, or a list lent that is over its limit
@@ -17,22 +17,6 @@ uneven n m = not (eqb n m)
 
 abbrev pub badList : List ℕ → List ℕ → Bool
 badList ss es = uneven (length ss) (length es) || ltb 65536 (length ss)
-
--- number 10: "a reversed range"
-abbrev pub reversedAt : List Range → ℕ → Bool
-reversedAt rs i = ltb (rangeAt rs i .end) (rangeAt rs i .start)
-
--- number 10: "unsorted or overlapping itself": a range that starts no later than the one before ends
-abbrev pub closeAt : List Range → ℕ → Bool
-closeAt rs zero = false
-closeAt rs (suc i) = leb (rangeAt rs (suc i) .start) (rangeAt rs i .end)
-
--- the verdict of one list: reversed ranges, and where it is to be in order and apart, close ones too
-abbrev pub wrongAt : Bool → List Range → ℕ → Bool
-wrongAt ordered rs i = reversedAt rs i || ordered && closeAt rs i
-
-unfoldable pub listVerdict : Bool → List Range → Verdict
-listVerdict ordered rs = scan Want (wrongAt ordered rs) (length rs)
 
 -- of two: "a second list's ranges are counted on from the first"
 unfoldable pub pairVerdict : Bool → List Range → List Range → Verdict

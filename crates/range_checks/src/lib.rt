@@ -6,7 +6,8 @@ ghost use lib.ListN.{length};
 ghost use Rattle.refusals.specs.Verdicts.{countedOn};
 ghost use Rattle.ranges.specs.Points.{range};
 ghost use Rattle.ranges.specs.Forms.{columns};
-ghost use Rattle.range_checks.specs.Verdicts.{badList, wrongAt, listVerdict, pairVerdict, mergedVerdict, joinedVerdict, unionVerdict, clashesVerdict};
+ghost use Rattle.ranges.specs.Lent.{wrongAt, listVerdict};
+ghost use Rattle.range_checks.specs.Verdicts.{badList, pairVerdict, mergedVerdict, joinedVerdict, unionVerdict, clashesVerdict};
 use refusals::Refusal;
 use refusals::Verdict;
 

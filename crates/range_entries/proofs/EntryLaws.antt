@@ -22,7 +22,7 @@ use Rattle.range_checks.specs.Verdicts.{uneven, badList, pairVerdict, entryVerd
 use Rattle.range_entries.specs.Entries.{clashing, Listed}
 use Rattle.ranges.specs.Inner.{Listing}
 use Rattle.ranges.proofs.PointLaws.{or-none}
-use Rattle.range_checks.proofs.CheckLaws.{fine-apart}
+use Rattle.ranges.proofs.LentLaws.{fine-apart}
 use Rattle.range_checks.proofs.VerdictLaws.{even-list, small-list}
 use Rattle.ranges.proofs.ListingLaws.{listing-length}
 use Rattle.columns.proofs.ColumnLaws.{starts-are, ends-are}

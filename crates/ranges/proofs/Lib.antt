@@ -11,3 +11,4 @@ pub mod ListingLaws
 pub mod GallopLaws
 pub mod UnionLaws
 pub mod SearchLaws
+pub mod LentLaws

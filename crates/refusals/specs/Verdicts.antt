@@ -40,6 +40,11 @@ scan r t (suc n) = first (scan r t n) (cond (t n) (Bad r n) Fine)
 abbrev pub check : Refusal → Bool → Verdict
 check r t = cond t (Bad r 0) Fine
 
+-- whether a verdict refuses
+abbrev pub refuses : Verdict → Bool
+refuses Fine = false
+refuses (Bad r i) = true
+
 -- "a second list's ranges are counted on from the first"
 abbrev pub countedOn : ℕ → Verdict → Verdict
 countedOn n Fine = Fine

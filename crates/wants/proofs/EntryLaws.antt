@@ -17,13 +17,14 @@ use Rattle.refusals.specs.declared.Refusal.the-variants.{Count, Space, Want as 
 use Rattle.refusals.specs.Verdicts.{inOrder, scan, check}
 use Rattle.refusals.specs.Outcomes.{Outcome, given, refused, unless, after}
 use Rattle.refusals.proofs.Laws.{three-first, three-second, three-third, scan-fine}
-use Rattle.words.specs.Rows.{rowCount, wholeRows, field, tabulate}
+use Rattle.words.specs.Rows.{rowCount, wholeRows, field, tabulate, flat}
 use Rattle.words.specs.Regions.{cleared}
 use Rattle.words.proofs.RowLaws.{length-tabulate, tabulate-getD, map-tabulate, tabulate-eq}
 use Rattle.ranges.proofs.PointLaws.{or-none}
 use Rattle.ranges.specs.declared.Range.{Range}
 use Rattle.fitting.specs.Wants.{Want, orderOf}
 use Rattle.fitting.specs.Plan.{Cell, cellAt, Plan, planOf, depthOf}
+use Rattle.ranges.specs.Lent.{faulty}
 use Rattle.fitting.specs.Queries.{areasOf}
 use Rattle.fitting.proofs.OrderLaws.{order-names}
 use Rattle.fitting.proofs.PlanLaws.{facts}
@@ -31,10 +32,10 @@ use Rattle.order.specs.Keys.{sizeOf, alignOf}
 use Rattle.fit.specs.declared.Counts.{Counts}
 use Rattle.fit.specs.Tables.{wantIn, wantsIn, planIn, Shown, Fitted}
 use Rattle.wants.specs.declared.Fitted.the-variants.{Plan as Planned, Refused}
-use Rattle.wants.specs.Entry.{wantsOf, faulty, badPart, badWant, wantsVerdict, overLimit, badCount, badSpace, spaceOf, planFor, verdict, outcome, tallied, tallyOf, answerOf, flat, cellRow, cellRows, itemRow, itemRows, zeroed, FittedAlone}
+use Rattle.wants.specs.Entry.{wantsOf, badPart, badWant, wantsVerdict, overLimit, badCount, badSpace, spaceOf, planFor, verdict, outcome, tallied, tallyOf, answerOf, cellRow, cellRows, itemRow, itemRows, zeroed, FittedAlone}
 use Rattle.wants.specs.Inner.{Loaded, cellRowsIn, itemRowsIn, Granted, Answered}
 use Rattle.wants.proofs.PartLaws.{part-present, areas-length}
-use Rattle.wants.proofs.FlatLaws.{flat-length}
+use Rattle.words.proofs.FlatLaws.{flat-length}
 
 -- ---- the checks
 

@@ -1,4 +1,3 @@
 pub mod PartLaws
-pub mod FlatLaws
 pub mod LoadLaws
 pub mod EntryLaws

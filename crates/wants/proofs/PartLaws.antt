@@ -16,44 +16,25 @@ use Rattle.words.proofs.Points.{same}
 use Rattle.ranges.specs.declared.Range.{Range}
 use Rattle.ranges.specs.Points.{range, rangeAt, Apart}
 use Rattle.ranges.proofs.PointLaws.{or-none, or-right}
+use Rattle.ranges.specs.Lent.{reversedAt, wrongAt, faulty}
+use Rattle.ranges.proofs.LentLaws.{faulty-at, faulty-none, faulty-apart}
 use Rattle.fitting.specs.Queries.{areasOf}
-use Rattle.wants.specs.Entry.{faulty, badPart}
+use Rattle.wants.specs.Entry.{badPart}
 
 -- ---- a part's form
 
 faulty-reversed : (rs : List Range) (i : ℕ) → i < length rs → rangeAt rs i .end < rangeAt rs i .start → faulty rs ≡ true
-unfolding faulty
-faulty-reversed [] i h k = absurd (omega arith)
-faulty-reversed (r ∷ []) zero h k = lt-ltb _ _ k
-faulty-reversed (r ∷ []) (suc i) h k = absurd (omega arith)
-faulty-reversed (r ∷ s ∷ rs) zero h k = rw (lt-ltb (r .end) (r .start) k)
-faulty-reversed (r ∷ s ∷ rs) (suc i) h k = or-right (ltb (r .end) (r .start)) _ (or-right (leb (s .start) (r .end)) _ (faulty-reversed (s ∷ rs) i (omega arith) k))
+faulty-reversed rs i h k = faulty-at rs i h (rw (lt-ltb (rangeAt rs i .end) (rangeAt rs i .start) k))
 
 faulty-close : (rs : List Range) (i : ℕ) → suc i < length rs → rangeAt rs (suc i) .start ≤ rangeAt rs i .end → faulty rs ≡ true
-unfolding faulty
-faulty-close [] i h k = absurd (omega arith)
-faulty-close (r ∷ []) i h k = absurd (omega arith)
-faulty-close (r ∷ s ∷ rs) zero h k = or-right (ltb (r .end) (r .start)) _ (rw (le-leb (s .start) (r .end) k))
-faulty-close (r ∷ s ∷ rs) (suc i) h k = or-right (ltb (r .end) (r .start)) _ (or-right (leb (s .start) (r .end)) _ (faulty-close (s ∷ rs) i (omega arith) k))
+faulty-close rs i h k = faulty-at rs (suc i) h (or-right (reversedAt rs (suc i)) _ (le-leb (rangeAt rs (suc i) .start) (rangeAt rs i .end) k))
 
 faulty-fine : (rs : List Range) → ((i : ℕ) → i < length rs → rangeAt rs i .start ≤ rangeAt rs i .end) → ((i : ℕ) → suc i < length rs → rangeAt rs i .end < rangeAt rs (suc i) .start) → faulty rs ≡ false
-unfolding faulty
-faulty-fine [] f g = refl
-faulty-fine (r ∷ []) f g = le-ltb _ _ (f 0 (omega arith))
-faulty-fine (r ∷ s ∷ rs) f g =
-    rw (le-ltb (r .end) (r .start) (f 0 (omega arith)), lt-leb (s .start) (r .end) (g 0 (omega arith)))
-    (faulty-fine (s ∷ rs) (λ i h. f (suc i) (omega arith)) (λ i h. g (suc i) (omega arith)))
-
--- a part that is not faulty is in order and apart
-pub faulty-apart : (rs : List Range) → faulty rs ≡ false → Apart rs
-unfolding faulty
-faulty-apart [] e = tt
-faulty-apart (r ∷ []) e = (ltb-false _ _ e, tt)
-faulty-apart (r ∷ s ∷ rs) e =
-    let (a, b) = or-none (ltb (r .end) (r .start)) _ e in
-    let (c, d) = or-none (leb (s .start) (r .end)) _ b in
-    let q = faulty-apart (s ∷ rs) d in
-    (ltb-false _ _ a, (leb-false _ _ c, q .0, q .1))
+faulty-fine rs f g = faulty-none rs right
+  where
+    right : (i : ℕ) → i < length rs → wrongAt true rs i ≡ false
+    right zero h = rw (le-ltb (rangeAt rs 0 .end) (rangeAt rs 0 .start) (f 0 h))
+    right (suc i) h = rw (le-ltb (rangeAt rs (suc i) .end) (rangeAt rs (suc i) .start) (f (suc i) h), lt-leb (rangeAt rs (suc i) .start) (rangeAt rs i .end) (g i h))
 
 module _ (s : List ℕ) (first count : ℕ) (room : first + count ≤ rowCount 2 s) where
   abbrev part : List Range

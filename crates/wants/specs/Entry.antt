@@ -5,14 +5,15 @@ use mathlib.Core.Bool.{Bool, false, cond, not, _||_}
 use mathlib.Core.Option.{Option}
 use mathlib.Core.List.{List, [], _∷_, _++_, map}
 use lib.ListN.{length, take, drop}
-use lib.Dec.{leb, ltb, eqb}
+use lib.Dec.{ltb, eqb}
 use Rattle.refusals.specs.declared.Verdict.{Verdict}
 use Rattle.refusals.specs.declared.Refusal.the-variants.{Count, Space, Want as WantRefused}
 use Rattle.refusals.specs.Verdicts.{numberOf, inOrder, scan, check}
 use Rattle.refusals.specs.Outcomes.{Outcome, given, refused, unless, after}
-use Rattle.words.specs.Rows.{rowCount, wholeRows, field, records, tabulate}
+use Rattle.words.specs.Rows.{rowCount, wholeRows, field, records, tabulate, flat}
 use Rattle.words.specs.Regions.{cleared}
 use Rattle.ranges.specs.declared.Range.{Range}
+use Rattle.ranges.specs.Lent.{faulty}
 use Rattle.fitting.specs.Wants.{Want, orderOf}
 use Rattle.fitting.specs.Plan.{Cell, Plan, planOf, depthOf}
 use Rattle.fitting.specs.Queries.{areasOf, partOf}
@@ -23,13 +24,7 @@ use Rattle.wants.specs.declared.Fitted.the-variants.{Plan as Planned, Re
 abbrev pub wantsOf : List Range → List ℕ → List Want
 wantsOf areas s = records 5 (λ f. record { size = f 0; align = f 1; area = partOf areas (f 2) (f 3) (f 4) }) s
 
--- number 10: "reversed, unsorted or overlapping itself": a range that ends before it starts, or starts no later than the one before ends
-unfoldable pub faulty : List Range → Bool
-faulty [] = false
-faulty (r ∷ []) = ltb (r .end) (r .start)
-faulty (r ∷ s ∷ rs) = ltb (r .end) (r .start) || (leb (s .start) (r .end) || faulty (s ∷ rs))
-
--- number 10: "an area outside its list", or faulty; an absent want's part is not read
+-- number 10: "an area outside its list, reversed, unsorted or overlapping itself"; an absent want's part is not read
 abbrev pub badPart : List Range → ℕ → ℕ → ℕ → Bool
 badPart areas present first count = cond (eqb present 0) false (ltb (length areas) (first + count) || faulty (take count (drop first areas)))
 
@@ -88,11 +83,6 @@ answerOf (Refused r i) = refused (numberOf r) i
 abbrev pub tallyOf : Outcome Plan → Outcome Tally
 tallyOf (given p) = given (tallied p)
 tallyOf (refused n i) = refused n i
-
--- rows one after another
-unfoldable pub flat : List (List ℕ) → List ℕ
-flat [] = []
-flat (r ∷ rs) = r ++ flat rs
 
 -- cells 2 numbers: size, align
 abbrev pub cellRow : Cell → List ℕ

@@ -6,12 +6,12 @@ use mathlib.Core.List.{List, [], _∷_}
 use lib.ListN.{length, getD, set}
 use lib.Dec.{eqb}
 use Rattle.refusals.specs.Outcomes.{given, after}
-use Rattle.words.specs.Rows.{field, rowCount, tabulate}
+use Rattle.words.specs.Rows.{field, rowCount, tabulate, flat}
 use Rattle.fitting.specs.Plan.{Plan}
 use Rattle.fitting.specs.Queries.{areasOf}
 use Rattle.fit.specs.declared.Counts.{Counts}
 use Rattle.order.specs.Keys.{sizeOf, alignOf}
-use Rattle.wants.specs.Entry.{flat, itemRow, badWant, tallied, cellRows, itemRows, zeroed, spaceOf}
+use Rattle.wants.specs.Entry.{itemRow, badWant, tallied, cellRows, itemRows, zeroed, spaceOf}
 
 -- an item's word, as fitting reads it
 abbrev pub itemWord : ℕ → ℕ → ℕ → ℕ
@@ -41,10 +41,6 @@ cellRowsIn w at n = flat (tabulate n (λ i. sizeOf (getD w (at + i) 0) ∷ align
 
 abbrev pub itemRowsIn : List ℕ → List ℕ → ℕ → ℕ → List ℕ
 itemRowsIn w wants at n = flat (tabulate n (λ i. itemRow (getD w (at + i) 0) (field 5 wants i 2) (field 5 wants i 3) (field 5 wants i 4)))
-
--- a row of four numbers stored
-abbrev pub rowPut : List ℕ → ℕ → ℕ → ℕ → ℕ → ℕ → List ℕ
-rowPut l at a b c d = set (set (set (set l at a) (at + 1) b) (at + 2) c) (at + 3) d
 
 -- what holds where nothing is refused: the counts within their limits, room in the answer lists and the work space, each want's part proper
 pub record Granted (wants areas : List ℕ) (cells items work : ℕ) : Type 0 where

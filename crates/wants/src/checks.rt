@@ -4,8 +4,9 @@ ghost use mathlib.Core.Bool.{Bool};
 ghost use Prim.Native.Nat.{ℕ, _+_, _*_, _/_, _≤_, _<_};
 ghost use lib.ListN.{length, take, drop};
 ghost use Rattle.words.specs.Rows.{rowCount};
+ghost use Rattle.ranges.specs.Lent.{faulty};
 ghost use Rattle.fitting.specs.Queries.{areasOf};
-ghost use Rattle.wants.specs.Entry.{faulty, badPart, wantsVerdict, overLimit, badCount, badSpace, verdict};
+ghost use Rattle.wants.specs.Entry.{badPart, wantsVerdict, overLimit, badCount, badSpace, verdict};
 use refusals::Refusal;
 use refusals::Verdict;
 

@@ -3,9 +3,9 @@ ghost use mathlib.Core.Path.{_≡_};
 ghost use Prim.Native.Nat.{ℕ, _+_, _*_, _/_, _%_, _^_, _≤_, _<_};
 ghost use mathlib.Core.List.{_++_};
 ghost use lib.ListN.{length, getD, drop};
-ghost use Rattle.words.specs.Rows.{rowCount, field};
+ghost use Rattle.words.specs.Rows.{rowCount, field, rowPut};
 ghost use Rattle.words.specs.Regions.{Region};
-ghost use Rattle.wants.specs.Inner.{itemWord, areaWordAt, itemWordAt, wantWordAt, Loaded, cellRowsIn, itemRowsIn, rowPut};
+ghost use Rattle.wants.specs.Inner.{itemWord, areaWordAt, itemWordAt, wantWordAt, Loaded, cellRowsIn, itemRowsIn};
 
 const HALF: u64 = 0x1_0000_0000;
 

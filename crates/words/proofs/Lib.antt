@@ -5,3 +5,4 @@ pub mod RowLaws
 pub mod RegionLaws
 pub mod PasteLaws
 pub mod SearchLaws
+pub mod FlatLaws

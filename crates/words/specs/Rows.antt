@@ -1,8 +1,8 @@
 -- Records as rows of numbers: row i of width w stands at the numbers w * i to w * i + w - 1.
 use Prim.Native.Nat.{ℕ, zero, suc, _+_, _*_, _/_, _%_}
 use mathlib.Core.Bool.{Bool}
-use mathlib.Core.List.{List, [], _∷_}
-use lib.ListN.{length, getD}
+use mathlib.Core.List.{List, [], _∷_, _++_}
+use lib.ListN.{length, getD, set}
 use lib.Dec.{eqb}
 
 -- f's values at 0 to n - 1
@@ -24,3 +24,12 @@ field w s i f = getD s (w * i + f) 0
 -- the records of a list of numbers, each made from its row's fields
 abbrev pub records : {A : Type 0} → ℕ → ((ℕ → ℕ) → A) → List ℕ → List A
 records w make s = tabulate (rowCount w s) (λ i. make (field w s i))
+
+-- rows one after another
+unfoldable pub flat : List (List ℕ) → List ℕ
+flat [] = []
+flat (r ∷ rs) = r ++ flat rs
+
+-- a row of four numbers stored
+abbrev pub rowPut : List ℕ → ℕ → ℕ → ℕ → ℕ → ℕ → List ℕ
+rowPut l at a b c d = set (set (set (set l at a) (at + 1) b) (at + 2) c) (at + 3) d

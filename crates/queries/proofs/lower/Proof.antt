@@ -2,7 +2,7 @@
 use Rattle.words.proofs.PasteLaws.{Filling}
 use Rattle.queries.specs.Entry.{capRows}
 use Rattle.queries.proofs.QueryLaws.{capRow, row-was}
-use Rattle.wants.proofs.FlatLaws.{flat-start, flat-done, two-more}
+use Rattle.words.proofs.FlatLaws.{flat-start, flat-done, two-more}
 use Prim.Native.Nat.{ℕ, _+_, _-_, _*_, _≤_, min}
 use denote.Ref.{now}
 use native.Mathlib.Omega.{arith}

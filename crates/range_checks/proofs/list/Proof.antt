@@ -11,7 +11,7 @@ use Rattle.refusals.specs.declared.Refusal.the-variants.{Want}
 use Rattle.refusals.specs.Verdicts.{scan, countedOn}
 use Rattle.refusals.proofs.Laws.{scan-none, scan-miss, scan-hit, scan-end}
 use Rattle.ranges.specs.Forms.{columns}
-use Rattle.range_checks.specs.Verdicts.{wrongAt, listVerdict}
+use Rattle.ranges.specs.Lent.{wrongAt, listVerdict}
 use Rattle.ranges.proofs.FormLaws.{columns-length}
 use Rattle.range_checks.proofs.list.Statement.{statement}
 use Rattle.range_checks.proofs.list.Tie as tie

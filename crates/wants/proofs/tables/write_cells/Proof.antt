@@ -2,9 +2,9 @@
 use Rattle.words.proofs.PasteLaws.{Filling}
 use Rattle.words.specs.Rows.{tabulate, field}
 use Rattle.order.specs.Keys.{sizeOf, alignOf}
-use Rattle.wants.specs.Entry.{flat, itemRow}
+use Rattle.wants.specs.Entry.{itemRow}
 use Rattle.wants.specs.Inner.{cellRowsIn, itemRowsIn}
-use Rattle.wants.proofs.FlatLaws.{flat-start, flat-done, two-more, four-more}
+use Rattle.words.proofs.FlatLaws.{flat-start, flat-done, two-more, four-more}
 use mathlib.Core.List.{[], _∷_}
 use denote.Ref.{now}
 use native.Mathlib.Omega.{arith}

@@ -1,9 +1,9 @@
 -- `write_items` meets its contract: a row more is written each turn.
 use Rattle.words.proofs.PasteLaws.{Filling}
 use Rattle.words.specs.Rows.{tabulate, field}
-use Rattle.wants.specs.Entry.{flat, itemRow}
+use Rattle.wants.specs.Entry.{itemRow}
 use Rattle.wants.specs.Inner.{itemRowsIn}
-use Rattle.wants.proofs.FlatLaws.{flat-start, flat-done, four-more}
+use Rattle.words.proofs.FlatLaws.{flat-start, flat-done, four-more}
 use Rattle.wants.proofs.EntryLaws.{item-row-wide, row-absent, row-present}
 use mathlib.Core.List.{List}
 use denote.Ref.{now}

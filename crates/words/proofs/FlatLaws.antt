@@ -7,10 +7,8 @@ use mathlib.Core.Bool.{Bool, cond}
 use mathlib.Core.List.{List, [], _∷_, _++_}
 use lib.ListN.{length, getD, set, drop, length-append, List·getD-append}
 use lib.Seq.{getD-append-add, paste}
-use Rattle.words.specs.Rows.{tabulate}
+use Rattle.words.specs.Rows.{tabulate, flat, rowPut}
 use Rattle.words.proofs.PasteLaws.{Filling, fill-start, fill-more, fill-done, paste-front}
-use Rattle.wants.specs.Entry.{flat}
-use Rattle.wants.specs.Inner.{rowPut}
 
 module _ (wide : ℕ) where
   pub flat-length : (n : ℕ) (row : ℕ → List ℕ) → ((i : ℕ) → i < n → length (row i) ≡ wide) → length (flat (tabulate n row)) ≡ wide * n
