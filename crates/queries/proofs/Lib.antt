@@ -1,1 +1,3 @@
 pub mod QueryLaws
+pub mod MemberLaws
+pub mod ShareLaws

@@ -1,13 +1,17 @@
-// The refusals of the queries: numbers 1 and 10, in this order.
+// The refusals of the queries: numbers 1, 7 and 10, in this order.
 ghost use mathlib.Core.Path.{_≡_};
-ghost use Prim.Native.Nat.{_≤_};
+ghost use Prim.Native.Nat.{_+_, _≤_};
 ghost use lib.ListN.{length};
 ghost use Rattle.words.specs.Rows.{rowCount};
-ghost use Rattle.queries.specs.Entry.{badCount, itemsVerdict, planVerdict};
+ghost use Rattle.queries.specs.Entry.{badCount, itemsVerdict, surplus, planVerdict};
+ghost use Rattle.queries.specs.Shares.{badAreas, outside, partsVerdict, sharedVerdict, crowdedVerdict, apartCount, apartSpace, apartVerdict};
 use refusals::Refusal;
 use refusals::Verdict;
 
+// The most locals, slots and ranges.
 const MOST: usize = 2048;
+
+const RANGES: usize = 65536;
 
 // Whether a list is no whole rows, or a count is over its limit.
 fn bad_count(cells: &[u32], items: &[u32], locals: u32) -> bool
@@ -59,6 +63,119 @@ pub fn plan(cells: &[u32], items: &[u32], locals: u32) -> Verdict
     }
     if items.len() / 4 < cells.len() / 2 {
         return Verdict::Bad(Refusal::Want, items.len() / 4);
+    }
+    Verdict::Fine
+}
+
+// Whether an area list is no whole rows, or over its limit.
+fn bad_areas(areas: &[u32]) -> bool
+    ensures { λ r. ⌜ r ≡ badAreas (now (areas .entry)) ⌝ }
+{
+    if areas.len() % 2 != 0 {
+        return true;
+    }
+    RANGES < areas.len() / 2
+}
+
+// Whether a part is outside a list of so many ranges.
+fn part_outside(ranges: usize, present: u32, first: u32, count: u32) -> bool
+    ensures { λ r. ⌜ r ≡ outside ranges present first count ⌝ }
+{
+    if present == 0 {
+        return false;
+    }
+    ranges < first as usize + count as usize
+}
+
+// The first item that names no cell, or a part outside a list of so many ranges.
+fn items_within(cells: &[u32], items: &[u32], ranges: usize) -> Verdict
+    ensures { λ r. ⌜ r ≡ partsVerdict (now (cells .entry)) (now (items .entry)) ranges ⌝ }
+{
+    let count = cells.len() / 2;
+    let n = items.len() / 4;
+    let mut i = 0;
+    while i < n {
+        let at = 4 * i;
+        if count <= items[at] as usize {
+            return Verdict::Bad(Refusal::Want, i);
+        }
+        if part_outside(ranges, items[at + 1], items[at + 2], items[at + 3]) {
+            return Verdict::Bad(Refusal::Want, i);
+        }
+        i += 1;
+    }
+    Verdict::Fine
+}
+
+// Of `shared`.
+pub fn parts(cells: &[u32], items: &[u32], areas: &[u32], locals: u32) -> Verdict
+    ensures { λ r. ⌜ r ≡ sharedVerdict (now (cells .entry)) (now (items .entry)) (now (areas .entry)) locals ⌝ }
+{
+    if bad_count(cells, items, locals) {
+        return Verdict::Bad(Refusal::Count, 0);
+    }
+    if bad_areas(areas) {
+        return Verdict::Bad(Refusal::Count, 0);
+    }
+    let v = items_within(cells, items, areas.len() / 2);
+    if let Verdict::Bad(r, i) = v {
+        return Verdict::Bad(r, i);
+    }
+    if items.len() / 4 < cells.len() / 2 {
+        return Verdict::Bad(Refusal::Want, items.len() / 4);
+    }
+    Verdict::Fine
+}
+
+// Of `crowded`, by the length of its answer list.
+pub fn crowd(cells: &[u32], items: &[u32], locals: u32, room: usize) -> Verdict
+    ensures { λ r. ⌜ r ≡ crowdedVerdict (now (cells .entry)) (now (items .entry)) locals room ⌝ }
+{
+    if bad_count(cells, items, locals) {
+        return Verdict::Bad(Refusal::Count, 0);
+    }
+    if room < items.len() / 4 - locals as usize {
+        return Verdict::Bad(Refusal::Space, 0);
+    }
+    plan(cells, items, locals)
+}
+
+fn apart_count(locals: &[u32], slots: &[u32], cells: usize, items: usize) -> bool
+    ensures { λ r. ⌜ r ≡ apartCount (now (locals .entry)) (now (slots .entry)) cells items ⌝ }
+{
+    if locals.len() % 2 != 0 {
+        return true;
+    }
+    if cells % 2 != 0 {
+        return true;
+    }
+    if items % 4 != 0 {
+        return true;
+    }
+    if MOST < locals.len() / 2 {
+        return true;
+    }
+    MOST < slots.len()
+}
+
+fn apart_space(n: usize, cells: usize, items: usize) -> bool
+    ensures { λ r. ⌜ r ≡ apartSpace n cells items ⌝ }
+{
+    if cells / 2 < n {
+        return true;
+    }
+    items / 4 < n
+}
+
+// Of `apart`, by the lengths of its answer lists.
+pub fn apart(locals: &[u32], slots: &[u32], cells: usize, items: usize) -> Verdict
+    ensures { λ r. ⌜ r ≡ apartVerdict (now (locals .entry)) (now (slots .entry)) cells items ⌝ }
+{
+    if apart_count(locals, slots, cells, items) {
+        return Verdict::Bad(Refusal::Count, 0);
+    }
+    if apart_space(locals.len() / 2 + slots.len(), cells, items) {
+        return Verdict::Bad(Refusal::Space, 0);
     }
     Verdict::Fine
 }

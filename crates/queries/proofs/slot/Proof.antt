@@ -39,10 +39,10 @@ cast-t16 : tie.Need-cast-t16
 cast-t16 c = omega (arith, (c .shared-slice-known3) .given (4 * ((c .before .before .before .before .before .before .before .args) .locals + (c .before .before .before .before .before .before .before .args) .i)))
 
 returns-2 : tie.Need-returns-2
-returns-2 c = let a = (c .before .before .before .before .before .before .before .args) in place-told (planVerdict (now (a .cells)) (now (a .items)) (a .locals)) (slot (slotsOf (a .locals) (now (a .cells)) (now (a .items)) []) (a .i)) _ (sym ((c .before .before .before .before .plan) .ensures) ∙ (c .before .before .enum-told) .given .1) (slot-at (now (a .cells)) (now (a .items)) (a .locals) (sound (now (a .cells)) (now (a .items)) (a .locals) (sym ((c .before .before .before .before .plan) .ensures) ∙ (c .before .before .enum-told) .given .1)) (a .i) (omega arith))
+returns-2 c = let a = (c .before .before .before .before .before .before .before .args) in place-told (planVerdict (now (a .cells)) (now (a .items)) (a .locals)) (slot (slotsOf (a .locals) (now (a .cells)) (now (a .items)) []) (a .i)) _ (sym ((c .before .before .before .before .plan) .ensures) ∙ (c .before .before .enum-told) .given .1) (slot-at [] (now (a .cells)) (now (a .items)) (a .locals) (sound (now (a .cells)) (now (a .items)) (a .locals) (sym ((c .before .before .before .before .plan) .ensures) ∙ (c .before .before .enum-told) .given .1)) (a .i) (omega arith))
 
 returns-3 : tie.Need-returns-3
-returns-3 c = let a = (c .before .before .before .before .before .before .args) in place-none (planVerdict (now (a .cells)) (now (a .items)) (a .locals)) (slot (slotsOf (a .locals) (now (a .cells)) (now (a .items)) []) (a .i)) (sym ((c .before .before .before .plan) .ensures) ∙ (c .before .enum-told) .given .1) (slot-none (now (a .cells)) (now (a .items)) (a .locals) (sound (now (a .cells)) (now (a .items)) (a .locals) (sym ((c .before .before .before .plan) .ensures) ∙ (c .before .enum-told) .given .1)) (a .i) (omega arith))
+returns-3 c = let a = (c .before .before .before .before .before .before .args) in place-none (planVerdict (now (a .cells)) (now (a .items)) (a .locals)) (slot (slotsOf (a .locals) (now (a .cells)) (now (a .items)) []) (a .i)) (sym ((c .before .before .before .plan) .ensures) ∙ (c .before .enum-told) .given .1) (slot-none [] (now (a .cells)) (now (a .items)) (a .locals) (sound (now (a .cells)) (now (a .items)) (a .locals) (sym ((c .before .before .before .plan) .ensures) ∙ (c .before .enum-told) .given .1)) (a .i) (omega arith))
 
 pub slot-spec : {M : Type 1} → statement M
 slot-spec =
