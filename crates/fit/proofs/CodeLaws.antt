@@ -1,10 +1,10 @@
 -- What single functions rest on: the test of one member, and the sum of the sizes.
-use Prim.Native.Nat.{ℕ, suc, _+_, _-_, _*_, _/_, _%_, _^_, _≤_, _<_}
+use Prim.Native.Nat.{ℕ, _+_, _-_, _*_, _/_, _^_, _≤_, _<_}
 use native.Mathlib.Omega.{arith}
 use native.Mathlib.Numerals.{add-one}
 use mathlib.Core.Path.{_≡_, refl, ap, sym, _∙_, subst}
-use mathlib.Core.Bool.{Bool, true, false, not}
-use mathlib.Core.Option.{Option, some, none}
+use mathlib.Core.Bool.{Bool, false, not}
+use mathlib.Core.Option.{Option, none}
 use mathlib.Core.List.{List, [], _∷_, _++_}
 use lib.ListN.{length, getD, take, drop}
 use lib.Seq.{take-suc, take-all}
@@ -16,7 +16,7 @@ use Rattle.ranges.specs.Merged.{clashes}
 use Rattle.ranges.specs.Forms.{unpacked}
 use Rattle.fitting.specs.Plan.{Cell, cellAt, joinable, depthOf}
 use Rattle.order.specs.Keys.{sizeOf}
-use Rattle.fit.specs.Tables.{firstOf, countOf, rangesAt, areaIn, Proper}
+use Rattle.fit.specs.Tables.{firstOf, countOf, areaIn}
 use Rattle.fit.specs.Inner.{Summed}
 use Rattle.fit.proofs.TableLaws.{area-none, area-some}
 

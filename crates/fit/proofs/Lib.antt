@@ -1,6 +1,9 @@
 pub mod ChainLaws
 pub mod EnterLaws
+pub mod ListLaws
 pub mod TableLaws
+pub mod LinkLaws
+pub mod FoldLaws
 pub mod StepLaws
 pub mod PutLaws
 pub mod CodeLaws

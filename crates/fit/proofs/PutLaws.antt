@@ -1,16 +1,15 @@
 -- The three ways of putting an item: without an area, into a cell that takes it, into a new cell.
-use Prim.Native.Nat.{ℕ, suc, _+_, _-_, _*_, _/_, _%_, _^_, _≤_, _<_, min, max}
+use Prim.Native.Nat.{ℕ, suc, _+_, _-_, _*_, _≤_, _<_, min, max}
 use native.Mathlib.Omega.{arith}
-use native.Mathlib.Numerals.{add-one}
 use mathlib.Core.Path.{_≡_, refl, ap, sym, _∙_, subst}
-use mathlib.Core.Logic.{_≢_, _⊎_, inl, inr}
+use mathlib.Core.Logic.{_≢_, inl}
 use mathlib.Core.Bool.{Bool, true, false, not, _&&_, _||_, false≢true}
 use mathlib.Core.Option.{Option, some, none}
 use mathlib.Core.List.{List, [], _∷_, _++_}
 use lib.ListN.{length, getD, set, length-set, length-append, List·getD-append}
 use lib.Seq.{getD-set-same, getD-set-other, getD-append-seam}
 use Rattle.ranges.specs.declared.Range.{Range}
-use Rattle.ranges.specs.Points.{Upright, Apart}
+use Rattle.ranges.specs.Points.{Upright}
 use Rattle.ranges.specs.Merged.{union, clashes}
 use Rattle.ranges.proofs.PointLaws.{apart-upright}
 use Rattle.fitting.specs.Wants.{Want, wantAt}
@@ -18,8 +17,8 @@ use Rattle.fitting.specs.Plan.{Cell, cellAt, joinable, takes, lowest, spent, Pl
 use Rattle.fitting.proofs.SearchLaws.{lowest-found}
 use Rattle.fitting.proofs.CellLaws.{union-clashes, Neat, neat-put}
 use Rattle.order.specs.Keys.{sizeOf, alignOf}
-use Rattle.fit.specs.Tables.{areaIn, wantIn, wantsIn, rangesAt, Lent, Shown}
-use Rattle.fit.specs.Inner.{chain, allow, orderAt, headAt, nextAt, areaAt, opens, Probed, enteredIn, Holds}
+use Rattle.fit.specs.Tables.{wantIn, wantsIn, Lent}
+use Rattle.fit.specs.Inner.{orderAt, headAt, nextAt, areaAt, Probed, enteredIn, Holds}
 use Rattle.fit.proofs.ChainLaws.{walk-end}
 use Rattle.fit.proofs.TableLaws.{want-at, want-neat}
 use Rattle.fit.proofs.StepLaws.{search-hit, search-miss, holds-enter}
@@ -61,7 +60,7 @@ abbrev noCell : Cell
 noCell = record { size = 0; align = 0; area = none }
 
 module _ {w₁ : List ℕ} {at items n : ℕ} (L : Lent w₁ at items n) (known : (q : ℕ) → q < n → orderAt w₁ items n q < n)
-    {w : List ℕ} {budget k cells left : ℕ} {p : Plan} (H : Holds w₁ w at items n budget k cells left p)
+    {w : List ℕ} {end budget k cells left top : ℕ} {p : Plan} (H : Holds w₁ w at items n end budget k cells left top p)
     (i : ℕ) (i-is : i ≡ orderAt w₁ items n k) (k-lt : k < n) where
   here : i < n
   here = rw i-is (known k k-lt)
@@ -82,11 +81,11 @@ module _ {w₁ : List ℕ} {at items n : ℕ} (L : Lent w₁ at items n) (known 
   neat-after = neat-put (wantsIn w₁ at items n) (want-neat L) budget i p (H .neat)
 
   holds-open : (probes left′ : ℕ) → left′ + (p .probes + probes) ≡ budget → put (wantsIn w₁ at items n) budget i p ≡ opened (wantAt (wantsIn w₁ at items n) i) i probes p
-      → Holds w₁ (enteredIn w items n k i cells 0 (getD w (items + n + i) 0)) at items n budget (k + 1) (cells + 1) left′ (opened (wantAt (wantsIn w₁ at items n) i) i probes p)
+      → Holds w₁ (enteredIn w items n k i cells 0 (getD w (items + n + i) 0) (getD w (items + i) 0)) at items n end budget (k + 1) (cells + 1) left′ top (opened (wantAt (wantsIn w₁ at items n) i) i probes p)
   holds-open probes left′ spent is =
-      subst (λ (m : ℕ). Holds w₁ (enteredIn w items n k i cells 0 (getD w (items + n + i) 0)) at items n budget (k + 1) (cells + 1) left′ (record { cells = p .cells ++ (new ∷ []); cell = assign i m (p .cell); probes = p .probes + probes }))
+      subst (λ (m : ℕ). Holds w₁ (enteredIn w items n k i cells 0 (getD w (items + n + i) 0) (getD w (items + i) 0)) at items n end budget (k + 1) (cells + 1) left′ top (record { cells = p .cells ++ (new ∷ []); cell = assign i m (p .cell); probes = p .probes + probes }))
       (H .cells-is)
-      (holds-enter L known H i cells 0 (getD w (items + n + i) 0) i-is k-lt (omega arith) (omega arith) (p .cells ++ (new ∷ [])) (cells + 1) left′ probes
+      (holds-enter L known H i cells 0 (getD w (items + n + i) 0) (getD w (items + i) 0) i-is refl k-lt (omega arith) (omega arith) (p .cells ++ (new ∷ [])) (cells + 1) left′ probes
       (omega (arith, longer, H .cells-is)) (omega (arith, H .cells-le)) (λ b h d. omega arith) spent
       (λ b h d. List·getD-append (p .cells) (new ∷ []) noCell b (rw (H .cells-is) at h))
       (size-is ∙ sym (ap (λ (x : Cell). x .size) seam)) (align-is ∙ sym (ap (λ (x : Cell). x .align) seam))
@@ -103,7 +102,7 @@ module _ {w₁ : List ℕ} {at items n : ℕ} (L : Lent w₁ at items n) (known 
       seam = rw (H .cells-is) (getD-append-seam (p .cells) new [] noCell)
 
   pub open-none : wantAt (wantsIn w₁ at items n) i .area ≡ none
-      → Holds w₁ (enteredIn w items n k i cells 0 (getD w (items + n + i) 0)) at items n budget (k + 1) (cells + 1) left (put (wantsIn w₁ at items n) budget i p)
+      → Holds w₁ (enteredIn w items n k i cells 0 (getD w (items + n + i) 0) (getD w (items + i) 0)) at items n end budget (k + 1) (cells + 1) left top (put (wantsIn w₁ at items n) budget i p)
   open-none e =
       let is = put-none (wantsIn w₁ at items n) budget i p e in
       rw is (holds-open 0 left (omega (arith, H .left-is)) is)
@@ -113,17 +112,17 @@ module _ {w₁ : List ℕ} {at items n : ℕ} (L : Lent w₁ at items n) (known 
     upright = apart-upright a (want-neat L i a e)
 
     pub open-miss : most ≤ r
-        → Holds w₁ (enteredIn w items n k i cells 0 (getD w (items + n + i) 0)) at items n budget (k + 1) (cells + 1) (left - most) (put (wantsIn w₁ at items n) budget i p)
+        → Holds w₁ (enteredIn w items n k i cells 0 (getD w (items + n + i) 0) (getD w (items + i) 0)) at items n end budget (k + 1) (cells + 1) (left - most) top (put (wantsIn w₁ at items n) budget i p)
     open-miss h =
         let is = put-miss (wantsIn w₁ at items n) budget i p a e (search-miss L known H a upright most r m P h) in
         rw is (holds-open (min (length (p .cells)) (budget - p .probes)) (left - most) (omega (arith, H .left-is, H .cells-is)) is)
 
     pub join-hit : r < most → (word : ℕ) → sizeOf word ≡ max (sizeOf (getD w (items + 5 * n + r) 0)) (sizeOf (getD w (items + n + i) 0))
         → alignOf word ≡ max (alignOf (getD w (items + 5 * n + r) 0)) (alignOf (getD w (items + n + i) 0))
-        → Holds w₁ (enteredIn w items n k i r (headAt w items n r) word) at items n budget (k + 1) cells (left - (r + 1)) (put (wantsIn w₁ at items n) budget i p)
+        → Holds w₁ (enteredIn w items n k i r (headAt w items n r) word (getD w (items + i) 0)) at items n end budget (k + 1) cells (left - (r + 1)) top (put (wantsIn w₁ at items n) budget i p)
     join-hit h word size align =
         rw is
-        (holds-enter L known H i r (headAt w items n r) word i-is k-lt (omega arith) (H .heads r r-lt) (set (p .cells) r wide) cells (left - (r + 1)) (suc r)
+        (holds-enter L known H i r (headAt w items n r) word (getD w (items + i) 0) i-is refl k-lt (omega arith) (H .heads r r-lt) (set (p .cells) r wide) cells (left - (r + 1)) (suc r)
         (H .cells-is ∙ sym (length-set (p .cells) r wide)) (omega (arith, H .cells-le)) (λ b l d. l) (omega (arith, H .left-is))
         (λ b l d. getD-set-other (p .cells) r b wide noCell d)
         (size ∙ ap (λ (x : ℕ). max x (sizeOf (getD w (items + n + i) 0))) (H .shown .size r r-in) ∙ ap (λ (x : ℕ). max (cellAt (p .cells) r .size) x) size-is ∙ sym (ap (λ (x : Cell). x .size) seat))

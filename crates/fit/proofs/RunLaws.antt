@@ -1,38 +1,33 @@
 -- Every item in order: the tables hold the plan of the order's front, and at the end the whole plan.
-use Prim.Native.Nat.{ℕ, zero, suc, _+_, _-_, _*_, _≤_, _<_, min, max}
+use Prim.Native.Nat.{ℕ, zero, suc, _+_, _-_, _*_, _^_, _≤_, _<_, min, max}
 use native.Mathlib.Omega.{arith}
 use native.Mathlib.Numerals.{add-one}
 use mathlib.Core.Path.{_≡_, refl, ap, sym, _∙_, subst}
-use mathlib.Core.Logic.{_≢_, _⊎_, inl, inr}
+use mathlib.Core.Logic.{_⊎_, inl, inr}
 use mathlib.Core.Bool.{Bool, true, false, cond}
-use mathlib.Core.Option.{Option, some, none, Option·none-ne-some}
+use mathlib.Core.Option.{some, none, Option·none-ne-some}
 use mathlib.Core.List.{List, [], _∷_, _++_}
 use lib.ListN.{length, getD, take}
 use lib.Seq.{take-suc, take-all}
-use Rattle.words.specs.Rows.{tabulate}
-use Rattle.words.specs.Regions.{Region, part}
+use Rattle.words.specs.Regions.{Region}
 use Rattle.words.proofs.RowLaws.{length-tabulate}
-use Rattle.ranges.specs.declared.Range.{Range}
-use Rattle.ranges.specs.Points.{Apart}
-use Rattle.ranges.specs.Forms.{unpacked}
 use Rattle.fitting.specs.Wants.{Want, wantAt, before, insert, ordered, orderOf}
-use Rattle.fitting.specs.Plan.{Cell, Plan, nothing, put, fit, planOf, depthOf}
+use Rattle.fitting.specs.Plan.{Plan, nothing, put, fit, planOf}
 use Rattle.fitting.proofs.OrderLaws.{order-names}
 use Rattle.order.specs.Keys.{sizeOf, alignOf, OrderedIn}
 use Rattle.order.proofs.RankLaws.{mem-at}
 use Rattle.fit.specs.declared.Progress.{Progress}
-use Rattle.fit.specs.declared.Counts.{Counts}
-use Rattle.fit.specs.Tables.{firstOf, countOf, rangesAt, areaIn, wantIn, wantsIn, Lent, planIn, Fitted}
-use Rattle.fit.specs.Inner.{orderAt, headAt, nextAt, Linked, Probed, enteredIn, Holds, InOrder, Ready, Stepped, Placed, Summed}
+use Rattle.fit.specs.Tables.{rangesAt, areaIn, wantIn, wantsIn, Lent, planIn, Fitted}
+use Rattle.fit.specs.Inner.{orderAt, headAt, Linked, Probed, enteredIn, Holds, InOrder, Ready, Stepped, Placed, Summed, Folded}
 use Rattle.fit.proofs.TableLaws.{area-none, area-some, want-at, sized, area-kept, lent-kept, wants-kept}
-use Rattle.fit.proofs.StepLaws.{linked}
+use Rattle.fit.proofs.StepLaws.{linked, order-kept}
 use Rattle.fit.proofs.PutLaws.{open-none, open-miss, join-hit}
 
 -- ---- one item
 
-module _ {w₀ : List ℕ} {at items n k cells : ℕ} (left : ℕ) (R : Ready w₀ at items n k cells) (i : ℕ) (i-is : i ≡ orderAt w₀ items n k) where
+module _ {w₀ : List ℕ} {at items n end k cells top : ℕ} (left : ℕ) (R : Ready w₀ at items n end k cells top) (i : ℕ) (i-is : i ≡ orderAt w₀ items n k) where
   -- of any plan that the tables hold
-  module _ {w₁ : List ℕ} {budget : ℕ} {p : Plan} (L : Lent w₁ at items n) (known : (q : ℕ) → q < n → orderAt w₁ items n q < n) (H : Holds w₁ w₀ at items n budget k cells left p) where
+  module _ {w₁ : List ℕ} {budget : ℕ} {p : Plan} (L : Lent w₁ at items n) (known : (q : ℕ) → q < n → orderAt w₁ items n q < n) (H : Holds w₁ w₀ at items n end budget k cells left top p) where
     i-was : i ≡ orderAt w₁ items n k
     i-was = i-is ∙ H .tables (items + 2 * n + k) (inl (omega (arith, R .k-lt)))
 
@@ -49,35 +44,36 @@ module _ {w₀ : List ℕ} {at items n k cells : ℕ} (left : ℕ) (R : Ready w�
     some-there h = area-is ∙ area-some w₀ at (getD w₀ (items + i) 0) h
 
     -- the item by its place in the order, and the work space that was written
-    moved : (w v : List ℕ) (c l : ℕ) → w ≡ v → Holds w₁ v at items n budget (k + 1) c l (put (wantsIn w₁ at items n) budget i p)
-        → Holds w₁ w at items n budget (k + 1) c l (put (wantsIn w₁ at items n) budget (orderAt w₁ items n k) p)
-    moved w v c l e h = rw e (subst (λ (j : ℕ). Holds w₁ v at items n budget (k + 1) c l (put (wantsIn w₁ at items n) budget j p)) i-was h)
+    moved : (w v : List ℕ) (c l t : ℕ) → w ≡ v → Holds w₁ v at items n end budget (k + 1) c l t (put (wantsIn w₁ at items n) budget i p)
+        → Holds w₁ w at items n end budget (k + 1) c l t (put (wantsIn w₁ at items n) budget (orderAt w₁ items n k) p)
+    moved w v c l t e h = rw e (subst (λ (j : ℕ). Holds w₁ v at items n end budget (k + 1) c l t (put (wantsIn w₁ at items n) budget j p)) i-was h)
 
-  pub stepped-none : {w : List ℕ} → getD w₀ (items + i) 0 < 1 → w ≡ enteredIn w₀ items n k i cells 0 (getD w₀ (items + n + i) 0)
-      → Stepped w₀ w at items n k cells left (record { cells = cells + 1; left = left })
+  pub stepped-none : {w : List ℕ} → getD w₀ (items + i) 0 < 1 → w ≡ enteredIn w₀ items n k i cells 0 (getD w₀ (items + n + i) 0) (getD w₀ (items + i) 0)
+      → Stepped w₀ w at items n end k cells left top (record { cells = cells + 1; left = left; top = top })
   stepped-none {w} h e = record {
-    keeps = λ w₁ budget p L known H. moved L known H w _ _ _ e (open-none L known H i (i-was L known H) (R .k-lt) (none-there L known H h));
+    keeps = λ w₁ budget p L known H. moved L known H w _ _ _ _ e (open-none L known H i (i-was L known H) (R .k-lt) (none-there L known H h));
   }
 
   module _ (most r : ℕ) (m : most ≡ min cells left) (h : 0 < getD w₀ (items + i) 0) (P : Probed w₀ at items n most (rangesAt w₀ at (getD w₀ (items + i) 0)) r) where
-    pub stepped-miss : {w : List ℕ} → most ≤ r → w ≡ enteredIn w₀ items n k i cells 0 (getD w₀ (items + n + i) 0)
-        → Stepped w₀ w at items n k cells left (record { cells = cells + 1; left = left - most })
+    pub stepped-miss : {w : List ℕ} → most ≤ r → w ≡ enteredIn w₀ items n k i cells 0 (getD w₀ (items + n + i) 0) (getD w₀ (items + i) 0)
+        → Stepped w₀ w at items n end k cells left top (record { cells = cells + 1; left = left - most; top = top })
     stepped-miss {w} q e = record {
-      keeps = λ w₁ budget p L known H. moved L known H w _ _ _ e
+      keeps = λ w₁ budget p L known H. moved L known H w _ _ _ _ e
           (open-miss L known H i (i-was L known H) (R .k-lt) (rangesAt w₀ at (getD w₀ (items + i) 0)) (some-there L known H h) most r m P q);
     }
 
-    pub stepped-hit : {w : List ℕ} → r < most → (word : ℕ)
+    -- the item has entered cell r, and its list may have been united with others
+    pub stepped-hit : {v w : List ℕ} {t : ℕ} → r < most → (word : ℕ)
         → (sizeOf word ≡ max (sizeOf (getD w₀ (items + 5 * n + r) 0)) (sizeOf (getD w₀ (items + n + i) 0))) × (alignOf word ≡ max (alignOf (getD w₀ (items + 5 * n + r) 0)) (alignOf (getD w₀ (items + n + i) 0)))
-        → w ≡ enteredIn w₀ items n k i r (headAt w₀ items n r) word
-        → Stepped w₀ w at items n k cells left (record { cells = cells; left = left - (r + 1) })
-    stepped-hit {w} q word s e = record {
-      keeps = λ w₁ budget p L known H. moved L known H w _ _ _ e
-          (join-hit L known H i (i-was L known H) (R .k-lt) (rangesAt w₀ at (getD w₀ (items + i) 0)) (some-there L known H h) most r m P q word (s .0) (s .1));
+        → v ≡ enteredIn w₀ items n k i r (headAt w₀ items n r) word (getD w₀ (items + i) 0) → Folded v w at items n end k top t
+        → Stepped w₀ w at items n end k cells left top (record { cells = cells; left = left - (r + 1); top = t })
+    stepped-hit {v} {w} {t} q word s e F = record {
+      keeps = λ w₁ budget p L known H. F .keeps w₁ budget cells (left - (r + 1)) _ (moved L known H v _ _ _ _ e
+          (join-hit L known H i (i-was L known H) (R .k-lt) (rangesAt w₀ at (getD w₀ (items + i) 0)) (some-there L known H h) most r m P q word (s .0) (s .1)));
     }
 
-pub linked-below : {w : List ℕ} {at items n k : ℕ} → Linked w at items n k → (m : ℕ) → m ≤ k → Linked w at items n m
-linked-below l m h = record { lent = l .lent; k-le = omega (arith, l .k-le); known = l .known; falls = λ q f. l .falls q (omega arith) }
+pub linked-below : {w : List ℕ} {at items n top k : ℕ} → Linked w at items n top k → (m : ℕ) → m ≤ k → Linked w at items n top m
+linked-below l m h = record { lent = l .lent; low = l .low; top-le = l .top-le; k-le = omega (arith, l .k-le); falls = λ q f. l .falls q (omega arith); lists = λ q f. l .lists q (omega arith) }
 
 -- ---- the order
 
@@ -108,7 +104,7 @@ fit-none ws budget l p = refl
 abbrev pub planTo : List ℕ → ℕ → ℕ → ℕ → ℕ → ℕ → Plan
 planTo w at items n budget k = fit (wantsIn w at items n) budget (take k (orderOf (wantsIn w at items n))) nothing
 
-module _ {w₁ : List ℕ} {at items n : ℕ} (O : InOrder w₁ at items n) where
+module _ {w₁ : List ℕ} {at items n end : ℕ} (O : InOrder w₁ at items n end) where
   length-order : length (orderOf (wantsIn w₁ at items n)) ≡ n
   length-order = length-ordered (wantsIn w₁ at items n) (length (wantsIn w₁ at items n)) ∙ length-tabulate n (wantIn w₁ at items n)
 
@@ -117,10 +113,14 @@ module _ {w₁ : List ℕ} {at items n : ℕ} (O : InOrder w₁ at items n) wher
       let a = order-names (wantsIn w₁ at items n) .known (getD (orderOf (wantsIn w₁ at items n)) q 0) (mem-at (orderOf (wantsIn w₁ at items n)) q (rw length-order h)) in
       omega (arith, a, O .is q h, length-tabulate n (wantIn w₁ at items n))
 
-  pub run-start : (budget : ℕ) → ((i : ℕ) → i < n → getD w₁ (items + 6 * n + i) 0 ≡ 0) → Holds w₁ w₁ at items n budget 0 0 budget (planTo w₁ at items n budget 0)
+  pub run-start : (budget : ℕ) → ((i : ℕ) → i < n → getD w₁ (items + 6 * n + i) 0 ≡ 0) → Holds w₁ w₁ at items n end budget 0 0 budget (items + 8 * n) (planTo w₁ at items n budget 0)
   run-start budget zeros = rw (fit-none (wantsIn w₁ at items n) budget (orderOf (wantsIn w₁ at items n)) nothing) (record {
     len = refl;
     tables = λ x o. refl;
+    low = omega arith;
+    high = O .low;
+    end-le = O .high;
+    lists = λ q h. absurd (omega arith);
     k-le = omega arith;
     falls = λ q h. absurd (omega arith);
     cells-is = refl;
@@ -132,13 +132,22 @@ module _ {w₁ : List ℕ} {at items n : ℕ} (O : InOrder w₁ at items n) wher
     same = λ c h. absurd (omega arith);
   })
 
-  module _ {w : List ℕ} {budget k cells left : ℕ} (H : Holds w₁ w at items n budget k cells left (planTo w₁ at items n budget k)) where
-    pub run-ready : k < n → Ready w at items n k cells
-    run-ready h = record { linked = linked (O .lent) order-known H; k-lt = h; cells-le = H .cells-le; heads = H .heads }
+  module _ {w : List ℕ} {budget k cells left top : ℕ} (H : Holds w₁ w at items n end budget k cells left top (planTo w₁ at items n budget k)) where
+    pub run-ready : k < n → Ready w at items n end k cells top
+    run-ready h = record {
+      linked = linked (O .lent) order-known H;
+      top-end = H .high;
+      end-le = omega (arith, H .end-le, H .len);
+      small = O .small;
+      known = order-kept (O .lent) order-known H;
+      k-lt = h;
+      cells-le = H .cells-le;
+      heads = H .heads;
+    }
 
-    pub run-more : {v : List ℕ} {r : Progress} → k < n → Stepped w v at items n k cells left r → Holds w₁ v at items n budget (k + 1) (r .cells) (r .left) (planTo w₁ at items n budget (k + 1))
+    pub run-more : {v : List ℕ} {r : Progress} → k < n → Stepped w v at items n end k cells left top r → Holds w₁ v at items n end budget (k + 1) (r .cells) (r .left) (r .top) (planTo w₁ at items n budget (k + 1))
     run-more {v} {r} h S =
-        subst (λ (q : Plan). Holds w₁ v at items n budget (k + 1) (r .cells) (r .left) q) next
+        subst (λ (q : Plan). Holds w₁ v at items n end budget (k + 1) (r .cells) (r .left) (r .top) q) next
         (S .keeps w₁ budget (planTo w₁ at items n budget k) (O .lent) order-known H)
       where
         order : List ℕ
@@ -150,18 +159,18 @@ module _ {w₁ : List ℕ} {at items n : ℕ} (O : InOrder w₁ at items n) wher
             ∙ sym (fit-append (wantsIn w₁ at items n) budget (take k order) (getD order k 0) nothing)
             ∙ ap (λ (l : List ℕ). fit (wantsIn w₁ at items n) budget l nothing) (sym (ap (λ (j : ℕ). take j order) (add-one k) ∙ take-suc order k 0 (rw length-order h)))
 
-    pub run-done : n ≤ k → Placed w₁ w at items n budget (record { cells = cells; left = left })
+    pub run-done : n ≤ k → Placed w₁ w at items n end budget (record { cells = cells; left = left; top = top })
     run-done h =
         let e : k ≡ n = omega (arith, H .k-le) in
         record {
-          holds = subst (λ (q : Plan). Holds w₁ w at items n budget n cells left q)
+          holds = subst (λ (q : Plan). Holds w₁ w at items n end budget n cells left top q)
               (ap (λ (l : List ℕ). fit (wantsIn w₁ at items n) budget l nothing) (take-all n (orderOf (wantsIn w₁ at items n)) (omega (arith, length-order))))
               (rw e at H);
         }
 
 -- ---- ordering, then placing
 
-module _ {w₀ w₁ w₂ : List ℕ} {at items n : ℕ} (L : Lent w₀ at items n) (O : OrderedIn w₀ w₁ (items + n) n (items + 2 * n)) (F : Region w₁ w₂ (items + 6 * n) n (λ _. 0)) where
+module _ {w₀ w₁ w₂ : List ℕ} {at items n end : ℕ} (L : Lent w₀ at items n) (low : items + 8 * n ≤ end) (high : end ≤ length w₀) (small : end < 2 ^ 32) (O : OrderedIn w₀ w₁ (items + n) n (items + 2 * n)) (F : Region w₁ w₂ (items + 6 * n) n (λ _. 0)) where
   same-length : length w₂ ≡ length w₀
   same-length = F .len ∙ O .len
 
@@ -171,9 +180,12 @@ module _ {w₀ w₁ w₂ : List ℕ} {at items n : ℕ} (L : Lent w₀ at items 
   wants-same : wantsIn w₂ at items n ≡ wantsIn w₀ at items n
   wants-same = wants-kept L w₂ same-length tables-kept
 
-  pub in-order : InOrder w₂ at items n
+  pub in-order : InOrder w₂ at items n end
   in-order = record {
     lent = lent-kept L w₂ same-length tables-kept;
+    low = low;
+    high = omega (arith, same-length);
+    small = small;
     is = λ k h. F .before (items + 2 * n + k) (omega arith) ∙ O .is (wantsIn w₀ at items n) (sized L) k h ∙ sym (ap (λ (ws : List Want). getD (orderOf ws) k 0) wants-same);
   }
 
@@ -183,10 +195,10 @@ module _ {w₀ w₁ w₂ : List ℕ} {at items n : ℕ} (L : Lent w₀ at items 
   plan-same : (budget : ℕ) → planIn w₂ at items n budget ≡ planIn w₀ at items n budget
   plan-same budget = ap (λ (ws : List Want). planOf ws budget (orderOf ws)) wants-same
 
-  pub fitted : {w₃ : List ℕ} {budget : ℕ} {s : Progress} (d : ℕ) → Placed w₂ w₃ at items n budget s → Summed w₃ (items + 5 * n) (s .cells) d
-      → Fitted w₀ w₃ at items n budget (record { cells = s .cells; probes = budget - s .left; depth = d })
+  pub fitted : {w₃ : List ℕ} {budget : ℕ} {s : Progress} (d : ℕ) → Placed w₂ w₃ at items n end budget s → Summed w₃ (items + 5 * n) (s .cells) d
+      → Fitted w₀ w₃ at items n end budget (record { cells = s .cells; probes = budget - s .left; depth = d })
   fitted {w₃} {budget} {s} d P D =
-      let H = subst (λ (q : Plan). Holds w₂ w₃ at items n budget n (s .cells) (s .left) q) (plan-same budget) (P .holds) in
+      let H = subst (λ (q : Plan). Holds w₂ w₃ at items n end budget n (s .cells) (s .left) (s .top) q) (plan-same budget) (P .holds) in
       record {
         len = H .len ∙ same-length;
         cells = H .cells-is;
@@ -197,9 +209,9 @@ module _ {w₀ w₁ w₂ : List ℕ} {at items n : ℕ} (L : Lent w₀ at items 
         rest = λ x o. rest′ H x o;
       }
     where
-      rest′ : Holds w₂ w₃ at items n budget n (s .cells) (s .left) (planIn w₀ at items n budget) → (x : ℕ) → (x < items + 2 * n) ⊎ (items + 7 * n ≤ x) → getD w₃ x 0 ≡ getD w₀ x 0
+      rest′ : Holds w₂ w₃ at items n end budget n (s .cells) (s .left) (s .top) (planIn w₀ at items n budget) → (x : ℕ) → (x < items + 2 * n) ⊎ (end ≤ x) → getD w₃ x 0 ≡ getD w₀ x 0
       rest′ H x (inl h) = H .tables x (inl (omega arith)) ∙ tables-kept x h
       rest′ H x (inr h) = H .tables x (inr h) ∙ F .after x (omega arith) ∙ O .rest x (inr (omega arith))
 
-  pub cells-few : {w₃ : List ℕ} {budget : ℕ} {s : Progress} → Placed w₂ w₃ at items n budget s → (s .cells ≤ n) × (length w₃ ≡ length w₀) × (s .left ≤ budget)
+  pub cells-few : {w₃ : List ℕ} {budget : ℕ} {s : Progress} → Placed w₂ w₃ at items n end budget s → (s .cells ≤ n) × (length w₃ ≡ length w₀) × (s .left ≤ budget)
   cells-few P = (P .holds .cells-le, P .holds .len ∙ same-length, omega (arith, P .holds .left-is))

@@ -1,17 +1,14 @@
 -- The tables of wants and the areas stay as they are while cells are made: so the wants that they hold do.
-use Prim.Native.Nat.{ℕ, suc, _+_, _-_, _*_, _/_, _%_, _^_, _≤_, _<_}
+use Prim.Native.Nat.{ℕ, _+_, _-_, _*_, _≤_, _<_}
 use native.Mathlib.Omega.{arith}
 use native.Mathlib.Decide.{ℕ-discrete}
-use mathlib.Core.Path.{_≡_, refl, ap, sym, _∙_}
-use mathlib.Core.Logic.{_≢_, _⊎_, inl, inr}
-use mathlib.Core.Bool.{Bool, true, false, cond}
-use mathlib.Core.Option.{Option, some, none, Option·none-ne-some, Option·some-injective}
+use mathlib.Core.Path.{_≡_, ap, sym, _∙_}
+use mathlib.Core.Bool.{Bool, cond}
+use mathlib.Core.Option.{some, none, Option·none-ne-some, Option·some-injective}
 use mathlib.Core.List.{List}
 use lib.ListN.{length, getD, List·getD-eq-default}
-use lib.Dec.{eqb}
 use borrow.Author.Tests.{eq-eqb, ne-eqb}
-use Rattle.words.specs.Rows.{tabulate}
-use Rattle.words.specs.Regions.{part, Kept}
+use Rattle.words.specs.Regions.{Kept}
 use Rattle.words.proofs.RegionLaws.{kept-part-list}
 use Rattle.words.proofs.RowLaws.{length-tabulate, getD-tabulate, tabulate-eq}
 use Rattle.words.proofs.Points.{cut}

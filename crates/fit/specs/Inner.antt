@@ -1,4 +1,4 @@
--- What the functions of fitting promise each other: a cell's members are linked, latest first, by their places in the order.
+-- What the functions of fitting promise each other: a cell's lists of ranges are linked, latest first, by their places in the order. A place's list is its item's area, or its union with earlier lists of the cell.
 use Prim.Native.Nat.{ℕ, zero, suc, _+_, _-_, _*_, _/_, _%_, _^_, _<_, _≤_, max}
 use mathlib.Core.Path.{_≡_}
 use mathlib.Core.Logic.{_⊎_}
@@ -14,7 +14,7 @@ use Rattle.fitting.specs.Wants.{Want, wantAt, orderOf}
 use Rattle.fitting.specs.Plan.{Cell, cellAt, joinable, Plan, put, depthOf}
 use Rattle.order.specs.Keys.{sizeOf, alignOf}
 use Rattle.fit.specs.declared.Progress.{Progress}
-use Rattle.fit.specs.Tables.{areaIn, wantsIn, Lent, Shown, planIn}
+use Rattle.fit.specs.Tables.{firstOf, countOf, rangesAt, areaIn, wantsIn, Lent, Shown, planIn}
 
 -- the places that a link leads to: a link is 0, or one more than a place
 unfoldable pub places : (ℕ → ℕ) → ℕ → ℕ → List ℕ
@@ -44,16 +44,26 @@ headAt w items n c = getD w (items + 3 * n + c) 0
 abbrev pub nextAt : List ℕ → ℕ → ℕ → ℕ → ℕ
 nextAt w items n q = getD w (items + 4 * n + q) 0
 
--- the area of the item at a place of the order
+-- a place's list, by a word like an item's: the lists' table stands from items + 7 * n on
+abbrev pub listAt : List ℕ → ℕ → ℕ → ℕ → ℕ
+listAt w items n q = getD w (items + 7 * n + q) 0
+
 abbrev pub areaAt : List ℕ → ℕ → ℕ → ℕ → ℕ → Option (List Range)
-areaAt w at items n q = areaIn w at (getD w (items + orderAt w items n q) 0)
+areaAt w at items n q = areaIn w at (listAt w items n q)
+
+-- a list stands among the areas, or behind the tables and below `top`
+pub record Listed (w : List ℕ) (at items n top x : ℕ) : Type 0 where
+  pub inside : (at + (firstOf x + countOf x) ≤ items) ⊎ ((items + 8 * n ≤ at + firstOf x) × (at + (firstOf x + countOf x) ≤ top))
+  pub neat : Apart (rangesAt w at x)
 
 -- the tables can be read: k places are linked
-pub record Linked (w : List ℕ) (at items n k : ℕ) : Type 0 where
+pub record Linked (w : List ℕ) (at items n top k : ℕ) : Type 0 where
   pub lent : Lent w at items n
+  pub low : items + 8 * n ≤ top
+  pub top-le : top ≤ length w
   pub k-le : k ≤ n
-  pub known : (q : ℕ) → q < n → orderAt w items n q < n
   pub falls : Falls (nextAt w items n) k
+  pub lists : (q : ℕ) → q < k → 0 < listAt w items n q → Listed w at items n top (listAt w items n q)
 
 -- the cell's members allow an area
 abbrev pub opens : List ℕ → ℕ → ℕ → ℕ → List Range → ℕ → Bool
@@ -65,15 +75,19 @@ pub record Probed (w : List ℕ) (at items n most : ℕ) (a : List Range) (r : �
   pub hit : r < most → opens w at items n a r ≡ true
   pub miss : (c : ℕ) → c < r → opens w at items n a c ≡ false
 
--- the item at place k of the order has entered cell c, whose size and alignment are now `word` and whose other members `link` leads to
-abbrev pub enteredIn : List ℕ → ℕ → ℕ → ℕ → ℕ → ℕ → ℕ → ℕ → List ℕ
-enteredIn w items n k i c link word =
-    set (set (set (set w (items + 4 * n + k) link) (items + 3 * n + c) (k + 1)) (items + 5 * n + c) word) (items + 6 * n + i) c
+-- the item i at place k of the order, with the area of word x, has entered cell c, whose size and alignment are now `word` and whose other lists `link` leads to
+abbrev pub enteredIn : List ℕ → ℕ → ℕ → ℕ → ℕ → ℕ → ℕ → ℕ → ℕ → List ℕ
+enteredIn w items n k i c link word x =
+    set (set (set (set (set w (items + 4 * n + k) link) (items + 3 * n + c) (k + 1)) (items + 5 * n + c) word) (items + 6 * n + i) c) (items + 7 * n + k) x
 
 -- the tables hold the plan of the first k places; w₁ holds the wants and the order
-pub record Holds (w₁ w : List ℕ) (at items n budget k cells left : ℕ) (p : Plan) : Type 0 where
+pub record Holds (w₁ w : List ℕ) (at items n end budget k cells left top : ℕ) (p : Plan) : Type 0 where
   pub len : length w ≡ length w₁
-  pub tables : (x : ℕ) → (x < items + 3 * n) ⊎ (items + 7 * n ≤ x) → getD w x 0 ≡ getD w₁ x 0
+  pub tables : (x : ℕ) → (x < items + 3 * n) ⊎ (end ≤ x) → getD w x 0 ≡ getD w₁ x 0
+  pub low : items + 8 * n ≤ top
+  pub high : top ≤ end
+  pub end-le : end ≤ length w₁
+  pub lists : (q : ℕ) → q < k → 0 < listAt w items n q → Listed w at items n top (listAt w items n q)
   pub k-le : k ≤ n
   pub falls : Falls (nextAt w items n) k
   pub cells-is : cells ≡ length (p .cells)
@@ -85,25 +99,52 @@ pub record Holds (w₁ w : List ℕ) (at items n budget k cells left : ℕ) (p :
   pub same : (c : ℕ) → c < cells → (a : List Range) → Upright a → joinable (cellAt (p .cells) c .area) a ≡ opens w at items n a c
 
 -- the order table is the order of the wants
-pub record InOrder (w : List ℕ) (at items n : ℕ) : Type 0 where
+pub record InOrder (w : List ℕ) (at items n end : ℕ) : Type 0 where
   pub lent : Lent w at items n
+  pub low : items + 8 * n ≤ end
+  pub high : end ≤ length w
+  pub small : end < 2 ^ 32
   pub is : (k : ℕ) → k < n → orderAt w items n k ≡ getD (orderOf (wantsIn w at items n)) k 0
 
--- the item at place k can be put: so many cells are there, and each one's members are linked
-pub record Ready (w : List ℕ) (at items n k cells : ℕ) : Type 0 where
-  pub linked : Linked w at items n k
+-- the item at place k can be put: so many cells are there, and each one's lists are linked
+pub record Ready (w : List ℕ) (at items n end k cells top : ℕ) : Type 0 where
+  pub linked : Linked w at items n top k
+  pub top-end : top ≤ end
+  pub end-le : end ≤ length w
+  pub small : end < 2 ^ 32
+  pub known : (q : ℕ) → q < n → orderAt w items n q < n
   pub k-lt : k < n
   pub cells-le : cells ≤ k
   pub heads : (c : ℕ) → c < cells → headAt w items n c ≤ k
 
 -- one item more: where the tables held a plan, they hold the plan with the item put
-pub record Stepped (w₀ w : List ℕ) (at items n k cells left : ℕ) (r : Progress) : Type 0 where
-  pub keeps : (w₁ : List ℕ) (budget : ℕ) (p : Plan) → Lent w₁ at items n → ((q : ℕ) → q < n → orderAt w₁ items n q < n) → Holds w₁ w₀ at items n budget k cells left p
-      → Holds w₁ w at items n budget (k + 1) (r .cells) (r .left) (put (wantsIn w₁ at items n) budget (orderAt w₁ items n k) p)
+pub record Stepped (w₀ w : List ℕ) (at items n end k cells left top : ℕ) (r : Progress) : Type 0 where
+  pub keeps : (w₁ : List ℕ) (budget : ℕ) (p : Plan) → Lent w₁ at items n → ((q : ℕ) → q < n → orderAt w₁ items n q < n) → Holds w₁ w₀ at items n end budget k cells left top p
+      → Holds w₁ w at items n end budget (k + 1) (r .cells) (r .left) (r .top) (put (wantsIn w₁ at items n) budget (orderAt w₁ items n k) p)
 
 -- every item put
-pub record Placed (w₁ w : List ℕ) (at items n budget : ℕ) (r : Progress) : Type 0 where
-  pub holds : Holds w₁ w at items n budget n (r .cells) (r .left) (planIn w₁ at items n budget)
+pub record Placed (w₁ w : List ℕ) (at items n end budget : ℕ) (r : Progress) : Type 0 where
+  pub holds : Holds w₁ w at items n end budget n (r .cells) (r .left) (r .top) (planIn w₁ at items n budget)
+
+-- the list of place k can be united with lists that it is linked to
+pub record Topped (w : List ℕ) (at items n end k top : ℕ) : Type 0 where
+  pub linked : Linked w at items n top (k + 1)
+  pub top-end : top ≤ end
+  pub end-le : end ≤ length w
+  pub small : end < 2 ^ 32
+
+-- place k is linked to place q, both have a list, and there is room for the two together
+pub record Meets (w : List ℕ) (items n end k q top : ℕ) : Type 0 where
+  pub next : nextAt w items n k ≡ q + 1
+  pub one : 0 < listAt w items n k
+  pub two : 0 < listAt w items n q
+  pub room : top + (countOf (listAt w items n k) + countOf (listAt w items n q)) ≤ end
+
+-- the list of place k united with lists that it was linked to: nothing changes of what each cell takes
+pub record Folded (w₀ w : List ℕ) (at items n end k top top′ : ℕ) : Type 0 where
+  pub len : length w ≡ length w₀
+  pub topped : Topped w at items n end k top′
+  pub keeps : (w₁ : List ℕ) (budget cells left : ℕ) (p : Plan) → Holds w₁ w₀ at items n end budget (k + 1) cells left top p → Holds w₁ w at items n end budget (k + 1) cells left top′ p
 
 -- r is the sum of the sizes of the cells whose words stand from `at` on
 pub record Summed (w : List ℕ) (at cells r : ℕ) : Type 0 where

@@ -1,4 +1,4 @@
--- Wants and a plan in tables of one work space. From `items` on stand five tables of n words: items, wants, order, heads, links; then the cells, and each item's cell.
+-- Wants and a plan in tables of one work space. From `items` on stand eight tables of n words: items, wants, order, heads, links, cells, each item's cell, lists by place; then the lists, up to `end`.
 use Prim.Native.Nat.{ℕ, _+_, _-_, _*_, _/_, _%_, _^_, _<_, _≤_}
 use mathlib.Core.Path.{_≡_}
 use mathlib.Core.Logic.{_⊎_}
@@ -62,12 +62,12 @@ pub record Shown (w : List ℕ) (items n : ℕ) (p : Plan) : Type 0 where
   pub align : (c : ℕ) → c < length (p .cells) → alignOf (getD w (items + 5 * n + c) 0) ≡ cellAt (p .cells) c .align
   pub cell : (i : ℕ) → i < n → getD w (items + 6 * n + i) 0 ≡ p .cell i
 
--- what fitting leaves: the plan in its tables and in the answer; the items' and wants' tables, and everything outside the tables, as it was
-pub record Fitted (w₀ w : List ℕ) (at items n budget : ℕ) (r : Counts) : Type 0 where
+-- what fitting leaves: the plan in its tables and in the answer; the areas, the items' and the wants' tables, and everything from `end` on, as it was
+pub record Fitted (w₀ w : List ℕ) (at items n end budget : ℕ) (r : Counts) : Type 0 where
   pub len : length w ≡ length w₀
   pub cells : r .cells ≡ length (planIn w₀ at items n budget .cells)
   pub few : r .cells ≤ n
   pub probes : r .probes ≡ planIn w₀ at items n budget .probes
   pub depth : r .depth ≡ depthOf (planIn w₀ at items n budget .cells)
   pub shown : Shown w items n (planIn w₀ at items n budget)
-  pub rest : (x : ℕ) → (x < items + 2 * n) ⊎ (items + 7 * n ≤ x) → getD w x 0 ≡ getD w₀ x 0
+  pub rest : (x : ℕ) → (x < items + 2 * n) ⊎ (end ≤ x) → getD w x 0 ≡ getD w₀ x 0

@@ -8,10 +8,13 @@ ghost use Rattle.ranges.specs.Points.{Apart};
 ghost use Rattle.ranges.specs.Forms.{unpacked};
 ghost use Rattle.fitting.specs.Plan.{Cell, cellAt, joinable, depthOf};
 ghost use Rattle.order.specs.Keys.{sizeOf, alignOf};
-ghost use Rattle.fit.specs.Tables.{Proper, Lent, areaIn, Fitted};
-ghost use Rattle.fit.specs.Inner.{chain, allow, opens, nextAt, headAt, areaAt, orderAt, Linked, Probed, enteredIn, InOrder, Ready, Stepped, Placed, Summed};
+ghost use Rattle.fit.specs.Tables.{Proper, Lent, areaIn, countOf, Fitted};
+ghost use Rattle.fit.specs.Inner.{chain, allow, nextAt, headAt, areaAt, Linked, Probed, enteredIn, InOrder, Ready, Stepped, Placed, Summed, Topped, Meets, Folded};
 
 const HALF: u64 = 0x1_0000_0000;
+
+// More ranges than any list has.
+const NEVER: u64 = 0xffff_ffff_ffff_ffff;
 
 // A plan's counts: its cells, the probes spent and the sum of the cells' sizes.
 pub struct Counts {
@@ -20,10 +23,11 @@ pub struct Counts {
     pub depth: u64,
 }
 
-// The cells opened so far, and what is left of the budget.
+// The cells opened so far, what is left of the budget, and where the stored lists end.
 struct Progress {
     cells: usize,
     left: u64,
+    top: usize,
 }
 
 // Whether an item, by its word, has an area that does not clash with the `count` ranges from `from` on.
@@ -40,16 +44,24 @@ fn free(w: &[u64], at: usize, items: usize, x: u64, from: usize, count: usize) -
     !packed::clash(&w[first..end], &w[from..to])
 }
 
-// Whether every member that a link leads to has an area that does not clash.
-fn joins(w: &[u64], at: usize, items: usize, n: usize, link: u64, from: usize, count: usize) -> bool
-    requires { ⌜ Linked (now w) at items n link × (from + count ≤ length (now w)) × Apart (unpacked (part from count (now w))) ⌝ }
+// Whether every list that a link leads to is there and does not clash.
+fn joins(
+    w: &[u64],
+    at: usize,
+    items: usize,
+    n: usize,
+    top: usize,
+    link: u64,
+    from: usize,
+    count: usize,
+) -> bool
+    requires { ⌜ Linked (now w) at items n top link × (from + count ≤ length (now w)) × Apart (unpacked (part from count (now w))) ⌝ }
     ensures { λ r. ⌜ r ≡ allow (areaAt (now (w .entry)) at items n) (chain (nextAt (now (w .entry)) items n) link) (unpacked (part from count (now (w .entry)))) ⌝ }
 {
     let mut m = link as usize;
     while 0 < m {
         let q = m - 1;
-        let i = w[items + 2 * n + q] as usize;
-        if !free(w, at, items, w[items + i], from, count) {
+        if !free(w, at, top, w[items + 7 * n + q], from, count) {
             return false;
         }
         m = w[items + 4 * n + q] as usize;
@@ -63,17 +75,18 @@ fn probe(
     at: usize,
     items: usize,
     n: usize,
+    top: usize,
     k: usize,
     most: usize,
     from: usize,
     count: usize,
 ) -> usize
-    requires { ⌜ Linked (now w) at items n k × (most ≤ k) × ((c : ℕ) → c < most → headAt (now w) items n c ≤ k) × (from + count ≤ length (now w)) × Apart (unpacked (part from count (now w))) ⌝ }
+    requires { ⌜ Linked (now w) at items n top k × (most ≤ k) × ((c : ℕ) → c < most → headAt (now w) items n c ≤ k) × (from + count ≤ length (now w)) × Apart (unpacked (part from count (now w))) ⌝ }
     ensures { λ r. ⌜ Probed (now (w .entry)) at items n most (unpacked (part from count (now (w .entry)))) r ⌝ }
 {
     let mut c = 0;
     while c < most {
-        if joins(w, at, items, n, w[items + 3 * n + c], from, count) {
+        if joins(w, at, items, n, top, w[items + 3 * n + c], from, count) {
             return c;
         }
         c += 1;
@@ -99,15 +112,26 @@ fn wider(x: u64, y: u64) -> u64
     size * HALF + align
 }
 
-// The item `i` at place `k` of the order enters cell `c`: the other members are those that `link` leads to.
-fn enter(w: &mut [u64], items: usize, n: usize, k: usize, i: usize, c: usize, link: u64, word: u64)
-    requires { ⌜ (items + 7 * n ≤ length (now w)) × (k < n) × (i < n) × (c < n) ⌝ }
-    ensures { λ _. ⌜ now (w .exit) ≡ enteredIn (now (w .entry)) items n k i c link word ⌝ }
+// The item `i` at place `k` of the order, with the area of word `x`, enters cell `c`: the other lists are those that `link` leads to.
+fn enter(
+    w: &mut [u64],
+    items: usize,
+    n: usize,
+    k: usize,
+    i: usize,
+    c: usize,
+    link: u64,
+    word: u64,
+    x: u64,
+)
+    requires { ⌜ (items + 8 * n ≤ length (now w)) × (k < n) × (i < n) × (c < n) ⌝ }
+    ensures { λ _. ⌜ now (w .exit) ≡ enteredIn (now (w .entry)) items n k i c link word x ⌝ }
 {
     w[items + 4 * n + k] = link;
     w[items + 3 * n + c] = k as u64 + 1;
     w[items + 5 * n + c] = word;
     w[items + 6 * n + i] = c as u64;
+    w[items + 7 * n + k] = x;
 }
 
 // The smaller of a count and a number.
@@ -120,66 +144,140 @@ fn least(cells: usize, left: u64) -> usize
     left as usize
 }
 
+// Unites the list of place `k` with that of place `q`, which it is linked to: the lists' new end.
+fn unite_top(
+    w: &mut [u64],
+    at: usize,
+    items: usize,
+    n: usize,
+    end: usize,
+    k: usize,
+    q: usize,
+    top: usize,
+) -> usize
+    requires { ⌜ Topped (now w) at items n end k top × Meets (now w) items n end k q top ⌝ }
+    ensures { λ r. ⌜ Folded (now (w .entry)) (now (w .exit)) at items n end k top r × (nextAt (now (w .exit)) items n k ≤ q) ⌝ }
+{
+    let y = w[items + 7 * n + k];
+    let z = w[items + 7 * n + q];
+    let next = w[items + 4 * n + q];
+    let one = at + ((y - 1) / HALF) as usize;
+    let two = at + ((z - 1) / HALF) as usize;
+    let ones = ((y - 1) % HALF) as usize;
+    let twos = ((z - 1) % HALF) as usize;
+    let r = packed::unite(w, one, ones, two, twos, top);
+    w[items + 7 * n + k] = (top - at) as u64 * HALF + r as u64 + 1;
+    w[items + 4 * n + k] = next;
+    top + r
+}
+
+// How many ranges two lists have together; or NEVER, where one is absent or the second is many times as long as the first.
+fn together(y: u64, z: u64) -> u64
+    ensures { λ r. ⌜ (r < 18446744073709551615 → (0 < y) × (0 < z) × (r ≡ countOf y + countOf z)) ⌝ }
+{
+    if y < 1 {
+        return NEVER;
+    }
+    if z < 1 {
+        return NEVER;
+    }
+    let ones = (y - 1) % HALF;
+    let twos = (z - 1) % HALF;
+    if 8 * ones < twos {
+        return NEVER;
+    }
+    ones + twos
+}
+
+// Unites the list of place `k`, where there is room, with those it is linked to, until one is much longer: so a cell has few lists, and a range is moved seldom.
+fn fold(w: &mut [u64], at: usize, items: usize, n: usize, end: usize, k: usize, top: usize) -> usize
+    requires { ⌜ Topped (now w) at items n end k top ⌝ }
+    ensures { λ r. ⌜ Folded (now (w .entry)) (now (w .exit)) at items n end k top r ⌝ }
+{
+    let mut t = top;
+    let mut p = w[items + 4 * n + k] as usize;
+    while 0 < p {
+        let q = p - 1;
+        let need = together(w[items + 7 * n + k], w[items + 7 * n + q]);
+        let room = (end - t) as u64;
+        if room < need {
+            return t;
+        }
+        t = unite_top(w, at, items, n, end, k, q, t);
+        p = w[items + 4 * n + k] as usize;
+    }
+    t
+}
+
 // The item at place `k` of the order goes into the lowest cell that takes it, met while budget is left, else into a new one.
 fn put(
     w: &mut [u64],
     at: usize,
     items: usize,
     n: usize,
+    end: usize,
     k: usize,
     cells: usize,
     left: u64,
+    top: usize,
 ) -> Progress
-    requires { ⌜ Ready (now w) at items n k cells ⌝ }
-    ensures { λ r. ⌜ Stepped (now (w .entry)) (now (w .exit)) at items n k cells left r ⌝ }
+    requires { ⌜ Ready (now w) at items n end k cells top ⌝ }
+    ensures { λ r. ⌜ Stepped (now (w .entry)) (now (w .exit)) at items n end k cells left top r ⌝ }
 {
     let i = w[items + 2 * n + k] as usize;
     let x = w[items + i];
     let word = w[items + n + i];
     if x < 1 {
-        enter(w, items, n, k, i, cells, 0, word);
+        enter(w, items, n, k, i, cells, 0, word, x);
         return Progress {
             cells: cells + 1,
             left: left,
+            top: top,
         };
     }
     let most = least(cells, left);
     let from = at + ((x - 1) / HALF) as usize;
     let count = ((x - 1) % HALF) as usize;
-    let c = probe(w, at, items, n, k, most, from, count);
+    let c = probe(w, at, items, n, top, k, most, from, count);
     if c < most {
         let link = w[items + 3 * n + c];
         let wide = wider(w[items + 5 * n + c], word);
-        enter(w, items, n, k, i, c, link, wide);
+        enter(w, items, n, k, i, c, link, wide, x);
+        let t = fold(w, at, items, n, end, k, top);
         return Progress {
             cells: cells,
             left: left - (c as u64 + 1),
+            top: t,
         };
     }
-    enter(w, items, n, k, i, cells, 0, word);
+    enter(w, items, n, k, i, cells, 0, word, x);
     Progress {
         cells: cells + 1,
         left: left - most as u64,
+        top: top,
     }
 }
 
 // Each item in order.
-fn place(w: &mut [u64], at: usize, items: usize, n: usize, budget: u64) -> Progress
-    requires { ⌜ InOrder (now w) at items n × ((i : ℕ) → i < n → getD (now w) (items + 6 * n + i) 0 ≡ 0) ⌝ }
-    ensures { λ r. ⌜ Placed (now (w .entry)) (now (w .exit)) at items n budget r ⌝ }
+fn place(w: &mut [u64], at: usize, items: usize, n: usize, end: usize, budget: u64) -> Progress
+    requires { ⌜ InOrder (now w) at items n end × ((i : ℕ) → i < n → getD (now w) (items + 6 * n + i) 0 ≡ 0) ⌝ }
+    ensures { λ r. ⌜ Placed (now (w .entry)) (now (w .exit)) at items n end budget r ⌝ }
 {
     let mut cells = 0;
     let mut left = budget;
+    let mut top = items + 8 * n;
     let mut k = 0;
     while k < n {
-        let s = put(w, at, items, n, k, cells, left);
+        let s = put(w, at, items, n, end, k, cells, left, top);
         cells = s.cells;
         left = s.left;
+        top = s.top;
         k += 1;
     }
     Progress {
         cells: cells,
         left: left,
+        top: top,
     }
 }
 
@@ -197,14 +295,14 @@ fn depth(w: &[u64], from: usize, cells: usize) -> u64
     sum
 }
 
-// Fits the `n` items whose tables stand from `items` on, over the areas from `at` on: the plan stands in the tables after them.
-pub fn fit(w: &mut [u64], at: usize, items: usize, n: usize, budget: u64) -> Counts
-    requires { ⌜ Lent (now w) at items n ⌝ }
-    ensures { λ r. ⌜ Fitted (now (w .entry)) (now (w .exit)) at items n budget r ⌝ }
+// Fits the `n` items whose tables stand from `items` on, over the areas from `at` on: the plan stands in the tables after them. The words up to `end` hold the cells' areas meanwhile.
+pub fn fit(w: &mut [u64], at: usize, items: usize, n: usize, end: usize, budget: u64) -> Counts
+    requires { ⌜ Lent (now w) at items n × (items + 8 * n ≤ end) × (end ≤ length (now w)) × (end < 2 ^ 32) ⌝ }
+    ensures { λ r. ⌜ Fitted (now (w .entry)) (now (w .exit)) at items n end budget r ⌝ }
 {
     order::order(w, items + n, n, items + 2 * n);
     words::fill(w, items + 6 * n, n, 0);
-    let s = place(w, at, items, n, budget);
+    let s = place(w, at, items, n, end, budget);
     let d = depth(w, items + 5 * n, s.cells);
     Counts {
         cells: s.cells,

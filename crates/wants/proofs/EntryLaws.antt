@@ -136,8 +136,8 @@ pub item-row-wide : (w wants : List ℕ) (at i : ℕ) → length (itemRow (getD 
 item-row-wide w wants at i = item-wide (getD w (at + i) 0) (field 5 wants i 2) (field 5 wants i 3) (field 5 wants i 4)
 
 -- a cell's number is small
-pub cell-small : {w₁ w₂ : List ℕ} {ranges n budget : ℕ} {r : Counts} → Fitted w₁ w₂ 0 ranges n budget r → n ≤ 4096 → (i : ℕ) → i < n → getD w₂ (ranges + 6 * n + i) 0 < 2 ^ 32
-cell-small {w₁} {w₂} {ranges} {n} {budget} {r} F few i h =
+pub cell-small : {w₁ w₂ : List ℕ} {ranges n end budget : ℕ} {r : Counts} → Fitted w₁ w₂ 0 ranges n end budget r → n ≤ 4096 → (i : ℕ) → i < n → getD w₂ (ranges + 6 * n + i) 0 < 2 ^ 32
+cell-small {w₁} {w₂} {ranges} {n} {end} {budget} {r} F few i h =
     let ws = wantsIn w₁ 0 ranges n in
     let k = facts ws budget (length ws) (orderOf ws) (order-names ws) .known i (rw (length-tabulate n (wantIn w₁ 0 ranges n)) h) in
     omega (arith, F .shown .cell i h, F .cells, F .few, k)
@@ -145,7 +145,7 @@ cell-small {w₁} {w₂} {ranges} {n} {budget} {r} F few i h =
 module _ (wants areas cells items work w₁ w₂ cells′ items′ work′ : List ℕ) (r : Counts) (budget : ℕ)
     (L : Loaded work w₁ wants areas (rowCount 5 wants) (rowCount 2 areas))
     (same : wantsIn w₁ 0 (rowCount 2 areas) (rowCount 5 wants) ≡ wantsOf (areasOf areas) wants)
-    (F : Fitted w₁ w₂ 0 (rowCount 2 areas) (rowCount 5 wants) budget r)
+    (F : Fitted w₁ w₂ 0 (rowCount 2 areas) (rowCount 5 wants) (8 * (rowCount 5 wants + rowCount 2 areas)) budget r)
     (C : cells′ ≡ cellRowsIn w₂ (rowCount 2 areas + 5 * rowCount 5 wants) (r .cells) ++ drop (2 * r .cells) cells)
     (I : items′ ≡ itemRowsIn w₂ wants (rowCount 2 areas + 6 * rowCount 5 wants) (rowCount 5 wants) ++ drop (4 * rowCount 5 wants) items)
     (Z : work′ ≡ cleared (8 * (rowCount 5 wants + rowCount 2 areas)) w₂) where

@@ -65,9 +65,10 @@ fn answer(
     let n = wants.len() / 5;
     let ranges = areas.len() / 2;
     tables::load(work, wants, areas, n, ranges);
-    let f = fit::fit(work, 0, ranges, n, budget as u64);
+    let end = 8 * (n + ranges);
+    let f = fit::fit(work, 0, ranges, n, end, budget as u64);
     tables::write_cells(cells, work, ranges + 5 * n, f.cells);
     tables::write_items(items, work, wants, ranges + 6 * n, n);
-    words::clear(work, 8 * (n + ranges));
+    words::clear(work, end);
     f
 }

@@ -1,5 +1,6 @@
--- `enter` meets its contract: four stores.
+-- `enter` meets its contract: five stores.
 use native.Mathlib.Omega.{arith}
+use Prim.Native.Nat.{_-_}
 use lib.ListN.{length-set}
 use borrow.Author.Needs.{needs}
 use Rattle.fit.proofs.enter.Statement.{statement}
@@ -68,6 +69,21 @@ mul-w-8 c = search needs
 slice-write-w-4 : tie.Need-slice-write-w-4
 slice-write-w-4 c = simp length-set (omega arith)
 
+mul-w-9 : tie.Need-mul-w-9
+mul-w-9 c = search needs
+
+add-w-10 : tie.Need-add-w-10
+add-w-10 c = search needs
+
+add-w-11 : tie.Need-add-w-11
+add-w-11 c = search needs
+
+mul-w-10 : tie.Need-mul-w-10
+mul-w-10 c = search needs
+
+slice-write-w-5 : tie.Need-slice-write-w-5
+slice-write-w-5 c = simp length-set (omega arith)
+
 same-length : tie.Need-same-length
 same-length c = search needs
 
@@ -99,5 +115,10 @@ enter-spec =
     add-w-9
     mul-w-8
     slice-write-w-4
+    mul-w-9
+    add-w-10
+    add-w-11
+    mul-w-10
+    slice-write-w-5
     same-length
     returns)

@@ -1,6 +1,7 @@
 -- `fit` meets its contract: the items are ordered, then placed.
 use Rattle.fit.proofs.RunLaws.{in-order, zeros, fitted, cells-few}
 use native.Mathlib.Omega.{arith}
+use Prim.Native.Nat.{_-_}
 use borrow.Author.Needs.{needs}
 use Rattle.fit.proofs.fit.Statement.{statement}
 use Rattle.fit.proofs.fit.Tie as tie
@@ -27,7 +28,7 @@ fill-requires : tie.Need-fill-requires
 fill-requires c κs = search needs
 
 place-requires : tie.Need-place-requires
-place-requires c κs = (in-order (c .before .before .before .before .before .before .before .before .before .before .pre) ((c .before .before .before .before .before .before .before .order) .ensures) ((c .before .before .before .fill) .ensures), zeros (c .before .before .before .before .before .before .before .before .before .before .pre) ((c .before .before .before .before .before .before .before .order) .ensures) ((c .before .before .before .fill) .ensures))
+place-requires c κs = (in-order ((c .before .before .before .before .before .before .before .before .before .before .pre) .0) ((c .before .before .before .before .before .before .before .before .before .before .pre) .1) ((c .before .before .before .before .before .before .before .before .before .before .pre) .2) ((c .before .before .before .before .before .before .before .before .before .before .pre) .3) ((c .before .before .before .before .before .before .before .order) .ensures) ((c .before .before .before .fill) .ensures), zeros ((c .before .before .before .before .before .before .before .before .before .before .pre) .0) ((c .before .before .before .before .before .before .before .before .before .before .pre) .1) ((c .before .before .before .before .before .before .before .before .before .before .pre) .2) ((c .before .before .before .before .before .before .before .before .before .before .pre) .3) ((c .before .before .before .before .before .before .before .order) .ensures) ((c .before .before .before .fill) .ensures))
 
 mul-depth : tie.Need-mul-depth
 mul-depth c = search needs
@@ -36,16 +37,16 @@ add-depth : tie.Need-add-depth
 add-depth c = search needs
 
 depth-requires : tie.Need-depth-requires
-depth-requires c κs = omega (arith, (c .before .before .before .before .before .before .before .before .before .before .before .before .before .before .pre) .few, (c .before .before .before .before .before .before .before .before .before .before .before .before .before .before .pre) .room, cells-few (c .before .before .before .before .before .before .before .before .before .before .before .before .before .before .pre) ((c .before .before .before .before .before .before .before .before .before .before .before .order) .ensures) ((c .before .before .before .before .before .before .before .fill) .ensures) ((c .before .before .before .place) .ensures))
+depth-requires c κs = omega (arith, (c .before .before .before .before .before .before .before .before .before .before .before .before .before .before .pre) .0 .few, (c .before .before .before .before .before .before .before .before .before .before .before .before .before .before .pre) .0 .room, cells-few ((c .before .before .before .before .before .before .before .before .before .before .before .before .before .before .pre) .0) ((c .before .before .before .before .before .before .before .before .before .before .before .before .before .before .pre) .1) ((c .before .before .before .before .before .before .before .before .before .before .before .before .before .before .pre) .2) ((c .before .before .before .before .before .before .before .before .before .before .before .before .before .before .pre) .3) ((c .before .before .before .before .before .before .before .before .before .before .before .order) .ensures) ((c .before .before .before .before .before .before .before .fill) .ensures) ((c .before .before .before .place) .ensures))
 
-sub-t20 : tie.Need-sub-t20
-sub-t20 c = search needs
+sub-t21 : tie.Need-sub-t21
+sub-t21 c = search needs
 
 same-length : tie.Need-same-length
 same-length c = search needs
 
 returns : tie.Need-returns
-returns c = fitted (c .before .before .before .before .before .before .before .before .before .before .before .before .before .before .before .before .pre) ((c .before .before .before .before .before .before .before .before .before .before .before .before .before .order) .ensures) ((c .before .before .before .before .before .before .before .before .before .fill) .ensures) _ ((c .before .before .before .before .before .place) .ensures) ((c .before .depth) .ensures)
+returns c = fitted ((c .before .before .before .before .before .before .before .before .before .before .before .before .before .before .before .before .pre) .0) ((c .before .before .before .before .before .before .before .before .before .before .before .before .before .before .before .before .pre) .1) ((c .before .before .before .before .before .before .before .before .before .before .before .before .before .before .before .before .pre) .2) ((c .before .before .before .before .before .before .before .before .before .before .before .before .before .before .before .before .pre) .3) ((c .before .before .before .before .before .before .before .before .before .before .before .before .before .order) .ensures) ((c .before .before .before .before .before .before .before .before .before .fill) .ensures) _ ((c .before .before .before .before .before .place) .ensures) ((c .before .depth) .ensures)
 
 pub fit-spec : {M : Type 1} → statement M
 fit-spec =
@@ -62,6 +63,6 @@ fit-spec =
     mul-depth
     add-depth
     depth-requires
-    sub-t20
+    sub-t21
     same-length
     returns)

@@ -1,5 +1,5 @@
 -- `free` meets its contract: the clash test of two parts of the work space.
-use Rattle.fit.proofs.CodeLaws.{part-apart, absent, tested, Summing, summing-start, summing-more, summing-done, sum-fits}
+use Rattle.fit.proofs.CodeLaws.{part-apart, absent, tested}
 use Rattle.ranges.specs.Forms.{unpacked}
 use Rattle.words.specs.Regions.{part}
 use Rattle.fit.specs.Tables.{firstOf, countOf}

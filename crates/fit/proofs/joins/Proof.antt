@@ -1,10 +1,11 @@
--- `joins` meets its contract: the members passed allow the area, so the rest decides.
+-- `joins` meets its contract: the lists passed allow the area, so the rest decides.
+use denote.Ref.{now}
 use Rattle.ranges.specs.Forms.{unpacked}
 use Rattle.words.specs.Regions.{part}
 use Rattle.fit.specs.Inner.{chain, allow, areaAt, nextAt}
 use Rattle.fit.proofs.ChainLaws.{walk-no, walk-yes, walk-end}
+use Rattle.fit.proofs.ListLaws.{listed-proper}
 use borrow.Author.Tests.{not-true, not-false}
-use denote.Ref.{now}
 use native.Mathlib.Omega.{arith}
 use Prim.Native.Nat.{_-_, _≤_}
 use mathlib.Core.Path.{_≡_, refl, sym, _∙_}
@@ -12,10 +13,10 @@ use Rattle.fit.proofs.joins.Statement.{statement}
 use Rattle.fit.proofs.joins.Tie as tie
 
 abbrev Inv-loop : tie.InvT-loop
-Inv-loop w at items n link from count m₀ m = (m ≤ link) × (allow (areaAt w at items n) (chain (nextAt w items n) link) (unpacked (part from count w)) ≡ allow (areaAt w at items n) (chain (nextAt w items n) m) (unpacked (part from count w)))
+Inv-loop w at items n top link from count m₀ m = (m ≤ link) × (allow (areaAt w at items n) (chain (nextAt w items n) link) (unpacked (part from count w)) ≡ allow (areaAt w at items n) (chain (nextAt w items n) m) (unpacked (part from count w)))
 
 abbrev μ-loop : tie.MeasureT-loop
-μ-loop w at items n link from count m₀ m = m
+μ-loop w at items n top link from count m₀ m = m
 
 loop-holds : tie.Need-loop-holds Inv-loop μ-loop
 loop-holds c = (omega arith, refl)
@@ -23,77 +24,50 @@ loop-holds c = (omega arith, refl)
 sub-q : tie.Need-sub-q Inv-loop μ-loop
 sub-q c = omega arith
 
-mul-i : tie.Need-mul-i Inv-loop μ-loop
-mul-i c = omega arith
-
-add-i : tie.Need-add-i Inv-loop μ-loop
-add-i c = omega arith
-
-add-i-2 : tie.Need-add-i-2 Inv-loop μ-loop
-add-i-2 c = omega arith
-
-mul-i-2 : tie.Need-mul-i-2 Inv-loop μ-loop
-mul-i-2 c = omega arith
-
-shared-slice-read-i : tie.Need-shared-slice-read-i Inv-loop μ-loop
-shared-slice-read-i c = omega arith
+mul-free : tie.Need-mul-free Inv-loop μ-loop
+mul-free c = omega (arith, (c .before .before .before .pre) .0 .low, (c .before .before .before .pre) .0 .top-le, (c .before .before .before .pre) .0 .k-le)
 
 add-free : tie.Need-add-free Inv-loop μ-loop
-add-free c = omega (arith, (c .before .before .before .before .pre) .0 .known ((c .before .before .loop) .m - 1) (omega arith))
+add-free c = omega (arith, (c .before .before .before .pre) .0 .low, (c .before .before .before .pre) .0 .top-le, (c .before .before .before .pre) .0 .k-le)
 
-mul-free : tie.Need-mul-free Inv-loop μ-loop
-mul-free c = omega (arith, (c .before .before .before .before .pre) .0 .known ((c .before .before .loop) .m - 1) (omega arith))
+add-free-2 : tie.Need-add-free-2 Inv-loop μ-loop
+add-free-2 c = omega (arith, (c .before .before .before .pre) .0 .low, (c .before .before .before .pre) .0 .top-le, (c .before .before .before .pre) .0 .k-le)
+
+mul-free-2 : tie.Need-mul-free-2 Inv-loop μ-loop
+mul-free-2 c = omega (arith, (c .before .before .before .pre) .0 .low, (c .before .before .before .pre) .0 .top-le, (c .before .before .before .pre) .0 .k-le)
 
 shared-slice-read-free : tie.Need-shared-slice-read-free Inv-loop μ-loop
-shared-slice-read-free c = omega (arith, (c .before .before .before .before .before .pre) .0 .known ((c .before .before .before .loop) .m - 1) (omega arith))
+shared-slice-read-free c = omega (arith, (c .before .before .before .before .pre) .0 .low, (c .before .before .before .before .pre) .0 .top-le, (c .before .before .before .before .pre) .0 .k-le)
 
 free-requires : tie.Need-free-requires Inv-loop μ-loop
-free-requires c κs = ((c .before .before .before .before .before .pre) .0 .lent .proper _ ((c .before .before .before .before .before .pre) .0 .known ((c .before .before .before .loop) .m - 1) (omega arith)), omega arith, (c .before .before .before .before .before .pre) .1, (c .before .before .before .before .before .pre) .2)
+free-requires c κs = ((λ h. listed-proper (omega (arith, (c .before .before .before .before .pre) .0 .low)) ((c .before .before .before .before .pre) .0 .lists ((c .before .before .loop) .m - 1) (omega arith) h)), (c .before .before .before .before .pre) .0 .top-le, (c .before .before .before .before .pre) .1, (c .before .before .before .before .pre) .2)
 
 returns : tie.Need-returns Inv-loop μ-loop
-returns c =
-    let a = (c .before .before .before .before .before .before .before .args) in
-    let m = (c .before .before .before .before .before .loop) .m in
-    let next = nextAt (now (a .w)) (a .items) (a .n) in
-    let area = areaAt (now (a .w)) (a .at) (a .items) (a .n) in
-    let rs = unpacked (part (a .from) (a .count) (now (a .w))) in
-    sym ((c .before .before .before .before .before .loop) .inv .1 ∙ walk-no next area rs m (m - 1) (omega arith) (λ q h. (c .before .before .before .before .before .before .before .pre) .0 .falls q (omega arith)) (sym ((c .before .free) .ensures) ∙ not-true _ ((c .if1) .taken)))
+returns c = let a = (c .before .before .before .before .before .before .args) in let m = (c .before .before .before .before .loop) .m in let next = nextAt (now (a .w)) (a .items) (a .n) in let area = areaAt (now (a .w)) (a .at) (a .items) (a .n) in let rs = unpacked (part (a .from) (a .count) (now (a .w))) in sym ((c .before .before .before .before .loop) .inv .1 ∙ walk-no next area rs m (m - 1) (omega arith) (λ q h. (c .before .before .before .before .before .before .pre) .0 .falls q (omega arith)) (sym ((c .before .free) .ensures) ∙ not-true _ ((c .if1) .taken)))
 
 mul-m : tie.Need-mul-m Inv-loop μ-loop
-mul-m c = omega arith
+mul-m c = omega (arith, (c .before .before .before .before .before .before .pre) .0 .low, (c .before .before .before .before .before .before .pre) .0 .top-le, (c .before .before .before .before .before .before .pre) .0 .k-le)
 
 add-m : tie.Need-add-m Inv-loop μ-loop
-add-m c = omega arith
+add-m c = omega (arith, (c .before .before .before .before .before .before .pre) .0 .low, (c .before .before .before .before .before .before .pre) .0 .top-le, (c .before .before .before .before .before .before .pre) .0 .k-le)
 
 add-m-2 : tie.Need-add-m-2 Inv-loop μ-loop
-add-m-2 c = omega arith
+add-m-2 c = omega (arith, (c .before .before .before .before .before .before .pre) .0 .low, (c .before .before .before .before .before .before .pre) .0 .top-le, (c .before .before .before .before .before .before .pre) .0 .k-le)
 
 mul-m-2 : tie.Need-mul-m-2 Inv-loop μ-loop
-mul-m-2 c = omega arith
+mul-m-2 c = omega (arith, (c .before .before .before .before .before .before .pre) .0 .low, (c .before .before .before .before .before .before .pre) .0 .top-le, (c .before .before .before .before .before .before .pre) .0 .k-le)
 
 shared-slice-read-m : tie.Need-shared-slice-read-m Inv-loop μ-loop
-shared-slice-read-m c = omega arith
+shared-slice-read-m c = omega (arith, (c .before .before .before .before .before .before .before .pre) .0 .low, (c .before .before .before .before .before .before .before .pre) .0 .top-le, (c .before .before .before .before .before .before .before .pre) .0 .k-le)
 
 loop-less : tie.Need-loop-less Inv-loop μ-loop
-loop-less c = omega (arith, (c .before .before .before .before .before .before .before .before .pre) .0 .falls ((c .before .before .before .before .before .before .loop) .m - 1) (omega arith))
+loop-less c = omega (arith, (c .before .before .before .before .before .before .before .pre) .0 .falls ((c .before .before .before .before .before .loop) .m - 1) (omega arith))
 
 loop-again : tie.Need-loop-again Inv-loop μ-loop
-loop-again c =
-    let a = (c .before .before .before .before .before .before .before .before .args) in
-    let m = (c .before .before .before .before .before .before .loop) .m in
-    let next = nextAt (now (a .w)) (a .items) (a .n) in
-    let area = areaAt (now (a .w)) (a .at) (a .items) (a .n) in
-    let rs = unpacked (part (a .from) (a .count) (now (a .w))) in
-    (omega (arith, (c .before .before .before .before .before .before .before .before .pre) .0 .falls (m - 1) (omega arith)), (c .before .before .before .before .before .before .loop) .inv .1 ∙ walk-yes next area rs m (m - 1) (omega arith) (λ q h. (c .before .before .before .before .before .before .before .before .pre) .0 .falls q (omega arith)) (sym ((c .before .before .free) .ensures) ∙ not-false _ ((c .before .if1) .left)))
+loop-again c = let a = (c .before .before .before .before .before .before .before .args) in let m = (c .before .before .before .before .before .loop) .m in let next = nextAt (now (a .w)) (a .items) (a .n) in let area = areaAt (now (a .w)) (a .at) (a .items) (a .n) in let rs = unpacked (part (a .from) (a .count) (now (a .w))) in (omega (arith, (c .before .before .before .before .before .before .before .pre) .0 .falls (m - 1) (omega arith)), (c .before .before .before .before .before .loop) .inv .1 ∙ walk-yes next area rs m (m - 1) (omega arith) (λ q h. (c .before .before .before .before .before .before .before .pre) .0 .falls q (omega arith)) (sym ((c .before .before .free) .ensures) ∙ not-false _ ((c .before .if1) .left)))
 
 returns-2 : tie.Need-returns-2 Inv-loop μ-loop
-returns-2 c =
-    let a = (c .before .before .before .args) in
-    let m = (c .before .loop) .m in
-    let next = nextAt (now (a .w)) (a .items) (a .n) in
-    let area = areaAt (now (a .w)) (a .at) (a .items) (a .n) in
-    let rs = unpacked (part (a .from) (a .count) (now (a .w))) in
-    sym ((c .before .loop) .inv .1 ∙ walk-end next area rs m (omega arith))
+returns-2 c = let a = (c .before .before .before .args) in let m = (c .before .loop) .m in let next = nextAt (now (a .w)) (a .items) (a .n) in let area = areaAt (now (a .w)) (a .at) (a .items) (a .n) in let rs = unpacked (part (a .from) (a .count) (now (a .w))) in sym ((c .before .loop) .inv .1 ∙ walk-end next area rs m (omega arith))
 
 pub joins-spec : {M : Type 1} → statement M
 joins-spec =
@@ -103,13 +77,10 @@ joins-spec =
     μ-loop
     loop-holds
     sub-q
-    mul-i
-    add-i
-    add-i-2
-    mul-i-2
-    shared-slice-read-i
-    add-free
     mul-free
+    add-free
+    add-free-2
+    mul-free-2
     shared-slice-read-free
     free-requires
     returns

@@ -7,10 +7,16 @@ use Rattle.fit.proofs.place.Statement.{statement}
 use Rattle.fit.proofs.place.Tie as tie
 
 abbrev Inv-loop : tie.InvT-loop
-Inv-loop w₀ at items n budget cells₀ left₀ k₀ w cells left k = InOrder w₀ at items n × Holds w₀ w at items n budget k cells left (planTo w₀ at items n budget k)
+Inv-loop w₀ at items n end budget cells₀ left₀ top₀ k₀ w cells left top k = InOrder w₀ at items n end × Holds w₀ w at items n end budget k cells left top (planTo w₀ at items n budget k)
 
 abbrev μ-loop : tie.MeasureT-loop
-μ-loop w₀ at items n budget cells₀ left₀ k₀ w cells left k = n - k
+μ-loop w₀ at items n end budget cells₀ left₀ top₀ k₀ w cells left top k = n - k
+
+mul-top : tie.Need-mul-top Inv-loop μ-loop
+mul-top c = omega (arith, (c .before .pre) .0 .low, (c .before .pre) .0 .high)
+
+add-top : tie.Need-add-top Inv-loop μ-loop
+add-top c = omega (arith, (c .before .pre) .0 .low, (c .before .pre) .0 .high)
 
 loop-holds : tie.Need-loop-holds Inv-loop μ-loop
 loop-holds c = ((c .before .pre) .0, run-start ((c .before .pre) .0) _ ((c .before .pre) .1))
@@ -39,6 +45,8 @@ place-spec =
     (tie.spec
     Inv-loop
     μ-loop
+    mul-top
+    add-top
     loop-holds
     put-requires
     add-k

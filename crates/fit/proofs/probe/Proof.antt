@@ -2,7 +2,7 @@
 use Rattle.ranges.specs.Forms.{unpacked}
 use Rattle.words.specs.Regions.{part}
 use mathlib.Core.Bool.{false}
-use Rattle.fit.specs.Inner.{opens, headAt}
+use Rattle.fit.specs.Inner.{opens}
 use Rattle.fit.proofs.RunLaws.{linked-below}
 use Rattle.fit.proofs.CodeLaws.{missed}
 use denote.Ref.{now}
@@ -13,10 +13,10 @@ use Rattle.fit.proofs.probe.Statement.{statement}
 use Rattle.fit.proofs.probe.Tie as tie
 
 abbrev Inv-loop : tie.InvT-loop
-Inv-loop w at items n k most from count c₀ c = (c ≤ most) × ((j : ℕ) → j < c → opens w at items n (unpacked (part from count w)) j ≡ false)
+Inv-loop w at items n top k most from count c₀ c = (c ≤ most) × ((j : ℕ) → j < c → opens w at items n (unpacked (part from count w)) j ≡ false)
 
 abbrev μ-loop : tie.MeasureT-loop
-μ-loop w at items n k most from count c₀ c = most - c
+μ-loop w at items n top k most from count c₀ c = most - c
 
 loop-holds : tie.Need-loop-holds Inv-loop μ-loop
 loop-holds c = (omega arith, λ j h. absurd (omega arith))

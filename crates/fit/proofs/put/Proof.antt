@@ -1,8 +1,9 @@
 -- `put` meets its contract, by its three ways out.
-use Rattle.fit.proofs.RunLaws.{stepped-none, stepped-miss, stepped-hit}
 use denote.Ref.{now}
+use Rattle.fit.proofs.RunLaws.{stepped-none, stepped-miss, stepped-hit}
+use Rattle.fit.proofs.LinkLaws.{entered-topped}
 use native.Mathlib.Omega.{arith}
-use Prim.Native.Nat.{_+_, _*_}
+use Prim.Native.Nat.{_+_, _-_, _*_}
 use mathlib.Core.Path.{refl}
 use lib.ListN.{getD}
 use borrow.Author.Needs.{needs}
@@ -10,46 +11,46 @@ use Rattle.fit.proofs.put.Statement.{statement}
 use Rattle.fit.proofs.put.Tie as tie
 
 mul-i : tie.Need-mul-i
-mul-i c = search needs
+mul-i c = omega (arith, (c .before .pre) .known ((c .before .args) .k) ((c .before .pre) .k-lt), (c .before .pre) .linked .low, (c .before .pre) .linked .top-le, (c .before .pre) .k-lt)
 
 add-i : tie.Need-add-i
-add-i c = search needs
+add-i c = omega (arith, (c .before .pre) .known ((c .before .args) .k) ((c .before .pre) .k-lt), (c .before .pre) .linked .low, (c .before .pre) .linked .top-le, (c .before .pre) .k-lt)
 
 add-i-2 : tie.Need-add-i-2
-add-i-2 c = search needs
+add-i-2 c = omega (arith, (c .before .pre) .known ((c .before .args) .k) ((c .before .pre) .k-lt), (c .before .pre) .linked .low, (c .before .pre) .linked .top-le, (c .before .pre) .k-lt)
 
 mul-i-2 : tie.Need-mul-i-2
-mul-i-2 c = search needs
+mul-i-2 c = omega (arith, (c .before .pre) .known ((c .before .args) .k) ((c .before .pre) .k-lt), (c .before .pre) .linked .low, (c .before .pre) .linked .top-le, (c .before .pre) .k-lt)
 
 slice-read-i : tie.Need-slice-read-i
-slice-read-i c = search needs
+slice-read-i c = omega (arith, (c .before .before .pre) .known ((c .before .before .args) .k) ((c .before .before .pre) .k-lt), (c .before .before .pre) .linked .low, (c .before .before .pre) .linked .top-le, (c .before .before .pre) .k-lt)
 
 add-x : tie.Need-add-x
-add-x c = omega (arith, (c .before .before .pre) .linked .known ((c .before .before .args) .k) ((c .before .before .pre) .k-lt))
+add-x c = omega (arith, (c .before .before .pre) .known ((c .before .before .args) .k) ((c .before .before .pre) .k-lt), (c .before .before .pre) .linked .low, (c .before .before .pre) .linked .top-le, (c .before .before .pre) .k-lt)
 
 mul-x : tie.Need-mul-x
-mul-x c = omega (arith, (c .before .before .pre) .linked .known ((c .before .before .args) .k) ((c .before .before .pre) .k-lt))
+mul-x c = omega (arith, (c .before .before .pre) .known ((c .before .before .args) .k) ((c .before .before .pre) .k-lt), (c .before .before .pre) .linked .low, (c .before .before .pre) .linked .top-le, (c .before .before .pre) .k-lt)
 
 slice-read-x : tie.Need-slice-read-x
-slice-read-x c = omega (arith, (c .before .before .before .pre) .linked .known ((c .before .before .before .args) .k) ((c .before .before .before .pre) .k-lt))
+slice-read-x c = omega (arith, (c .before .before .before .pre) .known ((c .before .before .before .args) .k) ((c .before .before .before .pre) .k-lt), (c .before .before .before .pre) .linked .low, (c .before .before .before .pre) .linked .top-le, (c .before .before .before .pre) .k-lt)
 
 add-word : tie.Need-add-word
-add-word c = search needs
+add-word c = omega (arith, (c .before .before .before .pre) .known ((c .before .before .before .args) .k) ((c .before .before .before .pre) .k-lt), (c .before .before .before .pre) .linked .low, (c .before .before .before .pre) .linked .top-le, (c .before .before .before .pre) .k-lt)
 
 add-word-2 : tie.Need-add-word-2
-add-word-2 c = omega (arith, (c .before .before .before .pre) .linked .known ((c .before .before .before .args) .k) ((c .before .before .before .pre) .k-lt))
+add-word-2 c = omega (arith, (c .before .before .before .pre) .known ((c .before .before .before .args) .k) ((c .before .before .before .pre) .k-lt), (c .before .before .before .pre) .linked .low, (c .before .before .before .pre) .linked .top-le, (c .before .before .before .pre) .k-lt)
 
 mul-word : tie.Need-mul-word
-mul-word c = omega (arith, (c .before .before .before .pre) .linked .known ((c .before .before .before .args) .k) ((c .before .before .before .pre) .k-lt))
+mul-word c = omega (arith, (c .before .before .before .pre) .known ((c .before .before .before .args) .k) ((c .before .before .before .pre) .k-lt), (c .before .before .before .pre) .linked .low, (c .before .before .before .pre) .linked .top-le, (c .before .before .before .pre) .k-lt)
 
 slice-read-word : tie.Need-slice-read-word
-slice-read-word c = omega (arith, (c .before .before .before .before .pre) .linked .known ((c .before .before .before .before .args) .k) ((c .before .before .before .before .pre) .k-lt))
+slice-read-word c = omega (arith, (c .before .before .before .before .pre) .known ((c .before .before .before .before .args) .k) ((c .before .before .before .before .pre) .k-lt), (c .before .before .before .before .pre) .linked .low, (c .before .before .before .before .pre) .linked .top-le, (c .before .before .before .before .pre) .k-lt)
 
 enter-requires : tie.Need-enter-requires
-enter-requires c κs = omega (arith, (c .before .before .before .before .before .before .pre) .linked .known ((c .before .before .before .before .before .before .args) .k) ((c .before .before .before .before .before .before .pre) .k-lt))
+enter-requires c κs = omega (arith, (c .before .before .before .before .before .before .pre) .known ((c .before .before .before .before .before .before .args) .k) ((c .before .before .before .before .before .before .pre) .k-lt), (c .before .before .before .before .before .before .pre) .linked .low, (c .before .before .before .before .before .before .pre) .linked .top-le, (c .before .before .before .before .before .before .pre) .k-lt, (c .before .before .before .before .before .before .pre) .cells-le)
 
-add-t29 : tie.Need-add-t29
-add-t29 c = search needs
+add-t32 : tie.Need-add-t32
+add-t32 c = omega (arith, (c .before .before .before .before .before .before .before .before .before .pre) .cells-le, (c .before .before .before .before .before .before .before .before .before .pre) .k-lt)
 
 same-length : tie.Need-same-length
 same-length c = search needs
@@ -58,70 +59,73 @@ returns : tie.Need-returns
 returns c = stepped-none ((c .before .before .before .before .before .before .before .before .before .args) .left) (c .before .before .before .before .before .before .before .before .before .pre) (getD (now ((c .before .before .before .before .before .before .before .before .before .args) .w)) ((c .before .before .before .before .before .before .before .before .before .args) .items + 2 * (c .before .before .before .before .before .before .before .before .before .args) .n + (c .before .before .before .before .before .before .before .before .before .args) .k) 0) refl (omega arith) ((c .before .before .enter) .ensures)
 
 least-requires : tie.Need-least-requires
-least-requires c κs = search needs
+least-requires c κs = tt
 
 add-from : tie.Need-add-from
-add-from c = omega (arith, ((c .before .before .before .before .before .before .pre) .linked .lent .proper (getD (now ((c .before .before .before .before .before .before .args) .w)) ((c .before .before .before .before .before .before .args) .items + 2 * (c .before .before .before .before .before .before .args) .n + (c .before .before .before .before .before .before .args) .k) 0) ((c .before .before .before .before .before .before .pre) .linked .known ((c .before .before .before .before .before .before .args) .k) ((c .before .before .before .before .before .before .pre) .k-lt)) (omega arith)) .inside)
+add-from c = omega (arith, ((c .before .before .before .before .before .before .pre) .linked .lent .proper (getD (now ((c .before .before .before .before .before .before .args) .w)) ((c .before .before .before .before .before .before .args) .items + 2 * (c .before .before .before .before .before .before .args) .n + (c .before .before .before .before .before .before .args) .k) 0) ((c .before .before .before .before .before .before .pre) .known ((c .before .before .before .before .before .before .args) .k) ((c .before .before .before .before .before .before .pre) .k-lt)) (omega arith)) .inside, (c .before .before .before .before .before .before .pre) .linked .low, (c .before .before .before .before .before .before .pre) .linked .top-le)
 
 probe-requires : tie.Need-probe-requires
-probe-requires c κs = ((c .before .before .before .before .before .before .before .pre) .linked, omega (arith, (c .before .least) .ensures), λ b h. (c .before .before .before .before .before .before .before .pre) .heads b (omega (arith, (c .before .least) .ensures)), omega (arith, ((c .before .before .before .before .before .before .before .pre) .linked .lent .proper (getD (now ((c .before .before .before .before .before .before .before .args) .w)) ((c .before .before .before .before .before .before .before .args) .items + 2 * (c .before .before .before .before .before .before .before .args) .n + (c .before .before .before .before .before .before .before .args) .k) 0) ((c .before .before .before .before .before .before .before .pre) .linked .known ((c .before .before .before .before .before .before .before .args) .k) ((c .before .before .before .before .before .before .before .pre) .k-lt)) (omega arith)) .inside), ((c .before .before .before .before .before .before .before .pre) .linked .lent .proper (getD (now ((c .before .before .before .before .before .before .before .args) .w)) ((c .before .before .before .before .before .before .before .args) .items + 2 * (c .before .before .before .before .before .before .before .args) .n + (c .before .before .before .before .before .before .before .args) .k) 0) ((c .before .before .before .before .before .before .before .pre) .linked .known ((c .before .before .before .before .before .before .before .args) .k) ((c .before .before .before .before .before .before .before .pre) .k-lt)) (omega arith)) .neat)
+probe-requires c κs = ((c .before .before .before .before .before .before .before .pre) .linked, omega (arith, (c .before .least) .ensures, (c .before .before .before .before .before .before .before .pre) .cells-le), (λ b h. (c .before .before .before .before .before .before .before .pre) .heads b (omega (arith, (c .before .least) .ensures))), omega (arith, ((c .before .before .before .before .before .before .before .pre) .linked .lent .proper (getD (now ((c .before .before .before .before .before .before .before .args) .w)) ((c .before .before .before .before .before .before .before .args) .items + 2 * (c .before .before .before .before .before .before .before .args) .n + (c .before .before .before .before .before .before .before .args) .k) 0) ((c .before .before .before .before .before .before .before .pre) .known ((c .before .before .before .before .before .before .before .args) .k) ((c .before .before .before .before .before .before .before .pre) .k-lt)) (omega arith)) .inside, (c .before .before .before .before .before .before .before .pre) .linked .low, (c .before .before .before .before .before .before .before .pre) .linked .top-le), ((c .before .before .before .before .before .before .before .pre) .linked .lent .proper (getD (now ((c .before .before .before .before .before .before .before .args) .w)) ((c .before .before .before .before .before .before .before .args) .items + 2 * (c .before .before .before .before .before .before .before .args) .n + (c .before .before .before .before .before .before .before .args) .k) 0) ((c .before .before .before .before .before .before .before .pre) .known ((c .before .before .before .before .before .before .before .args) .k) ((c .before .before .before .before .before .before .before .pre) .k-lt)) (omega arith)) .neat)
 
 mul-link : tie.Need-mul-link
-mul-link c = search needs
+mul-link c = omega (arith, (c .before .before .before .before .before .before .before .before .before .pre) .known ((c .before .before .before .before .before .before .before .before .before .args) .k) ((c .before .before .before .before .before .before .before .before .before .pre) .k-lt), (c .before .before .before .before .before .before .before .before .before .pre) .linked .low, (c .before .before .before .before .before .before .before .before .before .pre) .linked .top-le, (c .before .before .before .before .before .before .before .before .before .pre) .k-lt, (c .before .before .before .before .before .before .before .before .before .pre) .cells-le, (c .before .before .before .least) .ensures)
 
 add-link : tie.Need-add-link
-add-link c = search needs
+add-link c = omega (arith, (c .before .before .before .before .before .before .before .before .before .pre) .known ((c .before .before .before .before .before .before .before .before .before .args) .k) ((c .before .before .before .before .before .before .before .before .before .pre) .k-lt), (c .before .before .before .before .before .before .before .before .before .pre) .linked .low, (c .before .before .before .before .before .before .before .before .before .pre) .linked .top-le, (c .before .before .before .before .before .before .before .before .before .pre) .k-lt, (c .before .before .before .before .before .before .before .before .before .pre) .cells-le, (c .before .before .before .least) .ensures)
 
 add-link-2 : tie.Need-add-link-2
-add-link-2 c = search needs
+add-link-2 c = omega (arith, (c .before .before .before .before .before .before .before .before .before .pre) .known ((c .before .before .before .before .before .before .before .before .before .args) .k) ((c .before .before .before .before .before .before .before .before .before .pre) .k-lt), (c .before .before .before .before .before .before .before .before .before .pre) .linked .low, (c .before .before .before .before .before .before .before .before .before .pre) .linked .top-le, (c .before .before .before .before .before .before .before .before .before .pre) .k-lt, (c .before .before .before .before .before .before .before .before .before .pre) .cells-le, (c .before .before .before .least) .ensures)
 
 mul-link-2 : tie.Need-mul-link-2
-mul-link-2 c = search needs
+mul-link-2 c = omega (arith, (c .before .before .before .before .before .before .before .before .before .pre) .known ((c .before .before .before .before .before .before .before .before .before .args) .k) ((c .before .before .before .before .before .before .before .before .before .pre) .k-lt), (c .before .before .before .before .before .before .before .before .before .pre) .linked .low, (c .before .before .before .before .before .before .before .before .before .pre) .linked .top-le, (c .before .before .before .before .before .before .before .before .before .pre) .k-lt, (c .before .before .before .before .before .before .before .before .before .pre) .cells-le, (c .before .before .before .least) .ensures)
 
 slice-read-link : tie.Need-slice-read-link
-slice-read-link c = search needs
+slice-read-link c = omega (arith, (c .before .before .before .before .before .before .before .before .before .before .pre) .known ((c .before .before .before .before .before .before .before .before .before .before .args) .k) ((c .before .before .before .before .before .before .before .before .before .before .pre) .k-lt), (c .before .before .before .before .before .before .before .before .before .before .pre) .linked .low, (c .before .before .before .before .before .before .before .before .before .before .pre) .linked .top-le, (c .before .before .before .before .before .before .before .before .before .before .pre) .k-lt, (c .before .before .before .before .before .before .before .before .before .before .pre) .cells-le, (c .before .before .before .before .least) .ensures)
 
 mul-wider : tie.Need-mul-wider
-mul-wider c = search needs
+mul-wider c = omega (arith, (c .before .before .before .before .before .before .before .before .before .before .pre) .known ((c .before .before .before .before .before .before .before .before .before .before .args) .k) ((c .before .before .before .before .before .before .before .before .before .before .pre) .k-lt), (c .before .before .before .before .before .before .before .before .before .before .pre) .linked .low, (c .before .before .before .before .before .before .before .before .before .before .pre) .linked .top-le, (c .before .before .before .before .before .before .before .before .before .before .pre) .k-lt, (c .before .before .before .before .before .before .before .before .before .before .pre) .cells-le, (c .before .before .before .before .least) .ensures)
 
 add-wider : tie.Need-add-wider
-add-wider c = search needs
+add-wider c = omega (arith, (c .before .before .before .before .before .before .before .before .before .before .pre) .known ((c .before .before .before .before .before .before .before .before .before .before .args) .k) ((c .before .before .before .before .before .before .before .before .before .before .pre) .k-lt), (c .before .before .before .before .before .before .before .before .before .before .pre) .linked .low, (c .before .before .before .before .before .before .before .before .before .before .pre) .linked .top-le, (c .before .before .before .before .before .before .before .before .before .before .pre) .k-lt, (c .before .before .before .before .before .before .before .before .before .before .pre) .cells-le, (c .before .before .before .before .least) .ensures)
 
 add-wider-2 : tie.Need-add-wider-2
-add-wider-2 c = search needs
+add-wider-2 c = omega (arith, (c .before .before .before .before .before .before .before .before .before .before .pre) .known ((c .before .before .before .before .before .before .before .before .before .before .args) .k) ((c .before .before .before .before .before .before .before .before .before .before .pre) .k-lt), (c .before .before .before .before .before .before .before .before .before .before .pre) .linked .low, (c .before .before .before .before .before .before .before .before .before .before .pre) .linked .top-le, (c .before .before .before .before .before .before .before .before .before .before .pre) .k-lt, (c .before .before .before .before .before .before .before .before .before .before .pre) .cells-le, (c .before .before .before .before .least) .ensures)
 
 mul-wider-2 : tie.Need-mul-wider-2
-mul-wider-2 c = search needs
+mul-wider-2 c = omega (arith, (c .before .before .before .before .before .before .before .before .before .before .pre) .known ((c .before .before .before .before .before .before .before .before .before .before .args) .k) ((c .before .before .before .before .before .before .before .before .before .before .pre) .k-lt), (c .before .before .before .before .before .before .before .before .before .before .pre) .linked .low, (c .before .before .before .before .before .before .before .before .before .before .pre) .linked .top-le, (c .before .before .before .before .before .before .before .before .before .before .pre) .k-lt, (c .before .before .before .before .before .before .before .before .before .before .pre) .cells-le, (c .before .before .before .before .least) .ensures)
 
 slice-read-wider : tie.Need-slice-read-wider
-slice-read-wider c = search needs
+slice-read-wider c = omega (arith, (c .before .before .before .before .before .before .before .before .before .before .before .pre) .known ((c .before .before .before .before .before .before .before .before .before .before .before .args) .k) ((c .before .before .before .before .before .before .before .before .before .before .before .pre) .k-lt), (c .before .before .before .before .before .before .before .before .before .before .before .pre) .linked .low, (c .before .before .before .before .before .before .before .before .before .before .before .pre) .linked .top-le, (c .before .before .before .before .before .before .before .before .before .before .before .pre) .k-lt, (c .before .before .before .before .before .before .before .before .before .before .before .pre) .cells-le, (c .before .before .before .before .before .least) .ensures)
 
 wider-requires : tie.Need-wider-requires
-wider-requires c κs = search needs
+wider-requires c κs = tt
 
 enter-requires-2 : tie.Need-enter-requires-2
-enter-requires-2 c κs = omega (arith, (c .before .before .before .before .before .before .before .before .before .before .before .before .before .pre) .linked .known ((c .before .before .before .before .before .before .before .before .before .before .before .before .before .args) .k) ((c .before .before .before .before .before .before .before .before .before .before .before .before .before .pre) .k-lt), (c .before .before .before .before .before .before .before .least) .ensures)
+enter-requires-2 c κs = omega (arith, (c .before .before .before .before .before .before .before .before .before .before .before .before .before .pre) .known ((c .before .before .before .before .before .before .before .before .before .before .before .before .before .args) .k) ((c .before .before .before .before .before .before .before .before .before .before .before .before .before .pre) .k-lt), (c .before .before .before .before .before .before .before .before .before .before .before .before .before .pre) .linked .low, (c .before .before .before .before .before .before .before .before .before .before .before .before .before .pre) .linked .top-le, (c .before .before .before .before .before .before .before .before .before .before .before .before .before .pre) .k-lt, (c .before .before .before .before .before .before .before .before .before .before .before .before .before .pre) .cells-le, (c .before .before .before .before .before .before .before .least) .ensures)
 
-add-t43 : tie.Need-add-t43
-add-t43 c = search needs
+fold-requires : tie.Need-fold-requires
+fold-requires c κs = entered-topped (c .before .before .before .before .before .before .before .before .before .before .before .before .before .before .before .before .before .pre) (getD (now ((c .before .before .before .before .before .before .before .before .before .before .before .before .before .before .before .before .before .args) .w)) ((c .before .before .before .before .before .before .before .before .before .before .before .before .before .before .before .before .before .args) .items + 2 * (c .before .before .before .before .before .before .before .before .before .before .before .before .before .before .before .before .before .args) .n + (c .before .before .before .before .before .before .before .before .before .before .before .before .before .before .before .before .before .args) .k) 0) _ _ _ ((c .before .before .before .before .before .before .before .before .before .before .before .before .before .before .before .before .before .pre) .known ((c .before .before .before .before .before .before .before .before .before .before .before .before .before .before .before .before .before .args) .k) ((c .before .before .before .before .before .before .before .before .before .before .before .before .before .before .before .before .before .pre) .k-lt)) (omega (arith, (c .before .before .before .before .before .before .before .before .before .before .before .before .before .before .before .before .before .pre) .known ((c .before .before .before .before .before .before .before .before .before .before .before .before .before .before .before .before .before .args) .k) ((c .before .before .before .before .before .before .before .before .before .before .before .before .before .before .before .before .before .pre) .k-lt), (c .before .before .before .before .before .before .before .before .before .before .before .before .before .before .before .before .before .pre) .linked .low, (c .before .before .before .before .before .before .before .before .before .before .before .before .before .before .before .before .before .pre) .linked .top-le, (c .before .before .before .before .before .before .before .before .before .before .before .before .before .before .before .before .before .pre) .k-lt, (c .before .before .before .before .before .before .before .before .before .before .before .before .before .before .before .before .before .pre) .cells-le, (c .before .before .before .before .before .before .before .before .before .before .before .least) .ensures)) ((c .before .before .before .before .before .before .before .before .before .before .before .before .before .before .before .before .before .pre) .heads _ (omega (arith, (c .before .before .before .before .before .before .before .before .before .before .before .least) .ensures))) ((c .before .before .before .enter2) .ensures)
 
-sub-t44 : tie.Need-sub-t44
-sub-t44 c = search needs
+add-t48 : tie.Need-add-t48
+add-t48 c = omega (arith, (c .before .before .before .before .before .before .before .before .before .before .before .before .before .before .before .before .before .before .before .before .pre) .known ((c .before .before .before .before .before .before .before .before .before .before .before .before .before .before .before .before .before .before .before .before .args) .k) ((c .before .before .before .before .before .before .before .before .before .before .before .before .before .before .before .before .before .before .before .before .pre) .k-lt), (c .before .before .before .before .before .before .before .before .before .before .before .before .before .before .before .before .before .before .before .before .pre) .linked .low, (c .before .before .before .before .before .before .before .before .before .before .before .before .before .before .before .before .before .before .before .before .pre) .linked .top-le, (c .before .before .before .before .before .before .before .before .before .before .before .before .before .before .before .before .before .before .before .before .pre) .k-lt, (c .before .before .before .before .before .before .before .before .before .before .before .before .before .before .before .before .before .before .before .before .pre) .cells-le, (c .before .before .before .before .before .before .before .before .before .before .before .before .before .before .least) .ensures)
+
+sub-t49 : tie.Need-sub-t49
+sub-t49 c = omega (arith, (c .before .before .before .before .before .before .before .before .before .before .before .before .before .before .least) .ensures)
 
 same-length-2 : tie.Need-same-length-2
 same-length-2 c = search needs
 
 returns-2 : tie.Need-returns-2
-returns-2 c = stepped-hit ((c .before .before .before .before .before .before .before .before .before .before .before .before .before .before .before .before .args) .left) (c .before .before .before .before .before .before .before .before .before .before .before .before .before .before .before .before .pre) (getD (now ((c .before .before .before .before .before .before .before .before .before .before .before .before .before .before .before .before .args) .w)) ((c .before .before .before .before .before .before .before .before .before .before .before .before .before .before .before .before .args) .items + 2 * (c .before .before .before .before .before .before .before .before .before .before .before .before .before .before .before .before .args) .n + (c .before .before .before .before .before .before .before .before .before .before .before .before .before .before .before .before .args) .k) 0) refl _ _ ((c .before .before .before .before .before .before .before .before .before .before .least) .ensures) (omega arith) ((c .before .before .before .before .before .before .before .before .probe) .ensures) (omega arith) _ ((c .before .before .before .before .wider) .ensures) ((c .before .before .enter2) .ensures)
+returns-2 c = stepped-hit ((c .before .before .before .before .before .before .before .before .before .before .before .before .before .before .before .before .before .before .before .before .args) .left) (c .before .before .before .before .before .before .before .before .before .before .before .before .before .before .before .before .before .before .before .before .pre) (getD (now ((c .before .before .before .before .before .before .before .before .before .before .before .before .before .before .before .before .before .before .before .before .args) .w)) ((c .before .before .before .before .before .before .before .before .before .before .before .before .before .before .before .before .before .before .before .before .args) .items + 2 * (c .before .before .before .before .before .before .before .before .before .before .before .before .before .before .before .before .before .before .before .before .args) .n + (c .before .before .before .before .before .before .before .before .before .before .before .before .before .before .before .before .before .before .before .before .args) .k) 0) refl _ _ ((c .before .before .before .before .before .before .before .before .before .before .before .before .before .before .least) .ensures) (omega arith) ((c .before .before .before .before .before .before .before .before .before .before .before .before .probe) .ensures) (omega arith) _ ((c .before .before .before .before .before .before .before .before .wider) .ensures) ((c .before .before .before .before .before .before .enter2) .ensures) ((c .before .before .fold) .ensures)
 
 enter-requires-3 : tie.Need-enter-requires-3
-enter-requires-3 c κs = omega (arith, (c .before .before .before .before .before .before .before .before .before .before .pre) .linked .known ((c .before .before .before .before .before .before .before .before .before .before .args) .k) ((c .before .before .before .before .before .before .before .before .before .before .pre) .k-lt))
+enter-requires-3 c κs = omega (arith, (c .before .before .before .before .before .before .before .before .before .before .pre) .known ((c .before .before .before .before .before .before .before .before .before .before .args) .k) ((c .before .before .before .before .before .before .before .before .before .before .pre) .k-lt), (c .before .before .before .before .before .before .before .before .before .before .pre) .linked .low, (c .before .before .before .before .before .before .before .before .before .before .pre) .linked .top-le, (c .before .before .before .before .before .before .before .before .before .before .pre) .k-lt, (c .before .before .before .before .before .before .before .before .before .before .pre) .cells-le)
 
-add-t19 : tie.Need-add-t19
-add-t19 c = search needs
+add-t22 : tie.Need-add-t22
+add-t22 c = omega (arith, (c .before .before .before .before .before .before .before .before .before .before .before .before .before .pre) .cells-le, (c .before .before .before .before .before .before .before .before .before .before .before .before .before .pre) .k-lt)
 
-sub-t22 : tie.Need-sub-t22
-sub-t22 c = search needs
+sub-t25 : tie.Need-sub-t25
+sub-t25 c = omega (arith, (c .before .before .before .before .before .before .before .least) .ensures)
 
 same-length-3 : tie.Need-same-length-3
 same-length-3 c = search needs
@@ -146,7 +150,7 @@ put-spec =
     mul-word
     slice-read-word
     enter-requires
-    add-t29
+    add-t32
     same-length
     returns
     least-requires
@@ -164,12 +168,13 @@ put-spec =
     slice-read-wider
     wider-requires
     enter-requires-2
-    add-t43
-    sub-t44
+    fold-requires
+    add-t48
+    sub-t49
     same-length-2
     returns-2
     enter-requires-3
-    add-t19
-    sub-t22
+    add-t22
+    sub-t25
     same-length-3
     returns-3)

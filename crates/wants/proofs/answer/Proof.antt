@@ -3,15 +3,24 @@ use Rattle.wants.proofs.LoadLaws.{first-small, lent, wants-are}
 use Rattle.wants.proofs.EntryLaws.{cell-small, answered}
 use denote.Ref.{now}
 use native.Mathlib.Omega.{arith}
+use Prim.Native.Nat.{ℕ, suc, _+_, _-_, _*_, _≤_, _<_}
+use mathlib.Core.Path.{_≡_, refl, sym, ap, _∙_}
+use lib.ListN.{length, take, drop, getD, set, length-set}
 use borrow.Author.Needs.{needs}
 use Rattle.wants.proofs.answer.Statement.{statement}
 use Rattle.wants.proofs.answer.Tie as tie
 
 load-requires : tie.Need-load-requires
-load-requires c κs = let a = (c .before .before .before .before .before .before .args) in (omega arith, omega arith, omega arith, (c .before .before .before .before .before .before .pre) .few, first-small (now (a .wants)) (now (a .areas)) ((c .before .before .before .before .before .before .pre) .short) ((c .before .before .before .before .before .before .pre) .fine))
+load-requires c κs = let a = (c .before .before .before .before .before .before .args) in (omega (arith, (c .before .before .before .before .before .before .pre) .space), omega arith, omega arith, (c .before .before .before .before .before .before .pre) .few, first-small (now (a .wants)) (now (a .areas)) ((c .before .before .before .before .before .before .pre) .short) ((c .before .before .before .before .before .before .pre) .fine))
+
+add-end : tie.Need-add-end
+add-end c = omega (arith, (c .before .before .before .before .before .before .before .before .before .pre) .few, (c .before .before .before .before .before .before .before .before .before .pre) .short)
+
+mul-end : tie.Need-mul-end
+mul-end c = omega (arith, (c .before .before .before .before .before .before .before .before .before .pre) .few, (c .before .before .before .before .before .before .before .before .before .pre) .short)
 
 fit-requires : tie.Need-fit-requires
-fit-requires c κs = lent ((c .before .before .before .load) .ensures) (λ x. (c .before .before .before .before .before .before .before .before .shared-slice-known2) .given x .fits) (λ x. (c .before .before .before .before .before .before .before .before .before .shared-slice-known) .given x .fits) ((c .before .before .before .before .before .before .before .before .before .before .pre) .few) ((c .before .before .before .before .before .before .before .before .before .before .pre) .short) (omega arith) ((c .before .before .before .before .before .before .before .before .before .before .pre) .fine)
+fit-requires c κs = (lent ((c .before .before .before .load) .ensures) (λ x. (c .before .before .before .before .before .before .before .before .shared-slice-known2) .given x .fits) (λ x. (c .before .before .before .before .before .before .before .before .before .shared-slice-known) .given x .fits) ((c .before .before .before .before .before .before .before .before .before .before .pre) .few) ((c .before .before .before .before .before .before .before .before .before .before .pre) .short) (omega (arith, (c .before .before .before .before .before .before .before .before .before .before .pre) .space)) ((c .before .before .before .before .before .before .before .before .before .before .pre) .fine), omega arith, omega (arith, (c .before .before .before .before .before .before .before .before .before .before .pre) .space, (c .before .before .before .load) .ensures .len), omega (arith, (c .before .before .before .before .before .before .before .before .before .before .pre) .few, (c .before .before .before .before .before .before .before .before .before .before .pre) .short))
 
 mul-write-cells : tie.Need-mul-write-cells
 mul-write-cells c = search needs
@@ -29,13 +38,7 @@ add-write-items : tie.Need-add-write-items
 add-write-items c = search needs
 
 write-items-requires : tie.Need-write-items-requires
-write-items-requires c κs = (omega arith, omega arith, omega arith, cell-small ((c .before .before .before .before .before .before .before .before .before .fit) .ensures) ((c .before .before .before .before .before .before .before .before .before .before .before .before .before .before .before .before .before .before .before .before .pre) .few))
-
-add-clear : tie.Need-add-clear
-add-clear c = search needs
-
-mul-clear : tie.Need-mul-clear
-mul-clear c = search needs
+write-items-requires c κs = (omega (arith, (c .before .before .before .before .before .before .before .before .before .before .before .before .before .before .before .before .before .before .before .before .pre) .in-items), omega (arith, (c .before .before .before .before .before .before .before .before .before .before .before .before .before .before .before .before .before .before .before .before .pre) .space, (c .before .before .before .before .before .before .before .before .before .before .before .before .before .load) .ensures .len, (c .before .before .before .before .before .before .before .before .before .fit) .ensures .len), omega arith, cell-small ((c .before .before .before .before .before .before .before .before .before .fit) .ensures) ((c .before .before .before .before .before .before .before .before .before .before .before .before .before .before .before .before .before .before .before .before .pre) .few))
 
 clear-requires : tie.Need-clear-requires
 clear-requires c κs = search needs
@@ -50,13 +53,15 @@ same-length-3 : tie.Need-same-length-3
 same-length-3 c = search needs
 
 returns : tie.Need-returns
-returns c = answered _ _ _ _ _ _ _ _ _ _ _ _ ((c .before .before .before .before .before .before .before .before .before .before .before .before .before .before .before .before .before .before .before .before .load) .ensures) (wants-are ((c .before .before .before .before .before .before .before .before .before .before .before .before .before .before .before .before .before .before .before .before .load) .ensures) (λ x. (c .before .before .before .before .before .before .before .before .before .before .before .before .before .before .before .before .before .before .before .before .before .before .before .before .before .shared-slice-known2) .given x .fits) (λ x. (c .before .before .before .before .before .before .before .before .before .before .before .before .before .before .before .before .before .before .before .before .before .before .before .before .before .before .shared-slice-known) .given x .fits) ((c .before .before .before .before .before .before .before .before .before .before .before .before .before .before .before .before .before .before .before .before .before .before .before .before .before .before .before .pre) .few) ((c .before .before .before .before .before .before .before .before .before .before .before .before .before .before .before .before .before .before .before .before .before .before .before .before .before .before .before .pre) .short) (omega arith) ((c .before .before .before .before .before .before .before .before .before .before .before .before .before .before .before .before .before .before .before .before .before .before .before .before .before .before .before .pre) .fine)) ((c .before .before .before .before .before .before .before .before .before .before .before .before .before .before .before .before .fit) .ensures) ((c .before .before .before .before .before .before .before .before .before .before .before .write-cells) .ensures) ((c .before .before .before .before .before .before .write-items) .ensures) ((c .before .before .clear) .ensures)
+returns c = answered _ _ _ _ _ _ _ _ _ _ _ _ ((c .before .before .before .before .before .before .before .before .before .before .before .before .before .before .before .before .before .before .before .before .load) .ensures) (wants-are ((c .before .before .before .before .before .before .before .before .before .before .before .before .before .before .before .before .before .before .before .before .load) .ensures) (λ x. (c .before .before .before .before .before .before .before .before .before .before .before .before .before .before .before .before .before .before .before .before .before .before .before .before .before .shared-slice-known2) .given x .fits) (λ x. (c .before .before .before .before .before .before .before .before .before .before .before .before .before .before .before .before .before .before .before .before .before .before .before .before .before .before .shared-slice-known) .given x .fits) ((c .before .before .before .before .before .before .before .before .before .before .before .before .before .before .before .before .before .before .before .before .before .before .before .before .before .before .before .pre) .few) ((c .before .before .before .before .before .before .before .before .before .before .before .before .before .before .before .before .before .before .before .before .before .before .before .before .before .before .before .pre) .short) (omega (arith, (c .before .before .before .before .before .before .before .before .before .before .before .before .before .before .before .before .before .before .before .before .before .before .before .before .before .before .before .pre) .space)) ((c .before .before .before .before .before .before .before .before .before .before .before .before .before .before .before .before .before .before .before .before .before .before .before .before .before .before .before .pre) .fine)) ((c .before .before .before .before .before .before .before .before .before .before .before .before .before .before .before .before .fit) .ensures) ((c .before .before .before .before .before .before .before .before .before .before .before .write-cells) .ensures) ((c .before .before .before .before .before .before .write-items) .ensures) ((c .before .before .clear) .ensures)
 
 pub answer-spec : {M : Type 1} → statement M
 answer-spec =
     tie.close
     (tie.spec
     load-requires
+    add-end
+    mul-end
     fit-requires
     mul-write-cells
     add-write-cells
@@ -64,8 +69,6 @@ answer-spec =
     mul-write-items
     add-write-items
     write-items-requires
-    add-clear
-    mul-clear
     clear-requires
     same-length
     same-length-2
