@@ -1,0 +1,166 @@
+-- The block of a point by a count of starts, the first end by a count of ends, and the touches of a work space by index.
+use Prim.Native.Nat.{ℕ, zero, suc, _+_, _-_, _*_, _/_, _%_, _^_, _≤_, _<_, min, max}
+use native.Mathlib.Omega.{arith}
+use mathlib.Core.Path.{_≡_, refl, sym, ap, _∙_, subst}
+use mathlib.Core.Logic.{_⊎_, inl, inr}
+use mathlib.Core.Bool.{Bool, true, false, cond, _||_}
+use mathlib.Core.List.{List, [], _∷_, List·Memᴰ}
+use lib.ListN.{length, getD}
+use lib.Dec.{leb, ltb}
+use borrow.Author.Tests.{leb-true, leb-false, ltb-true, ltb-false, le-leb, lt-leb}
+use Rattle.words.specs.Sort.{Rising}
+use Rattle.words.specs.Rows.{rowCount, field}
+use Rattle.words.specs.Search.{Splits}
+use Rattle.words.specs.Regions.{part}
+use Rattle.words.proofs.Points.{cut}
+use Rattle.words.proofs.SortLaws.{rising-le}
+use Rattle.words.proofs.RegionLaws.{length-part, getD-part}
+use Rattle.ranges.specs.declared.Range.{Range}
+use Rattle.ranges.specs.Points.{range}
+use Rattle.ranges.specs.Forms.{unpack, unpacked}
+use Rattle.ranges.proofs.FormLaws.{unpacked-at, unpacked-length}
+use Rattle.ranges.proofs.PointLaws.{or-right}
+use Rattle.graph.specs.Paths.{Edge}
+use Rattle.graph.specs.Line.{blocksOf, blockAt, Sound}
+use Rattle.graph.proofs.Line.{mem-at, at-mem, blocks-length, start-is, end-is}
+use Rattle.graph.proofs.RoundLaws.{or-left}
+use Rattle.carrying.specs.Lists.{any}
+use Rattle.carrying.proofs.ListLaws.{any-true, false-any}
+use Rattle.areas.specs.Blocks.{Graph, top, bottom, holding, blockOf, clip, reversed, inverted, until}
+use Rattle.areas.specs.Areas.{UpTo}
+use Rattle.areas.proofs.BlockLaws.{tops, block-below}
+use Rattle.areas.proofs.EndLaws.{until-has, until-only}
+use Rattle.spots.specs.Spots.{lineOf, Held}
+
+-- ---- the block of a point
+
+-- the starts rise
+pub starts-rise : (blocks : List ℕ) → Sound (blocksOf blocks) → Rising (λ i. field 3 blocks i 1) (length blocks / 3)
+starts-rise blocks S k h =
+    let l = blocks-length blocks in
+    let t = tops (lineOf blocks []) S k (k + 1) (omega arith) (omega arith) in
+    let a = start-is blocks k (omega arith) in
+    let b = start-is blocks (k + 1) h in
+    omega arith
+
+-- of n blocks the first r start no later than x
+holding-split : (G : Graph) (n x r : ℕ) → Splits (λ i. leb (top G i) x) n r → holding G n x ≡ r - 1
+unfolding holding
+holding-split G zero x r s = let h = s .within in omega arith
+holding-split G (suc n) x r s = cut r n
+    (λ h. rw (s .fails n h (omega arith)) (holding-split G n x r (record { within = h; holds = s .holds; fails = λ i a b. s .fails i a (omega arith) })))
+    (λ h. let w = s .within in rw (s .holds n h) (omega arith))
+
+pub held : (blocks : List ℕ) (point r q : ℕ) → Sound (blocksOf blocks) → Splits (λ i. leb (field 3 blocks i 1) point) (length blocks / 3) r → q ≡ r - 1 → Held blocks point q
+held blocks point r q S s e = record {
+  below = let b = block-below (lineOf blocks []) S point in let i = is [] in let l = blocks-length blocks in omega arith;
+  is = is;
+}
+  where
+    same : (i : ℕ) → i < length blocks / 3 → leb (blockAt (blocksOf blocks) i .start) point ≡ leb (field 3 blocks i 1) point
+    same i h = ap (λ (t : ℕ). leb t point) (start-is blocks i h)
+
+    split : Splits (λ i. leb (blockAt (blocksOf blocks) i .start) point) (length blocks / 3) r
+    split = record {
+      within = s .within;
+      holds = λ i h. same i (let w = s .within in omega arith) ∙ s .holds i h;
+      fails = λ i h l. same i l ∙ s .fails i h l;
+    }
+
+    is : (es : List Edge) → q ≡ blockOf (lineOf blocks es) point
+    is es = e ∙ sym (holding-split (lineOf blocks es) (length blocks / 3) point r split) ∙ ap (λ (n : ℕ). holding (lineOf blocks es) n point) (sym (blocks-length blocks))
+
+-- ---- the first end
+
+-- it is the least of the bottom and the ends at or after the point
+pub until-is : (es : List ℕ) (z b r : ℕ) → r ≤ b → UpTo es z r → (r ≡ b) ⊎ (List·Memᴰ r es × (z ≤ r)) → r ≡ until es z b
+until-is es z b r h u o = go o
+  where
+    low : r ≤ until es z b
+    low = until-has es z b r h u
+
+    go : (r ≡ b) ⊎ (List·Memᴰ r es × (z ≤ r)) → r ≡ until es z b
+    go (inl e) = let (p, q) = until-only es z b (until es z b) (omega arith) in omega (arith, low)
+    go (inr (m, l)) = let (p, q) = until-only es z b (until es z b) (omega arith) in omega (arith, low, q r m l)
+
+-- so the order of the ends does not matter
+pub until-order : (es fs : List ℕ) (z b : ℕ) → ((e : ℕ) → List·Memᴰ e es → List·Memᴰ e fs) → ((e : ℕ) → List·Memᴰ e fs → List·Memᴰ e es) → until es z b ≡ until fs z b
+until-order es fs z b to fro =
+    let (p, q) = until-only es z b (until es z b) (omega arith) in
+    let (s, t) = until-only fs z b (until fs z b) (omega arith) in
+    let x = until-has fs z b (until es z b) p (λ e m l. q e (fro e m) l) in
+    let y = until-has es z b (until fs z b) s (λ e m l. t e (to e m) l) in
+    omega arith
+
+module _ (w : List ℕ) (ends stops : ℕ) (fits : ends + stops ≤ length w) where
+  -- the ends by index
+  pub end-in : (i : ℕ) → i < stops → List·Memᴰ (getD w (ends + i) 0) (part ends stops w)
+  end-in i h = subst (λ (x : ℕ). List·Memᴰ x (part ends stops w)) (getD-part ends stops w i h) (mem-at (part ends stops w) i 0 (rw (length-part ends stops w fits) h))
+
+  pub end-of : (e : ℕ) → List·Memᴰ e (part ends stops w) → (i : ℕ) × (i < stops) × (getD w (ends + i) 0 ≡ e)
+  end-of e m =
+      let (i, h, q) = at-mem (part ends stops w) e 0 m in
+      let l : i < stops = rw (length-part ends stops w fits) at h in
+      (i, l, sym (getD-part ends stops w i l) ∙ q)
+
+  -- i ends stand before the point
+  module _ (rising : Rising (λ i. getD w (ends + i) 0) stops) (z b i : ℕ) (s : Splits (λ i. ltb (getD w (ends + i) 0) z) stops i) where
+    from : (e : ℕ) → List·Memᴰ e (part ends stops w) → z ≤ e → (i < stops) × (getD w (ends + i) 0 ≤ e)
+    from e m l =
+        let (j, h, q) = end-of e m in
+        cut i j
+        (λ g. (omega arith, omega (arith, rising-le (λ k. getD w (ends + k) 0) stops rising i j g h)))
+        (λ g. absurd (omega (arith, ltb-true (getD w (ends + j) 0) z (s .holds j g))))
+
+    pub until-none : stops ≤ i → b ≡ until (part ends stops w) z b
+    until-none h = until-is (part ends stops w) z b b (omega arith) (λ e m l. absurd (omega (arith, from e m l .0))) (inl refl)
+
+    pub until-past : i < stops → b ≤ getD w (ends + i) 0 → b ≡ until (part ends stops w) z b
+    until-past h g = until-is (part ends stops w) z b b (omega arith) (λ e m l. omega (arith, from e m l .1)) (inl refl)
+
+    pub until-at : i < stops → getD w (ends + i) 0 < b → getD w (ends + i) 0 ≡ until (part ends stops w) z b
+    until-at h g =
+        until-is (part ends stops w) z b (getD w (ends + i) 0) (omega arith) (λ e m l. from e m l .1)
+        (inr (end-in i h, ltb-false _ _ (s .fails i (omega arith) h)))
+
+-- ---- touches
+
+pub clip-is : (blocks : List ℕ) (k start end first last : ℕ) (es : List Edge) → k < length blocks / 3
+    → last ≡ min end (getD blocks (3 * k + 2) 0) → first ≡ max start (getD blocks (3 * k + 1) 0)
+    → ltb last first ≡ reversed (clip (lineOf blocks es) k (range start end))
+clip-is blocks k start end first last es h e f =
+    ap (λ (x : ℕ). ltb x first) (e ∙ ap (λ (b : ℕ). min end b) (sym (end-is blocks k h)))
+    ∙ ap (λ (x : ℕ). ltb (min end (bottom (lineOf blocks es) k)) x) (f ∙ ap (λ (b : ℕ). max start b) (sym (start-is blocks k h)))
+
+module _ (G : Graph) (t : Range) (k : ℕ) where
+  pub inverted-first : k ≡ blockOf G (t .start) → true ≡ reversed (clip G k t) → true ≡ inverted G t
+  inverted-first e r = sym (or-left (reversed (clip G (blockOf G (t .start)) t)) _ (rw (← e) (sym r)))
+
+  pub inverted-last : k ≡ blockOf G (t .start) → false ≡ reversed (clip G k t) → (l : ℕ) (v : Bool) → l ≡ blockOf G (t .end) → v ≡ reversed (clip G l t) → v ≡ inverted G t
+  inverted-last e r l v f q =
+      let z : reversed (clip G (blockOf G (t .start)) t) ≡ false = rw (← e) (sym r) in
+      rw z (q ∙ ap (λ (j : ℕ). reversed (clip G j t)) f)
+
+-- a word taken apart
+pub unpack-is : (x s e : ℕ) → s ≡ x / 2 ^ 32 → e ≡ x % 2 ^ 32 → range s e ≡ unpack x
+unpack-is x s e p q = ap (λ (a : ℕ). range a e) p ∙ ap (λ (b : ℕ). range (x / 2 ^ 32) b) q
+
+module _ (w : List ℕ) (at count : ℕ) (fits : at + count ≤ length w) where
+  pub touch-in : (i : ℕ) → i < count → List·Memᴰ (unpack (getD w (at + i) 0)) (unpacked (part at count w))
+  touch-in i h =
+      subst (λ (t : Range). List·Memᴰ t (unpacked (part at count w))) (unpacked-at (part at count w) i ∙ ap unpack (getD-part at count w i h))
+      (mem-at (unpacked (part at count w)) i (range 0 0) (rw (unpacked-length (part at count w), length-part at count w fits) h))
+
+  pub touch-of : (t : Range) → List·Memᴰ t (unpacked (part at count w)) → (i : ℕ) × (i < count) × (unpack (getD w (at + i) 0) ≡ t)
+  touch-of t m =
+      let (i, h, q) = at-mem (unpacked (part at count w)) t (range 0 0) m in
+      let l : i < count = rw (unpacked-length (part at count w), length-part at count w fits) at h in
+      (i, l, ap unpack (sym (getD-part at count w i l)) ∙ sym (unpacked-at (part at count w) i) ∙ q)
+
+  -- a test of each touch in turn
+  module _ (f : Range → Bool) where
+    pub any-hit : (i : ℕ) → i < count → f (unpack (getD w (at + i) 0)) ≡ true → true ≡ any f (unpacked (part at count w))
+    any-hit i h e = sym (any-true f (unpacked (part at count w)) (unpack (getD w (at + i) 0)) (touch-in i h) e)
+
+    pub any-none : ((i : ℕ) → i < count → f (unpack (getD w (at + i) 0)) ≡ false) → false ≡ any f (unpacked (part at count w))
+    any-none g = sym (false-any f (unpacked (part at count w)) (λ t m. let (i, h, e) = touch-of t m in subst (λ (s : Range). f s ≡ false) e (g i h)))

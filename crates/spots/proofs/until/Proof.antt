@@ -1,0 +1,46 @@
+-- `spots::until` meets its contract: a law for each way out.
+use Rattle.spots.proofs.SpotLaws.{until-none, until-past, until-at}
+use native.Mathlib.Omega.{arith}
+use Prim.Native.Nat.{ℕ, suc, _+_, _-_, _*_, _≤_, _<_}
+use mathlib.Core.Path.{_≡_, refl, sym, ap, _∙_}
+use lib.ListN.{length, take, drop, getD, set, length-set}
+use borrow.Author.Needs.{needs}
+use Rattle.spots.proofs.until.Statement.{statement}
+use Rattle.spots.proofs.until.Tie as tie
+
+below-requires : tie.Need-below-requires
+below-requires c κs = search needs
+
+returns : tie.Need-returns
+returns c = until-none ((c .before .before .before .args) .work .now) _ _ ((c .before .before .before .pre) .0) ((c .before .before .before .pre) .1) _ _ _ ((c .before .below) .ensures) (omega arith)
+
+add-end : tie.Need-add-end
+add-end c = search needs
+
+mul-end : tie.Need-mul-end
+mul-end c = search needs
+
+shared-slice-read-end : tie.Need-shared-slice-read-end
+shared-slice-read-end c = search needs
+
+returns-2 : tie.Need-returns-2
+returns-2 c = until-past ((c .before .before .before .before .before .args) .work .now) _ _ ((c .before .before .before .before .before .pre) .0) ((c .before .before .before .before .before .pre) .1) _ _ _ ((c .before .before .before .below) .ensures) (omega arith) (omega arith)
+
+cast-result : tie.Need-cast-result
+cast-result c = search needs
+
+returns-3 : tie.Need-returns-3
+returns-3 c = until-at ((c .before .before .before .before .before .args) .work .now) _ _ ((c .before .before .before .before .before .pre) .0) ((c .before .before .before .before .before .pre) .1) _ _ _ ((c .before .before .before .below) .ensures) (omega arith) (omega arith)
+
+pub until-spec : {M : Type 1} → statement M
+until-spec =
+    tie.close
+    (tie.spec
+    below-requires
+    returns
+    add-end
+    mul-end
+    shared-slice-read-end
+    returns-2
+    cast-result
+    returns-3)
