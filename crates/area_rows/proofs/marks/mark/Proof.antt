@@ -1,0 +1,27 @@
+-- `area_rows::marks::mark` meets its contract.
+use Rattle.area_rows.proofs.PutLaws.{word-in, put-one}
+use native.Mathlib.Omega.{arith}
+use Prim.Native.Nat.{ℕ, suc, _+_, _-_, _*_, _≤_, _<_}
+use mathlib.Core.Path.{_≡_, refl, sym, ap, _∙_}
+use lib.ListN.{length, take, drop, getD, set, length-set}
+use borrow.Author.Needs.{needs}
+use Rattle.area_rows.proofs.marks.mark.Statement.{statement}
+use Rattle.area_rows.proofs.marks.mark.Tie as tie
+
+mul-row : tie.Need-mul-row
+mul-row c = omega (arith, (c .before .before .pre) .0 .rows-in, word-in ((c .before .before .args) .c) _ ((c .before .before .args) .k) ((c .before .before .pre) .0) ((c .before .before .pre) .1))
+
+add-row : tie.Need-add-row
+add-row c = omega (arith, (c .before .before .before .pre) .0 .rows-in, word-in ((c .before .before .before .args) .c) _ ((c .before .before .before .args) .k) ((c .before .before .before .pre) .0) ((c .before .before .before .pre) .1))
+
+set-requires : tie.Need-set-requires
+set-requires c κs = omega (arith, (c .before .before .before .before .pre) .0 .rows-in, word-in ((c .before .before .before .before .args) .c) _ ((c .before .before .before .before .args) .k) ((c .before .before .before .before .pre) .0) ((c .before .before .before .before .pre) .1))
+
+same-length : tie.Need-same-length
+same-length c = search needs
+
+returns : tie.Need-returns
+returns c = put-one ((c .before .before .before .before .before .before .before .pre) .0) ((c .before .before .before .before .before .before .before .pre) .1) ((c .before .before .set) .ensures)
+
+pub mark-spec : {M : Type 1} → statement M
+mark-spec = tie.close (tie.spec mul-row add-row set-requires same-length returns)
