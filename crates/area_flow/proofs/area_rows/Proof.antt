@@ -1,0 +1,25 @@
+-- `area_flow::area_rows` meets its contract.
+use Rattle.components.specs.Entry.{edgesIn}
+use Rattle.area_flow.proofs.BlockRows.{still, area-rows}
+use native.Mathlib.Omega.{arith}
+use Prim.Native.Nat.{ℕ, suc, _+_, _-_, _*_, _≤_, _<_}
+use mathlib.Core.Path.{_≡_, refl, sym, ap, _∙_}
+use lib.ListN.{length, take, drop, getD, set, length-set}
+use borrow.Author.Needs.{needs}
+use Rattle.area_flow.proofs.area_rows.Statement.{statement}
+use Rattle.area_flow.proofs.area_rows.Tie as tie
+
+flow-rows-requires : tie.Need-flow-rows-requires
+flow-rows-requires c κs = ((c .before .before .before .before .pre) .0 .0, (c .before .before .before .before .pre) .0 .1, (c .before .before .before .before .pre) .0 .2)
+
+turn-rows-requires : tie.Need-turn-rows-requires
+turn-rows-requires c κs = still (edgesIn ((c .before .before .before .before .before .before .before .before .args) .blocks .now) ((c .before .before .before .before .before .before .before .before .args) .edges .now)) ((c .before .before .before .before .before .before .before .before .args) .g) _ _ ((c .before .before .before .before .before .before .before .before .pre) .0 .2) ((c .before .before .before .flow-rows) .ensures) ((c .before .before .before .before .before .before .before .before .pre) .1)
+
+same-length : tie.Need-same-length
+same-length c = search needs
+
+returns : tie.Need-returns
+returns c = area-rows (edgesIn ((c .before .before .before .before .before .before .before .before .before .before .before .args) .blocks .now) ((c .before .before .before .before .before .before .before .before .before .before .before .args) .edges .now)) ((c .before .before .before .before .before .before .before .before .before .before .before .args) .g) _ _ ((c .before .before .before .before .before .before .before .before .before .before .before .pre) .0 .2) ((c .before .before .before .before .before .before .flow-rows) .ensures) ((c .before .before .turn-rows) .ensures)
+
+pub area-rows-spec : {M : Type 1} → statement M
+area-rows-spec = tie.close (tie.spec flow-rows-requires turn-rows-requires same-length returns)

@@ -1,0 +1,36 @@
+-- `area_flow::flow_over` meets its contract: the rows of the edges, the components, and then the flow.
+use Rattle.components.specs.Entry.{edgesIn}
+use Rattle.area_flow.proofs.FlowLaws.{walkable, flow-laid, flowed-over}
+use native.Mathlib.Omega.{arith}
+use Prim.Native.Nat.{ℕ, suc, _+_, _-_, _*_, _≤_, _<_}
+use mathlib.Core.Path.{_≡_, refl, sym, ap, _∙_}
+use lib.ListN.{length, take, drop, getD, set, length-set}
+use borrow.Author.Needs.{needs}
+use Rattle.area_flow.proofs.flow_over.Statement.{statement}
+use Rattle.area_flow.proofs.flow_over.Tie as tie
+
+add-at : tie.Need-add-at
+add-at c = search needs
+
+add-at-2 : tie.Need-add-at-2
+add-at-2 c = search needs
+
+lay-requires : tie.Need-lay-requires
+lay-requires c κs = (((c .before .before .before .before .before .pre) .0 .0, (c .before .before .before .before .before .pre) .0 .1), omega (arith, (c .before .before .before .before .before .pre) .0 .2 .edges-fit, (c .before .before .before .before .before .pre) .0 .2 .tarjan-fits))
+
+components-requires : tie.Need-components-requires
+components-requires c κs = walkable ((c .before .before .before .before .before .before .before .before .before .args) .over) (edgesIn ((c .before .before .before .before .before .before .before .before .before .args) .blocks .now) ((c .before .before .before .before .before .before .before .before .before .args) .edges .now)) ((c .before .before .before .before .before .before .before .before .before .args) .g) _ _ ((c .before .before .before .before .before .before .before .before .before .args) .out) _ _ ((c .before .before .before .before .before .before .before .before .before .pre) .0 .2) ((c .before .before .before .before .before .before .before .before .before .pre) .1 .0) ((c .before .before .before .before .before .before .before .before .before .pre) .1 .1) ((c .before .before .before .lay) .ensures)
+
+flowed-requires : tie.Need-flowed-requires
+flowed-requires c κs = (flow-laid ((c .before .before .before .before .before .before .before .before .before .before .before .before .before .args) .over) (edgesIn ((c .before .before .before .before .before .before .before .before .before .before .before .before .before .args) .blocks .now) ((c .before .before .before .before .before .before .before .before .before .before .before .before .before .args) .edges .now)) ((c .before .before .before .before .before .before .before .before .before .before .before .before .before .args) .g) _ _ ((c .before .before .before .before .before .before .before .before .before .before .before .before .before .args) .out) _ _ ((c .before .before .before .before .before .before .before .before .before .before .before .before .before .pre) .0 .2) ((c .before .before .before .before .before .before .before .before .before .before .before .before .before .pre) .1 .0) ((c .before .before .before .before .before .before .before .before .before .before .before .before .before .pre) .1 .1) ((c .before .before .before .before .before .before .before .lay) .ensures) ((c .before .before .before .components) .ensures), (c .before .before .before .components) .ensures .order)
+
+same-length : tie.Need-same-length
+same-length c = search needs
+
+returns : tie.Need-returns
+returns c = flowed-over ((c .before .before .before .before .before .before .before .before .before .before .before .before .before .before .before .before .args) .over) (edgesIn ((c .before .before .before .before .before .before .before .before .before .before .before .before .before .before .before .before .args) .blocks .now) ((c .before .before .before .before .before .before .before .before .before .before .before .before .before .before .before .before .args) .edges .now)) ((c .before .before .before .before .before .before .before .before .before .before .before .before .before .before .before .before .args) .g) _ _ ((c .before .before .before .before .before .before .before .before .before .before .before .before .before .before .before .before .args) .out) _ _ ((c .before .before .before .before .before .before .before .before .before .before .before .before .before .before .before .before .pre) .0 .2) ((c .before .before .before .before .before .before .before .before .before .before .before .before .before .before .before .before .pre) .1 .0) ((c .before .before .before .before .before .before .before .before .before .before .before .before .before .before .before .before .pre) .1 .1) ((c .before .before .before .before .before .before .before .before .before .before .lay) .ensures) ((c .before .before .before .before .before .before .components) .ensures) ((c .before .before .flowed) .ensures)
+
+pub flow-over-spec : {M : Type 1} → statement M
+flow-over-spec =
+    tie.close
+    (tie.spec add-at add-at-2 lay-requires components-requires flowed-requires same-length returns)

@@ -1,0 +1,45 @@
+-- `area_flow::lay` meets its contract.
+use native.Mathlib.Omega.{arith}
+use Prim.Native.Nat.{ℕ, suc, _+_, _-_, _*_, _≤_, _<_}
+use mathlib.Core.Path.{_≡_, refl, sym, ap, _∙_}
+use lib.ListN.{length, take, drop, getD, set, length-set}
+use borrow.Author.Needs.{needs}
+use Rattle.area_flow.proofs.lay.Statement.{statement}
+use Rattle.area_flow.proofs.lay.Tie as tie
+
+enum-told : tie.Need-enum-told
+enum-told c = search needs
+
+predecessors-requires : tie.Need-predecessors-requires
+predecessors-requires c κs = search needs
+
+enum-told-2 : tie.Need-enum-told-2
+enum-told-2 c = search needs
+
+successors-requires : tie.Need-successors-requires
+successors-requires c κs = search needs
+
+same-length : tie.Need-same-length
+same-length c = search needs
+
+returns : tie.Need-returns
+returns c = rw ((c .before .before .before .before .enum-told) .given .1) ((c .before .before .predecessors) .ensures)
+
+same-length-2 : tie.Need-same-length-2
+same-length-2 c = search needs
+
+returns-2 : tie.Need-returns-2
+returns-2 c = rw ((c .before .before .before .before .enum-told2) .given .1) ((c .before .before .successors) .ensures)
+
+pub lay-spec : {M : Type 1} → statement M
+lay-spec =
+    tie.close
+    (tie.spec
+    enum-told
+    predecessors-requires
+    enum-told-2
+    successors-requires
+    same-length
+    returns
+    same-length-2
+    returns-2)

@@ -1,0 +1,46 @@
+-- `area_flow::turn_rows` meets its contract: the rows cleared, then turned twice.
+use Rattle.area_flow.proofs.BlockRows.{flows-turnable, arrives-turnable, blocked}
+use native.Mathlib.Omega.{arith}
+use Prim.Native.Nat.{ℕ, suc, _+_, _-_, _*_, _≤_, _<_}
+use mathlib.Core.Path.{_≡_, refl, sym, ap, _∙_}
+use lib.ListN.{length, take, drop, getD, set, length-set}
+use borrow.Author.Needs.{needs}
+use Rattle.area_flow.proofs.turn_rows.Statement.{statement}
+use Rattle.area_flow.proofs.turn_rows.Tie as tie
+
+add-arriving : tie.Need-add-arriving
+add-arriving c = search needs
+
+add-arriving-2 : tie.Need-add-arriving-2
+add-arriving-2 c = search needs
+
+mul-fill : tie.Need-mul-fill
+mul-fill c = search needs
+
+fill-requires : tie.Need-fill-requires
+fill-requires c κs = search needs
+
+by-local-requires : tie.Need-by-local-requires
+by-local-requires c κs = flows-turnable ((c .before .before .before .before .before .before .before .before .args) .g) ((c .before .before .before .before .before .before .before .before .args) .n) ((c .before .before .before .before .before .before .before .before .pre)) ((c .before .before .before .fill) .ensures)
+
+by-local-requires-2 : tie.Need-by-local-requires-2
+by-local-requires-2 c κs = arrives-turnable ((c .before .before .before .before .before .before .before .before .before .before .before .before .args) .g) ((c .before .before .before .before .before .before .before .before .before .before .before .before .args) .n) ((c .before .before .before .before .before .before .before .before .before .before .before .before .pre)) ((c .before .before .before .before .before .before .before .fill) .ensures) ((c .before .before .before .by-local) .ensures)
+
+same-length : tie.Need-same-length
+same-length c = search needs
+
+returns : tie.Need-returns
+returns c = blocked ((c .before .before .before .before .before .before .before .before .before .before .before .before .before .before .before .args) .g) ((c .before .before .before .before .before .before .before .before .before .before .before .before .before .before .before .args) .n) ((c .before .before .before .before .before .before .before .before .before .before .before .before .before .before .before .pre)) ((c .before .before .before .before .before .before .before .before .before .before .fill) .ensures) ((c .before .before .before .before .before .before .by-local) .ensures) ((c .before .before .by-local2) .ensures)
+
+pub turn-rows-spec : {M : Type 1} → statement M
+turn-rows-spec =
+    tie.close
+    (tie.spec
+    add-arriving
+    add-arriving-2
+    mul-fill
+    fill-requires
+    by-local-requires
+    by-local-requires-2
+    same-length
+    returns)

@@ -1,0 +1,145 @@
+// From the marks of the locals to the rows of their areas: what flows over predecessors and successors, what arrives, and the blocks of each local.
+ghost use mathlib.Core.Path.{_≡_};
+ghost use Prim.Native.Nat.{ℕ, _+_, _*_, _/_, _≤_, _<_};
+ghost use lib.ListN.{length};
+ghost use Rattle.refusals.specs.declared.Verdict.the-variants.{Fine};
+ghost use Rattle.graph.specs.Line.{blocksOf, jumpsOf, edgeVerdict, Sound};
+ghost use Rattle.graph.specs.Work.{Neighbours};
+ghost use Rattle.components.specs.Entry.{edgesIn};
+ghost use Rattle.flow.specs.Entry.{wayOf};
+ghost use Rattle.area_flow.specs.Grid.{Laid, Quiet, Linked, FlowedOver, ArrivedAt, Flowing, Still, Blocked, AreaRows};
+use area_rows::Turn;
+use flow::Flow;
+use flow::Over;
+use spread::Layout;
+
+// Where the rows of n places stand in the work space: edge columns and edge rows from `base` on, Tarjan's arrays from `tarjan` on; rows of `words` words, a bit a local,
+// that are touched, left and passed, what is written and read, what waits and arrives; rows of `width` words, a bit a place, of `locals` locals from `to` on.
+pub struct Grid {
+    pub words: usize,
+    pub locals: usize,
+    pub width: usize,
+    pub base: usize,
+    pub tarjan: usize,
+    pub touched: usize,
+    pub leaves: usize,
+    pub passes: usize,
+    pub written: usize,
+    pub read: usize,
+    pub wait: usize,
+    pub to: usize,
+}
+
+// The rows of the edges that are followed.
+fn lay(over: Over, blocks: &[u32], edges: &[u32], work: &mut [u64], base: usize)
+    requires { ⌜ Sound (blocksOf (now blocks)) × (edgeVerdict (blocksOf (now blocks)) (jumpsOf (now edges)) ≡ Fine) ⌝ }
+    requires { ⌜ base + length (now edges) / 2 + length (now edges) / 2 + (length (now blocks) / 3 + 1 + length (now edges) / 2) ≤ length (now work) ⌝ }
+    ensures { λ _. ⌜ Neighbours (wayOf over (edgesIn (now (blocks .entry)) (now (edges .entry)))) (length (now (blocks .entry)) / 3) (length (now (edges .entry)) / 2) base (now (work .entry)) (now (work .exit)) ⌝ }
+{
+    match over {
+        Over::Predecessors => graph::rows::predecessors(blocks, edges, work, base),
+        Over::Successors => graph::rows::successors(blocks, edges, work, base),
+    }
+}
+
+// `flowed` of the touched rows, into the rows from `out` on.
+fn flow_over(over: Over, blocks: &[u32], edges: &[u32], work: &mut [u64], g: Grid, out: usize)
+    requires { ⌜ Sound (blocksOf (now blocks)) × (edgeVerdict (blocksOf (now blocks)) (jumpsOf (now edges)) ≡ Fine) × Laid g (length (now blocks) / 3) (length (now edges) / 2) (now work) ⌝ }
+    requires { ⌜ (g .touched + length (now blocks) / 3 * g .words ≤ out) × (out + length (now blocks) / 3 * g .words ≤ length (now work)) ⌝ }
+    ensures { λ _. ⌜ FlowedOver over (edgesIn (now (blocks .entry)) (now (edges .entry))) g (length (now (blocks .entry)) / 3) (length (now (edges .entry)) / 2) out (now (work .entry)) (now (work .exit)) ⌝ }
+{
+    let n = blocks.len() / 3;
+    let e = edges.len() / 2;
+    let at = g.base + e + e;
+    lay(over, blocks, edges, work, g.base);
+    components::tarjan::components(work, n, at, g.tarjan);
+    flow::rows::flowed(
+        work,
+        Flow {
+            n: n,
+            at: at,
+            base: g.tarjan,
+            words: g.words,
+            touched: g.touched,
+            out: out,
+        },
+    );
+}
+
+// `spread` of the leaving and passing rows, in the components' order backwards.
+fn arrive(work: &mut [u64], g: Grid, n: usize, e: usize)
+    requires { ⌜ Laid g n e (now work) × Linked g n e (now work) ⌝ }
+    ensures { λ _. ⌜ ArrivedAt g n e (now (work .entry)) (now (work .exit)) ⌝ }
+{
+    let order = g.tarjan;
+    let at = g.base + e + e;
+    spread::order::backwards(work, n, order + n + n + n + n + n, order);
+    spread::rows::spread(
+        work,
+        Layout {
+            n: n,
+            at: at,
+            order: order,
+            rank: order + n,
+            words: g.words,
+            leaves: g.leaves,
+            passes: g.passes,
+            wait: g.wait,
+        },
+    );
+}
+
+// What is written above each place, what is read below it, and what arrives.
+fn flow_rows(blocks: &[u32], edges: &[u32], work: &mut [u64], g: Grid)
+    requires { ⌜ Sound (blocksOf (now blocks)) × (edgeVerdict (blocksOf (now blocks)) (jumpsOf (now edges)) ≡ Fine) × Laid g (length (now blocks) / 3) (length (now edges) / 2) (now work) ⌝ }
+    ensures { λ _. ⌜ Flowing (edgesIn (now (blocks .entry)) (now (edges .entry))) g (length (now (blocks .entry)) / 3) (now (work .entry)) (now (work .exit)) ⌝ }
+{
+    let n = blocks.len() / 3;
+    let e = edges.len() / 2;
+    flow_over(Over::Predecessors, blocks, edges, work, g, g.written);
+    flow_over(Over::Successors, blocks, edges, work, g, g.read);
+    arrive(work, g, n, e);
+}
+
+// The blocks of each local: those where it is both written and read, and those where it arrives.
+fn turn_rows(work: &mut [u64], g: Grid, n: usize)
+    requires { ⌜ Still g n (now work) ⌝ }
+    ensures { λ _. ⌜ Blocked g n (now (work .entry)) (now (work .exit)) ⌝ }
+{
+    let arriving = g.wait + (n / 64 + 1);
+    words::fill(work, g.to, g.locals * g.width, 0);
+    area_rows::locals::by_local(
+        work,
+        Turn {
+            n: n,
+            words: g.words,
+            one: g.written,
+            two: g.read,
+            locals: g.locals,
+            width: g.width,
+            to: g.to,
+        },
+    );
+    area_rows::locals::by_local(
+        work,
+        Turn {
+            n: n,
+            words: g.words,
+            one: arriving,
+            two: arriving,
+            locals: g.locals,
+            width: g.width,
+            to: g.to,
+        },
+    );
+}
+
+// From the touched, leaving and passing rows to what is written, read and arrives at each place, and to the blocks of each local.
+pub fn area_rows(blocks: &[u32], edges: &[u32], work: &mut [u64], g: Grid)
+    requires { ⌜ Sound (blocksOf (now blocks)) × (edgeVerdict (blocksOf (now blocks)) (jumpsOf (now edges)) ≡ Fine) × Laid g (length (now blocks) / 3) (length (now edges) / 2) (now work) ⌝ }
+    requires { ⌜ Quiet g (length (now blocks) / 3) (now work) ⌝ }
+    ensures { λ _. ⌜ AreaRows (edgesIn (now (blocks .entry)) (now (edges .entry))) g (length (now (blocks .entry)) / 3) (now (work .entry)) (now (work .exit)) ⌝ }
+{
+    flow_rows(blocks, edges, work, g);
+    turn_rows(work, g, blocks.len() / 3);
+}
