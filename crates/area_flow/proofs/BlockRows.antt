@@ -1,14 +1,14 @@
 -- Laws of the blocks of each local: the rows turned, and what they say of plain and of ending locals.
-use Prim.Native.Nat.{ℕ, zero, suc, _+_, _-_, _*_, _/_, _%_, _≤_, _<_}
+use Prim.Native.Nat.{ℕ, _+_, _*_, _/_, _%_, _≤_, _<_}
 use native.Mathlib.Omega.{arith}
-use mathlib.Core.Path.{_≡_, refl, sym, ap, _∙_, subst}
-use mathlib.Core.Logic.{_⊎_, inl, inr, ⊎-elim, _↔_}
+use mathlib.Core.Path.{_≡_, refl, sym, ap, _∙_}
+use mathlib.Core.Logic.{_⊎_, inl, inr, ⊎-elim}
 use mathlib.Core.Bool.{Bool, true, false, _&&_, _||_}
 use mathlib.Core.List.{List}
 use lib.ListN.{length, getD}
 use Rattle.words.specs.Regions.{Region}
 use Rattle.words.proofs.RegionLaws.{row-before}
-use Rattle.bits.specs.Bits.{bit, bitOf}
+use Rattle.bits.specs.Bits.{bitOf}
 use Rattle.bits.proofs.DigitLaws.{bit-zero}
 use Rattle.graph.specs.Paths.{Edge, Between, Route, one, more}
 use Rattle.graph.specs.Flow.{Arrives, left, passed}
@@ -23,9 +23,9 @@ use Rattle.ranges.specs.declared.Range.{Range}
 use Rattle.areas.specs.Blocks.{Graph, touched, leaves, passes}
 use Rattle.areas.specs.Pieces.{beforeRow, afterRow, arrivesRow}
 use Rattle.area_rows.specs.declared.Turn.{Turn}
-use Rattle.area_rows.specs.Turns.{both, Turnable, Turned}
+use Rattle.area_rows.specs.Turns.{Turnable, Turned}
 use Rattle.area_flow.specs.declared.Grid.{Grid}
-use Rattle.area_flow.specs.Grid.{rowBit, arriving, blockBit, Laid, Quiet, Outside, AreaRows, Flowing, Still, Blocked}
+use Rattle.area_flow.specs.Grid.{rowBit, arriving, blockBit, Laid, Quiet, AreaRows, Flowing, Still, Blocked}
 use Rattle.area_flow.proofs.FlowLaws.{both-ways}
 
 -- ---- turning

@@ -1,25 +1,23 @@
 -- Laws of the rows of the areas: each engine in the one work space, and the three of them one after another.
-use Prim.Native.Nat.{ℕ, zero, suc, _+_, _-_, _*_, _/_, _%_, _≤_, _<_}
+use Prim.Native.Nat.{ℕ, _+_, _-_, _*_, _/_, _%_, _≤_, _<_}
 use native.Mathlib.Omega.{arith}
-use mathlib.Core.Path.{_≡_, refl, sym, ap, _∙_, subst}
-use mathlib.Core.Logic.{_≢_, _⊎_, inl, inr, ⊎-elim, _↔_}
-use mathlib.Core.Bool.{Bool, true, false, _&&_, _||_}
+use mathlib.Core.Path.{_≡_, refl, sym, ap, _∙_}
+use mathlib.Core.Logic.{_⊎_, inl, inr, ⊎-elim, _↔_}
+use mathlib.Core.Bool.{Bool, true, false}
 use mathlib.Core.List.{List}
 use lib.ListN.{length, getD}
-use Rattle.words.proofs.Points.{cut}
 use Rattle.words.proofs.RegionLaws.{row-before}
 use Rattle.bits.specs.Bits.{bit, bitOf}
 use Rattle.graph.specs.Paths.{Edge, Between}
-use Rattle.graph.specs.Flow.{Arrives, Reached, Reaching}
-use Rattle.graph.specs.Rounds.{reachedRow, reachingRow, arrivingRow}
-use Rattle.graph.specs.Work.{Within, EdgeRows, Neighbours}
+use Rattle.graph.specs.Flow.{Reaching}
+use Rattle.graph.specs.Work.{EdgeRows, Neighbours}
 use Rattle.graph.proofs.RoundLaws.{reached, reaching}
 use Rattle.graph.proofs.RoundLaws.{arriving as arriving-row}
-use Rattle.components.specs.Components.{InOrder, Walkable, Found}
+use Rattle.components.specs.Components.{Walkable, Found}
 use Rattle.flow.specs.declared.Flow.{Flow}
 use Rattle.flow.specs.declared.Over.{Over}
 use Rattle.flow.specs.declared.Over.the-variants.{Predecessors, Successors}
-use Rattle.flow.specs.Flowed.{which, order, touchedBit, outBit, Flowed}
+use Rattle.flow.specs.Flowed.{order, Flowed}
 use Rattle.flow.specs.Flowed.{Laid as FlowLaid}
 use Rattle.flow.specs.Entry.{FlowsTo, wayOf}
 use Rattle.flow.proofs.Routes.{reached-turned}
@@ -30,7 +28,7 @@ use Rattle.spread.specs.Spread.{Arrived}
 use Rattle.spread.specs.Spread.{Laid as SpreadLaid}
 use Rattle.spread.proofs.Turns.{arrives-as}
 use Rattle.area_flow.specs.declared.Grid.{Grid}
-use Rattle.area_flow.specs.Grid.{rowBit, arriving, blockBit, Laid, Quiet, Outside, AreaRows, Linked, FlowedOver, ArrivedAt, Flowing}
+use Rattle.area_flow.specs.Grid.{rowBit, arriving, Laid, Outside, Linked, FlowedOver, ArrivedAt, Flowing}
 
 -- two tests that hold together are one
 pub both-ways : {A : Type 0} (s t : Bool) → (s ≡ true) ↔ A → (t ≡ true) ↔ A → s ≡ t

@@ -1,2 +1,3 @@
 pub mod FlowLaws
 pub mod BlockRows
+pub mod ClearLaws

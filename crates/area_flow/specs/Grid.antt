@@ -42,6 +42,13 @@ pub record Laid (g : Grid) (n e : ℕ) (w : List ℕ) : Type 0 where
   pub wide : n ≤ g .width * 64
   pub long : g .locals ≤ g .words * 64
 
+-- no place is touched or left, each is passed
+pub record Unmarked (g : Grid) (n : ℕ) (w₀ w : List ℕ) : Type 0 where
+  pub kept : Within (g .touched) (g .passes + n * g .words) w₀ w
+  pub touched : (k l : ℕ) → k < n → l < g .words * 64 → rowBit g (g .touched) w k l ≡ false
+  pub leaves : (k l : ℕ) → k < n → l < g .words * 64 → rowBit g (g .leaves) w k l ≡ false
+  pub passes : (k l : ℕ) → k < n → l < g .words * 64 → rowBit g (g .passes) w k l ≡ true
+
 -- no place is touched or left by a bit that is no local's
 pub record Quiet (g : Grid) (n : ℕ) (w : List ℕ) : Type 0 where
   pub touched : (k l : ℕ) → k < n → g .locals ≤ l → l < g .words * 64 → rowBit g (g .touched) w k l ≡ false

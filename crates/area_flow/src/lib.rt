@@ -1,13 +1,13 @@
 // From the marks of the locals to the rows of their areas: what flows over predecessors and successors, what arrives, and the blocks of each local.
 ghost use mathlib.Core.Path.{_≡_};
-ghost use Prim.Native.Nat.{ℕ, _+_, _*_, _/_, _≤_, _<_};
+ghost use Prim.Native.Nat.{_+_, _*_, _/_, _≤_};
 ghost use lib.ListN.{length};
 ghost use Rattle.refusals.specs.declared.Verdict.the-variants.{Fine};
 ghost use Rattle.graph.specs.Line.{blocksOf, jumpsOf, edgeVerdict, Sound};
 ghost use Rattle.graph.specs.Work.{Neighbours};
 ghost use Rattle.components.specs.Entry.{edgesIn};
 ghost use Rattle.flow.specs.Entry.{wayOf};
-ghost use Rattle.area_flow.specs.Grid.{Laid, Quiet, Linked, FlowedOver, ArrivedAt, Flowing, Still, Blocked, AreaRows};
+ghost use Rattle.area_flow.specs.Grid.{Laid, Unmarked, Quiet, Linked, FlowedOver, ArrivedAt, Flowing, Still, Blocked, AreaRows};
 use area_rows::Turn;
 use flow::Flow;
 use flow::Over;
@@ -28,6 +28,17 @@ pub struct Grid {
     pub read: usize,
     pub wait: usize,
     pub to: usize,
+}
+
+// The marks before any local: no place is touched or left, each is passed.
+pub fn clear_marks(work: &mut [u64], g: Grid, n: usize)
+    requires { ⌜ (g .touched + n * g .words ≤ g .leaves) × (g .leaves + n * g .words ≤ g .passes) × (g .passes + n * g .words ≤ length (now work)) ⌝ }
+    ensures { λ _. ⌜ Unmarked g n (now (work .entry)) (now (work .exit)) ⌝ }
+{
+    let size = n * g.words;
+    words::fill(work, g.touched, size, 0);
+    words::fill(work, g.leaves, size, 0);
+    words::fill(work, g.passes, size, 0xffff_ffff_ffff_ffff);
 }
 
 // The rows of the edges that are followed.

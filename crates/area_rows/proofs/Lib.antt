@@ -1,3 +1,4 @@
 pub mod PutLaws
 pub mod MarkLaws
 pub mod TurnLaws
+pub mod ColumnLaws

@@ -1,29 +1,29 @@
 -- Laws of the marks: places in a row, each touch in turn, each end in turn, and the definitions that they come to.
-use Prim.Native.Nat.{ℕ, zero, suc, _+_, _-_, _*_, _/_, _%_, _^_, _≤_, _<_, min}
+use Prim.Native.Nat.{ℕ, zero, suc, _+_, _*_, _/_, _%_, _^_, _≤_, _<_, min}
 use native.Mathlib.Omega.{arith}
 use mathlib.Core.Path.{_≡_, refl, sym, ap, _∙_, subst}
-use mathlib.Core.Logic.{_≢_, _⊎_, inl, inr, ⊎-elim}
+use mathlib.Core.Logic.{_⊎_, inl, inr, ⊎-elim}
 use mathlib.Core.Bool.{Bool, true, false, cond, not, _&&_, _||_}
 use mathlib.Core.List.{List, [], _∷_, List·Memᴰ, List·Memᴰ·head, List·Memᴰ·tail}
 use lib.ListN.{length, getD}
 use lib.Dec.{eqb, leb, ltb}
-use borrow.Author.Tests.{leb-true, leb-false, le-leb, lt-leb, eqb-true, eq-eqb}
+use borrow.Author.Tests.{leb-true, le-leb}
 use Rattle.words.specs.Sort.{Rising}
-use Rattle.words.specs.Regions.{part, Kept}
-use Rattle.words.proofs.Points.{cut, same}
+use Rattle.words.specs.Regions.{Kept}
+use Rattle.words.proofs.Points.{same}
 use Rattle.words.proofs.RegionLaws.{kept-part-list}
 use Rattle.ranges.specs.declared.Range.{Range}
 use Rattle.ranges.specs.Points.{range, overlaps}
-use Rattle.ranges.specs.Forms.{unpack, unpacked}
+use Rattle.ranges.specs.Forms.{unpack}
 use Rattle.ranges.proofs.PointLaws.{and-both, or-cases, or-right}
 use Rattle.graph.specs.Paths.{Edge}
-use Rattle.graph.specs.Line.{blocksOf, blockAt, Sound}
+use Rattle.graph.specs.Line.{blocksOf, Sound}
 use Rattle.graph.specs.Work.{Within}
 use Rattle.graph.proofs.Line.{blocks-length, start-is, end-is}
 use Rattle.graph.proofs.RoundLaws.{or-left, and-pair}
 use Rattle.carrying.specs.Lists.{any}
-use Rattle.carrying.proofs.ListLaws.{any-true, any-entry, any-false, false-any}
-use Rattle.areas.specs.Blocks.{Graph, InBlock, top, bottom, whole, holding, blockOf, bounds, between, clip, inverted, touched, until, cover, leaves, passes}
+use Rattle.carrying.proofs.ListLaws.{any-true, any-entry, any-false}
+use Rattle.areas.specs.Blocks.{Graph, InBlock, top, bottom, whole, holding, blockOf, bounds, between, inverted, touched, until, cover, leaves, passes}
 use Rattle.areas.proofs.BlockLaws.{bounds-cases, bounds-first, bounds-last, between-cases, between-test, block-is, block-rises, touched-bound, touched-between}
 use Rattle.spots.specs.declared.Spots.{Spots}
 use Rattle.spots.specs.Spots.{lineOf, touchesAt, endsAt, Held, Stand}

@@ -1,6 +1,6 @@
 // Rows of locals, a row a place, turned into rows of places, a row a local.
 ghost use mathlib.Core.Path.{_≡_};
-ghost use mathlib.Core.Bool.{Bool, true};
+ghost use mathlib.Core.Bool.{true};
 ghost use Prim.Native.Nat.{ℕ, _+_, _*_, _<_};
 ghost use Rattle.bits.specs.Bits.{bitOf};
 ghost use Rattle.area_rows.specs.Marks.{Fits, Put};

@@ -3,13 +3,13 @@ use Prim.Native.Nat.{ℕ, zero, suc, _+_, _-_, _*_, _/_, _%_, _^_, _≤_, _<_, m
 use native.Mathlib.Omega.{arith}
 use mathlib.Core.Path.{_≡_, refl, sym, ap, _∙_, subst}
 use mathlib.Core.Logic.{_⊎_, inl, inr}
-use mathlib.Core.Bool.{Bool, true, false, cond, _||_}
-use mathlib.Core.List.{List, [], _∷_, List·Memᴰ}
+use mathlib.Core.Bool.{Bool, true, false}
+use mathlib.Core.List.{List, [], List·Memᴰ}
 use lib.ListN.{length, getD}
 use lib.Dec.{leb, ltb}
-use borrow.Author.Tests.{leb-true, leb-false, ltb-true, ltb-false, le-leb, lt-leb}
+use borrow.Author.Tests.{ltb-true, ltb-false}
 use Rattle.words.specs.Sort.{Rising}
-use Rattle.words.specs.Rows.{rowCount, field}
+use Rattle.words.specs.Rows.{field}
 use Rattle.words.specs.Search.{Splits}
 use Rattle.words.specs.Regions.{part}
 use Rattle.words.proofs.Points.{cut}
@@ -19,7 +19,6 @@ use Rattle.ranges.specs.declared.Range.{Range}
 use Rattle.ranges.specs.Points.{range}
 use Rattle.ranges.specs.Forms.{unpack, unpacked}
 use Rattle.ranges.proofs.FormLaws.{unpacked-at, unpacked-length}
-use Rattle.ranges.proofs.PointLaws.{or-right}
 use Rattle.graph.specs.Paths.{Edge}
 use Rattle.graph.specs.Line.{blocksOf, blockAt, Sound}
 use Rattle.graph.proofs.Line.{mem-at, at-mem, blocks-length, start-is, end-is}

@@ -1,8 +1,7 @@
 // Where the touches and the ends of one local stand in a work space, and what is looked up for them in the line.
 ghost use mathlib.Core.Path.{_≡_};
-ghost use mathlib.Core.Bool.{Bool};
 ghost use mathlib.Core.List.{List};
-ghost use Prim.Native.Nat.{ℕ, _+_, _*_, _/_, _≤_, _<_, min, max};
+ghost use Prim.Native.Nat.{_+_, _*_, _/_, _≤_, _<_, min, max};
 ghost use lib.ListN.{length, getD};
 ghost use Rattle.words.specs.Sort.{Rising};
 ghost use Rattle.words.specs.Regions.{part};

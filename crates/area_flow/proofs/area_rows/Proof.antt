@@ -1,10 +1,6 @@
 -- `area_flow::area_rows` meets its contract.
 use Rattle.components.specs.Entry.{edgesIn}
 use Rattle.area_flow.proofs.BlockRows.{still, area-rows}
-use native.Mathlib.Omega.{arith}
-use Prim.Native.Nat.{ℕ, suc, _+_, _-_, _*_, _≤_, _<_}
-use mathlib.Core.Path.{_≡_, refl, sym, ap, _∙_}
-use lib.ListN.{length, take, drop, getD, set, length-set}
 use borrow.Author.Needs.{needs}
 use Rattle.area_flow.proofs.area_rows.Statement.{statement}
 use Rattle.area_flow.proofs.area_rows.Tie as tie

@@ -1,9 +1,5 @@
 -- `area_flow::arrive` meets its contract: the order backwards, and then what arrives.
 use Rattle.area_flow.proofs.FlowLaws.{placeable, spread-laid, arrived-at}
-use native.Mathlib.Omega.{arith}
-use Prim.Native.Nat.{ℕ, suc, _+_, _-_, _*_, _≤_, _<_}
-use mathlib.Core.Path.{_≡_, refl, sym, ap, _∙_}
-use lib.ListN.{length, take, drop, getD, set, length-set}
 use borrow.Author.Needs.{needs}
 use Rattle.area_flow.proofs.arrive.Statement.{statement}
 use Rattle.area_flow.proofs.arrive.Tie as tie

@@ -2,9 +2,6 @@
 use Rattle.components.specs.Entry.{edgesIn}
 use Rattle.area_flow.proofs.FlowLaws.{walkable, flow-laid, flowed-over}
 use native.Mathlib.Omega.{arith}
-use Prim.Native.Nat.{ℕ, suc, _+_, _-_, _*_, _≤_, _<_}
-use mathlib.Core.Path.{_≡_, refl, sym, ap, _∙_}
-use lib.ListN.{length, take, drop, getD, set, length-set}
 use borrow.Author.Needs.{needs}
 use Rattle.area_flow.proofs.flow_over.Statement.{statement}
 use Rattle.area_flow.proofs.flow_over.Tie as tie

@@ -2,9 +2,7 @@
 use Rattle.components.specs.Entry.{edgesIn}
 use Rattle.area_flow.proofs.FlowLaws.{laid-kept, linked, flowing}
 use native.Mathlib.Omega.{arith}
-use Prim.Native.Nat.{ℕ, suc, _+_, _-_, _*_, _≤_, _<_}
-use mathlib.Core.Path.{_≡_, refl, sym, ap, _∙_}
-use lib.ListN.{length, take, drop, getD, set, length-set}
+use mathlib.Core.Path.{_∙_}
 use borrow.Author.Needs.{needs}
 use Rattle.area_flow.proofs.flow_rows.Statement.{statement}
 use Rattle.area_flow.proofs.flow_rows.Tie as tie

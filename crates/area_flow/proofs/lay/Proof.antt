@@ -1,8 +1,4 @@
 -- `area_flow::lay` meets its contract.
-use native.Mathlib.Omega.{arith}
-use Prim.Native.Nat.{ℕ, suc, _+_, _-_, _*_, _≤_, _<_}
-use mathlib.Core.Path.{_≡_, refl, sym, ap, _∙_}
-use lib.ListN.{length, take, drop, getD, set, length-set}
 use borrow.Author.Needs.{needs}
 use Rattle.area_flow.proofs.lay.Statement.{statement}
 use Rattle.area_flow.proofs.lay.Tie as tie

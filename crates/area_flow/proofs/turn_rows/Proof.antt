@@ -1,9 +1,5 @@
 -- `area_flow::turn_rows` meets its contract: the rows cleared, then turned twice.
 use Rattle.area_flow.proofs.BlockRows.{flows-turnable, arrives-turnable, blocked}
-use native.Mathlib.Omega.{arith}
-use Prim.Native.Nat.{ℕ, suc, _+_, _-_, _*_, _≤_, _<_}
-use mathlib.Core.Path.{_≡_, refl, sym, ap, _∙_}
-use lib.ListN.{length, take, drop, getD, set, length-set}
 use borrow.Author.Needs.{needs}
 use Rattle.area_flow.proofs.turn_rows.Statement.{statement}
 use Rattle.area_flow.proofs.turn_rows.Tie as tie

@@ -1,9 +1,5 @@
 -- `spots::clip_reversed` meets its contract.
 use Rattle.spots.proofs.SpotLaws.{clip-is}
-use native.Mathlib.Omega.{arith}
-use Prim.Native.Nat.{ℕ, suc, _+_, _-_, _*_, _≤_, _<_}
-use mathlib.Core.Path.{_≡_, refl, sym, ap, _∙_}
-use lib.ListN.{length, take, drop, getD, set, length-set}
 use borrow.Author.Needs.{needs}
 use Rattle.spots.proofs.clip_reversed.Statement.{statement}
 use Rattle.spots.proofs.clip_reversed.Tie as tie

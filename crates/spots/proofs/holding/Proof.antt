@@ -1,9 +1,6 @@
 -- `spots::holding` meets its contract: the block is the last of those that start no later.
 use Rattle.spots.proofs.SpotLaws.{starts-rise, held}
 use native.Mathlib.Omega.{arith}
-use Prim.Native.Nat.{ℕ, suc, _+_, _-_, _*_, _≤_, _<_}
-use mathlib.Core.Path.{_≡_, refl, sym, ap, _∙_}
-use lib.ListN.{length, take, drop, getD, set, length-set}
 use borrow.Author.Needs.{needs}
 use Rattle.spots.proofs.holding.Statement.{statement}
 use Rattle.spots.proofs.holding.Tie as tie

@@ -2,10 +2,7 @@
 use Rattle.spots.specs.Spots.{lineOf}
 use Rattle.ranges.specs.Points.{range}
 use Rattle.spots.proofs.SpotLaws.{inverted-first, inverted-last}
-use native.Mathlib.Omega.{arith}
-use Prim.Native.Nat.{ℕ, suc, _+_, _-_, _*_, _≤_, _<_}
-use mathlib.Core.Path.{_≡_, refl, sym, ap, _∙_}
-use lib.ListN.{length, take, drop, getD, set, length-set}
+use mathlib.Core.Path.{sym, _∙_}
 use borrow.Author.Needs.{needs}
 use Rattle.spots.proofs.inverted.Statement.{statement}
 use Rattle.spots.proofs.inverted.Tie as tie

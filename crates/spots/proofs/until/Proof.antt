@@ -1,9 +1,6 @@
 -- `spots::until` meets its contract: a law for each way out.
 use Rattle.spots.proofs.SpotLaws.{until-none, until-past, until-at}
 use native.Mathlib.Omega.{arith}
-use Prim.Native.Nat.{ℕ, suc, _+_, _-_, _*_, _≤_, _<_}
-use mathlib.Core.Path.{_≡_, refl, sym, ap, _∙_}
-use lib.ListN.{length, take, drop, getD, set, length-set}
 use borrow.Author.Needs.{needs}
 use Rattle.spots.proofs.until.Statement.{statement}
 use Rattle.spots.proofs.until.Tie as tie

@@ -1,10 +1,7 @@
 -- `area_rows::locals::by_local` meets its contract: the places before k are turned.
 use Rattle.area_rows.proofs.TurnLaws.{Turning, turn-start, turn-ready, turn-more, turn-done}
 use native.Mathlib.Omega.{arith}
-use Prim.Native.Nat.{ℕ, suc, _+_, _-_, _*_, _≤_, _<_}
-use mathlib.Core.Path.{_≡_, refl, sym, ap, _∙_}
-use lib.ListN.{length, take, drop, getD, set, length-set}
-use borrow.Author.Needs.{needs}
+use Prim.Native.Nat.{_-_}
 use Rattle.area_rows.proofs.locals.by_local.Statement.{statement}
 use Rattle.area_rows.proofs.locals.by_local.Tie as tie
 

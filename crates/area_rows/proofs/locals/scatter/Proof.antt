@@ -1,10 +1,7 @@
 -- `area_rows::locals::scatter` meets its contract: the bits that are not left are set.
 use Rattle.area_rows.proofs.TurnLaws.{Scattering, scatter-start, scatter-more, scatter-done}
 use native.Mathlib.Omega.{arith}
-use Prim.Native.Nat.{ℕ, suc, _+_, _-_, _*_, _≤_, _<_}
-use mathlib.Core.Path.{_≡_, refl, sym, ap, _∙_}
-use lib.ListN.{length, take, drop, getD, set, length-set}
-use borrow.Author.Needs.{needs}
+use lib.ListN.{set}
 use Rattle.area_rows.proofs.locals.scatter.Statement.{statement}
 use Rattle.area_rows.proofs.locals.scatter.Tie as tie
 

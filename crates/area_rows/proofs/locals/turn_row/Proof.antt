@@ -2,10 +2,8 @@
 use Rattle.words.proofs.RegionLaws.{row-before}
 use Rattle.area_rows.proofs.TurnLaws.{Rowing, row-start, row-fits, row-in, row-word, row-more, row-done}
 use native.Mathlib.Omega.{arith}
-use Prim.Native.Nat.{ℕ, suc, _+_, _-_, _*_, _≤_, _<_}
-use mathlib.Core.Path.{_≡_, refl, sym, ap, _∙_}
-use lib.ListN.{length, take, drop, getD, set, length-set}
-use borrow.Author.Needs.{needs}
+use Prim.Native.Nat.{_-_}
+use mathlib.Core.Path.{refl}
 use Rattle.area_rows.proofs.locals.turn_row.Statement.{statement}
 use Rattle.area_rows.proofs.locals.turn_row.Tie as tie
 

@@ -1,10 +1,6 @@
 -- `area_rows::marks::covers_bottom` meets its contract.
 use Rattle.spots.specs.Spots.{endsAt}
 use Rattle.area_rows.proofs.MarkLaws.{covers-is}
-use native.Mathlib.Omega.{arith}
-use Prim.Native.Nat.{ℕ, suc, _+_, _-_, _*_, _≤_, _<_}
-use mathlib.Core.Path.{_≡_, refl, sym, ap, _∙_}
-use lib.ListN.{length, take, drop, getD, set, length-set}
 use borrow.Author.Needs.{needs}
 use Rattle.area_rows.proofs.marks.covers_bottom.Statement.{statement}
 use Rattle.area_rows.proofs.marks.covers_bottom.Tie as tie

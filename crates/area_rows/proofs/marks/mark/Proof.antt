@@ -1,9 +1,7 @@
 -- `area_rows::marks::mark` meets its contract.
 use Rattle.area_rows.proofs.PutLaws.{word-in, put-one}
 use native.Mathlib.Omega.{arith}
-use Prim.Native.Nat.{ℕ, suc, _+_, _-_, _*_, _≤_, _<_}
-use mathlib.Core.Path.{_≡_, refl, sym, ap, _∙_}
-use lib.ListN.{length, take, drop, getD, set, length-set}
+use lib.ListN.{set}
 use borrow.Author.Needs.{needs}
 use Rattle.area_rows.proofs.marks.mark.Statement.{statement}
 use Rattle.area_rows.proofs.marks.mark.Tie as tie

@@ -2,9 +2,8 @@
 use mathlib.Core.Bool.{true}
 use Rattle.area_rows.proofs.PutLaws.{put-as, put-none}
 use native.Mathlib.Omega.{arith}
-use Prim.Native.Nat.{ℕ, suc, _+_, _-_, _*_, _≤_, _<_}
-use mathlib.Core.Path.{_≡_, refl, sym, ap, _∙_}
-use lib.ListN.{length, take, drop, getD, set, length-set}
+use Prim.Native.Nat.{ℕ}
+use mathlib.Core.Path.{_≡_}
 use borrow.Author.Needs.{needs}
 use Rattle.area_rows.proofs.marks.mark_if.Statement.{statement}
 use Rattle.area_rows.proofs.marks.mark_if.Tie as tie

@@ -5,9 +5,6 @@ use mathlib.Core.List.{[]}
 use Rattle.area_rows.proofs.PutLaws.{put-fits}
 use Rattle.area_rows.proofs.MarkLaws.{leave-touch}
 use native.Mathlib.Omega.{arith}
-use Prim.Native.Nat.{ℕ, suc, _+_, _-_, _*_, _≤_, _<_}
-use mathlib.Core.Path.{_≡_, refl, sym, ap, _∙_}
-use lib.ListN.{length, take, drop, getD, set, length-set}
 use borrow.Author.Needs.{needs}
 use Rattle.area_rows.proofs.marks.mark_leave.Statement.{statement}
 use Rattle.area_rows.proofs.marks.mark_leave.Tie as tie

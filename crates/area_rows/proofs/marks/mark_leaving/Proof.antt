@@ -5,10 +5,8 @@ use Rattle.spots.specs.Spots.{lineOf, endsAt}
 use mathlib.Core.List.{[]}
 use Rattle.area_rows.proofs.MarkLaws.{Sweeping, sweep-start, sweep-more, sweep-done, still-stand, leave-as, leaves-done}
 use native.Mathlib.Omega.{arith}
-use Prim.Native.Nat.{ℕ, suc, _+_, _-_, _*_, _≤_, _<_}
-use mathlib.Core.Path.{_≡_, refl, sym, ap, _∙_}
-use lib.ListN.{length, take, drop, getD, set, length-set}
-use borrow.Author.Needs.{needs}
+use Prim.Native.Nat.{_-_}
+use mathlib.Core.Path.{_≡_}
 use Rattle.area_rows.proofs.marks.mark_leaving.Statement.{statement}
 use Rattle.area_rows.proofs.marks.mark_leaving.Tie as tie
 

@@ -1,10 +1,8 @@
 -- `area_rows::marks::mark_passing` meets its contract: the ends before i are marked.
 use Rattle.area_rows.proofs.MarkLaws.{Ending, ending-start, ending-hit, ending-miss, ending-done}
 use native.Mathlib.Omega.{arith}
-use Prim.Native.Nat.{ℕ, suc, _+_, _-_, _*_, _≤_, _<_}
-use mathlib.Core.Path.{_≡_, refl, sym, ap, _∙_}
-use lib.ListN.{length, take, drop, getD, set, length-set}
-use borrow.Author.Needs.{needs}
+use Prim.Native.Nat.{_-_}
+use mathlib.Core.Path.{_≡_}
 use Rattle.area_rows.proofs.marks.mark_passing.Statement.{statement}
 use Rattle.area_rows.proofs.marks.mark_passing.Tie as tie
 

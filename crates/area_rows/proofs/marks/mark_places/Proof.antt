@@ -1,10 +1,7 @@
 -- `area_rows::marks::mark_places` meets its contract: the places before k are marked.
 use Rattle.area_rows.proofs.MarkLaws.{Placing, places-start, places-more, places-done}
 use native.Mathlib.Omega.{arith}
-use Prim.Native.Nat.{ℕ, suc, _+_, _-_, _*_, _≤_, _<_}
-use mathlib.Core.Path.{_≡_, refl, sym, ap, _∙_}
-use lib.ListN.{length, take, drop, getD, set, length-set}
-use borrow.Author.Needs.{needs}
+use Prim.Native.Nat.{_-_}
 use Rattle.area_rows.proofs.marks.mark_places.Statement.{statement}
 use Rattle.area_rows.proofs.marks.mark_places.Tie as tie
 

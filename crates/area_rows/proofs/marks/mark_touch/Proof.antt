@@ -4,9 +4,6 @@ use Rattle.ranges.specs.Points.{range}
 use mathlib.Core.List.{[]}
 use Rattle.area_rows.proofs.MarkLaws.{touch-spans}
 use native.Mathlib.Omega.{arith}
-use Prim.Native.Nat.{ℕ, suc, _+_, _-_, _*_, _≤_, _<_}
-use mathlib.Core.Path.{_≡_, refl, sym, ap, _∙_}
-use lib.ListN.{length, take, drop, getD, set, length-set}
 use borrow.Author.Needs.{needs}
 use Rattle.area_rows.proofs.marks.mark_touch.Statement.{statement}
 use Rattle.area_rows.proofs.marks.mark_touch.Tie as tie

@@ -1,13 +1,11 @@
 -- `area_rows::marks::mark_touched` meets its contract: the touches before i are marked.
 use Rattle.area_rows.specs.Marks.{spans}
-use Rattle.spots.specs.Spots.{lineOf, endsAt}
+use Rattle.spots.specs.Spots.{lineOf}
 use mathlib.Core.List.{[]}
 use Rattle.area_rows.proofs.MarkLaws.{Sweeping, sweep-start, sweep-more, sweep-done, touched-done}
 use native.Mathlib.Omega.{arith}
-use Prim.Native.Nat.{ℕ, suc, _+_, _-_, _*_, _≤_, _<_}
-use mathlib.Core.Path.{_≡_, refl, sym, ap, _∙_}
-use lib.ListN.{length, take, drop, getD, set, length-set}
-use borrow.Author.Needs.{needs}
+use Prim.Native.Nat.{_-_}
+use mathlib.Core.Path.{_≡_}
 use Rattle.area_rows.proofs.marks.mark_touched.Statement.{statement}
 use Rattle.area_rows.proofs.marks.mark_touched.Tie as tie
 

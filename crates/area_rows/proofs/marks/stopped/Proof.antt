@@ -1,9 +1,6 @@
 -- `area_rows::marks::stopped` meets its contract: a law for each way out.
 use Rattle.area_rows.proofs.MarkLaws.{stopped-far, stopped-before, stopped-after, stopped-in}
 use native.Mathlib.Omega.{arith}
-use Prim.Native.Nat.{ℕ, suc, _+_, _-_, _*_, _≤_, _<_}
-use mathlib.Core.Path.{_≡_, refl, sym, ap, _∙_}
-use lib.ListN.{length, take, drop, getD, set, length-set}
 use borrow.Author.Needs.{needs}
 use Rattle.area_rows.proofs.marks.stopped.Statement.{statement}
 use Rattle.area_rows.proofs.marks.stopped.Tie as tie
