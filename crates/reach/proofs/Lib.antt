@@ -1,1 +1,7 @@
 pub mod OperandLaws
+pub mod UseLaws
+pub mod MarkLaws
+pub mod LeafLaws
+pub mod ScanLaws
+pub mod StepLaws
+pub mod ReadyLaws

@@ -1,1 +1,4 @@
 pub mod Numbers
+pub mod Prepared
+pub mod Scan
+pub mod Steps

@@ -1,0 +1,99 @@
+-- `reach::scan::escapes` meets its contract: only a placed instruction reads.
+use native.Mathlib.Omega.{arith}
+use Prim.Native.Nat.{ℕ, suc, _+_, _-_, _*_, _≤_, _<_}
+use mathlib.Core.Path.{_≡_, refl, sym, ap, _∙_}
+use lib.ListN.{length, take, drop, getD, set, length-set}
+use borrow.Author.Needs.{needs}
+use Rattle.words.specs.Rows.{field}
+use Rattle.insts.specs.Rows.{operandsFrom}
+use Rattle.carrying.specs.Insts.{defOf}
+use Rattle.reach.specs.Scan.{escapesIn, handsIn, rowOf, strayReader}
+use Rattle.reach.proofs.ScanLaws.{unplaced-stray, placed-stray, unplaced-lea, other-lea, no-memory, placed-lea, marked-none, marked-same, none-number, some-number, hand-none, hand-stuck, hand-linked, added, scan-start, scan-more}
+use Prim.Native.Nat.{_/_}
+use Rattle.reach.proofs.scan.escapes.Statement.{statement}
+use Rattle.reach.proofs.scan.escapes.Tie as tie
+
+mul-at : tie.Need-mul-at
+mul-at c = search needs
+
+mul-if1 : tie.Need-mul-if1
+mul-if1 c = search needs
+
+shared-slice-read-if1 : tie.Need-shared-slice-read-if1
+shared-slice-read-if1 c = search needs
+
+returns : tie.Need-returns
+returns c = marked-none _ _ _ _ (unplaced-stray ((c .before .before .before .before .before .args) .insts .now) ((c .before .before .before .before .before .args) .operands .now) ((c .before .before .before .before .before .args) .i) ((c .before .before .before .before .before .args) .from) (c .if1 .taken))
+
+add-wide : tie.Need-add-wide
+add-wide c = search needs
+
+mul-wide : tie.Need-mul-wide
+mul-wide c = search needs
+
+shared-slice-read-wide : tie.Need-shared-slice-read-wide
+shared-slice-read-wide c = search needs
+
+wide-requires : tie.Need-wide-requires
+wide-requires c κs = search needs
+
+add-escape : tie.Need-add-escape
+add-escape c = search needs
+
+mul-escape : tie.Need-mul-escape
+mul-escape c = search needs
+
+shared-slice-read-escape : tie.Need-shared-slice-read-escape
+shared-slice-read-escape c = search needs
+
+add-escape-2 : tie.Need-add-escape-2
+add-escape-2 c = search needs
+
+mul-escape-2 : tie.Need-mul-escape-2
+mul-escape-2 c = search needs
+
+shared-slice-read-escape-2 : tie.Need-shared-slice-read-escape-2
+shared-slice-read-escape-2 c = search needs
+
+add-escape-3 : tie.Need-add-escape-3
+add-escape-3 c = search needs
+
+mul-escape-3 : tie.Need-mul-escape-3
+mul-escape-3 c = search needs
+
+shared-slice-read-escape-3 : tie.Need-shared-slice-read-escape-3
+shared-slice-read-escape-3 c = search needs
+
+escape-requires : tie.Need-escape-requires
+escape-requires c κs = omega (arith, (c .before .before .before .before .wide) .ensures)
+
+same-length : tie.Need-same-length
+same-length c = (c .before .before .escape) .ensures .kept .len
+
+returns-2 : tie.Need-returns-2
+returns-2 c = marked-same ((c .before .before .escape) .ensures) _ (λ r. ap (λ (k : ℕ). escapesIn (field 9 ((c .before .before .before .before .before .before .before .before .before .before .before .before .before .before .args) .insts .now) ((c .before .before .before .before .before .before .before .before .before .before .before .before .before .before .args) .i) 5) (field 9 ((c .before .before .before .before .before .before .before .before .before .before .before .before .before .before .args) .insts .now) ((c .before .before .before .before .before .before .before .before .before .before .before .before .before .before .args) .i) 6) (field 9 ((c .before .before .before .before .before .before .before .before .before .before .before .before .before .before .args) .insts .now) ((c .before .before .before .before .before .before .before .before .before .before .before .before .before .before .args) .i) 7) (operandsFrom ((c .before .before .before .before .before .before .before .before .before .before .before .before .before .before .args) .operands .now) ((c .before .before .before .before .before .before .before .before .before .before .before .before .before .before .args) .from) k) r) ((c .before .before .before .before .before .before .before .wide) .ensures) ∙ placed-stray ((c .before .before .before .before .before .before .before .before .before .before .before .before .before .before .args) .insts .now) ((c .before .before .before .before .before .before .before .before .before .before .before .before .before .before .args) .operands .now) ((c .before .before .before .before .before .before .before .before .before .before .before .before .before .before .args) .i) ((c .before .before .before .before .before .before .before .before .before .before .before .before .before .before .args) .from) (omega arith) r)
+
+pub escapes-spec : {M : Type 1} → statement M
+escapes-spec =
+    tie.close
+    (tie.spec
+    mul-at
+    mul-if1
+    shared-slice-read-if1
+    returns
+    add-wide
+    mul-wide
+    shared-slice-read-wide
+    wide-requires
+    add-escape
+    mul-escape
+    shared-slice-read-escape
+    add-escape-2
+    mul-escape-2
+    shared-slice-read-escape-2
+    add-escape-3
+    mul-escape-3
+    shared-slice-read-escape-3
+    escape-requires
+    same-length
+    returns-2)

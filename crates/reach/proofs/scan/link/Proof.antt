@@ -1,0 +1,113 @@
+-- `reach::scan::link` meets its contract: of the first p operands the keys were appended.
+use native.Mathlib.Omega.{arith}
+use Prim.Native.Nat.{ℕ, suc, _+_, _-_, _*_, _≤_, _<_}
+use mathlib.Core.Path.{_≡_, refl, sym, ap, _∙_}
+use lib.ListN.{length, take, drop, getD, set, length-set}
+use borrow.Author.Needs.{needs}
+use mathlib.Core.Bool.{not, _&&_}
+use Rattle.insts.specs.Rows.{operandAt, operandsFrom}
+use Rattle.reach.proofs.UseLaws.{handing, handing-reads, reads-handing}
+use Rattle.reach.proofs.MarkLaws.{Linking, link-start, link-skip, link-put, link-done}
+use Rattle.reach.proofs.scan.link.Statement.{statement}
+use Rattle.reach.proofs.scan.link.Tie as tie
+
+abbrev Inv-loop : tie.InvT-loop
+Inv-loop operands from n v base index inst work₀ at count k₀ p₀ work k p = Linking work₀ work at inst count (handing v base index n (λ k. operandAt operands (from + k))) (λ k. operandAt operands (from + k) .register) n k p
+
+abbrev μ-loop : tie.MeasureT-loop
+μ-loop operands from n v base index inst work₀ at count k₀ p₀ work k p = n - p
+
+loop-holds : tie.Need-loop-holds Inv-loop μ-loop
+loop-holds c = link-start _ _ _ _ _ _ _ (omega arith)
+
+handed-requires : tie.Need-handed-requires Inv-loop μ-loop
+handed-requires c κs = omega arith
+
+add-r : tie.Need-add-r Inv-loop μ-loop
+add-r c = omega arith
+
+mul-r : tie.Need-mul-r Inv-loop μ-loop
+mul-r c = omega arith
+
+add-r-2 : tie.Need-add-r-2 Inv-loop μ-loop
+add-r-2 c = omega arith
+
+mul-r-2 : tie.Need-mul-r-2 Inv-loop μ-loop
+mul-r-2 c = omega arith
+
+shared-slice-read-r : tie.Need-shared-slice-read-r Inv-loop μ-loop
+shared-slice-read-r c = omega arith
+
+cast-r : tie.Need-cast-r Inv-loop μ-loop
+cast-r c = let q = handing-reads ((c .before .before .before .before .before .before .before .args) .v) ((c .before .before .before .before .before .before .before .args) .base) ((c .before .before .before .before .before .before .before .args) .index) ((c .before .before .before .before .before .before .before .args) .n) (λ k. operandAt ((c .before .before .before .before .before .before .before .args) .operands .now) ((c .before .before .before .before .before .before .before .args) .from + k)) ((c .before .before .before .before .loop) .p) (omega arith) (sym ((c .before .before .handed) .ensures) ∙ (c .before .if1) .taken) .0 in omega arith
+
+mul-work : tie.Need-mul-work Inv-loop μ-loop
+mul-work c = let q = handing-reads ((c .before .before .before .before .before .before .before .args) .v) ((c .before .before .before .before .before .before .before .args) .base) ((c .before .before .before .before .before .before .before .args) .index) ((c .before .before .before .before .before .before .before .args) .n) (λ k. operandAt ((c .before .before .before .before .before .before .before .args) .operands .now) ((c .before .before .before .before .before .before .before .args) .from + k)) ((c .before .before .before .before .loop) .p) (omega arith) (sym ((c .before .before .handed) .ensures) ∙ (c .before .if1) .taken) .0 in omega arith
+
+add-work : tie.Need-add-work Inv-loop μ-loop
+add-work c = let q = handing-reads ((c .before .before .before .before .before .before .before .args) .v) ((c .before .before .before .before .before .before .before .args) .base) ((c .before .before .before .before .before .before .before .args) .index) ((c .before .before .before .before .before .before .before .args) .n) (λ k. operandAt ((c .before .before .before .before .before .before .before .args) .operands .now) ((c .before .before .before .before .before .before .before .args) .from + k)) ((c .before .before .before .before .loop) .p) (omega arith) (sym ((c .before .before .handed) .ensures) ∙ (c .before .if1) .taken) .0 in omega arith
+
+add-work-2 : tie.Need-add-work-2 Inv-loop μ-loop
+add-work-2 c = omega arith
+
+mul-work-2 : tie.Need-mul-work-2 Inv-loop μ-loop
+mul-work-2 c = omega arith
+
+slice-write-work : tie.Need-slice-write-work Inv-loop μ-loop
+slice-write-work c = omega arith
+
+add-k : tie.Need-add-k Inv-loop μ-loop
+add-k c = omega arith
+
+add-p : tie.Need-add-p Inv-loop μ-loop
+add-p c = omega arith
+
+loop-less : tie.Need-loop-less Inv-loop μ-loop
+loop-less c = omega arith
+
+loop-again : tie.Need-loop-again Inv-loop μ-loop
+loop-again c = link-put ((c .before .before .before .before .loop) .inv) _ _ (omega arith) (sym ((c .before .before .handed) .ensures) ∙ (c .before .if1) .taken) refl refl
+
+add-p-2 : tie.Need-add-p-2 Inv-loop μ-loop
+add-p-2 c = omega arith
+
+loop-less-2 : tie.Need-loop-less-2 Inv-loop μ-loop
+loop-less-2 c = omega arith
+
+loop-again-2 : tie.Need-loop-again-2 Inv-loop μ-loop
+loop-again-2 c = link-skip ((c .before .before .before .loop) .inv) (omega arith) (sym ((c .before .handed) .ensures) ∙ (c .if1) .left)
+
+same-length : tie.Need-same-length Inv-loop μ-loop
+same-length c = (c .before .loop) .inv .kept .len
+
+returns : tie.Need-returns Inv-loop μ-loop
+returns c = link-done ((c .before .loop) .inv) _ _ (omega arith) (handing-reads ((c .before .before .before .before .args) .v) ((c .before .before .before .before .args) .base) ((c .before .before .before .before .args) .index) ((c .before .before .before .before .args) .n) (λ k. operandAt ((c .before .before .before .before .args) .operands .now) ((c .before .before .before .before .args) .from + k))) (reads-handing ((c .before .before .before .before .args) .v) ((c .before .before .before .before .args) .base) ((c .before .before .before .before .args) .index) ((c .before .before .before .before .args) .n) (λ k. operandAt ((c .before .before .before .before .args) .operands .now) ((c .before .before .before .before .args) .from + k)))
+
+pub link-spec : {M : Type 1} → statement M
+link-spec =
+    tie.close
+    (tie.spec
+    Inv-loop
+    μ-loop
+    loop-holds
+    handed-requires
+    add-r
+    mul-r
+    add-r-2
+    mul-r-2
+    shared-slice-read-r
+    cast-r
+    mul-work
+    add-work
+    add-work-2
+    mul-work-2
+    slice-write-work
+    add-k
+    add-p
+    loop-less
+    loop-again
+    add-p-2
+    loop-less-2
+    loop-again-2
+    same-length
+    returns)

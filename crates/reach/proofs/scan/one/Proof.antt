@@ -1,0 +1,75 @@
+-- `reach::scan::one` meets its contract: the def, the registers that escape and the edges, one after another.
+use native.Mathlib.Omega.{arith}
+use Prim.Native.Nat.{ℕ, suc, _+_, _-_, _*_, _≤_, _<_}
+use mathlib.Core.Path.{_≡_, refl, sym, ap, _∙_}
+use lib.ListN.{length, take, drop, getD, set, length-set}
+use borrow.Author.Needs.{needs}
+use Rattle.words.specs.Rows.{field}
+use Rattle.insts.specs.Rows.{operandsFrom}
+use Rattle.carrying.specs.Insts.{defOf}
+use Rattle.reach.specs.Scan.{escapesIn, handsIn, rowOf, strayReader}
+use Rattle.reach.proofs.ScanLaws.{unplaced-stray, placed-stray, unplaced-lea, other-lea, no-memory, placed-lea, marked-none, marked-same, none-number, some-number, hand-none, hand-stuck, hand-linked, added, scan-start, scan-more}
+use Prim.Native.Nat.{_/_}
+use Rattle.reach.proofs.scan.one.Statement.{statement}
+use Rattle.reach.proofs.scan.one.Tie as tie
+
+mul-wide : tie.Need-mul-wide
+mul-wide c = search needs
+
+add-wide : tie.Need-add-wide
+add-wide c = search needs
+
+mul-wide-2 : tie.Need-mul-wide-2
+mul-wide-2 c = search needs
+
+shared-slice-read-wide : tie.Need-shared-slice-read-wide
+shared-slice-read-wide c = search needs
+
+wide-requires : tie.Need-wide-requires
+wide-requires c κs = search needs
+
+def-requires : tie.Need-def-requires
+def-requires c κs = omega (arith, (c .wide) .ensures)
+
+cast-work : tie.Need-cast-work
+cast-work c = search needs
+
+add-work : tie.Need-add-work
+add-work c = search needs
+
+mul-work : tie.Need-mul-work
+mul-work c = search needs
+
+slice-write-work : tie.Need-slice-write-work
+slice-write-work c = search needs
+
+escapes-requires : tie.Need-escapes-requires
+escapes-requires c κs = simp length-set (omega arith)
+
+hand-requires : tie.Need-hand-requires
+hand-requires c κs = (omega arith, (omega (arith, simp length-set at ((c .before .before .before .escapes) .ensures .kept .len)), let z = (c .before .before .before .before .before .before .wide) .ensures in rw z at ((c .before .before .before .before .before .def) .ensures)))
+
+same-length : tie.Need-same-length
+same-length c = (c .before .before .hand) .ensures .len ∙ (c .before .before .before .before .before .before .escapes) .ensures .kept .len ∙ simp length-set
+
+returns : tie.Need-returns
+returns c = let z = (c .before .before .before .before .before .before .before .before .before .wide) .ensures in added ((c .before .before .before .before .before .before .before .before .before .before .before .before .before .before .args) .lay) ((c .before .before .before .before .before .before .before .before .before .before .before .before .before .before .args) .v) _ ((c .before .before .before .before .before .before .before .before .before .before .before .before .before .before .args) .i) _ _ _ refl (rw z at ((c .before .before .before .before .before .before .before .before .def) .ensures)) (omega arith) (omega arith) (omega arith) (omega arith) ((c .before .before .before .before .before .before .escapes) .ensures) ((c .before .before .hand) .ensures)
+
+pub one-spec : {M : Type 1} → statement M
+one-spec =
+    tie.close
+    (tie.spec
+    mul-wide
+    add-wide
+    mul-wide-2
+    shared-slice-read-wide
+    wide-requires
+    def-requires
+    cast-work
+    add-work
+    mul-work
+    slice-write-work
+    escapes-requires
+    hand-requires
+    same-length
+    returns)

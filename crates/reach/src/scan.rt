@@ -1,0 +1,270 @@
+// One pass over the instructions: which registers escape, which are dead, the one def of each instruction, and an edge for each register that an addressed `lea` hands on.
+ghost use mathlib.Core.Path.{_≡_};
+ghost use mathlib.Core.Bool.{not, _&&_};
+ghost use Prim.Native.Nat.{_+_, _*_, _/_, _≤_, _<_};
+ghost use lib.ListN.{length};
+ghost use lib.Dec.{ltb};
+ghost use Rattle.words.specs.Rows.{field};
+ghost use Rattle.carrying.specs.Insts.{instsOf, isSet, addressPosition, eachAddress, defOf};
+ghost use Rattle.insts.specs.Rows.{operandAt, operandsFrom, AddsUp};
+ghost use Rattle.reach.specs.Numbers.{defNumber, addressing};
+ghost use Rattle.reach.specs.Prepared.{wordsOf};
+ghost use Rattle.reach.specs.Scan.{Marked, Linked, escapesIn, handsIn, rowOf, strayReader, Handing, Added, Blank, Scanning};
+use crate::Lay;
+use crate::operands;
+
+fn wide(x: u32) -> usize
+    ensures { λ r. ⌜ r ≡ x ⌝ }
+{
+    x as usize
+}
+
+// Whether operand `i`, at position `p`, uses a numbered register other than as the base or the index.
+fn strays(operands: &[u32], i: usize, p: usize, v: u32, mem: u32, base: u32, index: u32) -> bool
+    requires { ⌜ i < length (now operands) / 2 ⌝ }
+    ensures { λ t. ⌜ t ≡ (not (isSet (operandAt (now (operands .entry)) i .def)) && (ltb (operandAt (now (operands .entry)) i .register) v && not (isSet mem && addressPosition (addressing base index) p))) ⌝ }
+{
+    if operands[2 * i] == 1 {
+        return false;
+    }
+    if v <= operands[2 * i + 1] {
+        return false;
+    }
+    if mem != 1 {
+        return true;
+    }
+    !operands::part(p, base, index)
+}
+
+// Sets the bit of each numbered register that one of `n` operands from `from` on uses other than as the base or the index.
+fn escape(
+    operands: &[u32],
+    from: usize,
+    n: usize,
+    v: u32,
+    mem: u32,
+    base: u32,
+    index: u32,
+    work: &mut [u64],
+    row: usize,
+)
+    requires { ⌜ (from + n ≤ length (now operands) / 2) × (row + wordsOf v ≤ length (now work)) ⌝ }
+    ensures { λ _. ⌜ Marked (now (work .entry)) (now (work .exit)) row v (escapesIn mem base index (operandsFrom (now (operands .entry)) from n)) ⌝ }
+{
+    let mut p = 0;
+    while p < n {
+        if strays(operands, from + p, p, v, mem, base, index) {
+            let r = wide(operands[2 * (from + p) + 1]);
+            bits::set(work, row, r);
+            p += 1;
+        } else {
+            p += 1;
+        }
+    }
+}
+
+// Whether operand `p` of the `n` from `from` on is the base or the index, of a numbered register of which each use is one of the two.
+fn handed(operands: &[u32], from: usize, n: usize, p: usize, v: u32, base: u32, index: u32) -> bool
+    requires { ⌜ (from + n ≤ length (now operands) / 2) × (p < n) ⌝ }
+    ensures { λ t. ⌜ t ≡ (not (isSet (operandAt (now (operands .entry)) (from + p) .def)) && (ltb (operandAt (now (operands .entry)) (from + p) .register) v && (addressPosition (addressing base index) p && eachAddress (addressing base index) (operandAt (now (operands .entry)) (from + p) .register) 0 (operandsFrom (now (operands .entry)) from n)))) ⌝ }
+{
+    let i = from + p;
+    if operands[2 * i] == 1 {
+        return false;
+    }
+    let r = operands[2 * i + 1];
+    if v <= r {
+        return false;
+    }
+    if operands::part(p, base, index) {
+        return operands::addressed(operands, from, n, r, base, index);
+    }
+    false
+}
+
+// Sets the bit of each register that is handed.
+fn stick(
+    operands: &[u32],
+    from: usize,
+    n: usize,
+    v: u32,
+    base: u32,
+    index: u32,
+    work: &mut [u64],
+    row: usize,
+)
+    requires { ⌜ (from + n ≤ length (now operands) / 2) × (row + wordsOf v ≤ length (now work)) ⌝ }
+    ensures { λ _. ⌜ Marked (now (work .entry)) (now (work .exit)) row v (handsIn base index (operandsFrom (now (operands .entry)) from n)) ⌝ }
+{
+    let mut p = 0;
+    while p < n {
+        if handed(operands, from, n, p, v, base, index) {
+            let r = wide(operands[2 * (from + p) + 1]);
+            bits::set(work, row, r);
+            p += 1;
+        } else {
+            p += 1;
+        }
+    }
+}
+
+// Appends the key of each register that is handed by instruction `inst` to the `count` keys from `at` on.
+fn link(
+    operands: &[u32],
+    from: usize,
+    n: usize,
+    v: u32,
+    base: u32,
+    index: u32,
+    inst: usize,
+    work: &mut [u64],
+    at: usize,
+    count: usize,
+) -> usize
+    requires { ⌜ (from + n ≤ length (now operands) / 2) × (at + count + n ≤ length (now work)) × (inst < 65536) × (v ≤ 65535) ⌝ }
+    ensures { λ r. ⌜ Linked (now (work .entry)) (now (work .exit)) at v inst n count r (handsIn base index (operandsFrom (now (operands .entry)) from n)) ⌝ }
+{
+    let mut k = count;
+    let mut p = 0;
+    while p < n {
+        if handed(operands, from, n, p, v, base, index) {
+            let r = operands[2 * (from + p) + 1] as u64;
+            work[at + k] = r * 4294967296 + inst as u64;
+            k += 1;
+            p += 1;
+        } else {
+            p += 1;
+        }
+    }
+    k
+}
+
+// Sets the bit of each register that escapes through instruction `i`, whose operands begin at `from`.
+fn escapes(
+    insts: &[u32],
+    operands: &[u32],
+    i: usize,
+    from: usize,
+    v: u32,
+    work: &mut [u64],
+    row: usize,
+)
+    requires { ⌜ (i < length (now insts) / 9) × (from + field 9 (now insts) i 8 ≤ length (now operands) / 2) × (row + wordsOf v ≤ length (now work)) ⌝ }
+    ensures { λ _. ⌜ Marked (now (work .entry)) (now (work .exit)) row v (strayReader (rowOf (now (insts .entry)) (now (operands .entry)) i from)) ⌝ }
+{
+    let at = 9 * i;
+    if insts[at] != 1 {
+        return;
+    }
+    let n = wide(insts[at + 8]);
+    escape(
+        operands,
+        from,
+        n,
+        v,
+        insts[at + 5],
+        insts[at + 6],
+        insts[at + 7],
+        work,
+        row,
+    );
+}
+
+// Puts down what instruction `i`, with its one def `def` or none, hands on: an edge for each register, or without a def that the register is dead.
+fn hand(
+    insts: &[u32],
+    operands: &[u32],
+    i: usize,
+    from: usize,
+    v: u32,
+    def: u32,
+    work: &mut [u64],
+    lay: Lay,
+    count: usize,
+) -> usize
+    requires { ⌜ (i < length (now insts) / 9) × (from + field 9 (now insts) i 8 ≤ length (now operands) / 2) × (i < 65536) × (v ≤ 65535) ⌝ }
+    requires { ⌜ (lay .dead + wordsOf v ≤ lay .edges) × (lay .edges + count + field 9 (now insts) i 8 ≤ length (now work)) ⌝ }
+    requires { ⌜ def ≡ defNumber (defOf v (rowOf (now insts) (now operands) i from)) ⌝ }
+    ensures { λ r. ⌜ Handing (now (work .entry)) (now (work .exit)) lay v (rowOf (now (insts .entry)) (now (operands .entry)) i from) i (field 9 (now (insts .entry)) i 8) count r ⌝ }
+{
+    let at = 9 * i;
+    if insts[at] != 1 {
+        return count;
+    }
+    if insts[at + 4] != 1 {
+        return count;
+    }
+    if insts[at + 5] != 1 {
+        return count;
+    }
+    let n = wide(insts[at + 8]);
+    if def == 0 {
+        let dead = lay.dead;
+        stick(
+            operands,
+            from,
+            n,
+            v,
+            insts[at + 6],
+            insts[at + 7],
+            work,
+            dead,
+        );
+        return count;
+    }
+    let edges = lay.edges;
+    link(
+        operands,
+        from,
+        n,
+        v,
+        insts[at + 6],
+        insts[at + 7],
+        i,
+        work,
+        edges,
+        count,
+    )
+}
+
+// Instruction `i`: its one def, the registers that escape through it, and what it hands on.
+fn one(
+    insts: &[u32],
+    operands: &[u32],
+    i: usize,
+    from: usize,
+    v: u32,
+    work: &mut [u64],
+    lay: Lay,
+    count: usize,
+) -> usize
+    requires { ⌜ (i < length (now insts) / 9) × (from + field 9 (now insts) i 8 ≤ length (now operands) / 2) × (i < 65536) × (v ≤ 65535) ⌝ }
+    requires { ⌜ (lay .escapes + wordsOf v ≤ lay .dead) × (lay .dead + wordsOf v ≤ lay .defs) × (lay .defs + i < lay .edges) × (lay .edges + count + field 9 (now insts) i 8 ≤ length (now work)) ⌝ }
+    ensures { λ r. ⌜ Added (now (work .entry)) (now (work .exit)) lay v (rowOf (now (insts .entry)) (now (operands .entry)) i from) i (field 9 (now (insts .entry)) i 8) count r ⌝ }
+{
+    let n = wide(insts[9 * i + 8]);
+    let def = operands::def(operands, from, n, v);
+    let defs = lay.defs;
+    work[defs + i] = def as u64;
+    let row = lay.escapes;
+    escapes(insts, operands, i, from, v, work, row);
+    hand(insts, operands, i, from, v, def, work, lay, count)
+}
+
+// The pass over all instructions; how many edges there are.
+pub fn scan(insts: &[u32], operands: &[u32], v: u32, work: &mut [u64], lay: Lay) -> usize
+    requires { ⌜ AddsUp (now insts) (now operands) × (length (now insts) / 9 ≤ 65536) × (v ≤ 65535) × Blank v lay (now work) ⌝ }
+    requires { ⌜ (lay .escapes + wordsOf v ≤ lay .dead) × (lay .dead + wordsOf v ≤ lay .defs) × (lay .defs + length (now insts) / 9 ≤ lay .edges) × (lay .edges + length (now operands) / 2 ≤ lay .heads) × (lay .heads ≤ length (now work)) ⌝ }
+    ensures { λ r. ⌜ Scanning v (instsOf (now (insts .entry)) (now (operands .entry))) (now (insts .entry)) lay (now (work .entry)) (now (work .exit)) (length (now (insts .entry)) / 9) r ⌝ }
+{
+    let m = insts.len() / 9;
+    let mut count = 0;
+    let mut from = 0;
+    let mut i = 0;
+    while i < m {
+        count = one(insts, operands, i, from, v, work, lay, count);
+        from += wide(insts[9 * i + 8]);
+        i += 1;
+    }
+    count
+}
