@@ -191,23 +191,23 @@ by-local lay words insts addresses ends l {w₀} {w₁} {w₂} {w} f g h a b c =
     out k p (inl q) = c .kept .below k (omega arith) ∙ b .kept .below k q ∙ a .outside k p (inl q)
     out k p (inr q) = c .kept .past k q ∙ b .kept .past k (omega arith) ∙ a .outside k p (inr q)
 
-latest-same : (f g : ℕ → ℕ) (m k : ℕ) → ((a : ℕ) → a < k → f a ≡ g a) → latest f m k ≡ latest g m k
+pub latest-same : (f g : ℕ → ℕ) (m k : ℕ) → ((a : ℕ) → a < k → f a ≡ g a) → latest f m k ≡ latest g m k
 unfolding latest
 latest-same f g m zero e = refl
 latest-same f g m (suc k) e =
     ap (λ (x : ℕ). cond (eqb x m) (suc k) (latest f m k)) (e k (omega arith)) ∙ ap (λ (x : ℕ). cond (eqb (g k) m) (suc k) x) (latest-same f g m k (λ a h. e a (omega arith)))
 
-local-is : (s : List ℕ) (a : ℕ) → a < rowCount 2 s → rowLocal s a ≡ localOf (mentionsOf s) a
+pub local-is : (s : List ℕ) (a : ℕ) → a < rowCount 2 s → rowLocal s a ≡ localOf (mentionsOf s) a
 local-is s a h = sym (ap (λ (m : Mention). m .local) (getD-records 2 (λ f. record { inst = f 0; local = f 1 }) s a (record { inst = 0; local = 0 }) h))
 
-mentions-count : (s : List ℕ) → length (mentionsOf s) ≡ rowCount 2 s
+pub mentions-count : (s : List ℕ) → length (mentionsOf s) ≡ rowCount 2 s
 mentions-count s = length-records 2 (λ f. record { inst = f 0; local = f 1 }) s
 
 empty-map : {A B : Type 0} (f : A → B) (l : List A) → empty (map f l) ≡ empty l
 empty-map f [] = refl
 empty-map f (a ∷ l) = refl
 
-empty-keep : {A : Type 0} (p : A → Bool) (l : List A) → empty (keep p l) ≡ not (any p l)
+pub empty-keep : {A : Type 0} (p : A → Bool) (l : List A) → empty (keep p l) ≡ not (any p l)
 unfolding keep any
 empty-keep p [] = refl
 empty-keep p (a ∷ l) = go (p a) (empty-keep p l)
@@ -216,7 +216,7 @@ empty-keep p (a ∷ l) = go (p a) (empty-keep p l)
     go true e = refl
     go false e = e
 
-any-keep : {A : Type 0} (p q : A → Bool) (l : List A) → any p (keep q l) ≡ any (λ x. q x && p x) l
+pub any-keep : {A : Type 0} (p q : A → Bool) (l : List A) → any p (keep q l) ≡ any (λ x. q x && p x) l
 unfolding keep any
 any-keep p q [] = refl
 any-keep p q (a ∷ l) = go (q a) (any-keep p q l)
@@ -226,7 +226,7 @@ any-keep p q (a ∷ l) = go (q a) (any-keep p q l)
     go false e = e
 
 -- some row passes, by its record or by its numbers
-any-rows : (p : Mention → Bool) (s : List ℕ) (f : ℕ → Bool) → ((k : ℕ) → k < rowCount 2 s → p (record { inst = field 2 s k 0; local = field 2 s k 1 }) ≡ f k)
+pub any-rows : (p : Mention → Bool) (s : List ℕ) (f : ℕ → Bool) → ((k : ℕ) → k < rowCount 2 s → p (record { inst = field 2 s k 0; local = field 2 s k 1 }) ≡ f k)
     → any p (mentionsOf s) ≡ Some (rowCount 2 s) f
 any-rows p s f e = bool-ext _ _
     (λ t.

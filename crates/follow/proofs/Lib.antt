@@ -1,0 +1,5 @@
+pub mod QueueLaws
+pub mod WalkLaws
+pub mod BeginLaws
+pub mod FollowLaws
+pub mod KeptLaws

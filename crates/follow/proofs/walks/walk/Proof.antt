@@ -1,0 +1,64 @@
+-- `follow::walks::walk` meets its contract: the first h of the queue were looked at.
+use native.Mathlib.Omega.{arith}
+use Prim.Native.Nat.{ℕ, suc, _+_, _-_, _*_, _≤_, _<_}
+use mathlib.Core.Path.{_≡_, refl, sym, ap, _∙_}
+use lib.ListN.{length, take, drop, getD, set, length-set}
+use borrow.Author.Needs.{needs}
+use Rattle.follow.proofs.WalkLaws.{held-at, walk-start, walk-tables, walk-here, walk-more, walk-done, walk-stop}
+use Rattle.follow.specs.Steps.{Walkable, Walking}
+use mathlib.Core.Bool.{Bool, _||_}
+use Rattle.follow.proofs.walks.walk.Statement.{statement}
+use Rattle.follow.proofs.walks.walk.Tie as tie
+
+abbrev Inv-loop : tie.InvT-loop
+Inv-loop work₀ lay z whole s₀ h₀ work s h = Walkable lay z work₀ × Walking lay z work₀ work (record { lost = s₀ .bad; count = s₀ .count }) h s
+
+abbrev μ-loop : tie.MeasureT-loop
+μ-loop work₀ lay z whole s₀ h₀ work s h = z .insts - h
+
+loop-holds : tie.Need-loop-holds Inv-loop μ-loop
+loop-holds c = ((c .before .pre) .0, walk-start ((c .before .args) .lay) ((c .before .args) .z) ((c .before .args) .work .now) ((c .before .args) .b) ((c .before .pre) .1))
+
+stops-requires : tie.Need-stops-requires Inv-loop μ-loop
+stops-requires c κs = omega arith
+
+same-length : tie.Need-same-length Inv-loop μ-loop
+same-length c = (c .before .before .before .before .loop) .inv .1 .grew .len
+
+returns : tie.Need-returns Inv-loop μ-loop
+returns c = walk-stop ((c .before .before .before .before .loop) .inv .0) ((c .before .before .before .before .loop) .inv .1) ((c .before .before .before .before .before .before .args) .whole) (sym ((c .before .stops) .ensures) ∙ (c .if2) .taken)
+
+step-requires : tie.Need-step-requires Inv-loop μ-loop
+step-requires c κs = (walk-tables ((c .before .before .before .before .before .loop) .inv .0) ((c .before .before .before .before .before .loop) .inv .1), (c .before .before .before .before .before .loop) .inv .1 .grew .held, omega arith)
+
+add-h : tie.Need-add-h Inv-loop μ-loop
+add-h c = let q = (c .before .before .before .before .before .before .before .before .loop) .inv .1 .grew .held .n-le in let t = (c .before .before .before .before .before .before .before .before .loop) .inv .0 .few-insts in omega arith
+
+loop-less : tie.Need-loop-less Inv-loop μ-loop
+loop-less c = let q = (c .before .before .before .before .before .before .before .before .loop) .inv .1 .grew .held .n-le in omega arith
+
+loop-again : tie.Need-loop-again Inv-loop μ-loop
+loop-again c = ((c .before .before .before .before .before .before .before .before .loop) .inv .0, walk-more ((c .before .before .before .before .before .before .before .before .loop) .inv .0) ((c .before .before .before .before .before .before .before .before .loop) .inv .1) (omega arith) ((c .before .before .step) .ensures))
+
+same-length-2 : tie.Need-same-length-2 Inv-loop μ-loop
+same-length-2 c = (c .before .before .loop) .inv .1 .grew .len
+
+returns-2 : tie.Need-returns-2 Inv-loop μ-loop
+returns-2 c = walk-done ((c .before .before .loop) .inv .0) ((c .before .before .loop) .inv .1) ((c .before .before .before .before .args) .whole) (omega arith)
+
+pub walk-spec : {M : Type 1} → statement M
+walk-spec =
+    tie.close
+    (tie.spec
+    Inv-loop
+    μ-loop
+    loop-holds
+    stops-requires
+    same-length
+    returns
+    step-requires
+    add-h
+    loop-less
+    loop-again
+    same-length-2
+    returns-2)

@@ -1,0 +1,108 @@
+-- What the steps of a walk ask and promise, by the tables in the work space.
+use Prim.Native.Nat.{ℕ, suc, _+_, _-_, _*_, _/_, _^_, _≤_, _<_}
+use mathlib.Core.Path.{_≡_}
+use mathlib.Core.Logic.{_≢_, _⊎_}
+use mathlib.Core.Bool.{Bool, true, false, not, _&&_, _||_}
+use mathlib.Core.List.{List}
+use lib.ListN.{length, getD}
+use lib.Dec.{eqb, ltb}
+use Rattle.words.specs.Rows.{tabulate, rowCount, field}
+use Rattle.words.specs.Sort.{Rising}
+use Rattle.words.specs.Search.{Splits}
+use Rattle.bits.specs.Bits.{bit}
+use Rattle.carrying.specs.Lists.{any}
+use Rattle.carrying.specs.Insts.{isSet}
+use Rattle.reach.specs.declared.Lay.{Lay}
+use Rattle.reach.specs.Prepared.{Laid, wordsOf, key, latest}
+use Rattle.reach.specs.Steps.{rowLocal}
+use Rattle.follow.specs.declared.Sizes.{Sizes}
+use Rattle.follow.specs.declared.Begun.{Begun}
+use Rattle.follow.specs.declared.Walk.{Walk}
+use Rattle.follow.specs.Walk.{defAt, queued, Held, Listed, Grew}
+
+-- tables that a walk can read: edges in order, each of a numbered register and an instruction with a def, and the first edge of each def
+pub record Walkable (lay : Lay) (z : Sizes) (w : List ℕ) : Type 0 where
+  pub operands : ℕ
+  pub addresses : ℕ
+  pub few : z .edges ≤ operands
+  pub laid : Laid lay (z .v) (z .insts) operands (z .locals) addresses (length w)
+  pub registers : z .v ≤ 65535
+  pub few-insts : z .insts ≤ 65536
+  pub def-le : (i : ℕ) → i < z .insts → defAt lay w i ≤ z .v
+  pub rising : Rising (λ k. getD w (lay .edges + k) 0) (z .edges)
+  pub keys : (k : ℕ) → k < z .edges → (q : ℕ) × (j : ℕ) × (q < z .v) × (j < z .insts) × (0 < defAt lay w j) × (getD w (lay .edges + k) 0 ≡ key q j)
+  pub first : (i q : ℕ) → i < z .insts → defAt lay w i ≡ suc q → Splits (λ k. ltb (getD w (lay .edges + k) 0) (q * 2 ^ 32)) (z .edges) (getD w (lay .firsts + i) 0)
+
+-- one of the edges leads from register q to instruction j
+pub record Edge (lay : Lay) (z : Sizes) (w : List ℕ) (q j : ℕ) : Type 0 where
+  pub place : ℕ
+  pub within : place < z .edges
+  pub small : j < z .insts
+  pub is : getD w (lay .edges + place) 0 ≡ key q j
+
+-- each instruction that an edge leads to from register q is in the queue, or another with its def
+pub record Grown (lay : Lay) (z : Sizes) (w₀ w : List ℕ) (q n₀ n : ℕ) : Type 0 where
+  pub grew : Grew (z .v) (z .insts) lay w₀ w n₀ n (Edge lay z w₀ q)
+  pub all : (j : ℕ) → Edge lay z w₀ q j → Listed lay w n (defAt lay w j)
+
+-- an address entry of local l at instruction i, which is `lea`
+pub record Entry (insts addresses : List ℕ) (l i : ℕ) : Type 0 where
+  pub place : ℕ
+  pub within : place < rowCount 2 addresses
+  pub local : rowLocal addresses place ≡ l
+  pub inst : getD addresses (2 * place) 0 ≡ i
+  pub lea : field 9 insts i 4 ≡ 1
+
+-- the chain of the address entries of local l
+pub record Chain (lay : Lay) (z : Sizes) (insts addresses : List ℕ) (l : ℕ) (w : List ℕ) : Type 0 where
+  pub rows : z .insts ≡ rowCount 9 insts
+  pub here : l < z .locals
+  pub fits : lay .nexts + rowCount 2 addresses ≤ lay .ended
+  pub found : (a : ℕ) → a < rowCount 2 addresses → getD addresses (2 * a) 0 < z .insts
+  pub head : getD w (lay .heads + l) 0 ≡ latest (rowLocal addresses) l (rowCount 2 addresses)
+  pub next : (a : ℕ) → a < rowCount 2 addresses → rowLocal addresses a ≡ l → getD w (lay .nexts + a) 0 ≡ latest (rowLocal addresses) l a
+
+-- one entry at instruction i
+pub record Took (lay : Lay) (z : Sizes) (insts : List ℕ) (w₀ w : List ℕ) (i : ℕ) (b₀ b : Begun) : Type 0 where
+  pub grew : Grew (z .v) (z .insts) lay w₀ w (b₀ .count) (b .count) (λ j. (j ≡ i) × (field 9 insts i 4 ≡ 1))
+  pub has : field 9 insts i 4 ≡ 1 → 0 < defAt lay w₀ i → Listed lay w (b .count) (defAt lay w i)
+  pub lost : b .lost ≡ (b₀ .lost || (isSet (field 9 insts i 4) && eqb (defAt lay w₀ i) 0))
+
+-- the defs of all entries of local l stand in the queue, and whether one has none
+pub record Began (lay : Lay) (z : Sizes) (insts addresses : List ℕ) (l : ℕ) (w₀ w : List ℕ) (b : Begun) : Type 0 where
+  pub grew : Grew (z .v) (z .insts) lay w₀ w 0 (b .count) (Entry insts addresses l)
+  pub all : (i : ℕ) → Entry insts addresses l i → 0 < defAt lay w i → Listed lay w (b .count) (defAt lay w i)
+  pub lost : b .lost ≡ true → (i : ℕ) × Entry insts addresses l i × (defAt lay w i ≡ 0)
+  pub kept : b .lost ≡ false → (i : ℕ) → Entry insts addresses l i → 0 < defAt lay w i
+
+-- the register at k in the queue
+abbrev pub registerAt : Lay → List ℕ → ℕ → ℕ
+registerAt lay w k = defAt lay w (queued lay w k) - 1
+
+-- one register of the queue was looked at
+pub record Stepped (lay : Lay) (z : Sizes) (w₀ w : List ℕ) (h : ℕ) (s₀ s : Walk) : Type 0 where
+  pub grown : Grown lay z w₀ w (registerAt lay w₀ h) (s₀ .count) (s .count)
+  pub escapes : s .escapes ≡ (s₀ .escapes || bit w₀ (lay .escapes) (registerAt lay w₀ h))
+  pub bad : s .bad ≡ (s₀ .bad || bit w₀ (lay .dead) (registerAt lay w₀ h))
+
+-- after the first h of the queue were looked at
+pub record Walking (lay : Lay) (z : Sizes) (w₀ w : List ℕ) (b : Begun) (h : ℕ) (s : Walk) : Type 0 where
+  pub grew : Grew (z .v) (z .insts) lay w₀ w (b .count) (s .count) (λ j. j < z .insts)
+  pub h-le : h ≤ s .count
+  pub from : (k : ℕ) → b .count ≤ k → k < s .count → (x : ℕ) × (x < k) × Edge lay z w₀ (registerAt lay w x) (queued lay w k)
+  pub closed : (k j : ℕ) → k < h → Edge lay z w₀ (registerAt lay w k) j → Listed lay w (s .count) (defAt lay w j)
+  pub escapes : s .escapes ≡ any (λ k. bit w₀ (lay .escapes) (registerAt lay w k)) (tabulate h (λ k. k))
+  pub bad : s .bad ≡ (b .lost || any (λ k. bit w₀ (lay .dead) (registerAt lay w k)) (tabulate h (λ k. k)))
+
+-- the walk went to the end of the queue, or stopped at something bad
+pub record Walked (lay : Lay) (z : Sizes) (w₀ w : List ℕ) (b : Begun) (whole : Bool) (s : Walk) : Type 0 where
+  pub upto : ℕ
+  pub walking : Walking lay z w₀ w b upto s
+  pub done : (s .bad && not whole) ≡ false → s .count ≤ upto
+
+-- no register is seen, and the queue has the registers themselves
+pub record Unseen (lay : Lay) (z : Sizes) (w₀ w : List ℕ) (n : ℕ) : Type 0 where
+  pub len : length w ≡ length w₀
+  pub outside : (k : ℕ) → (k < lay .seen) ⊎ (lay .seen + wordsOf (z .v) ≤ k) → (k < lay .queue) ⊎ (lay .queue + n ≤ k) → getD w k 0 ≡ getD w₀ k 0
+  pub seen : (k : ℕ) → k < wordsOf (z .v) → getD w (lay .seen + k) 0 ≡ 0
+  pub registers : (k : ℕ) → k < n → suc (queued lay w k) ≡ defAt lay w₀ (queued lay w₀ k)
