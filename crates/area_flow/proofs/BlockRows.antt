@@ -1,7 +1,7 @@
 -- Laws of the blocks of each local: the rows turned, and what they say of plain and of ending locals.
 use Prim.Native.Nat.{ℕ, _+_, _*_, _/_, _%_, _≤_, _<_}
 use native.Mathlib.Omega.{arith}
-use mathlib.Core.Path.{_≡_, refl, sym, ap, _∙_}
+use mathlib.Core.Path.{_≡_, refl, sym, ap, _∙_, subst}
 use mathlib.Core.Logic.{_⊎_, inl, inr, ⊎-elim}
 use mathlib.Core.Bool.{Bool, true, false, _&&_, _||_}
 use mathlib.Core.List.{List}
@@ -12,6 +12,8 @@ use Rattle.bits.specs.Bits.{bitOf}
 use Rattle.bits.proofs.DigitLaws.{bit-zero}
 use Rattle.graph.specs.Paths.{Edge, Between, Route, one, more}
 use Rattle.graph.specs.Flow.{Arrives, left, passed}
+use Rattle.graph.specs.Line.{blocksOf}
+use Rattle.graph.proofs.Line.{blocks-length}
 use Rattle.graph.specs.Rounds.{reachedRow, reachingRow, arrivingRow}
 use Rattle.graph.specs.Work.{Within}
 use Rattle.graph.proofs.Within.{within-trans, region-within}
@@ -188,6 +190,10 @@ module _ (es : List Edge) (g : Grid) (n e : ℕ) {w₀ w₁ : List ℕ} (L : Lai
     }
 
 -- ---- the rows of one local, by its touches and its ends
+
+-- the blocks lent are as many as the line's
+pub by-line : {es : List Edge} {g : Grid} {w₀ w : List ℕ} (blocks : List ℕ) → AreaRows es g (length blocks / 3) w₀ w → AreaRows es g (length (blocksOf blocks)) w₀ w
+by-line {es} {g} {w₀} {w} blocks A = subst (λ (n : ℕ). AreaRows es g n w₀ w) (sym (blocks-length blocks)) A
 
 or-none : (a : Bool) → (a || false) ≡ a
 or-none true = refl
