@@ -27,7 +27,8 @@ use Rattle.areas.specs.Pieces.{beforeRow, afterRow, arrivesRow}
 use Rattle.area_rows.specs.declared.Turn.{Turn}
 use Rattle.area_rows.specs.Turns.{Turnable, Turned}
 use Rattle.area_flow.specs.declared.Grid.{Grid}
-use Rattle.area_flow.specs.Grid.{rowBit, arriving, blockBit, Laid, Quiet, AreaRows, Flowing, Still, Blocked}
+use Rattle.area_flow.specs.Grid.{rowBit, arriving, blockBit, Laid, Quiet, AreaRows}
+use Rattle.area_flow.specs.Inner.{Flowing, Still, Blocked}
 use Rattle.area_flow.proofs.FlowLaws.{both-ways}
 
 -- ---- turning

@@ -28,7 +28,8 @@ use Rattle.spread.specs.Spread.{Arrived}
 use Rattle.spread.specs.Spread.{Laid as SpreadLaid}
 use Rattle.spread.proofs.Turns.{arrives-as}
 use Rattle.area_flow.specs.declared.Grid.{Grid}
-use Rattle.area_flow.specs.Grid.{rowBit, arriving, Laid, Outside, Linked, FlowedOver, ArrivedAt, Flowing}
+use Rattle.area_flow.specs.Grid.{rowBit, arriving, Laid, Outside}
+use Rattle.area_flow.specs.Inner.{Linked, FlowedOver, ArrivedAt, Flowing}
 
 -- two tests that hold together are one
 pub both-ways : {A : Type 0} (s t : Bool) → (s ≡ true) ↔ A → (t ≡ true) ↔ A → s ≡ t

@@ -29,7 +29,8 @@ use Rattle.spots.specs.declared.Spots.{Spots}
 use Rattle.spots.specs.Spots.{lineOf, touchesAt, endsAt, Held, Stand}
 use Rattle.spots.proofs.SpotLaws.{touch-in, touch-of, end-in, end-of, unpack-is}
 use Rattle.area_rows.specs.declared.Column.{Column}
-use Rattle.area_rows.specs.Marks.{marked, Fits, Marked, TouchesReady, EndsReady, Put, spans, leavesBy, Stopped}
+use Rattle.area_rows.specs.Marks.{marked, Fits, Marked, TouchesReady, EndsReady}
+use Rattle.area_rows.specs.Inner.{Put, spans, leavesBy, Stopped}
 use Rattle.area_rows.proofs.PutLaws.{put-none, put-then, put-as, put-fits, put-set, put-unset}
 
 -- two tests that hold together are one

@@ -11,7 +11,8 @@ use Rattle.words.proofs.RegionLaws.{row-before}
 use Rattle.bits.specs.Bits.{bit, bitOf, PutBit}
 use Rattle.graph.proofs.Within.{within-refl, within-trans}
 use Rattle.area_rows.specs.declared.Column.{Column}
-use Rattle.area_rows.specs.Marks.{marked, Fits, Marked, Put}
+use Rattle.area_rows.specs.Marks.{marked, Fits, Marked}
+use Rattle.area_rows.specs.Inner.{Put}
 
 -- the word of the local's bit in the row of place k is one of the rows' words
 pub word-in : (c : Column) (w : List ℕ) (k : ℕ) → Fits c w → k < c .n → c .base + k * c .words + c .bit / 64 < c .base + c .n * c .words

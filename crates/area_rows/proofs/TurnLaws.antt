@@ -17,7 +17,8 @@ use Rattle.graph.specs.Work.{Within}
 use Rattle.graph.proofs.Within.{within-refl, within-trans}
 use Rattle.area_rows.specs.declared.Column.{Column}
 use Rattle.area_rows.specs.declared.Turn.{Turn}
-use Rattle.area_rows.specs.Marks.{marked, Fits, Marked, Put}
+use Rattle.area_rows.specs.Marks.{marked, Fits, Marked}
+use Rattle.area_rows.specs.Inner.{Put}
 use Rattle.area_rows.specs.Turns.{both, columnOf, Turnable, Turned}
 use Rattle.area_rows.proofs.PutLaws.{put-none, put-then, put-as, put-fits, put-set}
 

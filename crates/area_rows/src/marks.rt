@@ -12,7 +12,8 @@ ghost use Rattle.graph.specs.Line.{blocksOf, Sound};
 ghost use Rattle.carrying.specs.Lists.{any};
 ghost use Rattle.areas.specs.Blocks.{bottom, cover, inverted, touched, leaves, passes};
 ghost use Rattle.spots.specs.Spots.{lineOf, touchesAt, endsAt, Stand};
-ghost use Rattle.area_rows.specs.Marks.{Fits, marked, Marked, Put, Stopped, spans, leavesBy, TouchesReady, EndsReady};
+ghost use Rattle.area_rows.specs.Marks.{Fits, marked, Marked, TouchesReady, EndsReady};
+ghost use Rattle.area_rows.specs.Inner.{Put, Stopped, spans, leavesBy};
 use crate::Column;
 use spots::Spots;
 

@@ -1,6 +1,6 @@
 use Rattle.ranges.specs.Points.{range}
 -- `area_rows::marks::mark_leaving` meets its contract: the touches before i are marked.
-use Rattle.area_rows.specs.Marks.{leavesBy}
+use Rattle.area_rows.specs.Inner.{leavesBy}
 use Rattle.spots.specs.Spots.{lineOf, endsAt}
 use mathlib.Core.List.{[]}
 use Rattle.area_rows.proofs.MarkLaws.{Sweeping, sweep-start, sweep-more, sweep-done, still-stand, leave-as, leaves-done}

@@ -1,5 +1,5 @@
 -- `area_rows::marks::mark_touched` meets its contract: the touches before i are marked.
-use Rattle.area_rows.specs.Marks.{spans}
+use Rattle.area_rows.specs.Inner.{spans}
 use Rattle.spots.specs.Spots.{lineOf}
 use mathlib.Core.List.{[]}
 use Rattle.area_rows.proofs.MarkLaws.{Sweeping, sweep-start, sweep-more, sweep-done, touched-done}

@@ -1,0 +1,35 @@
+-- What private functions promise each other, and `mark`, which is public for this crate's other module.
+use Prim.Native.Nat.{ℕ, _+_, _*_, _/_, _<_}
+use mathlib.Core.Path.{_≡_}
+use mathlib.Core.Logic.{_≢_, _⊎_}
+use mathlib.Core.Bool.{Bool, _&&_, _||_}
+use mathlib.Core.List.{List, []}
+use lib.ListN.{length}
+use lib.Dec.{leb}
+use Rattle.bits.specs.Bits.{bit}
+use Rattle.ranges.specs.declared.Range.{Range}
+use Rattle.graph.specs.Work.{Within}
+use Rattle.areas.specs.Blocks.{Graph, InBlock, bottom, blockOf, bounds, between, cover}
+use Rattle.spots.specs.Spots.{lineOf}
+use Rattle.area_rows.specs.declared.Column.{Column}
+use Rattle.area_rows.specs.Marks.{marked}
+
+-- at the places of S the local's bit is v, at the others as it was, and nothing else has changed
+pub record Put (c : Column) (v : Bool) (S : ℕ → Type 0) (w₀ w : List ℕ) : Type 0 where
+  pub kept : Within (c .base) (c .base + c .n * c .words) w₀ w
+  pub put : (k : ℕ) → k < c .n → S k → marked c w k ≡ v
+  pub rest : (k : ℕ) → k < c .n → S k ⊎ (marked c w k ≡ marked c w₀ k)
+  pub others : (k b : ℕ) → k < c .n → b < c .words * 64 → b ≢ c .bit → bit w (c .base + k * c .words) b ≡ bit w₀ (c .base + k * c .words) b
+
+-- the block is the touch's first or last, or lies between
+abbrev pub spans : Graph → Range → ℕ → Bool
+spans G t k = leb (blockOf G (t .start)) k && leb k (blockOf G (t .end))
+
+-- the local leaves the block by this touch
+abbrev pub leavesBy : Graph → List ℕ → ℕ → Range → Bool
+leavesBy G es k t = between G k t || bounds G k t && leb (bottom G k) (cover G es k t .end)
+
+-- r is the place of the block that has the point, where one has it
+pub record Stopped (blocks : List ℕ) (point r : ℕ) : Type 0 where
+  pub has : r < length blocks / 3 → InBlock (lineOf blocks []) r point
+  pub only : (k : ℕ) → InBlock (lineOf blocks []) k point → k ≡ r
