@@ -42,9 +42,9 @@ wantIn w at items n i = record {
 abbrev pub wantsIn : List ℕ → ℕ → ℕ → ℕ → List Want
 wantsIn w at items n = tabulate n (wantIn w at items n)
 
--- an item's part lies in the areas, which end where the tables begin, and is in order and apart
-pub record Proper (w : List ℕ) (at items x : ℕ) : Type 0 where
-  pub inside : at + (firstOf x + countOf x) ≤ items
+-- a part ends no later than `top`, and is in order and apart: of an item, `top` is where the areas end and the tables begin
+pub record Proper (w : List ℕ) (at top x : ℕ) : Type 0 where
+  pub inside : at + (firstOf x + countOf x) ≤ top
   pub neat : Apart (rangesAt w at x)
 
 pub record Lent (w : List ℕ) (at items n : ℕ) : Type 0 where

@@ -1,12 +1,11 @@
 // The lowest fitting cell for each item, over tables of one work space: fitting alone and the whole job both call `fit`.
 ghost use mathlib.Core.Path.{_≡_};
 ghost use Prim.Native.Nat.{ℕ, _+_, _-_, _*_, _/_, _%_, _^_, _<_, _≤_, max, min};
-ghost use mathlib.Core.List.{List};
 ghost use lib.ListN.{length, getD};
 ghost use Rattle.words.specs.Regions.{part};
 ghost use Rattle.ranges.specs.Points.{Apart};
 ghost use Rattle.ranges.specs.Forms.{unpacked};
-ghost use Rattle.fitting.specs.Plan.{Cell, cellAt, joinable, depthOf};
+ghost use Rattle.fitting.specs.Plan.{joinable};
 ghost use Rattle.order.specs.Keys.{sizeOf, alignOf};
 ghost use Rattle.fit.specs.Tables.{Proper, Lent, areaIn, countOf, Fitted};
 ghost use Rattle.fit.specs.Inner.{chain, allow, nextAt, headAt, areaAt, Linked, Probed, enteredIn, InOrder, Ready, Stepped, Placed, Summed, Topped, Meets, Folded};
@@ -30,9 +29,9 @@ struct Progress {
     top: usize,
 }
 
-// Whether an item, by its word, has an area that does not clash with the `count` ranges from `from` on.
-fn free(w: &[u64], at: usize, items: usize, x: u64, from: usize, count: usize) -> bool
-    requires { ⌜ (0 < x → Proper (now w) at items x) × (items ≤ length (now w)) × (from + count ≤ length (now w)) × Apart (unpacked (part from count (now w))) ⌝ }
+// Whether a list, by its word, is there and does not clash with the `count` ranges from `from` on.
+fn free(w: &[u64], at: usize, top: usize, x: u64, from: usize, count: usize) -> bool
+    requires { ⌜ (0 < x → Proper (now w) at top x) × (top ≤ length (now w)) × (from + count ≤ length (now w)) × Apart (unpacked (part from count (now w))) ⌝ }
     ensures { λ r. ⌜ r ≡ joinable (areaIn (now (w .entry)) at x) (unpacked (part from count (now (w .entry)))) ⌝ }
 {
     if x < 1 {
