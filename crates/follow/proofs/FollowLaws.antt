@@ -60,6 +60,29 @@ held-none lay z w t e = record {
   words = λ x h. inl (e .unseen x h);
 }
 
+-- a walk and the way back leave everything but the queue as it was
+pub follow-kept : {lay : Lay} {z : Sizes} {insts addresses : List ℕ} {l : ℕ} {whole : Bool} {w₀ w₁ w₂ w₃ : List ℕ} {b : Begun} {s : Walk} → Walkable lay z w₀ → Empty lay (z .v) w₀
+    → Began lay z insts addresses l w₀ w₁ b → Walked lay z w₁ w₂ b whole s → Unseen lay z w₂ w₃ (s .count) → Within (lay .queue) (lay .queue + z .insts) w₀ w₃
+follow-kept {lay} {z} {w₀ = w₀} {w₃ = w₃} {s = s} t e₀ bg wk un = record {
+  len = un .len ∙ wk .walking .grew .len ∙ bg .grew .len;
+  below = λ k h. cut (lay .seen) k
+      (λ a. cut (lay .seen + wordsOf (z .v)) k
+      (λ c. whole-way k (inr c) (inl h))
+      (λ c.
+      let y : lay .seen + (k - lay .seen) ≡ k = omega arith in
+      let o : getD w₃ (lay .seen + (k - lay .seen)) 0 ≡ getD w₀ (lay .seen + (k - lay .seen)) 0 = un .seen (k - lay .seen) (omega arith) ∙ sym (e₀ .unseen (k - lay .seen) (omega arith)) in
+      rw y at o))
+      (λ a. whole-way k (inl a) (inl h));
+  past = λ k h. whole-way k (inr (let y = t .laid in omega arith)) (inr h);
+}
+  where
+    left : (k : ℕ) → (k < lay .queue) ⊎ (lay .queue + z .insts ≤ k) → (k < lay .queue) ⊎ (lay .queue + s .count ≤ k)
+    left k (inl h) = inl h
+    left k (inr h) = inr (let q = wk .walking .grew .held .n-le in omega arith)
+
+    whole-way : (k : ℕ) → (k < lay .seen) ⊎ (lay .seen + wordsOf (z .v) ≤ k) → (k < lay .queue) ⊎ (lay .queue + z .insts ≤ k) → getD w₃ k 0 ≡ getD w₀ k 0
+    whole-way k a c = un .outside k a (left k c) ∙ wk .walking .grew .outside k a c ∙ bg .grew .outside k a c
+
 number-some : (o : Option ℕ) (r : ℕ) → defNumber o ≡ suc r → o ≡ some r
 number-some none r e = absurd (omega arith)
 number-some (some s) r e = let z : s ≡ r = omega arith in ap some z
@@ -345,15 +368,8 @@ module _ (insts operands crossings addresses ends : List ℕ) (lay : Lay) (z : S
 
       -- ---- together
 
-      module _ {w₃ : List ℕ} (e₀ : Empty lay (z .v) w₀) (un : Unseen lay z w₂ w₃ (s .count)) (none endless : Bool) (en : none ≡ eqb (getD w₀ (lay .heads + l) 0) 0)
+      module _ {w₃ : List ℕ} (un : Unseen lay z w₂ w₃ (s .count)) (none endless : Bool) (en : none ≡ eqb (getD w₀ (lay .heads + l) 0) 0)
           (ee : endless ≡ eqb (getD w₀ (lay .ended + l) 0) 0) (k₀ : Kind) (ek : k₀ ≡ kindBy none (s .bad) (s .escapes) endless) where
-        left : (k : ℕ) → (k < lay .queue) ⊎ (lay .queue + z .insts ≤ k) → (k < lay .queue) ⊎ (lay .queue + s .count ≤ k)
-        left k (inl h) = inl h
-        left k (inr h) = inr (let q = g .grew .held .n-le in omega arith)
-
-        whole-way : (k : ℕ) → (k < lay .seen) ⊎ (lay .seen + wordsOf (z .v) ≤ k) → (k < lay .queue) ⊎ (lay .queue + z .insts ≤ k) → getD w₃ k 0 ≡ getD w₀ k 0
-        whole-way k a c = un .outside k a (left k c) ∙ g .grew .outside k a c ∙ bg .grew .outside k a c
-
         reg-is : (k : ℕ) → k < s .count → registerAt lay w₂ k ≡ queued lay w₃ k
         reg-is k h = let q = un .registers k h in omega arith
 
@@ -372,20 +388,8 @@ module _ (insts operands crossings addresses ends : List ℕ) (lay : Lay) (z : S
             gone true = refl
             gone false = refl
 
-        pub follows : FollowedTo C lay z l whole w₀ w₃ (record { kind = k₀; count = s .count })
+        pub follows : FollowedTo C lay z l whole w₃ (record { kind = k₀; count = s .count })
         follows = record {
-          kept = record {
-            len = un .len ∙ g .grew .len ∙ bg .grew .len;
-            below = λ k h. cut (lay .seen) k
-                (λ a. cut (lay .seen + wordsOf (z .v)) k
-                (λ c. whole-way k (inr c) (inl h))
-                (λ c.
-                let y : lay .seen + (k - lay .seen) ≡ k = omega arith in
-                let o : getD w₃ (lay .seen + (k - lay .seen)) 0 ≡ getD w₀ (lay .seen + (k - lay .seen)) 0 = un .seen (k - lay .seen) (omega arith) ∙ sym (e₀ .unseen (k - lay .seen) (omega arith)) in
-                rw y at o))
-                (λ a. whole-way k (inl a) (inl h));
-            past = λ k h. whole-way k (inr (let y = t .laid in omega arith)) (inr h);
-          };
           kind = kind-same;
           few = g .grew .held .n-le;
           only = λ k h. subst (Carries C l) (reg-is k h) (sound k h);

@@ -24,21 +24,19 @@ kindBy none bad escapes endless = cond (none || bad) Unfollowed (cond escapes (c
 pub record Empty (lay : Lay) (v : ℕ) (w : List ℕ) : Type 0 where
   pub unseen : (k : ℕ) → k < wordsOf v → getD w (lay .seen + k) 0 ≡ 0
 
--- the local's kind, and the registers that carry its address, each once, in the queue's region; of an unfollowed local all of them only if the walk is to be whole.
--- Nothing else has changed
-pub record FollowedTo (C : Code) (lay : Lay) (z : Sizes) (l : ℕ) (whole : Bool) (w₀ w : List ℕ) (r : Followed) : Type 0 where
-  pub kept : Within (lay .queue) (lay .queue + z .insts) w₀ w
+-- the local's kind, and the registers that carry its address, each once, in the queue's region; of an unfollowed local all of them only if the walk is to be whole
+pub record FollowedTo (C : Code) (lay : Lay) (z : Sizes) (l : ℕ) (whole : Bool) (w : List ℕ) (r : Followed) : Type 0 where
   pub kind : r .kind ≡ kindOf C l
   pub few : r .count ≤ z .insts
   pub only : (k : ℕ) → k < r .count → Carries C l (queued lay w k)
   pub all : (whole ≡ true) ⊎ (r .kind ≢ Unfollowed) → (q : ℕ) → Carries C l q → (k : ℕ) × (k < r .count) × (queued lay w k ≡ q)
   pub once : (j k : ℕ) → j < k → k < r .count → queued lay w j ≢ queued lay w k
 
--- for whatever code the tables were prepared
-abbrev pub FollowsAny : List ℕ → List ℕ → Lay → Sizes → ℕ → Bool → List ℕ → List ℕ → Followed → Type 0
-FollowsAny insts addresses lay z l whole w₀ w r =
-    (operands crossings ends : List ℕ) → Prepared (codeOf (z .v) insts operands crossings addresses ends) lay w₀ (z .locals) (z .edges)
-    → FollowedTo (codeOf (z .v) insts operands crossings addresses ends) lay z l whole w₀ w r
+-- for whatever code the tables were prepared; nothing has changed but the queue's region
+pub record FollowsAny (insts addresses : List ℕ) (lay : Lay) (z : Sizes) (l : ℕ) (whole : Bool) (w₀ w : List ℕ) (r : Followed) : Type 0 where
+  pub kept : Within (lay .queue) (lay .queue + z .insts) w₀ w
+  pub code : (operands crossings ends : List ℕ) → Prepared (codeOf (z .v) insts operands crossings addresses ends) lay w₀ (z .locals) (z .edges)
+      → FollowedTo (codeOf (z .v) insts operands crossings addresses ends) lay z l whole w r
 
 -- all locals can be followed, one after another
 pub record Ready (lay : Lay) (z : Sizes) (insts addresses w : List ℕ) : Type 0 where

@@ -5,7 +5,7 @@ use mathlib.Core.Path.{_≡_, refl, sym, ap, _∙_}
 use lib.ListN.{length, take, drop, getD, set, length-set}
 use borrow.Author.Needs.{needs}
 use Rattle.follow.proofs.WalkLaws.{walkable-still}
-use Rattle.follow.proofs.FollowLaws.{held-none, follows}
+use Rattle.follow.proofs.FollowLaws.{held-none, follow-kept, follows}
 use Rattle.follow.proofs.walks.follow.Statement.{statement}
 use Rattle.follow.proofs.walks.follow.Tie as tie
 
@@ -43,7 +43,7 @@ same-length : tie.Need-same-length
 same-length c = (c .before .before .before .unsee) .ensures .len ∙ (c .before .before .before .before .before .before .before .walk) .ensures .walking .grew .len ∙ (c .before .before .before .before .before .before .before .before .before .before .before .begin) .ensures .grew .len
 
 returns : tie.Need-returns
-returns c = λ operands crossings ends p. follows ((c .before .before .before .before .before .before .before .before .before .before .before .before .before .before .before .before .before .before .args) .insts .now) operands crossings ((c .before .before .before .before .before .before .before .before .before .before .before .before .before .before .before .before .before .before .args) .addresses .now) ends ((c .before .before .before .before .before .before .before .before .before .before .before .before .before .before .before .before .before .before .args) .lay) ((c .before .before .before .before .before .before .before .before .before .before .before .before .before .before .before .before .before .before .args) .z) ((c .before .before .before .before .before .before .before .before .before .before .before .before .before .before .before .before .before .before .args) .local) ((c .before .before .before .before .before .before .before .before .before .before .before .before .before .before .before .before .before .before .args) .whole) p ((c .before .before .before .before .before .before .before .before .before .before .before .before .before .before .before .before .before .before .pre) .0) ((c .before .before .before .before .before .before .before .before .before .before .before .before .before .before .before .before .before .before .pre) .2) ((c .before .before .before .before .before .before .before .before .before .before .before .begin) .ensures) ((c .before .before .before .before .before .before .before .walk) .ensures) ((c .before .before .before .before .before .before .before .before .before .before .before .before .before .before .before .before .before .before .pre) .1) ((c .before .before .before .unsee) .ensures) _ _ refl refl _ ((c .kind) .ensures)
+returns c = record { kept = follow-kept ((c .before .before .before .before .before .before .before .before .before .before .before .before .before .before .before .before .before .before .pre) .0) ((c .before .before .before .before .before .before .before .before .before .before .before .before .before .before .before .before .before .before .pre) .1) ((c .before .before .before .before .before .before .before .before .before .before .before .begin) .ensures) ((c .before .before .before .before .before .before .before .walk) .ensures) ((c .before .before .before .unsee) .ensures); code = λ operands crossings ends p. follows ((c .before .before .before .before .before .before .before .before .before .before .before .before .before .before .before .before .before .before .args) .insts .now) operands crossings ((c .before .before .before .before .before .before .before .before .before .before .before .before .before .before .before .before .before .before .args) .addresses .now) ends ((c .before .before .before .before .before .before .before .before .before .before .before .before .before .before .before .before .before .before .args) .lay) ((c .before .before .before .before .before .before .before .before .before .before .before .before .before .before .before .before .before .before .args) .z) ((c .before .before .before .before .before .before .before .before .before .before .before .before .before .before .before .before .before .before .args) .local) ((c .before .before .before .before .before .before .before .before .before .before .before .before .before .before .before .before .before .before .args) .whole) p ((c .before .before .before .before .before .before .before .before .before .before .before .before .before .before .before .before .before .before .pre) .0) ((c .before .before .before .before .before .before .before .before .before .before .before .before .before .before .before .before .before .before .pre) .2) ((c .before .before .before .before .before .before .before .before .before .before .before .begin) .ensures) ((c .before .before .before .before .before .before .before .walk) .ensures) ((c .before .before .before .unsee) .ensures) _ _ refl refl _ ((c .kind) .ensures) }
 
 pub follow-spec : {M : Type 1} → statement M
 follow-spec =

@@ -1,0 +1,44 @@
+-- What the entries of carrying refuse: numbers 1, 2, 4, 5 and 7, and W.
+use Prim.Native.Nat.{ℕ, _+_, _*_}
+use mathlib.Core.Bool.{_||_}
+use mathlib.Core.List.{List}
+use lib.ListN.{length}
+use lib.Dec.{ltb}
+use Rattle.refusals.specs.declared.Verdict.{Verdict}
+use Rattle.refusals.specs.declared.Refusal.the-variants.{Space}
+use Rattle.refusals.specs.Verdicts.{first, check}
+use Rattle.words.specs.Rows.{rowCount}
+use Rattle.graph.specs.Line.{blocksOf, lineVerdict}
+use Rattle.carrying.specs.Insts.{instsOf}
+use Rattle.carrying.specs.Carried.{mentionsOf}
+use Rattle.carrying.specs.Checks.{instVerdict, crossingVerdict, addressVerdict, endVerdict}
+use Rattle.insts.specs.Counts.{blockCounts, codeCounts}
+use Rattle.reach.specs.Prepared.{wordsOf}
+
+-- number 1
+unfoldable pub carryCounts : ℕ → List ℕ → List ℕ → List ℕ → List ℕ → List ℕ → List ℕ → List ℕ → Verdict
+carryCounts v blocks insts operands crossings locals addresses ends = first (blockCounts blocks) (codeCounts v insts operands crossings locals addresses ends)
+
+-- numbers 2 and 4 of the blocks and the instructions
+abbrev pub placeVerdict : ℕ → ℕ → List ℕ → List ℕ → List ℕ → Verdict
+placeVerdict points v blocks insts operands = first (lineVerdict (blocksOf blocks) points) (instVerdict (blocksOf blocks) v (instsOf insts operands))
+
+-- number 4 of the crossings, number 5 of the addresses and the ends
+abbrev pub strayVerdict : ℕ → List ℕ → List ℕ → List ℕ → List ℕ → List ℕ → Verdict
+strayVerdict v insts operands crossings addresses ends =
+    first (crossingVerdict v crossings) (first (addressVerdict (instsOf insts operands) (mentionsOf addresses)) (endVerdict (instsOf insts operands) (mentionsOf ends)))
+
+-- W: 8 × (the records lent + ⌈V/64⌉)
+abbrev pub carrySpace : ℕ → List ℕ → List ℕ → List ℕ → List ℕ → List ℕ → List ℕ → List ℕ → ℕ
+carrySpace v blocks insts operands crossings locals addresses ends =
+    8 * (rowCount 3 blocks + rowCount 9 insts + rowCount 2 operands + length crossings + rowCount 2 locals + rowCount 2 addresses + rowCount 2 ends + wordsOf v)
+
+-- number 7: an answer list under the most that the answer can be, or work space under W
+abbrev pub roomVerdict : ℕ → ℕ → ℕ → ℕ → Verdict
+roomVerdict lent most work space = check Space (ltb lent most || ltb work space)
+
+unfoldable pub carryVerdict : ℕ → ℕ → List ℕ → List ℕ → List ℕ → List ℕ → List ℕ → List ℕ → List ℕ → ℕ → ℕ → ℕ → Verdict
+carryVerdict points v blocks insts operands crossings locals addresses ends lent most work =
+    first (carryCounts v blocks insts operands crossings locals addresses ends)
+    (first (placeVerdict points v blocks insts operands)
+    (first (strayVerdict v insts operands crossings addresses ends) (roomVerdict lent most work (carrySpace v blocks insts operands crossings locals addresses ends))))
