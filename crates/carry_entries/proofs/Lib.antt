@@ -1,2 +1,4 @@
 pub mod CheckLaws
 pub mod EntryLaws
+pub mod UpLaws
+pub mod CarriedLaws

@@ -1,2 +1,3 @@
 pub mod Checks
 pub mod Entry
+pub mod Carried
