@@ -21,9 +21,10 @@ use Rattle.flow.specs.Flowed.{order, Flowed}
 use Rattle.flow.specs.Flowed.{Laid as FlowLaid}
 use Rattle.flow.specs.Entry.{FlowsTo, wayOf}
 use Rattle.flow.proofs.Routes.{reached-turned}
-use Rattle.flow.proofs.Moved.{rows-moved, order-as, reaching-as}
+use Rattle.flow.proofs.Moved.{rows-moved, reaching-as}
 use Rattle.spread.specs.declared.Layout.{Layout}
-use Rattle.spread.specs.Settling.{Placeable, Placed}
+use Rattle.postorder.specs.Settling.{Settling, Ordered}
+use Rattle.postorder.specs.Settling.{Walkable as Orderable}
 use Rattle.spread.specs.Spread.{Arrived}
 use Rattle.spread.specs.Spread.{Laid as SpreadLaid}
 use Rattle.spread.proofs.Turns.{arrives-as}
@@ -113,7 +114,6 @@ module _ (over : Over) (es : List Edge) (g : Grid) (n e out : ℕ) (w₀ w₁ : 
         between = N .between;
         count = N .count;
         rows = rows-moved (N .between) (omega (arith, N .count, L .edges-fit, L .tarjan-fits)) below rows₂;
-        order = order-as (λ k h. below (g .tarjan + k) (omega (arith, L .tarjan-fits))) (λ i h. below (g .tarjan + n + n + n + n + n + i) (omega (arith, L .tarjan-fits))) (F .order);
         bits = λ k l h m.
             let r = X .bits (wayOf over es) count (N .between) rows₂ (F .components (wayOf over es) (N .between) (N .rows)) k l h m in
             let t = flows-as over es (λ j. rowBit g (g .touched) w₀ j l) k in (
@@ -125,34 +125,33 @@ module _ (over : Over) (es : List Edge) (g : Grid) (n e out : ℕ) (w₀ w₁ : 
 -- ---- spread
 
 module _ (g : Grid) (n e : ℕ) (w₀ : List ℕ) (L : Laid g n e w₀) (K : Linked g n e w₀) where
-  pub placeable : Placeable n (g .tarjan + n + n + n + n + n) (g .tarjan) w₀
-  placeable = record {
-    apart = omega arith;
-    fits = omega (arith, L .tarjan-fits, L .touched-fits, L .leaves-fit, L .passes-fit, L .written-fits, L .read-fits, L .wait-fits, L .to-fits);
-    listed = K .order .listed;
-    once = K .order .once;
+  pub orderable : Orderable n (g .base + e + e) (g .tarjan) w₀
+  orderable = record {
+    edges = K .edges;
+    between = K .between;
+    rows = K .rows;
+    below = omega (arith, L .edges-fit, K .count);
+    room = omega (arith, L .tarjan-fits, L .touched-fits, L .leaves-fit, L .passes-fit, L .written-fits, L .read-fits, L .wait-fits, L .to-fits);
   }
 
   abbrev s : Layout
   s = record { n = n; at = g .base + e + e; order = g .tarjan; rank = g .tarjan + n; words = g .words; leaves = g .leaves; passes = g .passes; wait = g .wait }
 
-  module _ {w₁ : List ℕ} (P : Placed n (g .tarjan + n + n + n + n + n) (g .tarjan) n w₀ w₁) where
+  module _ {w₁ : List ℕ} (P : Ordered n (g .base + e + e) (g .tarjan) w₀ w₁) where
     moved : (es : List Edge) → Between n es → length es ≡ e → EdgeRows es n (g .base + e + e) w₀ → EdgeRows es n (g .base + e + e) w₁
     moved es B c R = rows-moved B (omega (arith, L .edges-fit)) (λ i h. P .kept .below i h) R
 
     rows₁ : EdgeRows (K .edges) n (g .base + e + e) w₁
     rows₁ = moved (K .edges) (K .between) (K .count) (K .rows)
 
-    rank-at : (i : ℕ) → i < n → getD w₁ (g .tarjan + n + getD w₁ (g .tarjan + i) 0) 0 ≡ i
-    rank-at i h = ap (λ (y : ℕ). getD w₁ (g .tarjan + n + y) 0) (P .order i h) ∙ P .rank i h
+    order-is : Settling (K .edges) n (λ i. getD w₁ (g .tarjan + i) 0)
+    order-is = P .settling (K .edges) (K .between) (K .rows)
 
     -- the place of a rank, and the rank of a place
     ranked-at : (v : ℕ) → v < n → (i : ℕ) × (i < n) × (getD w₁ (g .tarjan + i) 0 ≡ v) × (getD w₁ (g .tarjan + n + v) 0 ≡ i)
     ranked-at v h =
-        let (j, a, b) = K .order .every v h in
-        let z : n - 1 - (n - 1 - j) ≡ j = omega arith in
-        let q : getD w₁ (g .tarjan + (n - 1 - j)) 0 ≡ v = P .order (n - 1 - j) (omega arith) ∙ ap (λ (y : ℕ). getD w₀ (g .tarjan + n + n + n + n + n + y) 0) z ∙ b in
-        (n - 1 - j, omega arith, q, ap (λ (y : ℕ). getD w₁ (g .tarjan + n + y) 0) (sym q) ∙ rank-at (n - 1 - j) (omega arith))
+        let (i, a, b) = order-is .every v h in
+        (i, a, b, ap (λ (y : ℕ). getD w₁ (g .tarjan + n + y) 0) (sym b) ∙ P .ranks i a)
 
     pub spread-laid : SpreadLaid s w₁
     spread-laid = record {
@@ -166,15 +165,15 @@ module _ (g : Grid) (n e : ℕ) (w₀ : List ℕ) (L : Laid g n e w₀) (K : Lin
       leaves-fit = omega (arith, L .leaves-fit, L .passes-fit, L .written-fits, L .read-fits);
       passes-fit = omega (arith, L .passes-fit, L .written-fits, L .read-fits);
       out-fits = omega (arith, L .wait-fits, L .to-fits, P .kept .len);
-      placed = λ r h. omega (arith, P .order r h, K .order .listed (n - 1 - r) (omega arith));
+      placed = order-is .listed;
       ranked = λ v h. let r = ranked-at v h in omega (arith, r .1, r .3);
-      rank-of = rank-at;
+      rank-of = P .ranks;
       order-of = λ v h. let r = ranked-at v h in ap (λ (y : ℕ). getD w₁ (g .tarjan + y) 0) (r .3) ∙ r .2;
     }
 
     module _ {w₂ : List ℕ} (X : Arrived s w₁ w₂) where
       -- the rows lent stand past the order
-      lent : (from k l : ℕ) → g .tarjan + n + n ≤ from → k < n → l < g .words * 64 → rowBit g from w₁ k l ≡ rowBit g from w₀ k l
+      lent : (from k l : ℕ) → g .tarjan + n + n + n + n ≤ from → k < n → l < g .words * 64 → rowBit g from w₁ k l ≡ rowBit g from w₀ k l
       lent from k l a h m = ap (λ (y : ℕ). bitOf y (l % 64)) (P .kept .past (from + k * g .words + l / 64) (omega arith))
 
       pub arrived-at : ArrivedAt g n e w₀ w₂
@@ -185,8 +184,8 @@ module _ (g : Grid) (n e : ℕ) (w₀ : List ℕ) (L : Laid g n e w₀) (K : Lin
         };
         bits = λ es B c R k l h m.
             let r = X .bits es B (moved es B c R) k l h m in
-            let u : g .tarjan + n + n ≤ g .leaves = omega (arith, L .tarjan-fits, L .touched-fits) in
-            let v : g .tarjan + n + n ≤ g .passes = omega (arith, L .tarjan-fits, L .touched-fits, L .leaves-fit) in (
+            let u : g .tarjan + n + n + n + n ≤ g .leaves = omega (arith, L .tarjan-fits, L .touched-fits) in
+            let v : g .tarjan + n + n + n + n ≤ g .passes = omega (arith, L .tarjan-fits, L .touched-fits, L .leaves-fit) in (
               (λ o. arrives-as es B (λ j a. lent (g .leaves) j l u a m) (λ j a. lent (g .passes) j l v a m) (r .0 o)),
               (λ o. r .1 (arrives-as es B (λ j a. sym (lent (g .leaves) j l u a m)) (λ j a. sym (lent (g .passes) j l v a m)) o)),
             );
@@ -196,7 +195,7 @@ module _ (g : Grid) (n e : ℕ) (w₀ : List ℕ) (L : Laid g n e w₀) (K : Lin
 
 module _ (es : List Edge) (g : Grid) (n e : ℕ) {w₀ w₁ w₂ : List ℕ} (L : Laid g n e w₀) (A : FlowedOver Predecessors es g n e (g .written) w₀ w₁) (B : FlowedOver Successors es g n e (g .read) w₁ w₂) where
   pub linked : Linked g n e w₂
-  linked = record { edges = es; between = B .between; count = B .count; rows = B .rows; order = B .order }
+  linked = record { edges = es; between = B .between; count = B .count; rows = B .rows }
 
   touched-bit : (k l : ℕ) → k < n → l < g .words * 64 → rowBit g (g .touched) w₁ k l ≡ rowBit g (g .touched) w₀ k l
   touched-bit = bit-outside (g .touched) n (g .words) (A .kept) (inr (L .tarjan-fits)) (inl (omega (arith, L .touched-fits, L .leaves-fit, L .passes-fit)))

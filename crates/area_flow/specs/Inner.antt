@@ -9,19 +9,17 @@ use Rattle.graph.specs.Paths.{Edge, Between}
 use Rattle.graph.specs.Flow.{Arrives}
 use Rattle.graph.specs.Rounds.{reachedRow, reachingRow, arrivingRow}
 use Rattle.graph.specs.Work.{Within, EdgeRows}
-use Rattle.components.specs.Components.{InOrder}
 use Rattle.flow.specs.declared.Over.{Over}
 use Rattle.flow.specs.Entry.{FlowsTo, wayOf}
 use Rattle.area_flow.specs.declared.Grid.{Grid}
 use Rattle.area_flow.specs.Grid.{rowBit, arriving, blockBit, Outside}
 
--- the rows of some e edges and the places in their components' order
+-- the rows of some e edges
 pub record Linked (g : Grid) (n e : ℕ) (w : List ℕ) : Type 0 where
   pub edges : List Edge
   pub between : Between n edges
   pub count : length edges ≡ e
   pub rows : EdgeRows edges n (g .base + e + e) w
-  pub order : InOrder n (λ v. getD w (g .tarjan + v) 0) (λ i. getD w (g .tarjan + n + n + n + n + n + i) 0)
 
 -- `flowed` one way, into the rows from `out` on
 pub record FlowedOver (over : Over) (es : List Edge) (g : Grid) (n e out : ℕ) (w₀ w : List ℕ) : Type 0 where
@@ -29,12 +27,11 @@ pub record FlowedOver (over : Over) (es : List Edge) (g : Grid) (n e out : ℕ) 
   pub between : Between n (wayOf over es)
   pub count : length (wayOf over es) ≡ e
   pub rows : EdgeRows (wayOf over es) n (g .base + e + e) w
-  pub order : InOrder n (λ v. getD w (g .tarjan + v) 0) (λ i. getD w (g .tarjan + n + n + n + n + n + i) 0)
   pub bits : (k l : ℕ) → k < n → l < g .words * 64 → (rowBit g out w k l ≡ true) ↔ FlowsTo over es (λ j. rowBit g (g .touched) w₀ j l) k
 
 -- `spread`
 pub record ArrivedAt (g : Grid) (n e : ℕ) (w₀ w : List ℕ) : Type 0 where
-  pub kept : Outside (g .tarjan) (g .tarjan + n + n) (g .wait) (arriving g n + n * g .words) w₀ w
+  pub kept : Outside (g .tarjan) (g .tarjan + n + n + n + n) (g .wait) (arriving g n + n * g .words) w₀ w
   pub bits : (es : List Edge) → Between n es → length es ≡ e → EdgeRows es n (g .base + e + e) w₀
       → (k l : ℕ) → k < n → l < g .words * 64 → (rowBit g (arriving g n) w k l ≡ true) ↔ Arrives es (λ j. rowBit g (g .leaves) w₀ j l) (λ j. rowBit g (g .passes) w₀ j l) k
 

@@ -78,14 +78,14 @@ fn flow_over(over: Over, blocks: &[u32], edges: &[u32], work: &mut [u64], g: Gri
     );
 }
 
-// `spread` of the leaving and passing rows, in the components' order backwards.
+// `spread` of the leaving and passing rows, in the settling order.
 fn arrive(work: &mut [u64], g: Grid, n: usize, e: usize)
     requires { ⌜ Laid g n e (now work) × Linked g n e (now work) ⌝ }
     ensures { λ _. ⌜ ArrivedAt g n e (now (work .entry)) (now (work .exit)) ⌝ }
 {
     let order = g.tarjan;
     let at = g.base + e + e;
-    spread::order::backwards(work, n, order + n + n + n + n + n, order);
+    postorder::order(work, n, at, order);
     spread::rows::spread(
         work,
         Layout {
