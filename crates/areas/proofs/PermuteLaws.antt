@@ -46,7 +46,7 @@ perm-member (Permuted.swap r s rs) c m = go (List·Memᴰ·cases-cons m)
     go (inr n) = later (List·Memᴰ·cases-cons n)
 perm-member (Permuted.then p q) c m = perm-member q c (perm-member p c m)
 
-perm-front : (xs : List Range) {rs ss : List Range} → Permuted rs ss → Permuted (xs ++ rs) (xs ++ ss)
+pub perm-front : (xs : List Range) {rs ss : List Range} → Permuted rs ss → Permuted (xs ++ rs) (xs ++ ss)
 perm-front [] p = p
 perm-front (x ∷ xs) p = Permuted.keep x (perm-front xs p)
 
@@ -63,7 +63,7 @@ perm-insert : (x : Range) (ys zs : List Range) → Permuted (x ∷ (ys ++ zs)) (
 perm-insert x [] zs = perm-refl (x ∷ zs)
 perm-insert x (y ∷ ys) zs = Permuted.then (Permuted.swap x y (ys ++ zs)) (Permuted.keep y (perm-insert x ys zs))
 
-perm-exchange : (xs ys zs : List Range) → Permuted (xs ++ (ys ++ zs)) (ys ++ (xs ++ zs))
+pub perm-exchange : (xs ys zs : List Range) → Permuted (xs ++ (ys ++ zs)) (ys ++ (xs ++ zs))
 perm-exchange [] ys zs = perm-refl (ys ++ zs)
 perm-exchange (x ∷ xs) ys zs = Permuted.then (Permuted.keep x (perm-exchange xs ys zs)) (perm-insert x ys (xs ++ zs))
 

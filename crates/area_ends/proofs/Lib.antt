@@ -1,0 +1,4 @@
+pub mod EndPieceLaws
+pub mod CoverLaws
+pub mod ArriveLaws
+pub mod EndAreaLaws

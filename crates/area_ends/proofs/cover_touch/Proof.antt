@@ -1,0 +1,123 @@
+-- `cover_touch` meets its contract: a law for each way out, by how far the touch's last block is from its first.
+use native.Mathlib.Omega.{arith}
+use Prim.Native.Nat.{ℕ, _+_, _-_}
+use mathlib.Core.Path.{ap, _∙_}
+use denote.Ref.{now}
+use borrow.Author.Needs.{needs}
+use mathlib.Core.List.{List}
+use Rattle.ranges.specs.Forms.{unpack}
+use Rattle.areas.specs.Blocks.{blockOf, cover}
+use Rattle.spots.specs.Spots.{lineOf, endsAt}
+use lib.ListN.{length-set}
+use Rattle.area_ends.proofs.CoverLaws.{ends-set, stand-set, covered-one, covered-two, covered-three}
+use Rattle.area_ends.proofs.cover_touch.Statement.{statement}
+use Rattle.area_ends.proofs.cover_touch.Tie as tie
+
+start-of-requires : tie.Need-start-of-requires
+start-of-requires c κs = search needs
+
+holding-requires : tie.Need-holding-requires
+holding-requires c κs = search needs
+
+end-of-requires : tie.Need-end-of-requires
+end-of-requires c κs = search needs
+
+holding-requires-2 : tie.Need-holding-requires-2
+holding-requires-2 c κs = search needs
+
+cover-requires : tie.Need-cover-requires
+cover-requires c κs = search needs
+
+add-work : tie.Need-add-work
+add-work c = search needs
+
+mul-work : tie.Need-mul-work
+mul-work c = search needs
+
+slice-write-work : tie.Need-slice-write-work
+slice-write-work c = search needs
+
+add-next : tie.Need-add-next
+add-next c = search needs
+
+same-length : tie.Need-same-length
+same-length c = search needs
+
+returns : tie.Need-returns
+returns c = λ es. covered-one (lineOf (now ((c .before .before .before .before .before .before .before .before .before .before .args) .blocks)) es) ((c .before .before .before .before .before .before .before .before .before .before .pre) .0 .0) (endsAt ((c .before .before .before .before .before .before .before .before .before .before .args) .t) (now ((c .before .before .before .before .before .before .before .before .before .before .args) .work))) ((c .before .before .before .before .before .before .before .before .before .before .args) .s) ((c .before .before .before .before .before .before .before .before .before .before .args) .x) ((c .before .before .before .before .before .before .before .before .before .before .args) .m) ((c .before .before .before .before .before .before .before .before .before .before .pre) .0 .2 es) _ _ ((c .before .before .before .before .before .before .holding) .ensures .is es ∙ ap (λ (y : ℕ). blockOf (lineOf (now ((c .before .before .before .before .before .before .before .before .before .before .args) .blocks)) es) y) ((c .before .before .before .before .before .before .before .start-of) .ensures)) ((c .before .before .before .before .holding2) .ensures .is es ∙ ap (λ (y : ℕ). blockOf (lineOf (now ((c .before .before .before .before .before .before .before .before .before .before .args) .blocks)) es) y) ((c .before .before .before .before .before .end-of) .ensures)) (now ((c .before .before .before .before .before .before .before .before .before .before .args) .work)) ((c .before .before .before .before .before .before .before .before .before .before .pre) .1 .2) _ ((c .before .before .cover) .ensures) (omega arith)
+
+cover-requires-2 : tie.Need-cover-requires-2
+cover-requires-2 c κs = ((c .before .before .before .before .before .holding2) .ensures .below, stand-set ((c .before .before .before .before .before .before .before .before .before .before .before .args) .t) ((c .before .before .before .before .before .before .before .before .before .before .before .args) .s .to) (now ((c .before .before .before .before .before .before .before .before .before .before .before .args) .work)) ((c .before .before .before .before .before .before .before .before .before .before .before .pre) .0 .1) ((c .before .before .before .before .before .before .before .before .before .before .before .pre) .1 .0) ((c .before .before .before .before .before .before .before .before .before .before .before .pre) .1 .1) ((c .before .before .before .before .before .before .before .before .before .before .before .args) .s .to + (c .before .before .before .before .before .before .before .before .before .before .before .args) .m) ((c .before .before .before .cover) .result) (omega arith) (omega arith))
+
+add-work-2 : tie.Need-add-work-2
+add-work-2 c = search needs
+
+mul-work-2 : tie.Need-mul-work-2
+mul-work-2 c = search needs
+
+slice-write-work-2 : tie.Need-slice-write-work-2
+slice-write-work-2 c = simp length-set (omega (arith, (c .before .before .before .before .before .before .before .before .before .before .before .before .before .pre) .1 .2))
+
+add-third : tie.Need-add-third
+add-third c = search needs
+
+add-if2 : tie.Need-add-if2
+add-if2 c = search needs
+
+same-length-2 : tie.Need-same-length-2
+same-length-2 c = search needs
+
+returns-2 : tie.Need-returns-2
+returns-2 c = λ es. covered-two (lineOf (now ((c .before .before .before .before .before .before .before .before .before .before .before .before .before .before .args) .blocks)) es) ((c .before .before .before .before .before .before .before .before .before .before .before .before .before .before .pre) .0 .0) (endsAt ((c .before .before .before .before .before .before .before .before .before .before .before .before .before .before .args) .t) (now ((c .before .before .before .before .before .before .before .before .before .before .before .before .before .before .args) .work))) ((c .before .before .before .before .before .before .before .before .before .before .before .before .before .before .args) .s) ((c .before .before .before .before .before .before .before .before .before .before .before .before .before .before .args) .x) ((c .before .before .before .before .before .before .before .before .before .before .before .before .before .before .args) .m) ((c .before .before .before .before .before .before .before .before .before .before .before .before .before .before .pre) .0 .2 es) _ _ ((c .before .before .before .before .before .before .before .before .before .before .holding) .ensures .is es ∙ ap (λ (y : ℕ). blockOf (lineOf (now ((c .before .before .before .before .before .before .before .before .before .before .before .before .before .before .args) .blocks)) es) y) ((c .before .before .before .before .before .before .before .before .before .before .before .start-of) .ensures)) ((c .before .before .before .before .before .before .before .before .holding2) .ensures .is es ∙ ap (λ (y : ℕ). blockOf (lineOf (now ((c .before .before .before .before .before .before .before .before .before .before .before .before .before .before .args) .blocks)) es) y) ((c .before .before .before .before .before .before .before .before .before .end-of) .ensures)) (now ((c .before .before .before .before .before .before .before .before .before .before .before .before .before .before .args) .work)) ((c .before .before .before .before .before .before .before .before .before .before .before .before .before .before .pre) .1 .2) _ ((c .before .before .before .before .before .before .cover) .ensures) _ ((c .before .before .cover2) .ensures ∙ ap (λ (l : List ℕ). cover (lineOf (now ((c .before .before .before .before .before .before .before .before .before .before .before .before .before .before .args) .blocks)) es) l ((c .before .before .before .before .before .before .before .before .holding2) .result) (unpack ((c .before .before .before .before .before .before .before .before .before .before .before .before .before .before .args) .x))) (ends-set ((c .before .before .before .before .before .before .before .before .before .before .before .before .before .before .args) .t) ((c .before .before .before .before .before .before .before .before .before .before .before .before .before .before .args) .s .to) (now ((c .before .before .before .before .before .before .before .before .before .before .before .before .before .before .args) .work)) ((c .before .before .before .before .before .before .before .before .before .before .before .before .before .before .pre) .0 .1) ((c .before .before .before .before .before .before .before .before .before .before .before .before .before .before .pre) .1 .0) ((c .before .before .before .before .before .before .before .before .before .before .before .before .before .before .pre) .1 .1) ((c .before .before .before .before .before .before .before .before .before .before .before .before .before .before .args) .s .to + (c .before .before .before .before .before .before .before .before .before .before .before .before .before .before .args) .m) ((c .before .before .before .before .before .before .cover) .result) (omega (arith, (c .before .before .before .before .before .before .before .before .before .before .before .before .before .before .pre) .1 .2)) (omega (arith, (c .before .before .before .before .before .before .before .before .before .before .before .before .before .before .pre) .1 .2)))) (omega arith) (omega arith)
+
+between-requires : tie.Need-between-requires
+between-requires c κs = search needs
+
+add-work-3 : tie.Need-add-work-3
+add-work-3 c = omega (arith, (c .before .before .before .before .before .before .before .before .before .before .before .before .before .before .before .before .pre) .1 .2, (c .before .before .before .before .before .before .before .before .before .before .before .before .before .before .before .before .good))
+
+mul-work-3 : tie.Need-mul-work-3
+mul-work-3 c = omega (arith, (c .before .before .before .before .before .before .before .before .before .before .before .before .before .before .before .before .pre) .1 .2, (c .before .before .before .before .before .before .before .before .before .before .before .before .before .before .before .before .good))
+
+slice-write-work-3 : tie.Need-slice-write-work-3
+slice-write-work-3 c = simp length-set (omega (arith, (c .before .before .before .before .before .before .before .before .before .before .before .before .before .before .before .before .pre) .1 .2))
+
+add-result : tie.Need-add-result
+add-result c = omega (arith, (c .before .before .before .before .before .before .before .before .before .before .before .before .before .before .before .before .pre) .1 .2, (c .before .before .before .before .before .before .before .before .before .before .before .before .before .before .before .before .good))
+
+same-length-3 : tie.Need-same-length-3
+same-length-3 c = search needs
+
+returns-3 : tie.Need-returns-3
+returns-3 c = λ es. covered-three (lineOf (now ((c .before .before .before .before .before .before .before .before .before .before .before .before .before .before .before .before .args) .blocks)) es) ((c .before .before .before .before .before .before .before .before .before .before .before .before .before .before .before .before .pre) .0 .0) (endsAt ((c .before .before .before .before .before .before .before .before .before .before .before .before .before .before .before .before .args) .t) (now ((c .before .before .before .before .before .before .before .before .before .before .before .before .before .before .before .before .args) .work))) ((c .before .before .before .before .before .before .before .before .before .before .before .before .before .before .before .before .args) .s) ((c .before .before .before .before .before .before .before .before .before .before .before .before .before .before .before .before .args) .x) ((c .before .before .before .before .before .before .before .before .before .before .before .before .before .before .before .before .args) .m) ((c .before .before .before .before .before .before .before .before .before .before .before .before .before .before .before .before .pre) .0 .2 es) _ _ ((c .before .before .before .before .before .before .before .before .before .before .before .before .holding) .ensures .is es ∙ ap (λ (y : ℕ). blockOf (lineOf (now ((c .before .before .before .before .before .before .before .before .before .before .before .before .before .before .before .before .args) .blocks)) es) y) ((c .before .before .before .before .before .before .before .before .before .before .before .before .before .start-of) .ensures)) ((c .before .before .before .before .before .before .before .before .before .before .holding2) .ensures .is es ∙ ap (λ (y : ℕ). blockOf (lineOf (now ((c .before .before .before .before .before .before .before .before .before .before .before .before .before .before .before .before .args) .blocks)) es) y) ((c .before .before .before .before .before .before .before .before .before .before .before .end-of) .ensures)) (now ((c .before .before .before .before .before .before .before .before .before .before .before .before .before .before .before .before .args) .work)) ((c .before .before .before .before .before .before .before .before .before .before .before .before .before .before .before .before .pre) .1 .2) _ ((c .before .before .before .before .before .before .before .before .cover) .ensures) _ ((c .before .before .before .before .cover2) .ensures ∙ ap (λ (l : List ℕ). cover (lineOf (now ((c .before .before .before .before .before .before .before .before .before .before .before .before .before .before .before .before .args) .blocks)) es) l ((c .before .before .before .before .before .before .before .before .before .before .holding2) .result) (unpack ((c .before .before .before .before .before .before .before .before .before .before .before .before .before .before .before .before .args) .x))) (ends-set ((c .before .before .before .before .before .before .before .before .before .before .before .before .before .before .before .before .args) .t) ((c .before .before .before .before .before .before .before .before .before .before .before .before .before .before .before .before .args) .s .to) (now ((c .before .before .before .before .before .before .before .before .before .before .before .before .before .before .before .before .args) .work)) ((c .before .before .before .before .before .before .before .before .before .before .before .before .before .before .before .before .pre) .0 .1) ((c .before .before .before .before .before .before .before .before .before .before .before .before .before .before .before .before .pre) .1 .0) ((c .before .before .before .before .before .before .before .before .before .before .before .before .before .before .before .before .pre) .1 .1) ((c .before .before .before .before .before .before .before .before .before .before .before .before .before .before .before .before .args) .s .to + (c .before .before .before .before .before .before .before .before .before .before .before .before .before .before .before .before .args) .m) ((c .before .before .before .before .before .before .before .before .cover) .result) (omega (arith, (c .before .before .before .before .before .before .before .before .before .before .before .before .before .before .before .before .pre) .1 .2)) (omega (arith, (c .before .before .before .before .before .before .before .before .before .before .before .before .before .before .before .before .pre) .1 .2)))) _ ((c .before .between) .ensures) (omega arith)
+
+pub cover-touch-spec : {M : Type 1} → statement M
+cover-touch-spec =
+    tie.close
+    (tie.spec
+    start-of-requires
+    holding-requires
+    end-of-requires
+    holding-requires-2
+    cover-requires
+    add-work
+    mul-work
+    slice-write-work
+    add-next
+    same-length
+    returns
+    cover-requires-2
+    add-work-2
+    mul-work-2
+    slice-write-work-2
+    add-third
+    add-if2
+    same-length-2
+    returns-2
+    between-requires
+    add-work-3
+    mul-work-3
+    slice-write-work-3
+    add-result
+    same-length-3
+    returns-3)

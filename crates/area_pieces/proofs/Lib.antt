@@ -1,0 +1,6 @@
+pub mod PushLaws
+pub mod HullLaws
+pub mod SpanLaws
+pub mod SweepLaws
+pub mod LineLaws
+pub mod AreaLaws

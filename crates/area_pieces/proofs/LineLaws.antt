@@ -1,0 +1,225 @@
+-- The pieces of a plain local in line order: blocks without both bits and without a span give none, so that only the others are visited.
+use Prim.Native.Nat.{ℕ, suc, _+_, _-_, _*_, _/_, _%_, _^_, _≤_, _<_, min}
+use native.Mathlib.Omega.{arith}
+use mathlib.Core.Path.{_≡_, refl, sym, ap, _∙_}
+use mathlib.Core.Logic.{_≢_}
+use mathlib.Core.Bool.{Bool, true, false, cond, _&&_, _||_, true≢false, false≢true}
+use mathlib.Core.List.{List, [], _∷_}
+use lib.ListN.{length, getD}
+use Rattle.words.specs.Regions.{part}
+use Rattle.words.proofs.RegionLaws.{row-before}
+use Rattle.bits.specs.Bits.{bitOf, PutBit, Row, FirstSet}
+use Rattle.ranges.specs.declared.Range.{Range}
+use Rattle.ranges.specs.Points.{range}
+use Rattle.ranges.specs.Merged.{joined}
+use Rattle.ranges.specs.Forms.{pack, unpack, unpacked}
+use Rattle.ranges.proofs.FormLaws.{unpack-pack}
+use Rattle.graph.specs.Paths.{Edge}
+use Rattle.graph.proofs.Line.{start-is, end-is}
+use Rattle.areas.specs.Blocks.{Graph, top, bottom, whole}
+use Rattle.areas.specs.Pieces.{clips, span, blockPiece, joinEach, linePieces}
+use Rattle.spots.specs.Spots.{lineOf}
+use Rattle.area_pieces.proofs.SweepLaws.{stays, Sweep, sweep-begin, sweep-in, sweep-mark, sweep-next, sweep-skip, sweep-pieces, sweep-more, sweep-done, swept-after}
+use Rattle.area_pieces.specs.declared.Local.{Local}
+use Rattle.area_pieces.specs.Local.{ownBit, writtenBit, readBit, markBit, Flowing, Both}
+use Rattle.area_pieces.specs.Inner.{spanAt, hull, pieceAt, Spans, Visitable, Pieced, Visited, Lined, JoinedIn}
+
+-- ---- a block's piece by its span
+
+abbrev from-hull : Graph → ℕ → Bool → Bool → List Range → List Range
+from-hull G k from to [] = []
+from-hull G k from to (h ∷ hs) = range (cond from (top G k) (h .start)) (cond to (bottom G k) (h .end)) ∷ []
+
+span-hull : (G : Graph) (k : ℕ) (from to : Bool) (cs : List Range) → span G k from to cs ≡ from-hull G k from to (hull cs)
+span-hull G k from to [] = refl
+span-hull G k from to (c ∷ cs) = refl
+
+or-neither : (a b : Bool) → (a || b) ≡ false → (a ≡ false) × (b ≡ false)
+or-neither true b e = absurd (true≢false e)
+or-neither false b e = (refl, e)
+
+module _ (G : Graph) (s : Local) (n : ℕ) (ts : List Range) (w : List ℕ) (p : Spans G s n ts w) (k : ℕ) (h : k < n) (own : ownBit s w k ≡ (writtenBit s w k && readBit s w k)) where
+  by-span : blockPiece G ts (writtenBit s w) (readBit s w) k ≡ cond (ownBit s w k) (whole G k ∷ []) (from-hull G k (writtenBit s w k) (readBit s w k) (spanAt s w k))
+  by-span = rw (span-hull G k (writtenBit s w k) (readBit s w k) (clips G ts k), ← p .is k h, ← own)
+
+  piece-here : (markBit s w k || ownBit s w k) ≡ true → blockPiece G ts (writtenBit s w) (readBit s w) k ≡ pieceAt G s w k ∷ []
+  piece-here e = by-span ∙ go (ownBit s w k) (markBit s w k) e
+    where
+      go : (o m : Bool) → (m || o) ≡ true
+          → cond o (whole G k ∷ []) (from-hull G k (writtenBit s w k) (readBit s w k) (cond m (unpack (getD w (s .span + k) 0) ∷ []) []))
+          ≡ cond o (whole G k) (range (cond (writtenBit s w k) (top G k) (unpack (getD w (s .span + k) 0) .start)) (cond (readBit s w k) (bottom G k) (unpack (getD w (s .span + k) 0) .end))) ∷ []
+      go true m e = refl
+      go false true e = refl
+      go false false e = absurd (false≢true e)
+
+  piece-none : (markBit s w k || ownBit s w k) ≡ false → blockPiece G ts (writtenBit s w) (readBit s w) k ≡ []
+  piece-none e = by-span ∙ go (ownBit s w k) (markBit s w k) e
+    where
+      go : (o m : Bool) → (m || o) ≡ false → cond o (whole G k ∷ []) (from-hull G k (writtenBit s w k) (readBit s w k) (cond m (unpack (getD w (s .span + k) 0) ∷ []) [])) ≡ []
+      go true true e = absurd (true≢false e)
+      go true false e = absurd (true≢false e)
+      go false true e = absurd (true≢false e)
+      go false false e = refl
+
+-- rows that stand before the marks are read alike from two lists that agree there
+module _ (s : Local) (n : ℕ) (w₀ w : List ℕ) (f : Flowing s n) (before : (i : ℕ) → i < s .mark → getD w i 0 ≡ getD w₀ i 0) where
+  pub written-kept : (k : ℕ) → k < n → writtenBit s w k ≡ writtenBit s w₀ k
+  written-kept k h = ap (λ (y : ℕ). bitOf y (s .local % 64)) (before (s .written + k * s .words + s .local / 64) (omega (arith, row-before k n (s .words) h)))
+
+  pub read-kept : (k : ℕ) → k < n → readBit s w k ≡ readBit s w₀ k
+  read-kept k h = ap (λ (y : ℕ). bitOf y (s .local % 64)) (before (s .read + k * s .words + s .local / 64) (omega (arith, row-before k n (s .words) h)))
+
+  pub own-kept : s .row + s .wide ≤ s .mark → (c : ℕ) → c < s .wide * 64 → ownBit s w c ≡ ownBit s w₀ c
+  own-kept r c h = ap (λ (y : ℕ). bitOf y (c % 64)) (before (s .row + c / 64) (omega arith))
+
+  -- and so is a piece, where its span is the same
+  piece-kept : (G : Graph) (k : ℕ) → k < n → s .row + s .wide ≤ s .mark → k < s .wide * 64 → getD w (s .span + k) 0 ≡ getD w₀ (s .span + k) 0 → pieceAt G s w k ≡ pieceAt G s w₀ k
+  piece-kept G k h r l word = rw (own-kept r k l, written-kept k h, read-kept k h, word)
+
+-- what the code works out of a block with both bits, and of one with a span
+module _ (blocks : List ℕ) (s : Local) (w : List ℕ) (k y : ℕ) (h : k < length blocks / 3) (small : getD blocks (3 * k + 2) 0 < 2 ^ 32) where
+  pub piece-whole : ownBit s w k ≡ true → y ≡ pack (range (getD blocks (3 * k + 1) 0) (getD blocks (3 * k + 2) 0)) → unpack y ≡ pieceAt (lineOf blocks []) s w k
+  piece-whole o e =
+      ap unpack e ∙ unpack-pack (getD blocks (3 * k + 1) 0) (getD blocks (3 * k + 2) 0) small
+      ∙ rw (o, start-is blocks k h, end-is blocks k h)
+
+  pub piece-part : ownBit s w k ≡ false → (from to : Bool) → from ≡ writtenBit s w k → to ≡ readBit s w k → (a b first last : ℕ) → a ≡ getD w (s .span + k) 0 / 2 ^ 32 → b ≡ getD w (s .span + k) 0 % 2 ^ 32
+      → first ≡ cond from (getD blocks (3 * k + 1) 0) a → last ≡ cond to (getD blocks (3 * k + 2) 0) b → y ≡ pack (range first last) → unpack y ≡ pieceAt (lineOf blocks []) s w k
+  piece-part o from to ef et a b first last ea eb f l e =
+      ap unpack e ∙ unpack-pack first last (rw l (under to))
+      ∙ rw (o, f, l, ef, et, ea, eb, start-is blocks k h, end-is blocks k h)
+    where
+      under : (t : Bool) → cond t (getD blocks (3 * k + 2) 0) b < 2 ^ 32
+      under true = small
+      under false = omega arith
+
+-- ---- the pieces of some blocks more
+
+module _ (G : Graph) (ts : List Range) (f g : ℕ → Bool) where
+  line-one : (k : ℕ) (r : Range) → blockPiece G ts f g k ≡ r ∷ [] → linePieces G ts f g (suc k) ≡ joined (linePieces G ts f g k) r
+  unfolding linePieces joinEach
+  line-one k r e = ap (joinEach (linePieces G ts f g k)) e
+
+  line-same : (k : ℕ) → blockPiece G ts f g k ≡ [] → linePieces G ts f g (suc k) ≡ linePieces G ts f g k
+  unfolding linePieces joinEach
+  line-same k e = ap (joinEach (linePieces G ts f g k)) e
+
+  line-start : linePieces G ts f g 0 ≡ []
+  unfolding linePieces
+  line-start = refl
+
+-- ---- the loop over the marked blocks
+
+pub record Lining (blocks : List ℕ) (s : Local) (n from : ℕ) (w₀ w : List ℕ) (k r : ℕ) : Type 0 where
+  pub asked : Visitable s n from w₀
+  pub sweep : Sweep s n from w₀ w k r
+  pub pieces : (es : List Edge) (ts : List Range) (f g : ℕ → Bool) → Pieced (lineOf blocks es) ts f g s n w₀
+      → unpacked (part from r w) ≡ linePieces (lineOf blocks es) ts f g (min k n)
+
+-- some blocks more have no piece, and one has its own
+module _ (blocks : List ℕ) (s : Local) (n : ℕ) (w₀ : List ℕ) (es : List Edge) (ts : List Range) (f g : ℕ → Bool) (p : Pieced (lineOf blocks es) ts f g s n w₀) where
+  abbrev lines : ℕ → List Range
+  lines k = linePieces (lineOf blocks es) ts f g k
+
+  passed : (j k : ℕ) → j ≤ k → ((i : ℕ) → j ≤ i → i < k → markBit s w₀ i ≡ false) → j ≤ n → lines (min k n) ≡ lines j
+  passed j k h none l =
+      stays lines n j k h l
+      (λ i q m v. line-same (lineOf blocks es) ts f g i (p .is i v ∙ ap (λ (t : Bool). cond t (pieceAt (lineOf blocks es) s w₀ i ∷ []) []) (none i q m)))
+
+  taken : (k : ℕ) → k < n → markBit s w₀ k ≡ true → lines (suc k) ≡ joined (lines k) (pieceAt (lineOf blocks es) s w₀ k)
+  taken k h e =
+      line-one (lineOf blocks es) ts f g k (pieceAt (lineOf blocks es) s w₀ k)
+      (p .is k h ∙ ap (λ (t : Bool). cond t (pieceAt (lineOf blocks es) s w₀ k ∷ []) []) e)
+
+pub line-begin : (blocks : List ℕ) (s : Local) (n from : ℕ) {w : List ℕ} → Visitable s n from w → (k : ℕ) → FirstSet w (s .mark) (s .wide) 0 k → Lining blocks s n from w w k 0
+line-begin blocks s n from {w} a k first = record {
+  asked = a;
+  sweep = sweep-begin (a .swept) first;
+  pieces = λ es ts f g p. sym (passed blocks s n w es ts f g p 0 k (omega arith) (λ i q m. first .least i (omega arith) m) (omega arith)
+      ∙ line-start (lineOf blocks es) ts f g);
+}
+
+module _ {blocks : List ℕ} {s : Local} {n from : ℕ} {w₀ w : List ℕ} {k r : ℕ} (d : Lining blocks s n from w₀ w k r) where
+  piece-same : (G : Graph) → k < n → pieceAt G s w k ≡ pieceAt G s w₀ k
+  piece-same G h =
+      let a = d .asked in
+      let p = a .swept .wide in
+      let f = a .span-fits in
+      let m = a .mark-fits in
+      piece-kept s n w₀ w (a .flowing) (d .sweep .before) G k h (a .row-fits) (omega arith) (d .sweep .between (s .span + k) (omega arith) (omega arith))
+
+  module _ {w₁ w₂ : List ℕ} {r′ k′ x : ℕ} (h : k < s .wide * 64) (ex : unpack x ≡ pieceAt (lineOf blocks []) s w k) (j : JoinedIn w w₁ from r r′ x)
+      (u : PutBit w₁ w₂ (s .mark) k false) (first : FirstSet w₂ (s .mark) (s .wide) (k / 64) k′) where
+    pub line-next : k < k′
+    line-next = sweep-next (d .sweep) h (j .listed .len) (j .listed .before) (j .listed .after) (j .most) u first
+
+    pub line-more : Lining blocks s n from w₀ w₂ k′ r′
+    line-more = record {
+      asked = d .asked;
+      sweep = sweep-more (d .sweep) h (j .listed .len) (j .listed .before) (j .listed .after) (j .most) u first;
+      pieces = λ es ts f g p. listed ∙ ap (λ (q : Range). joined (unpacked (part from r w)) q) (ex ∙ piece-same (lineOf blocks []) kn)
+          ∙ ap (λ (q : List Range). joined q (pieceAt (lineOf blocks es) s w₀ k)) (d .pieces es ts f g p ∙ ap (λ (q : ℕ). linePieces (lineOf blocks es) ts f g q) least)
+          ∙ sym (passed blocks s n w₀ es ts f g p (suc k) k′ line-next (sweep-skip (d .sweep) h (j .listed .len) (j .listed .before) (j .listed .after) (j .most) u first) kn
+          ∙ taken blocks s n w₀ es ts f g p k kn (sweep-mark (d .sweep) h));
+    }
+      where
+        kn : k < n
+        kn = sweep-in (d .sweep) h
+
+        least : min k n ≡ k
+        least = let q = kn in omega arith
+
+        listed : unpacked (part from r′ w₂) ≡ joined (unpacked (part from r w)) (unpack x)
+        listed = ap unpacked (sweep-pieces (d .sweep) h (j .listed .len) (j .listed .before) (j .listed .after) (j .most) u first) ∙ j .listed .is
+
+  pub line-done : s .wide * 64 ≤ k → Visited blocks s n from r w₀ w
+  line-done h =
+      let a = d .sweep .within in
+      let l = d .asked .swept .wide in
+      let z : min k n ≡ n = omega arith in
+      record {
+        swept = sweep-done (d .sweep) h;
+        pieces = λ es ts f g p. d .pieces es ts f g p ∙ ap (λ (q : ℕ). linePieces (lineOf blocks es) ts f g q) z;
+      }
+
+-- ---- the marks and the local's own row together
+
+module _ (blocks : List ℕ) {s : Local} {n from : ℕ} {w₀ w₁ : List ℕ} (a : Visitable s n from w₀) (o : Both s n w₀) (row : Row w₀ w₁ (s .mark) (s .wide) (λ c. markBit s w₀ c || ownBit s w₀ c)) where
+  pub both-asked : Visitable s n from w₁
+  both-asked =
+      let e = row .len in
+      let g = a .swept in
+      record {
+        swept = record { wide = g .wide; small = g .small; mark-fits = g .mark-fits; fits = omega arith; past = λ c q l. row .bits c l ∙ rw (g .past c q l, o .bounded .past c q l) };
+        row-fits = a .row-fits;
+        mark-fits = a .mark-fits;
+        span-fits = a .span-fits;
+        flowing = a .flowing;
+      }
+
+  pieced : (es : List Edge) (ts : List Range) → Spans (lineOf blocks es) s n ts w₀ → Pieced (lineOf blocks es) ts (writtenBit s w₀) (readBit s w₀) s n w₁
+  pieced es ts p = record {
+    is = λ k h. go k h (markBit s w₁ k) refl;
+  }
+    where
+      G : Graph
+      G = lineOf blocks es
+
+      marked : (k : ℕ) → k < n → markBit s w₁ k ≡ (markBit s w₀ k || ownBit s w₀ k)
+      marked k h = let l = a .swept .wide in row .bits k (omega arith)
+
+      kept : (k : ℕ) → k < n → pieceAt G s w₁ k ≡ pieceAt G s w₀ k
+      kept k h =
+          let l = a .swept .wide in
+          let m = a .mark-fits in
+          piece-kept s n w₀ w₁ (a .flowing) (row .before) G k h (a .row-fits) (omega arith) (row .after (s .span + k) (omega arith))
+
+      go : (k : ℕ) → k < n → (t : Bool) → markBit s w₁ k ≡ t → blockPiece G ts (writtenBit s w₀) (readBit s w₀) k ≡ cond t (pieceAt G s w₁ k ∷ []) []
+      go k h true e = piece-here G s n ts w₀ p k h (o .bits k h) (sym (marked k h) ∙ e) ∙ ap (λ (r : Range). r ∷ []) (sym (kept k h))
+      go k h false e = piece-none G s n ts w₀ p k h (o .bits k h) (sym (marked k h) ∙ e)
+
+  pub both-lined : {w : List ℕ} {r : ℕ} → Visited blocks s n from r w₁ w → Lined blocks s n from r w₀ w
+  both-lined v = record {
+    swept = swept-after (a .swept .mark-fits) (row .len) (row .before) (row .after) (v .swept);
+    pieces = λ es ts p. v .pieces es ts (writtenBit s w₀) (readBit s w₀) (pieced es ts p);
+  }

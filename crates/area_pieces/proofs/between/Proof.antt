@@ -1,0 +1,61 @@
+-- `between` meets its contract: from the top of the block after the first to the bottom of the one before the last.
+use native.Mathlib.Omega.{arith}
+use Prim.Native.Nat.{_+_, _-_, _*_}
+use denote.Ref.{now}
+use borrow.Author.Needs.{needs}
+use Rattle.area_pieces.proofs.SpanLaws.{between-is}
+use Rattle.area_pieces.proofs.between.Statement.{statement}
+use Rattle.area_pieces.proofs.between.Tie as tie
+
+add-pack : tie.Need-add-pack
+add-pack c = search needs
+
+mul-pack : tie.Need-mul-pack
+mul-pack c = search needs
+
+add-pack-2 : tie.Need-add-pack-2
+add-pack-2 c = search needs
+
+mul-pack-2 : tie.Need-mul-pack-2
+mul-pack-2 c = search needs
+
+shared-slice-read-pack : tie.Need-shared-slice-read-pack
+shared-slice-read-pack c = search needs
+
+sub-pack : tie.Need-sub-pack
+sub-pack c = search needs
+
+mul-pack-3 : tie.Need-mul-pack-3
+mul-pack-3 c = search needs
+
+add-pack-3 : tie.Need-add-pack-3
+add-pack-3 c = search needs
+
+mul-pack-4 : tie.Need-mul-pack-4
+mul-pack-4 c = search needs
+
+shared-slice-read-pack-2 : tie.Need-shared-slice-read-pack-2
+shared-slice-read-pack-2 c = search needs
+
+pack-requires : tie.Need-pack-requires
+pack-requires c κs = search needs
+
+returns : tie.Need-returns
+returns c = between-is (now ((c .before .before .before .before .args) .blocks)) ((c .before .before .before .before .args) .first) ((c .before .before .before .before .args) .last) _ (omega arith) (omega arith) (omega (arith, (c .before .before .shared-slice-known2) .given (3 * ((c .before .before .before .before .args) .last - 1) + 2))) ((c .pack) .ensures)
+
+pub between-spec : {M : Type 1} → statement M
+between-spec =
+    tie.close
+    (tie.spec
+    add-pack
+    mul-pack
+    add-pack-2
+    mul-pack-2
+    shared-slice-read-pack
+    sub-pack
+    mul-pack-3
+    add-pack-3
+    mul-pack-4
+    shared-slice-read-pack-2
+    pack-requires
+    returns)

@@ -1,0 +1,76 @@
+-- `clip` meets its contract: the touch's clip is put to the block's span.
+use native.Mathlib.Omega.{arith}
+use Prim.Native.Nat.{_-_}
+use denote.Ref.{now}
+use borrow.Author.Needs.{needs}
+use mathlib.Core.Path.{subst}
+use Rattle.ranges.specs.declared.Range.{Range}
+use Rattle.area_pieces.specs.Inner.{Widened}
+use Rattle.area_pieces.proofs.SpanLaws.{clipped}
+use Rattle.area_pieces.proofs.clip.Statement.{statement}
+use Rattle.area_pieces.proofs.clip.Tie as tie
+
+start-of-requires : tie.Need-start-of-requires
+start-of-requires c κs = search needs
+
+mul-larger : tie.Need-mul-larger
+mul-larger c = search needs
+
+add-larger : tie.Need-add-larger
+add-larger c = search needs
+
+mul-larger-2 : tie.Need-mul-larger-2
+mul-larger-2 c = search needs
+
+shared-slice-read-larger : tie.Need-shared-slice-read-larger
+shared-slice-read-larger c = search needs
+
+larger-requires : tie.Need-larger-requires
+larger-requires c κs = search needs
+
+end-of-requires : tie.Need-end-of-requires
+end-of-requires c κs = search needs
+
+mul-smaller : tie.Need-mul-smaller
+mul-smaller c = search needs
+
+add-smaller : tie.Need-add-smaller
+add-smaller c = search needs
+
+mul-smaller-2 : tie.Need-mul-smaller-2
+mul-smaller-2 c = search needs
+
+shared-slice-read-smaller : tie.Need-shared-slice-read-smaller
+shared-slice-read-smaller c = search needs
+
+smaller-requires : tie.Need-smaller-requires
+smaller-requires c κs = search needs
+
+widen-requires : tie.Need-widen-requires
+widen-requires c κs = search needs
+
+same-length : tie.Need-same-length
+same-length c = search needs
+
+returns : tie.Need-returns
+returns c = subst (λ (r : Range). Widened ((c .before .before .before .before .before .before .before .before .before .before .before .before .args) .s) ((c .before .before .before .before .before .before .before .before .before .before .before .before .args) .k) r (now ((c .before .before .before .before .before .before .before .before .before .before .before .before .args) .work)) ((c .before .before .widen) .last .0)) (clipped (now ((c .before .before .before .before .before .before .before .before .before .before .before .before .args) .blocks)) ((c .before .before .before .before .before .before .before .before .before .before .before .before .args) .k) ((c .before .before .before .before .before .before .before .before .before .before .before .before .args) .x) _ _ _ _ (omega arith) ((c .before .before .before .before .before .before .before .before .before .start-of) .ensures) ((c .before .before .before .before .before .before .end-of) .ensures) ((c .before .before .before .before .before .before .before .larger) .ensures) ((c .before .before .before .before .smaller) .ensures)) ((c .before .before .widen) .ensures)
+
+pub clip-spec : {M : Type 1} → statement M
+clip-spec =
+    tie.close
+    (tie.spec
+    start-of-requires
+    mul-larger
+    add-larger
+    mul-larger-2
+    shared-slice-read-larger
+    larger-requires
+    end-of-requires
+    mul-smaller
+    add-smaller
+    mul-smaller-2
+    shared-slice-read-smaller
+    smaller-requires
+    widen-requires
+    same-length
+    returns)

@@ -1,0 +1,25 @@
+-- `line` meets its contract: the local's own row is put to the marks, and the marked blocks are visited.
+use native.Mathlib.Omega.{arith}
+use Prim.Native.Nat.{_-_}
+use denote.Ref.{now}
+use borrow.Author.Needs.{needs}
+use Rattle.words.specs.Regions.{above}
+use Rattle.bits.specs.Bits.{apart}
+use Rattle.area_pieces.proofs.LineLaws.{both-asked, both-lined}
+use Rattle.area_pieces.proofs.line.Statement.{statement}
+use Rattle.area_pieces.proofs.line.Tie as tie
+
+row-or-requires : tie.Need-row-or-requires
+row-or-requires c κs = (omega arith, omega arith, apart (above ((c .before .before .before .pre) .0 .row-fits)))
+
+visit-requires : tie.Need-visit-requires
+visit-requires c κs = both-asked (now ((c .before .before .before .before .before .before .before .args) .blocks)) ((c .before .before .before .before .before .before .before .pre) .0) ((c .before .before .before .before .before .before .before .pre) .1) ((c .before .before .before .row-or) .ensures .row)
+
+same-length : tie.Need-same-length
+same-length c = search needs
+
+returns : tie.Need-returns
+returns c = both-lined (now ((c .before .before .before .before .before .before .before .before .before .before .args) .blocks)) ((c .before .before .before .before .before .before .before .before .before .before .pre) .0) ((c .before .before .before .before .before .before .before .before .before .before .pre) .1) ((c .before .before .before .before .before .before .row-or) .ensures .row) ((c .before .before .visit) .ensures)
+
+pub line-spec : {M : Type 1} → statement M
+line-spec = tie.close (tie.spec row-or-requires visit-requires same-length returns)

@@ -1,0 +1,119 @@
+-- `piece` meets its contract: the whole block, or its span between the two bits' ends.
+use native.Mathlib.Omega.{arith}
+use Prim.Native.Nat.{_+_, _-_, _*_}
+use mathlib.Core.Path.{sym, _∙_}
+use denote.Ref.{now}
+use borrow.Author.Needs.{needs}
+use Rattle.words.proofs.RegionLaws.{row-before}
+use Rattle.area_pieces.proofs.LineLaws.{piece-whole, piece-part}
+use Rattle.area_pieces.proofs.piece.Statement.{statement}
+use Rattle.area_pieces.proofs.piece.Tie as tie
+
+mul-top : tie.Need-mul-top
+mul-top c = search needs
+
+add-top : tie.Need-add-top
+add-top c = search needs
+
+mul-top-2 : tie.Need-mul-top-2
+mul-top-2 c = search needs
+
+shared-slice-read-top : tie.Need-shared-slice-read-top
+shared-slice-read-top c = search needs
+
+mul-bottom : tie.Need-mul-bottom
+mul-bottom c = search needs
+
+add-bottom : tie.Need-add-bottom
+add-bottom c = search needs
+
+mul-bottom-2 : tie.Need-mul-bottom-2
+mul-bottom-2 c = search needs
+
+shared-slice-read-bottom : tie.Need-shared-slice-read-bottom
+shared-slice-read-bottom c = search needs
+
+test-requires : tie.Need-test-requires
+test-requires c κs = search needs
+
+pack-requires : tie.Need-pack-requires
+pack-requires c κs = search needs
+
+returns : tie.Need-returns
+returns c = piece-whole (now ((c .before .before .before .before .before .before .before .args) .blocks)) ((c .before .before .before .before .before .before .before .args) .s) (now ((c .before .before .before .before .before .before .before .args) .work)) ((c .before .before .before .before .before .before .before .args) .k) _ ((c .before .before .before .before .before .before .before .pre) .0 .0) (omega (arith, (c .before .before .before .before .shared-slice-known3) .given (3 * (c .before .before .before .before .before .before .before .args) .k + 2))) (sym ((c .before .before .test) .ensures) ∙ (c .before .if1) .taken) ((c .pack) .ensures)
+
+add-x : tie.Need-add-x
+add-x c = search needs
+
+mul-x : tie.Need-mul-x
+mul-x c = search needs
+
+shared-slice-read-x : tie.Need-shared-slice-read-x
+shared-slice-read-x c = search needs
+
+mul-test : tie.Need-mul-test
+mul-test c = omega (arith, row-before ((c .before .before .before .before .before .before .before .before .before .args) .k) _ ((c .before .before .before .before .before .before .before .before .before .args) .s .words) ((c .before .before .before .before .before .before .before .before .before .pre) .0 .0), (c .before .before .before .before .before .before .before .before .before .pre) .1 .0 .written-fits, (c .before .before .before .before .before .before .before .before .before .pre) .1 .1)
+
+add-test : tie.Need-add-test
+add-test c = omega (arith, row-before ((c .before .before .before .before .before .before .before .before .before .before .args) .k) _ ((c .before .before .before .before .before .before .before .before .before .before .args) .s .words) ((c .before .before .before .before .before .before .before .before .before .before .pre) .0 .0), (c .before .before .before .before .before .before .before .before .before .before .pre) .1 .0 .written-fits, (c .before .before .before .before .before .before .before .before .before .before .pre) .1 .1)
+
+test-requires-2 : tie.Need-test-requires-2
+test-requires-2 c κs = omega (arith, row-before ((c .before .before .before .before .before .before .before .before .before .before .args) .k) _ ((c .before .before .before .before .before .before .before .before .before .before .args) .s .words) ((c .before .before .before .before .before .before .before .before .before .before .pre) .0 .0), (c .before .before .before .before .before .before .before .before .before .before .pre) .1 .0 .written-fits, (c .before .before .before .before .before .before .before .before .before .before .pre) .1 .0 .bit-in, (c .before .before .before .before .before .before .before .before .before .before .pre) .1 .1)
+
+mul-test-2 : tie.Need-mul-test-2
+mul-test-2 c = omega (arith, row-before ((c .before .before .before .before .before .before .before .before .before .before .before .before .args) .k) _ ((c .before .before .before .before .before .before .before .before .before .before .before .before .args) .s .words) ((c .before .before .before .before .before .before .before .before .before .before .before .before .pre) .0 .0), (c .before .before .before .before .before .before .before .before .before .before .before .before .pre) .1 .0 .read-fits, (c .before .before .before .before .before .before .before .before .before .before .before .before .pre) .1 .1)
+
+add-test-2 : tie.Need-add-test-2
+add-test-2 c = omega (arith, row-before ((c .before .before .before .before .before .before .before .before .before .before .before .before .before .args) .k) _ ((c .before .before .before .before .before .before .before .before .before .before .before .before .before .args) .s .words) ((c .before .before .before .before .before .before .before .before .before .before .before .before .before .pre) .0 .0), (c .before .before .before .before .before .before .before .before .before .before .before .before .before .pre) .1 .0 .read-fits, (c .before .before .before .before .before .before .before .before .before .before .before .before .before .pre) .1 .1)
+
+test-requires-3 : tie.Need-test-requires-3
+test-requires-3 c κs = omega (arith, row-before ((c .before .before .before .before .before .before .before .before .before .before .before .before .before .args) .k) _ ((c .before .before .before .before .before .before .before .before .before .before .before .before .before .args) .s .words) ((c .before .before .before .before .before .before .before .before .before .before .before .before .before .pre) .0 .0), (c .before .before .before .before .before .before .before .before .before .before .before .before .before .pre) .1 .0 .read-fits, (c .before .before .before .before .before .before .before .before .before .before .before .before .before .pre) .1 .0 .bit-in, (c .before .before .before .before .before .before .before .before .before .before .before .before .before .pre) .1 .1)
+
+start-of-requires : tie.Need-start-of-requires
+start-of-requires c κs = search needs
+
+either-requires : tie.Need-either-requires
+either-requires c κs = search needs
+
+end-of-requires : tie.Need-end-of-requires
+end-of-requires c κs = search needs
+
+either-requires-2 : tie.Need-either-requires-2
+either-requires-2 c κs = search needs
+
+pack-requires-2 : tie.Need-pack-requires-2
+pack-requires-2 c κs = search needs
+
+returns-2 : tie.Need-returns-2
+returns-2 c = piece-part (now ((c .before .before .before .before .before .before .before .before .before .before .before .before .before .before .before .before .before .before .before .args) .blocks)) ((c .before .before .before .before .before .before .before .before .before .before .before .before .before .before .before .before .before .before .before .args) .s) (now ((c .before .before .before .before .before .before .before .before .before .before .before .before .before .before .before .before .before .before .before .args) .work)) ((c .before .before .before .before .before .before .before .before .before .before .before .before .before .before .before .before .before .before .before .args) .k) _ ((c .before .before .before .before .before .before .before .before .before .before .before .before .before .before .before .before .before .before .before .pre) .0 .0) (omega (arith, (c .before .before .before .before .before .before .before .before .before .before .before .before .before .before .before .before .shared-slice-known3) .given (3 * (c .before .before .before .before .before .before .before .before .before .before .before .before .before .before .before .before .before .before .before .args) .k + 2))) (sym ((c .before .before .before .before .before .before .before .before .before .before .before .before .before .before .test) .ensures) ∙ (c .before .before .before .before .before .before .before .before .before .before .before .before .before .if1) .left) _ _ ((c .before .before .before .before .before .before .before .before .test2) .ensures) ((c .before .before .before .before .before .test3) .ensures) _ _ _ _ ((c .before .before .before .before .start-of) .ensures) ((c .before .before .end-of) .ensures) ((c .before .before .before .either) .ensures) ((c .before .either2) .ensures) ((c .pack2) .ensures)
+
+pub piece-spec : {M : Type 1} → statement M
+piece-spec =
+    tie.close
+    (tie.spec
+    mul-top
+    add-top
+    mul-top-2
+    shared-slice-read-top
+    mul-bottom
+    add-bottom
+    mul-bottom-2
+    shared-slice-read-bottom
+    test-requires
+    pack-requires
+    returns
+    add-x
+    mul-x
+    shared-slice-read-x
+    mul-test
+    add-test
+    test-requires-2
+    mul-test-2
+    add-test-2
+    test-requires-3
+    start-of-requires
+    either-requires
+    end-of-requires
+    either-requires-2
+    pack-requires-2
+    returns-2)

@@ -1,0 +1,89 @@
+-- `touch` meets its contract: a law for each way out, by how far the touch's last block is from its first.
+use native.Mathlib.Omega.{arith}
+use Prim.Native.Nat.{ℕ, _-_}
+use mathlib.Core.Path.{ap, _∙_}
+use mathlib.Core.List.{[]}
+use denote.Ref.{now}
+use borrow.Author.Needs.{needs}
+use Rattle.areas.specs.Blocks.{blockOf}
+use Rattle.spots.specs.Spots.{lineOf}
+use Rattle.area_pieces.proofs.SpanLaws.{put-one, put-two, put-three}
+use Rattle.area_pieces.proofs.touch.Statement.{statement}
+use Rattle.area_pieces.proofs.touch.Tie as tie
+
+start-of-requires : tie.Need-start-of-requires
+start-of-requires c κs = search needs
+
+holding-requires : tie.Need-holding-requires
+holding-requires c κs = search needs
+
+end-of-requires : tie.Need-end-of-requires
+end-of-requires c κs = search needs
+
+holding-requires-2 : tie.Need-holding-requires-2
+holding-requires-2 c κs = search needs
+
+clip-requires : tie.Need-clip-requires
+clip-requires c κs = search needs
+
+same-length : tie.Need-same-length
+same-length c = search needs
+
+returns : tie.Need-returns
+returns c = λ es. put-one (lineOf (now ((c .before .before .before .before .before .before .before .before .before .before .before .args) .blocks)) es) ((c .before .before .before .before .before .before .before .before .before .before .before .pre) .0) ((c .before .before .before .before .before .before .before .before .before .before .before .args) .s) ((c .before .before .before .before .before .before .before .before .before .before .before .args) .x) ((c .before .before .before .before .before .before .before .before .before .before .before .args) .m) ((c .before .before .before .before .before .before .before .before .before .before .before .pre) .2 es) _ _ _ ((c .before .before .before .before .before .before .before .holding) .ensures .is es ∙ ap (λ (y : ℕ). blockOf (lineOf (now ((c .before .before .before .before .before .before .before .before .before .before .before .args) .blocks)) es) y) ((c .before .before .before .before .before .before .before .before .start-of) .ensures)) ((c .before .before .before .before .before .holding2) .ensures .is es ∙ ap (λ (y : ℕ). blockOf (lineOf (now ((c .before .before .before .before .before .before .before .before .before .before .before .args) .blocks)) es) y) ((c .before .before .before .before .before .before .end-of) .ensures)) ((c .before .before .before .before .before .before .before .before .before .before .before .pre) .1 .wide) ((c .before .before .before .before .before .before .before .holding) .ensures .below) ((c .before .before .before .before .before .holding2) .ensures .below) ((c .before .before .before .before .before .before .before .before .before .before .before .pre) .1 .fits) (omega arith) ((c .before .before .before .clip) .ensures)
+
+clip-requires-2 : tie.Need-clip-requires-2
+clip-requires-2 c κs = search needs
+
+add-if2 : tie.Need-add-if2
+add-if2 c = search needs
+
+same-length-2 : tie.Need-same-length-2
+same-length-2 c = search needs
+
+returns-2 : tie.Need-returns-2
+returns-2 c = λ es. put-two (lineOf (now ((c .before .before .before .before .before .before .before .before .before .before .before .before .before .before .before .before .args) .blocks)) es) ((c .before .before .before .before .before .before .before .before .before .before .before .before .before .before .before .before .pre) .0) ((c .before .before .before .before .before .before .before .before .before .before .before .before .before .before .before .before .args) .s) ((c .before .before .before .before .before .before .before .before .before .before .before .before .before .before .before .before .args) .x) ((c .before .before .before .before .before .before .before .before .before .before .before .before .before .before .before .before .args) .m) ((c .before .before .before .before .before .before .before .before .before .before .before .before .before .before .before .before .pre) .2 es) _ _ _ ((c .before .before .before .before .before .before .before .before .before .before .before .before .holding) .ensures .is es ∙ ap (λ (y : ℕ). blockOf (lineOf (now ((c .before .before .before .before .before .before .before .before .before .before .before .before .before .before .before .before .args) .blocks)) es) y) ((c .before .before .before .before .before .before .before .before .before .before .before .before .before .start-of) .ensures)) ((c .before .before .before .before .before .before .before .before .before .before .holding2) .ensures .is es ∙ ap (λ (y : ℕ). blockOf (lineOf (now ((c .before .before .before .before .before .before .before .before .before .before .before .before .before .before .before .before .args) .blocks)) es) y) ((c .before .before .before .before .before .before .before .before .before .before .before .end-of) .ensures)) ((c .before .before .before .before .before .before .before .before .before .before .before .before .before .before .before .before .pre) .1 .wide) ((c .before .before .before .before .before .before .before .before .before .before .before .before .holding) .ensures .below) ((c .before .before .before .before .before .before .before .before .before .before .holding2) .ensures .below) ((c .before .before .before .before .before .before .before .before .before .before .before .before .before .before .before .before .pre) .1 .fits) (omega arith) (omega arith) ((c .before .before .before .before .before .before .before .before .clip) .ensures) ((c .before .before .before .clip2) .ensures)
+
+between-requires : tie.Need-between-requires
+between-requires c κs = search needs
+
+add-work : tie.Need-add-work
+add-work c = search needs
+
+mul-work : tie.Need-mul-work
+mul-work c = search needs
+
+slice-write-work : tie.Need-slice-write-work
+slice-write-work c = search needs
+
+add-result : tie.Need-add-result
+add-result c = search needs
+
+returns-3 : tie.Need-returns-3
+returns-3 c = λ es. put-three (lineOf (now ((c .before .before .before .before .before .before .before .before .before .before .before .before .before .before .before .before .before .before .args) .blocks)) es) ((c .before .before .before .before .before .before .before .before .before .before .before .before .before .before .before .before .before .before .pre) .0) ((c .before .before .before .before .before .before .before .before .before .before .before .before .before .before .before .before .before .before .args) .s) ((c .before .before .before .before .before .before .before .before .before .before .before .before .before .before .before .before .before .before .args) .x) ((c .before .before .before .before .before .before .before .before .before .before .before .before .before .before .before .before .before .before .args) .m) ((c .before .before .before .before .before .before .before .before .before .before .before .before .before .before .before .before .before .before .pre) .2 es) _ _ _ ((c .before .before .before .before .before .before .before .before .before .before .before .before .before .before .holding) .ensures .is es ∙ ap (λ (y : ℕ). blockOf (lineOf (now ((c .before .before .before .before .before .before .before .before .before .before .before .before .before .before .before .before .before .before .args) .blocks)) es) y) ((c .before .before .before .before .before .before .before .before .before .before .before .before .before .before .before .start-of) .ensures)) ((c .before .before .before .before .before .before .before .before .before .before .before .before .holding2) .ensures .is es ∙ ap (λ (y : ℕ). blockOf (lineOf (now ((c .before .before .before .before .before .before .before .before .before .before .before .before .before .before .before .before .before .before .args) .blocks)) es) y) ((c .before .before .before .before .before .before .before .before .before .before .before .before .before .end-of) .ensures)) ((c .before .before .before .before .before .before .before .before .before .before .before .before .before .before .before .before .before .before .pre) .1 .wide) ((c .before .before .before .before .before .before .before .before .before .before .before .before .before .before .holding) .ensures .below) ((c .before .before .before .before .before .before .before .before .before .before .before .before .holding2) .ensures .below) _ ((c .before .before .before .before .before .before .before .before .before .before .before .before .before .before .before .before .before .before .pre) .1 .mark-fits) ((c .before .before .before .before .before .before .before .before .before .before .before .before .before .before .before .before .before .before .pre) .1 .span-fits) ((c .before .before .before .before .before .before .before .before .before .before .before .before .before .before .before .before .before .before .pre) .1 .fits) (omega arith) ((c .before .between) .ensures) ((c .before .before .before .before .before .before .before .before .before .before .clip) .ensures) ((c .before .before .before .before .before .clip2) .ensures)
+
+same-length-3 : tie.Need-same-length-3
+same-length-3 c = returns-3 c [] .len
+
+pub touch-spec : {M : Type 1} → statement M
+touch-spec =
+    tie.close
+    (tie.spec
+    start-of-requires
+    holding-requires
+    end-of-requires
+    holding-requires-2
+    clip-requires
+    same-length
+    returns
+    clip-requires-2
+    add-if2
+    same-length-2
+    returns-2
+    between-requires
+    add-work
+    mul-work
+    slice-write-work
+    add-result
+    same-length-3
+    returns-3)

@@ -1,0 +1,67 @@
+-- `visit` meets its contract: the marked blocks before k have been visited.
+use native.Mathlib.Omega.{arith}
+use Prim.Native.Nat.{_-_, _*_}
+use mathlib.Core.Path.{_≡_, refl}
+use Prim.Native.Nat.{_/_}
+use lib.ListN.{length}
+use Rattle.area_pieces.proofs.SweepLaws.{sweep-in}
+use Rattle.area_pieces.proofs.LineLaws.{Lining, line-begin, line-next, line-more, line-done}
+use Rattle.area_pieces.proofs.visit.Statement.{statement}
+use Rattle.area_pieces.proofs.visit.Tie as tie
+
+abbrev Inv-loop : tie.InvT-loop
+Inv-loop blocks work₀ s from end n₀ k₀ work n k = (end ≡ s .wide * 64) × Lining blocks s (length blocks / 3) from work₀ work k n
+
+abbrev μ-loop : tie.MeasureT-loop
+μ-loop blocks work₀ s from end n₀ k₀ work n k = end - k
+
+mul-end : tie.Need-mul-end Inv-loop μ-loop
+mul-end c = omega (arith, (c .before .before .before .pre) .swept)
+
+first-from-requires : tie.Need-first-from-requires Inv-loop μ-loop
+first-from-requires c κs = omega (arith, (c .before .before .before .before .pre) .swept)
+
+loop-holds : tie.Need-loop-holds Inv-loop μ-loop
+loop-holds c = (refl, line-begin _ _ _ _ (c .before .before .before .before .before .pre) _ ((c .first-from) .ensures))
+
+piece-requires : tie.Need-piece-requires Inv-loop μ-loop
+piece-requires c κs = let a = (c .before .before .loop) .inv .1 .asked in let e = (c .before .before .loop) .inv .1 .sweep .len in let k = sweep-in ((c .before .before .loop) .inv .1 .sweep) (omega arith) in ((k, omega arith, omega arith, omega arith), (a .flowing, omega arith))
+
+join-requires : tie.Need-join-requires Inv-loop μ-loop
+join-requires c κs = let a = (c .before .before .before .before .loop) .inv .1 .asked in omega (arith, sweep-in ((c .before .before .before .before .loop) .inv .1 .sweep) (omega arith), (c .before .before .before .before .loop) .inv .1 .sweep .r-le, (c .before .before .before .before .loop) .inv .1 .sweep .len)
+
+unset-requires : tie.Need-unset-requires Inv-loop μ-loop
+unset-requires c κs = let a = (c .before .before .before .before .before .before .before .before .loop) .inv .1 .asked in omega (arith, (c .before .before .before .before .before .before .before .before .loop) .inv .1 .sweep .len, (c .before .before .before .join) .ensures .listed .len)
+
+first-from-requires-2 : tie.Need-first-from-requires-2 Inv-loop μ-loop
+first-from-requires-2 c κs = let a = (c .before .before .before .before .before .before .before .before .before .before .before .before .loop) .inv .1 .asked in omega (arith, (c .before .before .before .before .before .before .before .before .before .before .before .before .loop) .inv .1 .sweep .len, (c .before .before .before .before .before .before .before .join) .ensures .listed .len, (c .before .before .before .unset) .ensures .len)
+
+loop-less : tie.Need-loop-less Inv-loop μ-loop
+loop-less c = omega (arith, line-next ((c .before .before .before .before .before .before .before .before .before .before .before .before .before .loop) .inv .1) (omega arith) ((c .before .before .before .before .before .before .before .before .before .before .piece) .ensures) ((c .before .before .before .before .before .before .before .before .join) .ensures) ((c .before .before .before .before .unset) .ensures) ((c .first-from2) .ensures))
+
+loop-again : tie.Need-loop-again Inv-loop μ-loop
+loop-again c = ((c .before .before .before .before .before .before .before .before .before .before .before .before .before .loop) .inv .0, line-more ((c .before .before .before .before .before .before .before .before .before .before .before .before .before .loop) .inv .1) (omega arith) ((c .before .before .before .before .before .before .before .before .before .before .piece) .ensures) ((c .before .before .before .before .before .before .before .before .join) .ensures) ((c .before .before .before .before .unset) .ensures) ((c .first-from2) .ensures))
+
+same-length : tie.Need-same-length Inv-loop μ-loop
+same-length c = (c .before .loop) .inv .1 .sweep .len
+
+returns : tie.Need-returns Inv-loop μ-loop
+returns c = line-done ((c .before .loop) .inv .1) (omega arith)
+
+pub visit-spec : {M : Type 1} → statement M
+visit-spec =
+    tie.close
+    (tie.spec
+    Inv-loop
+    μ-loop
+    mul-end
+    first-from-requires
+    loop-holds
+    piece-requires
+    join-requires
+    unset-requires
+    first-from-requires-2
+    loop-less
+    loop-again
+    same-length
+    returns)

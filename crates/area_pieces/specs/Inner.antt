@@ -1,0 +1,132 @@
+-- What private functions promise each other, here and in `area_ends`. No public promise names these.
+use Prim.Native.Nat.{ℕ, _+_, _*_, _^_, _≤_, _<_, min, max}
+use mathlib.Core.Path.{_≡_}
+use mathlib.Core.Logic.{_≢_}
+use mathlib.Core.Bool.{Bool, false, cond}
+use mathlib.Core.List.{List, [], _∷_, _++_}
+use lib.ListN.{length, getD}
+use Rattle.words.specs.Regions.{part}
+use Rattle.ranges.specs.declared.Range.{Range}
+use Rattle.ranges.specs.Points.{range}
+use Rattle.ranges.specs.Merged.{joined}
+use Rattle.ranges.specs.Forms.{unpack, unpacked}
+use Rattle.graph.specs.Paths.{Edge}
+use Rattle.graph.specs.Work.{Within}
+use Rattle.areas.specs.Blocks.{Graph, top, bottom, whole}
+use Rattle.areas.specs.Pieces.{clips, through, throughs, least, most, blockPiece, linePieces}
+use Rattle.spots.specs.Spots.{lineOf}
+use Rattle.area_pieces.specs.declared.Local.{Local}
+use Rattle.area_pieces.specs.Local.{ownBit, writtenBit, readBit, markBit, Flowing, Unmarked}
+
+-- the span of block k, where it is marked
+abbrev pub spanAt : Local → List ℕ → ℕ → List Range
+spanAt s w k = cond (markBit s w k) (unpack (getD w (s .span + k) 0) ∷ []) []
+
+-- the marked blocks are to be visited, with a piece each from `from` on: no mark is past the n blocks
+pub record Sweepable (s : Local) (n from : ℕ) (w : List ℕ) : Type 0 where
+  pub wide : n ≤ s .wide * 64
+  pub small : s .wide * 64 < 2 ^ 64
+  pub mark-fits : s .mark + s .wide ≤ from
+  pub fits : from + n ≤ length w
+  pub past : (c : ℕ) → n ≤ c → c < s .wide * 64 → markBit s w c ≡ false
+
+-- they have been visited, with r pieces: no block is marked any more, and nothing else has changed
+pub record Swept (s : Local) (n from r : ℕ) (w₀ w : List ℕ) : Type 0 where
+  pub len : length w ≡ length w₀
+  pub count : r ≤ n
+  pub unmarked : Unmarked s w
+  pub before : (i : ℕ) → i < s .mark → getD w i 0 ≡ getD w₀ i 0
+  pub between : (i : ℕ) → s .mark + s .wide ≤ i → i < from → getD w i 0 ≡ getD w₀ i 0
+  pub after : (i : ℕ) → from + n ≤ i → getD w i 0 ≡ getD w₀ i 0
+
+-- the r ranges from `at` on are rs; nothing before or behind them has changed
+pub record Listed (w₀ w : List ℕ) (at r : ℕ) (rs : List Range) : Type 0 where
+  pub len : length w ≡ length w₀
+  pub is : unpacked (part at r w) ≡ rs
+  pub before : (i : ℕ) → i < at → getD w i 0 ≡ getD w₀ i 0
+  pub after : (i : ℕ) → at + r ≤ i → getD w i 0 ≡ getD w₀ i 0
+
+-- one range more is put to the first k, through `joined`
+pub record JoinedIn (w₀ w : List ℕ) (at k r x : ℕ) : Type 0 where
+  pub listed : Listed w₀ w at r (joined (unpacked (part at k w₀)) (unpack x))
+  pub least : k ≤ r
+  pub most : r ≤ k + 1
+
+-- first to last point of some ranges
+abbrev pub hull : List Range → List Range
+hull [] = []
+hull (r ∷ rs) = range (least r rs) (most r rs) ∷ []
+
+-- a hull with some ranges more
+abbrev pub hulled : List Range → List Range → List Range
+hulled h [] = h
+hulled [] (c ∷ cs) = hull (c ∷ cs)
+hulled (h ∷ hs) (c ∷ cs) = range (min (h .start) (least c cs)) (max (h .end) (most c cs)) ∷ []
+
+-- block k has a word for its span, and a bit that says whether it has one
+pub record Spannable (s : Local) (k : ℕ) (w : List ℕ) : Type 0 where
+  pub marked-in : k < s .wide * 64
+  pub span-in : s .span + k < s .to
+  pub mark-fits : s .mark + s .wide ≤ s .span
+  pub fits : s .to ≤ length w
+
+-- the range c is put to the span of block k; nothing else has changed
+pub record Widened (s : Local) (k : ℕ) (c : Range) (w₀ w : List ℕ) : Type 0 where
+  pub len : length w ≡ length w₀
+  pub here : spanAt s w k ≡ hulled (spanAt s w₀ k) (c ∷ [])
+  pub there : (j : ℕ) → j ≢ k → j < s .wide * 64 → spanAt s w j ≡ spanAt s w₀ j
+  pub marks : (j : ℕ) → j ≢ k → j < s .wide * 64 → markBit s w j ≡ markBit s w₀ j
+  pub before : (i : ℕ) → i < s .mark → getD w i 0 ≡ getD w₀ i 0
+  pub after : (i : ℕ) → s .to ≤ i → getD w i 0 ≡ getD w₀ i 0
+
+-- one touch is put to the spans of its first and last block, and its between-piece to the m pieces
+pub record Put (G : Graph) (s : Local) (n : ℕ) (x m r : ℕ) (w₀ w : List ℕ) : Type 0 where
+  pub len : length w ≡ length w₀
+  pub spans : (k : ℕ) → k < n → spanAt s w k ≡ hulled (spanAt s w₀ k) (clips G (unpack x ∷ []) k)
+  pub past : (c : ℕ) → n ≤ c → c < s .wide * 64 → markBit s w c ≡ markBit s w₀ c
+  pub pieces : unpacked (part (s .to) r w) ≡ unpacked (part (s .to) m w₀) ++ through G (unpack x)
+  pub least : m ≤ r
+  pub most : r ≤ m + 1
+  pub before : (i : ℕ) → i < s .mark → getD w i 0 ≡ getD w₀ i 0
+  pub after : (i : ℕ) → s .to + r ≤ i → getD w i 0 ≡ getD w₀ i 0
+
+-- the spans of n blocks are those of the touches
+pub record Spans (G : Graph) (s : Local) (n : ℕ) (ts : List Range) (w : List ℕ) : Type 0 where
+  pub is : (k : ℕ) → k < n → spanAt s w k ≡ hull (clips G ts k)
+
+-- the spans of the touches, and their between-pieces from `to` on
+pub record Spanned (G : Graph) (s : Local) (n : ℕ) (ts : List Range) (r : ℕ) (w₀ w : List ℕ) : Type 0 where
+  pub kept : Within (s .mark) (s .to + r) w₀ w
+  pub spans : Spans G s n ts w
+  pub past : (c : ℕ) → n ≤ c → c < s .wide * 64 → markBit s w c ≡ false
+  pub pieces : unpacked (part (s .to) r w) ≡ throughs G ts
+  pub count : r ≤ length ts
+
+-- the piece of a block that has both bits or a span
+abbrev pub pieceAt : Graph → Local → List ℕ → ℕ → Range
+pieceAt G s w k =
+    cond (ownBit s w k) (whole G k)
+    (range (cond (writtenBit s w k) (top G k) (unpack (getD w (s .span + k) 0) .start))
+    (cond (readBit s w k) (bottom G k) (unpack (getD w (s .span + k) 0) .end)))
+
+-- what `visit` asks: what it reads stands before the pieces
+pub record Visitable (s : Local) (n from : ℕ) (w : List ℕ) : Type 0 where
+  pub swept : Sweepable s n from w
+  pub row-fits : s .row + s .wide ≤ s .mark
+  pub mark-fits : s .mark + s .wide ≤ s .span
+  pub span-fits : s .span + n ≤ from
+  pub flowing : Flowing s n
+
+-- each marked block has its piece, and no other block has one
+pub record Pieced (G : Graph) (ts : List Range) (f g : ℕ → Bool) (s : Local) (n : ℕ) (w : List ℕ) : Type 0 where
+  pub is : (k : ℕ) → k < n → blockPiece G ts f g k ≡ cond (markBit s w k) (pieceAt G s w k ∷ []) []
+
+-- the pieces of the marked blocks in line order, from `from` on
+pub record Visited (blocks : List ℕ) (s : Local) (n : ℕ) (from r : ℕ) (w₀ w : List ℕ) : Type 0 where
+  pub swept : Swept s n from r w₀ w
+  pub pieces : (es : List Edge) (ts : List Range) (f g : ℕ → Bool) → Pieced (lineOf blocks es) ts f g s n w₀ → unpacked (part from r w) ≡ linePieces (lineOf blocks es) ts f g n
+
+-- the pieces of the blocks in line order, from `from` on, of any touches whose spans stand there
+pub record Lined (blocks : List ℕ) (s : Local) (n : ℕ) (from r : ℕ) (w₀ w : List ℕ) : Type 0 where
+  pub swept : Swept s n from r w₀ w
+  pub pieces : (es : List Edge) (ts : List Range) → Spans (lineOf blocks es) s n ts w₀ → unpacked (part from r w) ≡ linePieces (lineOf blocks es) ts (writtenBit s w₀) (readBit s w₀) n

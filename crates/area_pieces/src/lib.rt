@@ -1,0 +1,207 @@
+// From the touches, the ends and the row bits of one local to its area, in the words of one work space.
+ghost use mathlib.Core.Path.{_≡_};
+ghost use mathlib.Core.Bool.{false, cond};
+ghost use mathlib.Core.List.{List, []};
+ghost use Prim.Native.Nat.{_+_, _-_, _*_, _/_, _≤_, _<_, _^_};
+ghost use lib.ListN.{length};
+ghost use Rattle.packed.specs.Work.{Clear};
+ghost use Rattle.ranges.specs.Points.{range};
+ghost use Rattle.ranges.specs.Forms.{pack, unpack};
+ghost use Rattle.graph.specs.Paths.{Edge};
+ghost use Rattle.graph.specs.Line.{blocksOf, Sound};
+ghost use Rattle.areas.specs.Blocks.{top, bottom, clip, inverted};
+ghost use Rattle.spots.specs.Spots.{lineOf, touchesAt};
+ghost use Rattle.area_pieces.specs.Local.{Appended, Free, Laid, Unmarked, Upright, Flowing, Both, PlainIn};
+ghost use Rattle.area_pieces.specs.Inner.{JoinedIn, Spannable, Widened, Put, Spanned, pieceAt, Visitable, Visited, Lined};
+use spots::Spots;
+
+// Where the rows of one local stand: its own row over the blocks from `row` on, of `wide` words; rows of `words` words, one a block, from
+// `written` and from `read` on, in which its bit is `local`. And the words that its pieces are made in: from `mark` on a row over the
+// blocks, zero before and after; from `span` on a word a block; from `to` on the pieces, and then the area.
+pub struct Local {
+    pub row: usize,
+    pub wide: usize,
+    pub written: usize,
+    pub read: usize,
+    pub words: usize,
+    pub local: usize,
+    pub mark: usize,
+    pub span: usize,
+    pub to: usize,
+}
+
+// Puts an area behind the areas so far, where it fits within the room; how many ranges there are then. Past the room nothing more is
+// stored, but the total goes on counting: a later item's number 8 wins over number 9.
+pub fn append(
+    work: &mut [u64],
+    base: usize,
+    room: usize,
+    total: usize,
+    from: usize,
+    count: usize,
+) -> usize
+    requires { ⌜ (total + count < 2 ^ 64) × (base + room ≤ length (now work)) × (from + count ≤ length (now work)) × Clear base room from count ⌝ }
+    ensures { λ r. ⌜ Appended (now (work .entry)) (now (work .exit)) base room total from count r ⌝ }
+{
+    let sum = total + count;
+    if sum <= room {
+        words::copy(work, from, base + total, count);
+    }
+    sum
+}
+
+// Puts a range to the k ranges from `at` on: the last is lengthened where the new one starts at its end plus 1, else it is appended.
+fn join(work: &mut [u64], at: usize, k: usize, x: u64) -> usize
+    requires { ⌜ at + k < length (now work) ⌝ }
+    ensures { λ r. ⌜ JoinedIn (now (work .entry)) (now (work .exit)) at k r x ⌝ }
+{
+    if 0 < k {
+        let i = at + k - 1;
+        let last = work[i];
+        let end = packed::end_of(last);
+        let start = packed::start_of(x);
+        if start as u64 == end as u64 + 1 {
+            let first = packed::start_of(last);
+            let e = packed::end_of(x);
+            work[i] = packed::pack(first, e);
+            return k;
+        }
+    }
+    work[at + k] = x;
+    k + 1
+}
+
+// Puts a range to the span of block k: the first and the last point so far, in one word.
+fn widen(work: &mut [u64], s: Local, k: usize, start: u32, end: u32)
+    requires { ⌜ Spannable s k (now work) ⌝ }
+    ensures { λ _. ⌜ Widened s k (range start end) (now (work .entry)) (now (work .exit)) ⌝ }
+{
+    let at = s.span + k;
+    if bits::test(work, s.mark, k) {
+        let x = work[at];
+        let first = spots::smaller(packed::start_of(x), start);
+        let last = spots::larger(packed::end_of(x), end);
+        work[at] = packed::pack(first, last);
+        return;
+    }
+    bits::set(work, s.mark, k);
+    work[at] = packed::pack(start, end);
+}
+
+// The same with a touch, clipped to the block.
+fn clip(blocks: &[u32], work: &mut [u64], s: Local, k: usize, x: u64)
+    requires { ⌜ (k < length (now blocks) / 3) × Spannable s k (now work) ⌝ }
+    ensures { λ _. ⌜ Widened s k (clip (lineOf (now (blocks .entry)) []) k (unpack x)) (now (work .entry)) (now (work .exit)) ⌝ }
+{
+    let start = spots::larger(packed::start_of(x), blocks[3 * k + 1]);
+    let end = spots::smaller(packed::end_of(x), blocks[3 * k + 2]);
+    widen(work, s, k, start, end);
+}
+
+// The blocks between a touch's first and last, as one piece.
+pub fn between(blocks: &[u32], first: usize, last: usize) -> u64
+    requires { ⌜ (first + 1 < last) × (last < length (now blocks) / 3) ⌝ }
+    ensures { λ r. ⌜ unpack r ≡ range (top (lineOf (now (blocks .entry)) []) (first + 1)) (bottom (lineOf (now (blocks .entry)) []) (last - 1)) ⌝ }
+{
+    packed::pack(blocks[3 * (first + 1) + 1], blocks[3 * (last - 1) + 2])
+}
+
+// Puts a touch to the spans of its first and its last block, and its between-piece behind the m pieces.
+fn touch(blocks: &[u32], work: &mut [u64], s: Local, x: u64, m: usize) -> usize
+    requires { ⌜ Sound (blocksOf (now blocks)) × Free s (length (now blocks) / 3) (m + 1) (now work) × ((es : List Edge) → inverted (lineOf (now blocks) es) (unpack x) ≡ false) ⌝ }
+    ensures { λ r. ⌜ ((es : List Edge) → Put (lineOf (now (blocks .entry)) es) s (length (now (blocks .entry)) / 3) x m r (now (work .entry)) (now (work .exit))) ⌝ }
+{
+    let first = spots::holding(blocks, packed::start_of(x));
+    let last = spots::holding(blocks, packed::end_of(x));
+    clip(blocks, work, s, first, x);
+    if last <= first {
+        return m;
+    }
+    clip(blocks, work, s, last, x);
+    if last <= first + 1 {
+        return m;
+    }
+    work[s.to + m] = between(blocks, first, last);
+    m + 1
+}
+
+// The spans of the touches by block, and their between-pieces from `to` on; how many of these there are.
+fn spans(blocks: &[u32], work: &mut [u64], t: Spots, s: Local) -> usize
+    requires { ⌜ Sound (blocksOf (now blocks)) × Laid t s (length (now blocks) / 3) (t .count) (now work) × Unmarked s (now work) × Upright (now blocks) (touchesAt t (now work)) ⌝ }
+    ensures { λ r. ⌜ ((es : List Edge) → Spanned (lineOf (now (blocks .entry)) es) s (length (now (blocks .entry)) / 3) (touchesAt t (now (work .entry))) r (now (work .entry)) (now (work .exit))) ⌝ }
+{
+    let mut m = 0;
+    let mut i = 0;
+    while i < t.count {
+        let x = work[t.at + i];
+        m = touch(blocks, work, s, x, m);
+        i += 1;
+    }
+    m
+}
+
+fn either(test: bool, x: u32, y: u32) -> u32
+    ensures { λ r. ⌜ r ≡ cond test x y ⌝ }
+{
+    if test {
+        return x;
+    }
+    y
+}
+
+// The piece of block k: all of it where the local's own row has the bit, else its span, from the top by the written bit and to the bottom
+// by the read one.
+fn piece(blocks: &[u32], work: &[u64], s: Local, k: usize) -> u64
+    requires { ⌜ (k < length (now blocks) / 3) × (k < s .wide * 64) × (s .row + s .wide ≤ length (now work)) × (s .span + k < length (now work)) ⌝ }
+    requires { ⌜ Flowing s (length (now blocks) / 3) × (s .mark ≤ length (now work)) ⌝ }
+    ensures { λ r. ⌜ unpack r ≡ pieceAt (lineOf (now (blocks .entry)) []) s (now (work .entry)) k ⌝ }
+{
+    let top = blocks[3 * k + 1];
+    let bottom = blocks[3 * k + 2];
+    if bits::test(work, s.row, k) {
+        return packed::pack(top, bottom);
+    }
+    let x = work[s.span + k];
+    let from = bits::test(work, s.written + k * s.words, s.local);
+    let to = bits::test(work, s.read + k * s.words, s.local);
+    let first = either(from, top, packed::start_of(x));
+    let last = either(to, bottom, packed::end_of(x));
+    packed::pack(first, last)
+}
+
+// The pieces of the marked blocks in line order, from `from` on, joined; how many there are. The marks are taken away.
+fn visit(blocks: &[u32], work: &mut [u64], s: Local, from: usize) -> usize
+    requires { ⌜ Visitable s (length (now blocks) / 3) from (now work) ⌝ }
+    ensures { λ r. ⌜ Visited (now (blocks .entry)) s (length (now (blocks .entry)) / 3) from r (now (work .entry)) (now (work .exit)) ⌝ }
+{
+    let end = s.wide * 64;
+    let mut n = 0;
+    let mut k = bits::first_from(work, s.mark, s.wide, 0);
+    while k < end {
+        let x = piece(blocks, work, s, k);
+        n = join(work, from, n, x);
+        bits::unset(work, s.mark, k);
+        k = bits::first_from(work, s.mark, s.wide, k / 64);
+    }
+    n
+}
+
+// The pieces of the blocks in line order, from `from` on: of the blocks with both bits or a span, no other is visited.
+fn line(blocks: &[u32], work: &mut [u64], s: Local, from: usize) -> usize
+    requires { ⌜ Visitable s (length (now blocks) / 3) from (now work) × Both s (length (now blocks) / 3) (now work) ⌝ }
+    ensures { λ r. ⌜ Lined (now (blocks .entry)) s (length (now (blocks .entry)) / 3) from r (now (work .entry)) (now (work .exit)) ⌝ }
+{
+    bits::row_or(work, s.mark, s.row, s.wide);
+    visit(blocks, work, s, from)
+}
+
+// The area of a plain local, from `to` on; how many ranges it has. From `to` on it needs a word a touch and a word a block.
+pub fn plain(blocks: &[u32], work: &mut [u64], t: Spots, s: Local) -> usize
+    requires { ⌜ Sound (blocksOf (now blocks)) × Laid t s (length (now blocks) / 3) (t .count + length (now blocks) / 3) (now work) × Flowing s (length (now blocks) / 3) ⌝ }
+    requires { ⌜ Unmarked s (now work) × Both s (length (now blocks) / 3) (now work) × Upright (now blocks) (touchesAt t (now work)) ⌝ }
+    ensures { λ r. ⌜ PlainIn (now (blocks .entry)) t s (now (work .entry)) (now (work .exit)) r ⌝ }
+{
+    let m = spans(blocks, work, t, s);
+    let n = line(blocks, work, s, s.to + m);
+    packed::merge(work, s.to, m + n)
+}
