@@ -5,7 +5,7 @@ ghost use Prim.Native.Nat.{_+_, _-_, _/_, _≤_, _<_};
 ghost use lib.ListN.{length, set};
 ghost use Rattle.reach.specs.Prepared.{wordsOf};
 ghost use Rattle.follow.specs.Walk.{defAt, queued, Held};
-ghost use Rattle.follow.specs.Followed.{kindBy, Empty, FollowsAny};
+ghost use Rattle.follow.specs.Followed.{kindBy, Ready, FollowsAny};
 ghost use Rattle.follow.specs.Steps.{Walkable, Grown, Chain, Took, Began, registerAt, Stepped, Walked, Unseen};
 use crate::Begun;
 use crate::Followed;
@@ -208,7 +208,7 @@ pub fn follow(
     local: usize,
     whole: bool,
 ) -> Followed
-    requires { ⌜ Walkable lay z (now work) × Empty lay (z .v) (now work) × Chain lay z (now insts) (now addresses) local (now work) ⌝ }
+    requires { ⌜ Ready lay z (now insts) (now addresses) (now work) × (local < z .locals) ⌝ }
     ensures { λ r. ⌜ FollowsAny (now (insts .entry)) (now (addresses .entry)) lay z local whole (now (work .entry)) (now (work .exit)) r ⌝ }
 {
     let heads = lay.heads;

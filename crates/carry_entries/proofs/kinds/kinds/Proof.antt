@@ -18,7 +18,7 @@ loop-holds : tie.Need-loop-holds Inv-loop μ-loop
 loop-holds c = list-start ((c .before .before .before .before .args) .insts .now) ((c .before .before .before .before .args) .addresses .now) ((c .before .before .before .before .args) .lay) ((c .before .before .before .before .args) .z) ((c .before .before .before .before .args) .answer .now) ((c .before .before .before .before .args) .work .now) ((c .before .before .before .before .pre) .0) ((c .before .before .before .before .pre) .1)
 
 follow-requires : tie.Need-follow-requires Inv-loop μ-loop
-follow-requires c κs = let r = list-ready ((c .before .before .before .loop) .inv) in (r .tables, r .unseen, r .chain ((c .before .before .before .loop) .l) (omega arith))
+follow-requires c κs = (list-ready ((c .before .before .before .loop) .inv), omega arith)
 
 number-requires : tie.Need-number-requires Inv-loop μ-loop
 number-requires c κs = omega arith

@@ -22,7 +22,7 @@ prepare-requires : tie.Need-prepare-requires
 prepare-requires c κs = let k = (c .before .before .before .before .before .before .before .before .before .before .pre) .0 in ((k .adds, k .few-insts, k .registers), (laid-longer ((c .before .layout) .ensures .0) (length ((c .before .before .before .before .before .before .before .before .before .before .args) .work .now)) (k .room), k .ended))
 
 follow-requires : tie.Need-follow-requires
-follow-requires c κs = let r = measure-ready ((c .before .before .before .before .before .before .before .before .before .before .before .before .before .before .args) .v) ((c .before .before .before .before .before .before .before .before .before .before .before .before .before .before .args) .insts .now) ((c .before .before .before .before .before .before .before .before .before .before .before .before .before .before .args) .operands .now) ((c .before .before .before .before .before .before .before .before .before .before .before .before .before .before .args) .crossings .now) ((c .before .before .before .before .before .before .before .before .before .before .before .before .before .before .args) .locals .now) ((c .before .before .before .before .before .before .before .before .before .before .before .before .before .before .args) .addresses .now) ((c .before .before .before .before .before .before .before .before .before .before .before .before .before .before .args) .ends .now) ((c .before .before .before .before .before .layout) .result) ((c .before .before .before .prepare) .result) ((c .before .before .before .before .before .before .before .before .before .before .before .before .before .before .pre) .0) ((c .before .before .before .before .before .layout) .ensures .0) ((c .before .before .before .prepare) .ensures) in (r .tables, r .unseen, r .chain ((c .before .before .before .before .before .before .before .before .before .before .before .before .before .before .args) .local) ((c .before .before .before .before .before .before .before .before .before .before .before .before .before .before .pre) .2))
+follow-requires c κs = (measure-ready ((c .before .before .before .before .before .before .before .before .before .before .before .before .before .before .args) .v) ((c .before .before .before .before .before .before .before .before .before .before .before .before .before .before .args) .insts .now) ((c .before .before .before .before .before .before .before .before .before .before .before .before .before .before .args) .operands .now) ((c .before .before .before .before .before .before .before .before .before .before .before .before .before .before .args) .crossings .now) ((c .before .before .before .before .before .before .before .before .before .before .before .before .before .before .args) .locals .now) ((c .before .before .before .before .before .before .before .before .before .before .before .before .before .before .args) .addresses .now) ((c .before .before .before .before .before .before .before .before .before .before .before .before .before .before .args) .ends .now) ((c .before .before .before .before .before .layout) .result) ((c .before .before .before .prepare) .result) ((c .before .before .before .before .before .before .before .before .before .before .before .before .before .before .pre) .0) ((c .before .before .before .before .before .layout) .ensures .0) ((c .before .before .before .prepare) .ensures), (c .before .before .before .before .before .before .before .before .before .before .before .before .before .before .pre) .2)
 
 sort-part-requires : tie.Need-sort-part-requires
 sort-part-requires c κs = let k = (c .before .before .before .before .before .before .before .before .before .before .before .before .before .before .before .before .before .before .pre) .0 in let a = (c .before .before .before .before .before .before .before .before .before .layout) .ensures .0 in let b = (c .before .before .before .before .before .before .before .prepare) .ensures .kept .len in let d = (c .before .before .before .follow) .ensures .kept .len in let f = ((c .before .before .before .follow) .ensures .code ((c .before .before .before .before .before .before .before .before .before .before .before .before .before .before .before .before .before .before .args) .operands .now) ((c .before .before .before .before .before .before .before .before .before .before .before .before .before .before .before .before .before .before .args) .crossings .now) ((c .before .before .before .before .before .before .before .before .before .before .before .before .before .before .before .before .before .before .args) .ends .now) ((c .before .before .before .before .before .before .before .prepare) .ensures .prepared)) .few in omega arith
