@@ -1,5 +1,6 @@
 pub mod Tools
 pub mod Steps
+pub mod Leaves
 pub mod Turns
 pub mod Whole
 pub mod Lists

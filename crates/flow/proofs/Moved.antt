@@ -1,29 +1,12 @@
--- The same numbers at the places: the same rows, components, order and flow.
-use Prim.Native.Nat.{ℕ, suc, _+_, _*_, _≤_, _<_}
-use mathlib.Core.Path.{_≡_, refl, sym, ap, _∙_, subst}
-use mathlib.Core.Logic.{_≢_}
-use mathlib.Core.Bool.{Bool, true}
+-- The same numbers at the places: the same components, order and flow.
+use Prim.Native.Nat.{ℕ, _<_}
+use mathlib.Core.Path.{_≡_, sym, ap, _∙_}
+use mathlib.Core.Bool.{Bool}
 use mathlib.Core.List.{List}
 use native.Mathlib.Omega.{arith}
-use lib.ListN.{length, getD}
-use Rattle.graph.specs.Paths.{Edge, Link, Route, one, more, Between}
+use Rattle.graph.specs.Paths.{Edge, Route, one, more, Between}
 use Rattle.graph.specs.Flow.{Reaching}
-use Rattle.graph.specs.Work.{EdgeRows}
 use Rattle.components.specs.Components.{Components, InOrder}
-
--- the rows, in a list with the same numbers below base
-pub rows-moved : {es : List Edge} {n at base : ℕ} {w w' : List ℕ} → Between n es → at + n + 1 + length es ≤ base → ((i : ℕ) → i < base → getD w' i 0 ≡ getD w i 0) → EdgeRows es n at w → EdgeRows es n at w'
-rows-moved {es} {n} {at} {base} {w} {w'} B fits f R = record {
-  rising = λ j h. omega (arith, R .rising j h, f (at + j) (omega arith), f (at + j + 1) (omega arith));
-  ends = λ j h. omega (arith, R .ends j h, f (at + j + 1) (omega arith));
-  has = λ j k l.
-      let h = B .from _ l in
-      let p = R .has j k l in
-      (p .0, omega (arith, p .1, f (at + j) (omega arith)), omega (arith, p .2, f (at + j + 1) (omega arith)), f (at + n + 1 + p .0) (omega (arith, p .2, R .ends j h)) ∙ p .3);
-  only = λ j p h a b.
-      let b' : p < getD w (at + j + 1) 0 = omega (arith, f (at + j + 1) (omega arith)) in
-      subst (λ (y : ℕ). Link es j y) (sym (f (at + n + 1 + p) (omega (arith, R .ends j h)))) (R .only j p h (omega (arith, f (at + j) (omega arith))) b');
-}
 
 pub components-as : {es : List Edge} {n : ℕ} {which which' : ℕ → ℕ} {count : ℕ} → Between n es → ((k : ℕ) → k < n → which' k ≡ which k) → Components es n which count → Components es n which' count
 components-as B is X = record {

@@ -3,6 +3,7 @@ pub mod Line
 pub mod Tally
 pub mod Within
 pub mod RowLaws
+pub mod EdgeLaws
 pub mod Refusals
 pub mod RoundLaws
 pub mod ArriveLaws

@@ -7,9 +7,9 @@ use native.Mathlib.Omega.{arith}
 use lib.ListN.{length, getD, set, length-set}
 use lib.Seq.{getD-set-same, getD-set-other}
 use Rattle.words.proofs.Points.{same}
-use Rattle.graph.specs.Paths.{Edge, Link, Between}
+use Rattle.graph.specs.Paths.{Edge, Between}
 use Rattle.graph.specs.Work.{Within, EdgeRows}
-use Rattle.graph.proofs.Within.{within-refl, within-set}
+use Rattle.graph.proofs.Within.{within-refl, within-set, rows-kept}
 use Rattle.components.specs.Moves.{left as sumLeft}
 use Rattle.postorder.specs.Walk.{State, begins, ends, target, Walks}
 use Rattle.postorder.specs.Space.{view, Held, toCome, pushList}
@@ -75,22 +75,9 @@ module _ (n at base : ℕ) (w : List ℕ) (depth left : ℕ) (starts : at + n < 
   pub leave-kept : (last u : ℕ) → last < n → u < n → Within base (base + n + n + n + n) w (set (set w (base + last) u) (base + n + u) last)
   leave-kept last u m l = within-set (within-set (within-refl _ _ w) (base + last) u (omega arith) (omega arith)) (base + n + u) last (omega arith) (omega arith)
 
--- ---- the rows and the walk, in a list with the same numbers below base
+-- ---- the walk, in a list with the same numbers below base
 
 module _ {es : List Edge} {n at base : ℕ} {w w' : List ℕ} (starts : at + n < base) (fits : (j : ℕ) → j < n → at + n + 1 + ends w at j ≤ base) (f : (i : ℕ) → i < base → getD w' i 0 ≡ getD w i 0) where
-  rows-kept : Between n es → EdgeRows es n at w → EdgeRows es n at w'
-  rows-kept B R = record {
-    rising = λ j h. omega (arith, R .rising j h, f (at + j) (omega arith), f (at + j + 1) (omega arith));
-    ends = λ j h. omega (arith, R .ends j h, f (at + j + 1) (omega arith));
-    has = λ j k l.
-        let h = B .from _ l in
-        let p = R .has j k l in
-        (p .0, omega (arith, p .1, f (at + j) (omega arith)), omega (arith, p .2, f (at + j + 1) (omega arith)), f (at + n + 1 + p .0) (omega (arith, p .2, fits j h)) ∙ p .3);
-    only = λ j p h a b.
-        let b' : p < getD w (at + j + 1) 0 = omega (arith, f (at + j + 1) (omega arith)) in
-        subst (λ (y : ℕ). Link es j y) (sym (f (at + n + 1 + p) (omega (arith, fits j h)))) (R .only j p h (omega (arith, f (at + j) (omega arith))) b');
-  }
-
   walks-kept : {z : State} → Walks es w n at z → Walks es w' n at z
   walks-kept {z} W = record {
     left-le = W .left-le;
@@ -118,7 +105,7 @@ pub held-from : {es : List Edge} {n at base : ℕ} {w w' : List ℕ} {depth left
     → base + n + n + n + n ≤ length w → Within base (base + n + n + n + n) w w' → Walks es w n at (view n base w' depth left) → Held es n at base w' depth left
 held-from {at = at} B R starts fits room K W = record {
   between = B;
-  rows = rows-kept starts fits (K .below) B R;
+  rows = rows-kept B starts fits (K .below) R;
   starts = starts;
   fits = λ j h. omega (arith, fits j h, K .below (at + j + 1) (omega arith));
   room = omega (arith, K .len);

@@ -37,7 +37,7 @@ pub record Ready (n at base : ℕ) (w : List ℕ) (depth left : ℕ) : Type 0 wh
 abbrev pub Still : ℕ → ℕ → List ℕ → List ℕ → Type 0
 Still n base w w' = (v : ℕ) → v < n → 0 < getD w (base + n + n + n + v) 0 → 0 < getD w' (base + n + n + n + v) 0
 
--- the looks and steps down that are still to come: each turn takes one
+-- the looks that are still to come, with one more for each place that is not seen: a turn takes one of them, or takes a place off the stack
 abbrev pub toCome : ℕ → ℕ → ℕ → List ℕ → ℕ
 toCome n at base w = left n (λ v. ends w at v + 1) (λ v. getD w (base + n + n + n + v) 0)
 

@@ -19,14 +19,13 @@ use Rattle.graph.specs.Paths.{Edge, Between}
 use Rattle.graph.specs.Flow.{Arrives}
 use Rattle.graph.specs.Checks.{rowsVerdict, spaceOf}
 use Rattle.graph.specs.Work.{Within, EdgeRows, Neighbours}
-use Rattle.graph.proofs.Within.{within-trans, within-wider, region-within}
+use Rattle.graph.proofs.Within.{within-trans, within-wider, region-within, rows-moved}
 use Rattle.graph.proofs.Refusals.{rows-told}
 use Rattle.components.specs.Entry.{edgesIn, verdictOf as orderVerdict}
 use Rattle.components.proofs.Entries.{cleared-same}
 use Rattle.postorder.specs.Settling.{Settling, Walkable, Ordered as InOrder}
 use Rattle.flow.specs.Entry.{rowBit, baseOf, verdictOf as rowVerdict}
 use Rattle.flow.proofs.Entries.{Known as RowsKnown, known as rows-known}
-use Rattle.flow.proofs.Moved.{rows-moved}
 use Rattle.spread.specs.declared.Layout.{Layout}
 use Rattle.spread.specs.declared.Answer.{Answer}
 use Rattle.spread.specs.declared.Answer.the-variants.{Given, Refused}
