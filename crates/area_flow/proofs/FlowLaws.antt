@@ -21,7 +21,8 @@ use Rattle.flow.specs.Flowed.{order, Flowed}
 use Rattle.flow.specs.Flowed.{Laid as FlowLaid}
 use Rattle.flow.specs.Entry.{FlowsTo, wayOf}
 use Rattle.flow.proofs.Routes.{reached-turned}
-use Rattle.flow.proofs.Moved.{rows-moved, reaching-as}
+use Rattle.graph.proofs.Within.{rows-moved}
+use Rattle.flow.proofs.Moved.{reaching-as}
 use Rattle.spread.specs.declared.Layout.{Layout}
 use Rattle.postorder.specs.Settling.{Settling, Ordered}
 use Rattle.postorder.specs.Settling.{Walkable as Orderable}
