@@ -51,7 +51,7 @@ fn list(
     let f = follow::walks::follow(insts, addresses, work, lay, z, local, true);
     let queue = lay.queue;
     let n = f.count;
-    words::sort_part(work, queue, n);
+    sorting::sort_part(work, queue, n);
     words::narrow(answer, 0, work, queue, n);
     n
 }

@@ -58,7 +58,7 @@ pub fn merge(w: &mut [u64], at: usize, n: usize) -> usize
     requires { ⌜ at + n ≤ length (now w) ⌝ }
     ensures { λ r. ⌜ MergedIn (now (w .entry)) (now (w .exit)) at n r ⌝ }
 {
-    words::sort_part(w, at, n);
+    sorting::sort_part(w, at, n);
     let mut i = 0;
     let mut k = 0;
     while i < n {

@@ -93,5 +93,5 @@ pub fn clashes(start: &[u32], end: &[u32], other_start: &[u32], other_end: &[u32
     if let Verdict::Bad(r, i) = v {
         return Clash::Refused(r, i);
     }
-    Clash::Is(columns::clash(start, end, other_start, other_end))
+    Clash::Is(clashing::clash(start, end, other_start, other_end))
 }

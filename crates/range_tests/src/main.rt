@@ -26,21 +26,19 @@ fn show_one(start: u32, end: u32) {
     io::print_decimal(1, end as u64);
 }
 
-// The two columns as ranges.
-fn show_all(start: &[u32], end: &[u32]) {
+// The first six ranges of two columns.
+fn show(start: &[u32], end: &[u32]) {
     let mut i = 0;
-    while i < start.len() {
+    while i < 6 {
+        if i >= start.len() {
+            return;
+        }
         if i >= end.len() {
             return;
         }
         show_one(start[i], end[i]);
         i += 1;
     }
-}
-
-fn show(start: &[u32], end: &[u32]) {
-    show_all(start, end);
-    text(b"\n");
 }
 
 fn counted(c: Counted) {
@@ -53,61 +51,64 @@ fn counted(c: Counted) {
     text(b":");
 }
 
-fn merged(start: &[u32], end: &[u32]) {
-    let mut s = [7u32; 5];
-    let mut e = [7u32; 5];
-    text(b"merged ");
-    counted(range_entries::merged(start, end, &mut s, &mut e));
-    show(&s, &e);
+// What was answered, and what the answer list holds.
+fn answered(c: Counted, start: &[u32], end: &[u32]) {
+    counted(c);
+    show(start, end);
 }
 
-// With answer columns of other lengths.
 fn merged_into(start: &[u32], end: &[u32], s: &mut [u32], e: &mut [u32]) {
-    text(b"merged ");
-    counted(range_entries::merged(start, end, s, e));
-    show(s, e);
+    let c = range_entries::merged(start, end, s, e);
+    answered(c, s, e);
+}
+
+// With answer columns of 5 numbers, less x for the starts and y for the ends.
+fn merged(start: &[u32], end: &[u32], x: usize, y: usize) {
+    if x > 5 {
+        return;
+    }
+    if y > 5 {
+        return;
+    }
+    let mut s = [7u32; 5];
+    let mut e = [7u32; 5];
+    merged_into(start, end, &mut s[x..5], &mut e[y..5]);
 }
 
 fn joined(start: &[u32], end: &[u32], s: u32, e: u32) {
     let mut a = [7u32; 4];
     let mut b = [7u32; 4];
-    text(b"joined ");
-    counted(range_entries::joined(start, end, s, e, &mut a, &mut b));
-    show(&a, &b);
+    let c = range_entries::joined(start, end, s, e, &mut a, &mut b);
+    answered(c, &a, &b);
 }
 
 fn union(start: &[u32], end: &[u32], other_start: &[u32], other_end: &[u32]) {
     let mut a = [7u32; 6];
     let mut b = [7u32; 6];
-    text(b"union ");
-    counted(range_entries::union(start, end, other_start, other_end, &mut a, &mut b));
-    show(&a, &b);
+    let c = range_entries::union(start, end, other_start, other_end, &mut a, &mut b);
+    answered(c, &a, &b);
+}
+
+fn yes_or_no(b: bool) {
+    if b {
+        text(b"yes");
+    } else {
+        text(b"no");
+    }
 }
 
 fn clashes(start: &[u32], end: &[u32], other_start: &[u32], other_end: &[u32]) {
-    text(b"clashes ");
     let c = range_entries::clashes(start, end, other_start, other_end);
     match c {
-        Clash::Is(b) => {
-            if b {
-                text(b"yes\n");
-            } else {
-                text(b"no\n");
-            }
-        }
-        Clash::Refused(r, i) => {
-            refused(r, i);
-            text(b"\n");
-        }
+        Clash::Is(b) => yes_or_no(b),
+        Clash::Refused(r, i) => refused(r, i),
     }
 }
 
 fn overlaps(a: u32, b: u32, c: u32, d: u32) {
-    if ranges::overlaps(a, b, c, d) {
-        text(b"overlaps yes\n");
-    } else {
-        text(b"overlaps no\n");
-    }
+    text(b"overlaps ");
+    yes_or_no(ranges::overlaps(a, b, c, d));
+    text(b"\n");
 }
 
 // The numbers of a case, and where each column ends; what is past the room is left out.
@@ -138,10 +139,10 @@ fn read(case: &[u8], numbers: &mut [u32], ends: &mut [usize]) {
     }
 }
 
-// Runs an entry on four columns; the second list is for `merged` nothing and for `joined` one range.
+// Runs an entry on four columns; the second list is for `merged` what its answer columns have less, and for `joined` one range.
 fn run(entry: u32, start: &[u32], end: &[u32], other_start: &[u32], other_end: &[u32]) {
     match entry {
-        0 => merged(start, end),
+        0 => merged(start, end, other_start.len(), other_end.len()),
         1 => {
             if other_start.len() > 0 {
                 if other_end.len() > 0 {
@@ -171,10 +172,10 @@ fn split(entry: u32, n: &[u32], a: usize, b: usize, c: usize, d: usize) {
     run(entry, &n[0..a], &n[a..b], &n[b..c], &n[c..d]);
 }
 
-fn case(entry: u32, text: &[u8]) {
+fn case(entry: u32, line: &[u8]) {
     let mut n = [0u32; 32];
     let mut e = [0usize; 4];
-    read(text, &mut n, &mut e);
+    read(line, &mut n, &mut e);
     let a = e[0];
     let b = e[1];
     let c = e[2];
@@ -197,21 +198,24 @@ fn line_end(text: &[u8], from: usize) -> usize
     i
 }
 
-// Runs an entry on the cases of a text, one a line.
-fn cases(entry: u32, text: &[u8]) {
+// Runs an entry, by its number and its name, on the cases of a text, one a line.
+fn cases(entry: u32, name: &[u8], lines: &[u8]) {
     let mut i = 0;
-    while i < text.len() {
-        let end = line_end(text, i);
-        case(entry, &text[i..end]);
+    while i < lines.len() {
+        let end = line_end(lines, i);
+        text(name);
+        case(entry, &lines[i..end]);
+        text(b"\n");
         i = end + 1;
     }
 }
 
 // Document 01's second example; nothing; one point; the largest point; touching ranges stay apart, nested and equal ones are joined;
-// columns of different lengths; a reversed range.
+// columns of different lengths; a reversed range; answer columns of different lengths, too little room; the count comes before the room, the room before the range.
 fn merging() {
     cases(
         0,
+        b"merged ",
         b"5,1,10,|9,5,12,|||
 ||||
 3,|3,|||
@@ -221,34 +225,25 @@ fn merging() {
 7,5,3,1,|7,5,3,1,|||
 1,2,|3,|||
 1,9,8,|3,8,7,|||
+1,|3,|0,0,0,|0,0,0,0,|
+1,5,|3,6,|0,0,0,0,|0,0,0,0,|
+2,3,|1,|0,0,0,0,|0,0,0,0,|
+2,3,|1,4,|0,0,0,0,|0,0,0,0,|
 ",
     );
 }
 
-// Answer columns of different lengths, and too little room.
-fn merging_refused() {
-    merged_into(&[1], &[3], &mut [7, 7], &mut [7]);
-    merged_into(&[1, 5], &[3, 6], &mut [7], &mut [7]);
-}
-
-// The count comes before the room, the room before the range.
-fn merging_refused_first() {
-    merged_into(&[2, 3], &[1], &mut [7], &mut [7]);
-    merged_into(&[2, 3], &[1, 4], &mut [7], &mut [7]);
-}
-
-// A list that is too long for the small array: the first two entries of the answer.
+// A list that is too long for the small array.
 fn merging_many() {
-    let mut s = [7u32; 300];
-    let mut e = [7u32; 300];
     text(b"merged ");
-    counted(range_entries::merged(&[5; 300], &[6; 300], &mut s, &mut e));
-    show(&s[0..2], &e[0..2]);
+    merged_into(&[5; 300], &[6; 300], &mut [7; 300], &mut [7; 300]);
+    text(b"\n");
 }
 
 fn joining() {
     cases(
         1,
+        b"joined ",
         b"||3,|5,|
 1,|4,|5,|9,|
 1,|4,|6,|9,|
@@ -265,6 +260,7 @@ fn joining() {
 fn uniting() {
     cases(
         2,
+        b"union ",
         b"1,10,|4,12,|4,20,|6,21,|
 ||2,|3,|
 2,|3,|||
@@ -282,6 +278,7 @@ fn uniting() {
 fn clashing() {
     cases(
         3,
+        b"clashes ",
         b"1,|4,|4,|6,|
 1,|4,|5,|6,|
 ||5,|6,|
@@ -300,8 +297,6 @@ fn main() {
     overlaps(1, 4, 5, 6);
     overlaps(4, 1, 0, 9);
     merging();
-    merging_refused();
-    merging_refused_first();
     merging_many();
     joining();
     uniting();

@@ -66,7 +66,7 @@ fn index(work: &mut [u64], lay: Lay, m: usize, n: usize)
     ensures { λ _. ⌜ Indexed lay m n (now (work .entry)) (now (work .exit)) ⌝ }
 {
     let edges = lay.edges;
-    words::sort_part(work, edges, n);
+    sorting::sort_part(work, edges, n);
     firsts(work, lay, m, n);
 }
 

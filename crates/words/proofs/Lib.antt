@@ -1,6 +1,5 @@
 pub mod Points
 pub mod SortLaws
-pub mod HeapLaws
 pub mod RowLaws
 pub mod RegionLaws
 pub mod PasteLaws

@@ -1,5 +1,4 @@
 pub mod Rows
 pub mod Sort
-pub mod Heap
 pub mod Regions
 pub mod Search

@@ -1,10 +1,7 @@
-// Lent numbers: regions of one list, sorting, searching.
-mod heap; // heap.rt: heap sort
+// Lent numbers: regions of one list, searching.
 mod regions; // regions.rt: fill, clear and copy
 mod search; // search.rt: binary search
 
-pub use heap::sort;
-pub use heap::sort_part;
 pub use regions::clear;
 pub use regions::copy;
 pub use regions::copy_u32;

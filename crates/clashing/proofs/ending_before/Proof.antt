@@ -8,8 +8,8 @@ use lib.Dec.{ltb}
 use borrow.Author.Tests.{lt-ltb, le-ltb}
 use Rattle.words.proofs.SearchLaws.{Between, between-up, between-down, between-done}
 use Rattle.ranges.proofs.GallopLaws.{gallop-search}
-use Rattle.columns.proofs.ending_before.Statement.{statement}
-use Rattle.columns.proofs.ending_before.Tie as tie
+use Rattle.clashing.proofs.ending_before.Statement.{statement}
+use Rattle.clashing.proofs.ending_before.Tie as tie
 
 abbrev Inv-loop : tie.InvT-loop
 Inv-loop end from point n bound low₀ high₀ low high = (n ≡ length end - from) × Between (λ i. ltb (getD end (from + i) 0) point) (length end - from) low high

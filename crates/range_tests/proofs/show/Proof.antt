@@ -1,21 +1,23 @@
--- `show_all` is safe and ends: it counts up to the length.
+-- `show` is safe and ends: it counts up to six.
 use Prim.Native.Nat.{_≤_, _-_}
 use native.Mathlib.Omega.{arith}
-use lib.ListN.{length}
-use Rattle.range_tests.proofs.show_all.Statement.{statement}
-use Rattle.range_tests.proofs.show_all.Tie as tie
+use Rattle.range_tests.proofs.show.Statement.{statement}
+use Rattle.range_tests.proofs.show.Tie as tie
 
 abbrev Inv-loop : tie.InvT-loop
-Inv-loop start end i₀ i = i ≤ length start
+Inv-loop start end i₀ i = i ≤ 6
 
 abbrev μ-loop : tie.MeasureT-loop
-μ-loop start end i₀ i = length start - i
+μ-loop start end i₀ i = 6 - i
 
 loop-holds : tie.Need-loop-holds Inv-loop μ-loop
 loop-holds c = omega arith
 
 returns : tie.Need-returns Inv-loop μ-loop
 returns c = tt
+
+returns-2 : tie.Need-returns-2 Inv-loop μ-loop
+returns-2 c = tt
 
 mul-show-one : tie.Need-mul-show-one Inv-loop μ-loop
 mul-show-one c = omega arith
@@ -41,8 +43,8 @@ loop-less c = omega arith
 loop-again : tie.Need-loop-again Inv-loop μ-loop
 loop-again c = omega arith
 
-returns-2 : tie.Need-returns-2 Inv-loop μ-loop
-returns-2 c = tt
+returns-3 : tie.Need-returns-3 Inv-loop μ-loop
+returns-3 c = tt
 
-pub show-all-spec : {M : Type 1} → statement M
-show-all-spec = tie.close (tie.spec Inv-loop μ-loop loop-holds returns mul-show-one shared-slice-read-show-one mul-show-one-2 shared-slice-read-show-one-2 show-one-requires add-i loop-less loop-again returns-2)
+pub show-spec : {M : Type 1} → statement M
+show-spec = tie.close (tie.spec Inv-loop μ-loop loop-holds returns returns-2 mul-show-one shared-slice-read-show-one mul-show-one-2 shared-slice-read-show-one-2 show-one-requires add-i loop-less loop-again returns-3)

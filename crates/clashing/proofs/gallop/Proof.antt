@@ -3,8 +3,8 @@ use Prim.Native.Nat.{_+_, _-_}
 use native.Mathlib.Omega.{arith}
 use lib.ListN.{getD}
 use Rattle.ranges.proofs.GallopLaws.{Galloping, gallop-start, gallop-more, gallop-stop, gallop-end}
-use Rattle.columns.proofs.gallop.Statement.{statement}
-use Rattle.columns.proofs.gallop.Tie as tie
+use Rattle.clashing.proofs.gallop.Statement.{statement}
+use Rattle.clashing.proofs.gallop.Tie as tie
 
 abbrev Inv-loop : tie.InvT-loop
 Inv-loop end from n point bound₀ bound = Galloping (λ i. getD end (from + i) 0) n point bound

@@ -9,8 +9,8 @@ use Rattle.ranges.specs.Forms.{columns}
 use Rattle.ranges.proofs.FormLaws.{column-view-ends}
 use Rattle.ranges.proofs.SkipLaws.{Searching, search-start}
 use Rattle.ranges.proofs.SearchLaws.{ends-first, ends-last, ends-rising, splits-some, one-upright, two-upright, hit, skip-to-one, skip-to-two, over-one, over-two}
-use Rattle.columns.proofs.clash.Statement.{statement}
-use Rattle.columns.proofs.clash.Tie as tie
+use Rattle.clashing.proofs.clash.Statement.{statement}
+use Rattle.clashing.proofs.clash.Tie as tie
 
 abbrev Inv-loop : tie.InvT-loop
 Inv-loop start end other-start other-end i₀ j₀ i j =
