@@ -15,7 +15,7 @@ use Rattle.fitting.specs.Wants.{Want, wantAt, before, insert, ordered, orderOf}
 use Rattle.fitting.specs.Plan.{Plan, nothing, put, fit, planOf}
 use Rattle.fitting.proofs.OrderLaws.{order-names}
 use Rattle.order.specs.Keys.{sizeOf, alignOf, OrderedIn}
-use Rattle.order.proofs.RankLaws.{mem-at}
+use Rattle.sorting.proofs.RankLaws.{mem-at}
 use Rattle.fit.specs.declared.Progress.{Progress}
 use Rattle.fit.specs.Tables.{rangesAt, areaIn, wantIn, wantsIn, Lent, planIn, Fitted}
 use Rattle.fit.specs.Inner.{orderAt, headAt, Linked, Probed, enteredIn, Holds, InOrder, Ready, Stepped, Placed, Summed, Folded}

@@ -16,7 +16,8 @@ use Rattle.ranges.specs.Points.{Point}
 use Rattle.ranges.specs.Merged.{union, clashes}
 use Rattle.ranges.proofs.MergeLaws.{union-left, union-right}
 use Rattle.ranges.proofs.ClashLaws.{apart-points}
-use Rattle.fitting.specs.Wants.{Want, wantAt, Distinct, Names}
+use Rattle.fitting.specs.Wants.{Want, wantAt, Names}
+use Rattle.words.specs.Sort.{Distinct}
 use Rattle.fitting.specs.Plan.{Cell, cellAt, joinable, lowest, spent, Plan, nothing, assign, opened, rangesIn, widened, entered, settled, placedBy, put, fit, planOf}
 use Rattle.fitting.proofs.SearchLaws.{lowest-found, spent-le}
 

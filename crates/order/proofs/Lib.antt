@@ -1,3 +1,2 @@
 pub mod SameOrder
-pub mod RankLaws
 pub mod PassLaws

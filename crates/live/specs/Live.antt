@@ -1,0 +1,29 @@
+-- Live pieces in a work space: all of them in order by register, and the ranges of one register.
+use Prim.Native.Nat.{ℕ, _+_, _≤_, _<_}
+use mathlib.Core.Path.{_≡_}
+use mathlib.Core.List.{List}
+use lib.ListN.{length, getD}
+use Rattle.words.specs.Regions.{part}
+use Rattle.words.specs.Rows.{rowCount, field}
+use Rattle.sorting.specs.Ranks.{ranked}
+use Rattle.ranges.specs.Forms.{unpacked}
+use Rattle.graph.specs.Work.{Within}
+use Rattle.carrying.specs.Carried.{piecesOf, livePieces}
+
+-- the register of piece i, of rows `R,register,start,end`
+abbrev pub registerOf : List ℕ → ℕ → ℕ
+registerOf pieces i = field 3 pieces i 0
+
+-- from `at` on stand the registers with the indices of their pieces, in order
+pub record InOrder (pieces : List ℕ) (at : ℕ) (w : List ℕ) : Type 0 where
+  pub keys : (k : ℕ) → k < rowCount 3 pieces → getD w (at + k) 0 ≡ getD (ranked (registerOf pieces) (rowCount 3 pieces)) k 0
+
+pub record PutInOrder (pieces : List ℕ) (at : ℕ) (w₀ w : List ℕ) : Type 0 where
+  pub kept : Within at (at + rowCount 3 pieces) w₀ w
+  pub order : InOrder pieces at w
+
+-- the register's live pieces stand from `to` on
+pub record Fetched (pieces : List ℕ) (register to : ℕ) (w₀ w : List ℕ) (r : ℕ) : Type 0 where
+  pub kept : Within to (to + r) w₀ w
+  pub count : r ≤ rowCount 3 pieces
+  pub is : unpacked (part to r w) ≡ livePieces (piecesOf pieces) register
