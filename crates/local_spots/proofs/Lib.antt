@@ -1,0 +1,4 @@
+pub mod ChainLaws
+pub mod WalkLaws
+pub mod FetchLaws
+pub mod OrderLaws

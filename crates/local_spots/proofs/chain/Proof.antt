@@ -1,0 +1,116 @@
+-- `local_spots::chain` meets its contract: the first i rows are linked.
+use Rattle.local_spots.proofs.ChainLaws.{Linking, row-in, local-at, link-start, link-skip, link-put, link-done}
+use Rattle.words.specs.Rows.{field}
+use Prim.Native.Nat.{_/_}
+use native.Mathlib.Omega.{arith}
+use Prim.Native.Nat.{ℕ, suc, _+_, _-_, _*_, _≤_, _<_}
+use mathlib.Core.Path.{_≡_, refl, sym, ap, _∙_}
+use lib.ListN.{length, take, drop, getD, set, length-set}
+use borrow.Author.Needs.{needs}
+use Rattle.local_spots.proofs.chain.Statement.{statement}
+use Rattle.local_spots.proofs.chain.Tie as tie
+
+abbrev Inv-loop : tie.InvT-loop
+Inv-loop rows width n locals work₀ heads nexts i₀ work i = Linking (λ j. field width rows j 0) n locals heads nexts work₀ work i
+
+abbrev μ-loop : tie.MeasureT-loop
+μ-loop rows width n locals work₀ heads nexts i₀ work i = n - i
+
+loop-holds : tie.Need-loop-holds Inv-loop μ-loop
+loop-holds c = link-start (λ j. field ((c .before .before .args) .width) ((c .before .before .args) .rows .now) j 0) _ _ _ _ _ (omega arith) (omega arith) ((c .before .before .pre) .1)
+
+mul-wide : tie.Need-mul-wide Inv-loop μ-loop
+mul-wide c = omega (arith, row-in ((c .before .before .before .before .args) .width) ((c .before .before .before .before .args) .n) ((c .before .loop) .i) ((c .before .before .before .before .args) .rows .now) ((c .before .before .before .before .pre) .0 .0) ((c .before .before .before .before .pre) .0 .1) (omega arith))
+
+mul-wide-2 : tie.Need-mul-wide-2 Inv-loop μ-loop
+mul-wide-2 c = omega (arith, row-in ((c .before .before .before .before .args) .width) ((c .before .before .before .before .args) .n) ((c .before .loop) .i) ((c .before .before .before .before .args) .rows .now) ((c .before .before .before .before .pre) .0 .0) ((c .before .before .before .before .pre) .0 .1) (omega arith))
+
+shared-slice-read-wide : tie.Need-shared-slice-read-wide Inv-loop μ-loop
+shared-slice-read-wide c = omega (arith, row-in ((c .before .before .before .before .before .args) .width) ((c .before .before .before .before .before .args) .n) ((c .before .before .loop) .i) ((c .before .before .before .before .before .args) .rows .now) ((c .before .before .before .before .before .pre) .0 .0) ((c .before .before .before .before .before .pre) .0 .1) (omega arith))
+
+wide-requires : tie.Need-wide-requires Inv-loop μ-loop
+wide-requires c κs = omega arith
+
+add-work : tie.Need-add-work Inv-loop μ-loop
+add-work c = omega arith
+
+mul-work : tie.Need-mul-work Inv-loop μ-loop
+mul-work c = omega arith
+
+slice-read-work : tie.Need-slice-read-work Inv-loop μ-loop
+slice-read-work c = omega arith
+
+add-work-2 : tie.Need-add-work-2 Inv-loop μ-loop
+add-work-2 c = omega arith
+
+mul-work-2 : tie.Need-mul-work-2 Inv-loop μ-loop
+mul-work-2 c = omega arith
+
+slice-write-work : tie.Need-slice-write-work Inv-loop μ-loop
+slice-write-work c = omega arith
+
+add-work-3 : tie.Need-add-work-3 Inv-loop μ-loop
+add-work-3 c = omega arith
+
+add-work-4 : tie.Need-add-work-4 Inv-loop μ-loop
+add-work-4 c = omega arith
+
+mul-work-3 : tie.Need-mul-work-3 Inv-loop μ-loop
+mul-work-3 c = omega arith
+
+slice-write-work-2 : tie.Need-slice-write-work-2 Inv-loop μ-loop
+slice-write-work-2 c = simp length-set (omega arith)
+
+add-i : tie.Need-add-i Inv-loop μ-loop
+add-i c = omega arith
+
+loop-less : tie.Need-loop-less Inv-loop μ-loop
+loop-less c = omega arith
+
+loop-again : tie.Need-loop-again Inv-loop μ-loop
+loop-again c = link-put ((c .before .before .before .before .before .loop) .inv) _ _ _ _ _ (omega arith) (local-at ((c .before .before .before .before .before .before .before .before .args) .width) ((c .before .before .before .before .before .loop) .i) ((c .before .before .before .before .before .before .before .before .args) .rows .now) ∙ sym ((c .before .before .wide) .ensures)) (omega arith) refl refl refl refl
+
+add-i-2 : tie.Need-add-i-2 Inv-loop μ-loop
+add-i-2 c = omega arith
+
+loop-less-2 : tie.Need-loop-less-2 Inv-loop μ-loop
+loop-less-2 c = omega arith
+
+loop-again-2 : tie.Need-loop-again-2 Inv-loop μ-loop
+loop-again-2 c = link-skip ((c .before .before .before .before .loop) .inv) (omega arith) (let z = local-at ((c .before .before .before .before .before .before .before .args) .width) ((c .before .before .before .before .loop) .i) ((c .before .before .before .before .before .before .before .args) .rows .now) ∙ sym ((c .before .wide) .ensures) in omega arith)
+
+same-length : tie.Need-same-length Inv-loop μ-loop
+same-length c = (c .before .loop) .inv .len
+
+returns : tie.Need-returns Inv-loop μ-loop
+returns c = link-done ((c .before .before .before .before .pre) .0 .1) ((c .before .loop) .inv) (omega arith)
+
+pub chain-spec : {M : Type 1} → statement M
+chain-spec =
+    tie.close
+    (tie.spec
+    Inv-loop
+    μ-loop
+    loop-holds
+    mul-wide
+    mul-wide-2
+    shared-slice-read-wide
+    wide-requires
+    add-work
+    mul-work
+    slice-read-work
+    add-work-2
+    mul-work-2
+    slice-write-work
+    add-work-3
+    add-work-4
+    mul-work-3
+    slice-write-work-2
+    add-i
+    loop-less
+    loop-again
+    add-i-2
+    loop-less-2
+    loop-again-2
+    same-length
+    returns)

@@ -1,0 +1,57 @@
+-- Touches and ends that are lent by themselves: rows `local,start,end` and rows `local,point`, and those of one local in the work space.
+use Prim.Native.Nat.{ℕ, _+_, _≤_, _<_}
+use mathlib.Core.Path.{_≡_}
+use mathlib.Core.Bool.{cond}
+use mathlib.Core.List.{List, [], _∷_}
+use lib.ListN.{length, getD}
+use lib.Dec.{eqb}
+use Rattle.words.specs.Sort.{sortOf}
+use Rattle.words.specs.Rows.{rowCount, field, records}
+use Rattle.ranges.specs.declared.Range.{Range}
+use Rattle.ranges.specs.Points.{range}
+use Rattle.graph.specs.Work.{Within}
+use Rattle.carrying.specs.Lists.{gather}
+use Rattle.reach.specs.Prepared.{latest}
+use Rattle.spots.specs.declared.Spots.{Spots}
+use Rattle.spots.specs.Spots.{touchesAt, endsAt, Stand}
+use Rattle.local_spots.specs.declared.Places.{Places}
+
+-- the local's touches, in lent order: rows that name another count for others, or for nobody
+abbrev pub touchesFor : List ℕ → ℕ → List Range
+touchesFor rows l = gather (λ f. cond (eqb (f 0) l) (range (f 1) (f 2) ∷ []) []) (records 3 (λ f. f) rows)
+
+-- its ends, in lent order
+abbrev pub endsFor : List ℕ → ℕ → List ℕ
+endsFor rows l = gather (λ f. cond (eqb (f 0) l) (f 1 ∷ []) []) (records 2 (λ f. f) rows)
+
+-- the regions stand one behind another, of t touches and e ends
+pub record Laid (p : Places) (t e : ℕ) (w : List ℕ) : Type 0 where
+  pub heads-fit : p .heads + p .locals + p .locals ≤ p .nexts
+  pub nexts-fit : p .nexts + t + e ≤ p .at
+  pub at-fits : p .at + t ≤ p .ends
+  pub ends-fit : p .ends + e ≤ length w
+
+-- the rows of each local as a chain, last first: the last at the local's head, and at each row the one before it, each plus 1, or 0 where there is none
+pub record Chain (width : ℕ) (rows : List ℕ) (locals heads nexts : ℕ) (w : List ℕ) : Type 0 where
+  pub head : (l : ℕ) → l < locals → getD w (heads + l) 0 ≡ latest (λ i. field width rows i 0) l (rowCount width rows)
+  pub next : (i : ℕ) → i < rowCount width rows → field width rows i 0 < locals → getD w (nexts + i) 0 ≡ latest (λ j. field width rows j 0) (field width rows i 0) i
+
+-- of the touches, and behind them of the ends
+pub record Chains (p : Places) (touches ends w : List ℕ) : Type 0 where
+  pub touches-chain : Chain 3 touches (p .locals) (p .heads) (p .nexts) w
+  pub ends-chain : Chain 2 ends (p .locals) (p .heads + p .locals) (p .nexts + rowCount 3 touches) w
+
+pub record Chained (p : Places) (touches ends w₀ w : List ℕ) : Type 0 where
+  pub kept : Within (p .heads) (p .nexts + rowCount 3 touches + rowCount 2 ends) w₀ w
+  pub chains : Chains p touches ends w
+
+-- a local's touches in lent order and its ends in rising order stand in the two last regions, and nothing else has changed
+pub record Fetched (p : Places) (touches ends : List ℕ) (l : ℕ) (w₀ w : List ℕ) (s : Spots) : Type 0 where
+  pub kept : Within (p .at) (p .ends + rowCount 2 ends) w₀ w
+  pub touches-are : touchesAt s w ≡ touchesFor touches l
+  pub ends-are : endsAt s w ≡ sortOf (endsFor ends l)
+  pub stand : Stand s w
+  pub touches-low : p .at ≤ s .at
+  pub touches-high : s .at + s .count ≤ p .at + rowCount 3 touches
+  pub ends-low : p .ends ≤ s .ends
+  pub ends-high : s .ends + s .stops ≤ p .ends + rowCount 2 ends

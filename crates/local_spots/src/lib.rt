@@ -1,0 +1,119 @@
+// Touches and ends lent by themselves, by local: the rows of each local as a chain, and one local's touches and ends fetched into the work space.
+ghost use mathlib.Core.Path.{_≡_};
+ghost use mathlib.Core.Logic.{_≢_};
+ghost use Prim.Native.Nat.{ℕ, _+_, _*_, _/_, _≤_, _<_};
+ghost use lib.ListN.{length, getD};
+ghost use Rattle.words.specs.Rows.{field};
+ghost use Rattle.local_spots.specs.Locals.{Laid, Chain, Chains, Chained, Fetched};
+ghost use Rattle.local_spots.specs.Inner.{wordOf, Linked, Walkable, Walked};
+use spots::Spots;
+
+// Where the rows of `locals` locals are kept, each region past the one before: from `heads` on each local's last touch, then each local's last end; from `nexts` on
+// for each touch, then for each end, the one before it; from `at` on room for the touches of one local, and from `ends` on for its ends.
+pub struct Places {
+    pub locals: usize,
+    pub heads: usize,
+    pub nexts: usize,
+    pub at: usize,
+    pub ends: usize,
+}
+
+fn wide(x: u32) -> usize
+    ensures { λ r. ⌜ r ≡ x ⌝ }
+{
+    x as usize
+}
+
+// The rows of each local as a chain, the last first: `n` rows of `width` numbers, the local first.
+fn chain(
+    rows: &[u32],
+    width: usize,
+    n: usize,
+    locals: usize,
+    work: &mut [u64],
+    heads: usize,
+    nexts: usize,
+)
+    requires { ⌜ (0 < width) × (n ≡ length (now rows) / width) × (heads + locals ≤ nexts) × (nexts + n ≤ length (now work)) ⌝ }
+    requires { ⌜ ((l : ℕ) → l < locals → getD (now work) (heads + l) 0 ≡ 0) ⌝ }
+    ensures { λ _. ⌜ Linked width (now (rows .entry)) locals heads nexts (now (work .entry)) (now (work .exit)) ⌝ }
+{
+    let mut i = 0;
+    while i < n {
+        let l = wide(rows[width * i]);
+        if l < locals {
+            work[nexts + i] = work[heads + l];
+            work[heads + l] = i as u64 + 1;
+            i += 1;
+        } else {
+            i += 1;
+        }
+    }
+}
+
+// The touches and the ends of each local as chains.
+pub fn chains(touches: &[u32], ends: &[u32], work: &mut [u64], p: Places)
+    requires { ⌜ Laid p (length (now touches) / 3) (length (now ends) / 2) (now work) ⌝ }
+    ensures { λ _. ⌜ Chained p (now (touches .entry)) (now (ends .entry)) (now (work .entry)) (now (work .exit)) ⌝ }
+{
+    let t = touches.len() / 3;
+    let e = ends.len() / 2;
+    let past = p.heads + p.locals;
+    words::fill(work, p.heads, p.locals + p.locals, 0);
+    chain(touches, 3, t, p.locals, work, p.heads, p.nexts);
+    chain(ends, 2, e, p.locals, work, past, p.nexts + t);
+}
+
+// Row i as one word: a touch packed, or a point.
+fn word(rows: &[u32], width: usize, i: usize) -> u64
+    requires { ⌜ (width ≡ 3 → 3 * i + 2 < length (now rows)) × (width ≢ 3 → (width ≡ 2) × (2 * i + 1 < length (now rows))) ⌝ }
+    ensures { λ r. ⌜ r ≡ wordOf width (field width (now (rows .entry)) i) ⌝ }
+{
+    if width == 3 {
+        return packed::pack(rows[3 * i + 1], rows[3 * i + 2]);
+    }
+    rows[2 * i + 1] as u64
+}
+
+// Follows a local's chain from its last row, and writes the rows' words downwards from `top`; how many.
+fn walk(
+    rows: &[u32],
+    width: usize,
+    work: &mut [u64],
+    l: usize,
+    heads: usize,
+    nexts: usize,
+    top: usize,
+) -> usize
+    requires { ⌜ Walkable width (now rows) l heads nexts top (now work) ⌝ }
+    ensures { λ r. ⌜ Walked width (now (rows .entry)) l top (now (work .entry)) (now (work .exit)) r ⌝ }
+{
+    let mut next = work[heads + l];
+    let mut to = top;
+    while next != 0 {
+        let i = next as usize - 1;
+        to -= 1;
+        work[to] = word(rows, width, i);
+        next = work[nexts + i];
+    }
+    top - to
+}
+
+// One local's touches in lent order, and its ends in rising order.
+pub fn fetch(touches: &[u32], ends: &[u32], work: &mut [u64], p: Places, l: usize) -> Spots
+    requires { ⌜ Laid p (length (now touches) / 3) (length (now ends) / 2) (now work) × Chains p (now touches) (now ends) (now work) × (l < p .locals) ⌝ }
+    ensures { λ s. ⌜ Fetched p (now (touches .entry)) (now (ends .entry)) l (now (work .entry)) (now (work .exit)) s ⌝ }
+{
+    let t = touches.len() / 3;
+    let top = p.at + t;
+    let last = p.ends + ends.len() / 2;
+    let count = walk(touches, 3, work, l, p.heads, p.nexts, top);
+    let stops = walk(ends, 2, work, l, p.heads + p.locals, p.nexts + t, last);
+    words::sort_part(work, last - stops, stops);
+    Spots {
+        at: top - count,
+        count: count,
+        ends: last - stops,
+        stops: stops,
+    }
+}
