@@ -1,0 +1,197 @@
+-- Laws of one local's marks: what each call leaves of the rows, by the local's touches and its ends as they are lent.
+use Prim.Native.Nat.{ℕ, _+_, _*_, _/_, _%_, _≤_, _<_}
+use native.Mathlib.Omega.{arith}
+use mathlib.Core.Path.{_≡_, refl, sym, ap, _∙_, subst}
+use mathlib.Core.Logic.{_⊎_, inl, inr, ⊎-elim}
+use mathlib.Core.Bool.{Bool, true, false, not, _&&_, _||_}
+use mathlib.Core.List.{List, []}
+use lib.ListN.{length, getD}
+use Rattle.words.specs.Rows.{rowCount}
+use Rattle.words.specs.Sort.{sortOf}
+use Rattle.words.specs.Regions.{part, Kept}
+use Rattle.words.proofs.RegionLaws.{row-before, kept-part-list}
+use Rattle.bits.specs.Bits.{bitOf}
+use Rattle.ranges.specs.declared.Range.{Range}
+use Rattle.graph.specs.Paths.{Edge}
+use Rattle.graph.specs.Work.{Within}
+use Rattle.graph.proofs.Within.{within-trans, within-wider}
+use Rattle.carrying.specs.Lists.{any}
+use Rattle.areas.specs.Blocks.{Graph, inverted, touched, leaves, passes}
+use Rattle.spots.specs.declared.Spots.{Spots}
+use Rattle.spots.specs.Spots.{lineOf, touchesAt, endsAt}
+use Rattle.area_rows.specs.declared.Column.{Column}
+use Rattle.area_rows.specs.Marks.{marked, Marked, TouchesReady, EndsReady}
+use Rattle.area_flow.specs.declared.Grid.{Grid}
+use Rattle.area_flow.specs.Grid.{rowBit}
+use Rattle.local_spots.specs.declared.Places.{Places}
+use Rattle.local_spots.specs.Locals.{touchesFor, endsFor, Fetched}
+use Rattle.local_spots.proofs.OrderLaws.{passes-sorted, leaves-sorted}
+use Rattle.local_marks.specs.Marks.{Ready}
+use Rattle.local_marks.specs.Inner.{Bits, Marking, Standing, MarkedOne}
+
+-- local l in the rows from `from` on
+abbrev pub columnAt : Grid → ℕ → ℕ → ℕ → Column
+columnAt g from n l = record { n = n; base = from; words = g .words; bit = l }
+
+-- rows apart from what has changed
+pub row-kept : {lo hi : ℕ} {w₀ w : List ℕ} (g : Grid) (from n : ℕ) → Within lo hi w₀ w → (from + n * g .words ≤ lo) ⊎ (hi ≤ from)
+    → (k b : ℕ) → k < n → b < g .words * 64 → rowBit g from w k b ≡ rowBit g from w₀ k b
+row-kept g from n K a k b h m =
+    let r = row-before k n (g .words) h in
+    ap (λ (y : ℕ). bitOf y (b % 64)) (⊎-elim (λ x. K .below (from + k * g .words + b / 64) (omega arith)) (λ x. K .past (from + k * g .words + b / 64) (omega arith)) a)
+
+-- ---- the bits of rows
+
+bits-kept : {g : Grid} {from n l : ℕ} {w₀ w : List ℕ} → l < g .words * 64 → ((k b : ℕ) → k < n → b < g .words * 64 → rowBit g from w k b ≡ rowBit g from w₀ k b) → Bits g from n l (λ k. rowBit g from w₀ k l) w₀ w
+bits-kept {l = l} m K = record { column = λ k h. K k l h m; others = λ k b h q d. K k b h q }
+
+bits-of : {g : Grid} {from n l : ℕ} {h : ℕ → Bool} {w₀ w : List ℕ} → Marked (columnAt g from n l) h w₀ w → Bits g from n l h w₀ w
+bits-of M = record { column = M .column; others = M .others }
+
+bits-as : {g : Grid} {from n l : ℕ} {h : ℕ → Bool} (f : ℕ → Bool) {w₀ w : List ℕ} → Bits g from n l h w₀ w → ((k : ℕ) → k < n → h k ≡ f k) → Bits g from n l f w₀ w
+bits-as f B e = record { column = λ k q. B .column k q ∙ e k q; others = B .others }
+
+-- after, or before, a change elsewhere
+bits-then : {g : Grid} {from n l : ℕ} {h : ℕ → Bool} {w₀ w₁ w₂ : List ℕ} → l < g .words * 64 → Bits g from n l h w₀ w₁
+    → ((k b : ℕ) → k < n → b < g .words * 64 → rowBit g from w₂ k b ≡ rowBit g from w₁ k b) → Bits g from n l h w₀ w₂
+bits-then {l = l} m B K = record { column = λ k q. K k l q m ∙ B .column k q; others = λ k b q o d. K k b q o ∙ B .others k b q o d }
+
+bits-since : {g : Grid} {from n l : ℕ} {h : ℕ → Bool} {w₀ w₁ w₂ : List ℕ} → ((k b : ℕ) → k < n → b < g .words * 64 → rowBit g from w₁ k b ≡ rowBit g from w₀ k b) → Bits g from n l h w₁ w₂ → Bits g from n l h w₀ w₂
+bits-since K B = record { column = B .column; others = λ k b q o d. B .others k b q o d ∙ K k b q o }
+
+-- ---- one local whose touches and ends stand
+
+module _ (blocks : List ℕ) (s : Spots) (g : Grid) (l : ℕ) {w₀ : List ℕ} (S : Standing blocks s g l w₀) where
+  pub touches-ready : (from : ℕ) → g .touched ≤ from → from + rowCount 3 blocks * g .words ≤ length w₀ → TouchesReady blocks s (columnAt g from (rowCount 3 blocks) l) w₀
+  touches-ready from a b = record {
+    line = S .line;
+    places = refl;
+    fits = record { bit-in = S .bit-in; rows-in = b };
+    stand = S .stand .touches-fit;
+    apart = inl (let q = S .touches-apart in omega arith);
+  }
+
+  pub ends-ready : (from : ℕ) {w : List ℕ} → length w ≡ length w₀ → g .touched ≤ from → from + rowCount 3 blocks * g .words ≤ length w₀ → EndsReady blocks s (columnAt g from (rowCount 3 blocks) l) w
+  ends-ready from e a b = record {
+    line = S .line;
+    places = refl;
+    fits = record { bit-in = S .bit-in; rows-in = omega arith };
+    stand = let q = S .stand .ends-fit in omega arith;
+    apart = inl (let q = S .ends-apart in omega arith);
+  }
+
+  -- a plain local
+  module _ {w : List ℕ} (T : (es : List Edge) → Marked (columnAt g (g .touched) (rowCount 3 blocks) l) (λ k. touched (lineOf blocks es) (touchesAt s w₀) k || rowBit g (g .touched) w₀ k l) w₀ w) where
+    pub plain-kept : Within (g .touched) (g .passes + rowCount 3 blocks * g .words) w₀ w
+    plain-kept =
+        let a = S .touched-fits in let b = S .leaves-fit in
+        within-wider (g .touched) (g .passes + rowCount 3 blocks * g .words) (omega arith) (omega arith) (T [] .kept)
+
+    pub plain-marking : (plain : Bool) → plain ≡ true → (es : List Edge)
+        → Marking g (rowCount 3 blocks) l plain (touched (lineOf blocks es) (touchesAt s w₀)) (leaves (lineOf blocks es) (touchesAt s w₀) (endsAt s w₀)) (passes (lineOf blocks es) (endsAt s w₀)) w₀ w
+    plain-marking plain e es =
+        let a = S .touched-fits in let b = S .leaves-fit in
+        rw e (record {
+          touches-bits = bits-of (T es);
+          leaves-bits = bits-kept (S .bit-in) (row-kept g (g .leaves) (rowCount 3 blocks) (T es .kept) (inr (omega arith)));
+          passes-bits = bits-kept (S .bit-in) (row-kept g (g .passes) (rowCount 3 blocks) (T es .kept) (inr (omega arith)));
+        })
+
+  -- an ending local
+  module _ {w₁ w : List ℕ}
+      (Lv : (es : List Edge) → Marked (columnAt g (g .leaves) (rowCount 3 blocks) l) (λ k. leaves (lineOf blocks es) (touchesAt s w₀) (endsAt s w₀) k || rowBit g (g .leaves) w₀ k l) w₀ w₁)
+      (P : (es : List Edge) → Marked (columnAt g (g .passes) (rowCount 3 blocks) l) (λ k. passes (lineOf blocks es) (endsAt s w₁) k && rowBit g (g .passes) w₁ k l) w₁ w) where
+    pub ending-kept : Within (g .touched) (g .passes + rowCount 3 blocks * g .words) w₀ w
+    ending-kept =
+        let a = S .touched-fits in let b = S .leaves-fit in
+        within-trans (within-wider (g .touched) (g .passes + rowCount 3 blocks * g .words) (omega arith) (omega arith) (Lv [] .kept))
+        (within-wider (g .touched) (g .passes + rowCount 3 blocks * g .words) (omega arith) (omega arith) (P [] .kept))
+
+    -- the ends have stood
+    ends-same : endsAt s w₁ ≡ endsAt s w₀
+    ends-same =
+        let a = S .touched-fits in let b = S .ends-apart in let c = S .stand .ends-fit in
+        let K : Kept w₀ w₁ (s .ends) (s .stops) = record { same = λ i x y. Lv [] .kept .below i (omega arith) } in
+        kept-part-list K c (Lv [] .kept .len)
+
+    pub ending-marking : (plain : Bool) → plain ≡ false → (es : List Edge)
+        → Marking g (rowCount 3 blocks) l plain (touched (lineOf blocks es) (touchesAt s w₀)) (leaves (lineOf blocks es) (touchesAt s w₀) (endsAt s w₀)) (passes (lineOf blocks es) (endsAt s w₀)) w₀ w
+    ending-marking plain e es =
+        let a = S .touched-fits in let b = S .leaves-fit in
+        let before : (k j : ℕ) → k < rowCount 3 blocks → j < g .words * 64 → rowBit g (g .passes) w₁ k j ≡ rowBit g (g .passes) w₀ k j = row-kept g (g .passes) (rowCount 3 blocks) (Lv es .kept) (inr (omega arith)) in
+        rw e (record {
+          touches-bits = bits-kept (S .bit-in) (row-kept g (g .touched) (rowCount 3 blocks) ending-kept-past (inl (omega arith)));
+          leaves-bits = bits-then (S .bit-in) (bits-of (Lv es)) (row-kept g (g .leaves) (rowCount 3 blocks) (P es .kept) (inl (omega arith)));
+          passes-bits = bits-since before (bits-as (λ k. passes (lineOf blocks es) (endsAt s w₀) k && rowBit g (g .passes) w₀ k l) (bits-of (P es))
+              (λ k h. ap (λ (x : List ℕ). passes (lineOf blocks es) x k && rowBit g (g .passes) w₁ k l) ends-same ∙ ap (λ (x : Bool). passes (lineOf blocks es) (endsAt s w₀) k && x) (before k l h (S .bit-in))));
+        })
+      where
+        ending-kept-past : Within (g .leaves) (g .passes + rowCount 3 blocks * g .words) w₀ w
+        ending-kept-past =
+            let b = S .leaves-fit in
+            within-trans (within-wider (g .leaves) (g .passes + rowCount 3 blocks * g .words) (omega arith) (omega arith) (Lv [] .kept))
+            (within-wider (g .leaves) (g .passes + rowCount 3 blocks * g .words) (omega arith) (omega arith) (P [] .kept))
+
+-- ---- one local, fetched
+
+module _ {p : Places} {g : Grid} {blocks touches ends : List ℕ} {l : ℕ} {w₀ w₁ : List ℕ} {s : Spots} (R : Ready p g blocks touches ends w₀) (h : l < p .locals) (F : Fetched p touches ends l w₀ w₁ s) where
+  -- number 8 by the touches as they are lent
+  fetched-answer : (es : List Edge) (r : Bool) → r ≡ any (inverted (lineOf blocks es)) (touchesAt s w₁) → r ≡ any (inverted (lineOf blocks es)) (touchesFor touches l)
+  fetched-answer es r e = e ∙ ap (any (inverted (lineOf blocks es))) (F .touches-are)
+
+  pub inverted-one : (plain r : Bool) → r ≡ true → ((es : List Edge) → r ≡ any (inverted (lineOf blocks es)) (touchesAt s w₁)) → (es : List Edge) → MarkedOne (lineOf blocks es) plain touches ends g (rowCount 3 blocks) l w₀ w₁ true
+  inverted-one plain r t e es = record { answer = sym t ∙ fetched-answer es r (e es); marks = λ f. absurd (let z : _≡_ {A = ℕ} 0 1 = cc in omega arith) }
+
+  pub standing : (r : Bool) → r ≡ false → ((es : List Edge) → r ≡ any (inverted (lineOf blocks es)) (touchesAt s w₁)) → Standing blocks s g l w₁
+  standing r f e =
+      let a = R .apart in let b = R .long in let c = R .counted in let d = R .passes-fit in let k = F .kept .len in
+      let x = F .touches-high in let y = F .ends-high in let z = R .laid .at-fits in
+      record {
+        line = R .line;
+        stand = F .stand;
+        upright = sym (e []) ∙ f;
+        bit-in = omega arith;
+        touches-apart = omega arith;
+        ends-apart = omega arith;
+        touched-fits = R .touched-fits;
+        leaves-fit = R .leaves-fit;
+        passes-fit = omega arith;
+      }
+
+  pub fetched-kept : Within (p .at) (g .passes + rowCount 3 blocks * g .words) w₀ w₁
+  fetched-kept = let a = R .apart in let b = R .touched-fits in let c = R .leaves-fit in within-wider (p .at) (g .passes + rowCount 3 blocks * g .words) (omega arith) (omega arith) (F .kept)
+
+  module _ {w : List ℕ} (K : Within (g .touched) (g .passes + rowCount 3 blocks * g .words) w₁ w) where
+    pub one-kept : Within (p .at) (g .passes + rowCount 3 blocks * g .words) w₀ w
+    one-kept = let a = R .apart in let z = R .laid .at-fits in within-trans fetched-kept (within-wider (p .at) (g .passes + rowCount 3 blocks * g .words) (omega arith) (omega arith) K)
+
+    pub marked-one : (plain r : Bool) → r ≡ false → ((es : List Edge) → r ≡ any (inverted (lineOf blocks es)) (touchesAt s w₁))
+        → ((es : List Edge) → Marking g (rowCount 3 blocks) l plain (touched (lineOf blocks es) (touchesAt s w₁)) (leaves (lineOf blocks es) (touchesAt s w₁) (endsAt s w₁)) (passes (lineOf blocks es) (endsAt s w₁)) w₁ w)
+        → (es : List Edge) → MarkedOne (lineOf blocks es) plain touches ends g (rowCount 3 blocks) l w₀ w false
+    marked-one plain r f e M es = record { answer = sym f ∙ fetched-answer es r (e es); marks = λ _. since lent }
+      where
+        G : Graph
+        G = lineOf blocks es
+
+        same : (from : ℕ) → g .touched ≤ from → (k b : ℕ) → k < rowCount 3 blocks → b < g .words * 64 → rowBit g from w₁ k b ≡ rowBit g from w₀ k b
+        same from q = row-kept g from (rowCount 3 blocks) (F .kept) (inr (let a = R .apart in omega arith))
+
+        bit-in : l < g .words * 64
+        bit-in = let b = R .long in let c = R .counted in omega arith
+
+        -- by the touches and the ends as they are lent
+        lent : Marking g (rowCount 3 blocks) l plain (touched G (touchesFor touches l)) (leaves G (touchesFor touches l) (endsFor ends l)) (passes G (endsFor ends l)) w₁ w
+        lent =
+            subst (λ (f : ℕ → Bool). Marking g (rowCount 3 blocks) l plain (touched G (touchesFor touches l)) (leaves G (touchesFor touches l) (endsFor ends l)) f w₁ w) (passes-sorted G (endsFor ends l))
+            (subst (λ (f : ℕ → Bool). Marking g (rowCount 3 blocks) l plain (touched G (touchesFor touches l)) f (passes G (sortOf (endsFor ends l))) w₁ w) (leaves-sorted G (endsFor ends l) (touchesFor touches l))
+            (subst (λ (es : List ℕ). Marking g (rowCount 3 blocks) l plain (touched G (touchesFor touches l)) (leaves G (touchesFor touches l) es) (passes G es) w₁ w) (F .ends-are)
+            (subst (λ (ts : List Range). Marking g (rowCount 3 blocks) l plain (touched G ts) (leaves G ts (endsAt s w₁)) (passes G (endsAt s w₁)) w₁ w) (F .touches-are) (M es))))
+
+        since : {t v q : ℕ → Bool} → Marking g (rowCount 3 blocks) l plain t v q w₁ w → Marking g (rowCount 3 blocks) l plain t v q w₀ w
+        since {t} {v} {q} N =
+            let a = R .touched-fits in let b = R .leaves-fit in
+            record {
+              touches-bits = bits-since (same (g .touched) (omega arith)) (bits-as _ (N .touches-bits) (λ k h. ap (λ (x : Bool). plain && t k || x) (same (g .touched) (omega arith) k l h bit-in)));
+              leaves-bits = bits-since (same (g .leaves) (omega arith)) (bits-as _ (N .leaves-bits) (λ k h. ap (λ (x : Bool). not plain && v k || x) (same (g .leaves) (omega arith) k l h bit-in)));
+              passes-bits = bits-since (same (g .passes) (omega arith)) (bits-as _ (N .passes-bits) (λ k h. ap (λ (x : Bool). (plain || q k) && x) (same (g .passes) (omega arith) k l h bit-in)));
+            }

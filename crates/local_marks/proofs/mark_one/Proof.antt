@@ -1,0 +1,42 @@
+-- `local_marks::mark_one` meets its contract.
+use Rattle.local_marks.proofs.BitLaws.{fetched-kept, inverted-one, standing, one-kept, marked-one}
+use native.Mathlib.Omega.{arith}
+use Prim.Native.Nat.{ℕ, suc, _+_, _-_, _*_, _≤_, _<_}
+use mathlib.Core.Path.{_≡_, refl, sym, ap, _∙_}
+use lib.ListN.{length, take, drop, getD, set, length-set}
+use borrow.Author.Needs.{needs}
+use Rattle.local_marks.proofs.mark_one.Statement.{statement}
+use Rattle.local_marks.proofs.mark_one.Tie as tie
+
+fetch-requires : tie.Need-fetch-requires
+fetch-requires c κs = ((c .before .before .before .before .before .pre) .0 .laid, (c .before .before .before .before .before .pre) .0 .chains, (c .before .before .before .before .before .pre) .1)
+
+any-inverted-requires : tie.Need-any-inverted-requires
+any-inverted-requires c κs = ((c .before .before .before .before .before .before .before .before .before .pre) .0 .line, (c .before .before .before .fetch) .ensures .stand .touches-fit)
+
+same-length : tie.Need-same-length
+same-length c = search needs
+
+returns : tie.Need-returns
+returns c = (fetched-kept ((c .before .before .before .before .before .before .before .before .before .before .before .pre) .0) ((c .before .before .before .before .before .before .before .before .before .before .before .pre) .1) ((c .before .before .before .before .before .fetch) .ensures), inverted-one ((c .before .before .before .before .before .before .before .before .before .before .before .pre) .0) ((c .before .before .before .before .before .before .before .before .before .before .before .pre) .1) ((c .before .before .before .before .before .fetch) .ensures) ((c .before .before .before .before .before .before .before .before .before .before .before .args) .plain) _ ((c .if1) .taken) ((c .before .any-inverted) .ensures))
+
+mark-spots-requires : tie.Need-mark-spots-requires
+mark-spots-requires c κs = standing ((c .before .before .before .before .before .before .before .before .before .before .before .before .pre) .0) ((c .before .before .before .before .before .before .before .before .before .before .before .before .pre) .1) ((c .before .before .before .before .before .before .fetch) .ensures) _ ((c .before .if1) .left) ((c .before .before .any-inverted) .ensures)
+
+same-length-2 : tie.Need-same-length-2
+same-length-2 c = search needs
+
+returns-2 : tie.Need-returns-2
+returns-2 c = (one-kept ((c .before .before .before .before .before .before .before .before .before .before .before .before .before .before .before .pre) .0) ((c .before .before .before .before .before .before .before .before .before .before .before .before .before .before .before .pre) .1) ((c .before .before .before .before .before .before .before .before .before .fetch) .ensures) ((c .before .before .mark-spots) .ensures .0), marked-one ((c .before .before .before .before .before .before .before .before .before .before .before .before .before .before .before .pre) .0) ((c .before .before .before .before .before .before .before .before .before .before .before .before .before .before .before .pre) .1) ((c .before .before .before .before .before .before .before .before .before .fetch) .ensures) ((c .before .before .mark-spots) .ensures .0) ((c .before .before .before .before .before .before .before .before .before .before .before .before .before .before .before .args) .plain) _ ((c .before .before .before .before .if1) .left) ((c .before .before .before .before .before .any-inverted) .ensures) ((c .before .before .mark-spots) .ensures .1))
+
+pub mark-one-spec : {M : Type 1} → statement M
+mark-one-spec =
+    tie.close
+    (tie.spec
+    fetch-requires
+    any-inverted-requires
+    same-length
+    returns
+    mark-spots-requires
+    same-length-2
+    returns-2)

@@ -1,0 +1,49 @@
+-- The marks of all locals, whose touches and ends are lent by themselves.
+use Prim.Native.Nat.{ℕ, _+_, _*_, _/_, _≤_, _<_}
+use mathlib.Core.Path.{_≡_}
+use mathlib.Core.Bool.{Bool, false, not, _&&_, _||_}
+use mathlib.Core.List.{List}
+use lib.ListN.{length, getD}
+use lib.Dec.{eqb}
+use Rattle.words.specs.Rows.{tabulate, rowCount}
+use Rattle.graph.specs.Line.{blocksOf, Sound}
+use Rattle.graph.specs.Work.{Within}
+use Rattle.carrying.specs.Lists.{any}
+use Rattle.areas.specs.Blocks.{Graph, inverted, touched, leaves, passes}
+use Rattle.local_spots.specs.declared.Places.{Places}
+use Rattle.local_spots.specs.Locals.{touchesFor, endsFor, Laid, Chains}
+use Rattle.area_flow.specs.declared.Grid.{Grid}
+use Rattle.area_flow.specs.Grid.{rowBit, Quiet}
+
+-- the local's kind is plain; any other number is ending
+abbrev pub plain : List ℕ → ℕ → Bool
+plain kinds l = eqb (getD kinds l 0) 0
+
+-- number 8: some touch of one of the locals is inverted
+abbrev pub someInverted : Graph → List ℕ → ℕ → Bool
+someInverted G touches locals = any (λ l. any (inverted G) (touchesFor touches l)) (tabulate locals (λ l. l))
+
+-- the regions of the locals' rows, and behind them the rows of the places
+pub record Ready (p : Places) (g : Grid) (blocks touches ends w : List ℕ) : Type 0 where
+  pub line : Sound (blocksOf blocks)
+  pub laid : Laid p (rowCount 3 touches) (rowCount 2 ends) w
+  pub chains : Chains p touches ends w
+  pub counted : g .locals ≡ p .locals
+  pub long : g .locals ≤ g .words * 64
+  pub apart : p .ends + rowCount 2 ends ≤ g .touched
+  pub touched-fits : g .touched + rowCount 3 blocks * g .words ≤ g .leaves
+  pub leaves-fit : g .leaves + rowCount 3 blocks * g .words ≤ g .passes
+  pub passes-fit : g .passes + rowCount 3 blocks * g .words ≤ length w
+
+-- of a plain local the touched places are marked; of an ending one those that it leaves, and those that it passes
+pub record Marks (G : Graph) (kinds touches ends : List ℕ) (g : Grid) (n : ℕ) (w : List ℕ) : Type 0 where
+  pub touched : (l k : ℕ) → l < g .locals → k < n → rowBit g (g .touched) w k l ≡ (plain kinds l && touched G (touchesFor touches l) k)
+  pub leaves : (l k : ℕ) → l < g .locals → k < n → rowBit g (g .leaves) w k l ≡ (not (plain kinds l) && leaves G (touchesFor touches l) (endsFor ends l) k)
+  pub passes : (l k : ℕ) → l < g .locals → k < n → rowBit g (g .passes) w k l ≡ (plain kinds l || passes G (endsFor ends l) k)
+  pub quiet : Quiet g n w
+
+-- r is number 8, and where it is not the case, all locals are marked; nothing has changed but the regions of one local, what follows them, and the rows
+pub record MarkedAll (G : Graph) (kinds touches ends : List ℕ) (p : Places) (g : Grid) (n : ℕ) (w₀ w : List ℕ) (r : Bool) : Type 0 where
+  pub kept : Within (p .at) (g .passes + n * g .words) w₀ w
+  pub answer : r ≡ someInverted G touches (p .locals)
+  pub marks : r ≡ false → Marks G kinds touches ends g n w

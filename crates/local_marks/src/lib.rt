@@ -1,0 +1,107 @@
+// The first pass over the locals: number 8, and the marks of every local in the rows of the places.
+ghost use mathlib.Core.List.{List};
+ghost use Prim.Native.Nat.{_+_, _*_, _/_, _≤_, _<_};
+ghost use lib.ListN.{length};
+ghost use Rattle.graph.specs.Paths.{Edge};
+ghost use Rattle.graph.specs.Work.{Within};
+ghost use Rattle.areas.specs.Blocks.{touched, leaves, passes};
+ghost use Rattle.spots.specs.Spots.{lineOf, touchesAt, endsAt};
+ghost use Rattle.local_marks.specs.Marks.{Ready, MarkedAll};
+ghost use Rattle.local_marks.specs.Inner.{Marking, Standing, MarkedOne};
+use area_flow::Grid;
+use area_rows::Column;
+use local_spots::Places;
+use spots::Spots;
+
+// The marks of one local whose touches and ends stand in the work space.
+fn mark_spots(blocks: &[u32], work: &mut [u64], s: Spots, g: Grid, l: usize, plain: bool)
+    requires { ⌜ Standing (now blocks) s g l (now work) ⌝ }
+    ensures { λ _. ⌜ Within (g .touched) (g .passes + length (now (blocks .entry)) / 3 * g .words) (now (work .entry)) (now (work .exit)) ⌝ }
+    ensures { λ _. ⌜ ((es : List Edge) → Marking g (length (now (blocks .entry)) / 3) l plain (touched (lineOf (now (blocks .entry)) es) (touchesAt s (now (work .entry)))) (leaves (lineOf (now (blocks .entry)) es) (touchesAt s (now (work .entry))) (endsAt s (now (work .entry)))) (passes (lineOf (now (blocks .entry)) es) (endsAt s (now (work .entry)))) (now (work .entry)) (now (work .exit))) ⌝ }
+{
+    let n = blocks.len() / 3;
+    if plain {
+        area_rows::marks::mark_touched(
+            blocks,
+            work,
+            s,
+            Column {
+                n: n,
+                base: g.touched,
+                words: g.words,
+                bit: l,
+            },
+        );
+        return;
+    }
+    area_rows::marks::mark_leaving(
+        blocks,
+        work,
+        s,
+        Column {
+            n: n,
+            base: g.leaves,
+            words: g.words,
+            bit: l,
+        },
+    );
+    area_rows::marks::mark_passing(
+        blocks,
+        work,
+        s,
+        Column {
+            n: n,
+            base: g.passes,
+            words: g.words,
+            bit: l,
+        },
+    );
+}
+
+// One local: fetched, tested, and marked if no touch is inverted; whether one is.
+fn mark_one(
+    blocks: &[u32],
+    touches: &[u32],
+    ends: &[u32],
+    work: &mut [u64],
+    p: Places,
+    g: Grid,
+    l: usize,
+    plain: bool,
+) -> bool
+    requires { ⌜ Ready p g (now blocks) (now touches) (now ends) (now work) × (l < p .locals) ⌝ }
+    ensures { λ _. ⌜ Within (p .at) (g .passes + length (now (blocks .entry)) / 3 * g .words) (now (work .entry)) (now (work .exit)) ⌝ }
+    ensures { λ r. ⌜ ((es : List Edge) → MarkedOne (lineOf (now (blocks .entry)) es) plain (now (touches .entry)) (now (ends .entry)) g (length (now (blocks .entry)) / 3) l (now (work .entry)) (now (work .exit)) r) ⌝ }
+{
+    let s = local_spots::fetch(touches, ends, work, p, l);
+    if spots::any_inverted(blocks, work, s.at, s.count) {
+        return true;
+    }
+    mark_spots(blocks, work, s, g, l, plain);
+    false
+}
+
+// The marks of all locals; whether some touch is inverted, after which the marks are not whole.
+pub fn mark_all(
+    blocks: &[u32],
+    kinds: &[u32],
+    touches: &[u32],
+    ends: &[u32],
+    work: &mut [u64],
+    p: Places,
+    g: Grid,
+) -> bool
+    requires { ⌜ Ready p g (now blocks) (now touches) (now ends) (now work) × (p .locals ≤ length (now kinds)) ⌝ }
+    ensures { λ r. ⌜ ((es : List Edge) → MarkedAll (lineOf (now (blocks .entry)) es) (now (kinds .entry)) (now (touches .entry)) (now (ends .entry)) p g (length (now (blocks .entry)) / 3) (now (work .entry)) (now (work .exit)) r) ⌝ }
+{
+    area_flow::clear_marks(work, g, blocks.len() / 3);
+    let mut l = 0;
+    while l < p.locals {
+        let plain = kinds[l] == 0;
+        if mark_one(blocks, touches, ends, work, p, g, l, plain) {
+            return true;
+        }
+        l += 1;
+    }
+    false
+}
