@@ -5,10 +5,10 @@ use mathlib.Core.Path.{_≡_, refl, sym, ap, _∙_, subst}
 use mathlib.Core.Logic.{_⊎_, inl, inr, ⊎-elim}
 use mathlib.Core.Bool.{Bool, true, false, not, _&&_, _||_}
 use mathlib.Core.List.{List, []}
-use lib.ListN.{length, getD}
+use lib.ListN.{length}
 use Rattle.words.specs.Rows.{rowCount}
 use Rattle.words.specs.Sort.{sortOf}
-use Rattle.words.specs.Regions.{part, Kept}
+use Rattle.words.specs.Regions.{Kept}
 use Rattle.words.proofs.RegionLaws.{row-before, kept-part-list}
 use Rattle.bits.specs.Bits.{bitOf}
 use Rattle.ranges.specs.declared.Range.{Range}
@@ -20,7 +20,7 @@ use Rattle.areas.specs.Blocks.{Graph, inverted, touched, leaves, passes}
 use Rattle.spots.specs.declared.Spots.{Spots}
 use Rattle.spots.specs.Spots.{lineOf, touchesAt, endsAt}
 use Rattle.area_rows.specs.declared.Column.{Column}
-use Rattle.area_rows.specs.Marks.{marked, Marked, TouchesReady, EndsReady}
+use Rattle.area_rows.specs.Marks.{Marked, TouchesReady, EndsReady}
 use Rattle.area_flow.specs.declared.Grid.{Grid}
 use Rattle.area_flow.specs.Grid.{rowBit}
 use Rattle.local_spots.specs.declared.Places.{Places}

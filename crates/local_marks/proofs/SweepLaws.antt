@@ -3,8 +3,8 @@ use Prim.Native.Nat.{ℕ, _+_, _*_, _≤_, _<_}
 use native.Mathlib.Omega.{arith}
 use mathlib.Core.Path.{_≡_, refl, sym, ap, _∙_, subst}
 use mathlib.Core.Bool.{Bool, true, false, not, _&&_, _||_}
-use mathlib.Core.List.{List, []}
-use lib.ListN.{length, getD}
+use mathlib.Core.List.{List}
+use lib.ListN.{length}
 use Rattle.words.specs.Rows.{tabulate, rowCount}
 use Rattle.words.proofs.Points.{same}
 use Rattle.words.proofs.RowLaws.{mem-tabulate, mem-of-tabulate}
@@ -24,8 +24,8 @@ use Rattle.area_flow.specs.Grid.{rowBit, Unmarked}
 use Rattle.local_spots.specs.declared.Places.{Places}
 use Rattle.local_spots.specs.Locals.{touchesFor, endsFor}
 use Rattle.local_spots.proofs.ChainLaws.{chains-kept}
-use Rattle.local_marks.specs.Marks.{plain, someInverted, Ready, Marks, MarkedAll}
-use Rattle.local_marks.specs.Inner.{Bits, Marking, MarkedOne}
+use Rattle.local_marks.specs.Marks.{plain, Ready, Marks, MarkedAll}
+use Rattle.local_marks.specs.Inner.{Bits, MarkedOne}
 
 -- a change behind the chains
 pub ready-kept : {p : Places} {g : Grid} {blocks touches ends w w' : List ℕ} {hi : ℕ} → Ready p g blocks touches ends w → Within (p .at) hi w w' → Ready p g blocks touches ends w'

@@ -7,14 +7,12 @@ use mathlib.Core.List.{List, []}
 use lib.ListN.{length}
 use Rattle.words.specs.Rows.{rowCount}
 use Rattle.graph.specs.Line.{blocksOf, Sound}
-use Rattle.graph.specs.Work.{Within}
 use Rattle.carrying.specs.Lists.{any}
 use Rattle.areas.specs.Blocks.{Graph, inverted, touched, leaves, passes}
 use Rattle.spots.specs.declared.Spots.{Spots}
 use Rattle.spots.specs.Spots.{lineOf, touchesAt, Stand}
 use Rattle.area_flow.specs.declared.Grid.{Grid}
 use Rattle.area_flow.specs.Grid.{rowBit}
-use Rattle.local_spots.specs.declared.Places.{Places}
 use Rattle.local_spots.specs.Locals.{touchesFor, endsFor}
 
 -- bit l of each place's row, in the rows from `from` on, is h's; the rows' other bits are as they were

@@ -1,10 +1,10 @@
 -- Laws of fetching: one local's touches, then its ends, which are sorted.
 use Prim.Native.Nat.{ℕ, zero, suc, _+_, _-_, _*_, _^_, _≤_, _<_}
 use native.Mathlib.Omega.{arith}
-use mathlib.Core.Path.{_≡_, refl, sym, ap, _∙_}
-use mathlib.Core.Logic.{_⊎_, inl, inr}
+use mathlib.Core.Path.{_≡_, refl, ap, _∙_}
+use mathlib.Core.Logic.{inl, inr}
 use mathlib.Core.Bool.{Bool, true, false, cond}
-use mathlib.Core.List.{List, [], _∷_, _++_, map}
+use mathlib.Core.List.{List, [], _∷_, _++_}
 use lib.ListN.{length, getD}
 use lib.Dec.{eqb}
 use Rattle.words.specs.Sort.{sortOf}
@@ -20,9 +20,8 @@ use Rattle.graph.specs.Work.{Within}
 use Rattle.graph.proofs.Within.{within-trans, within-wider, region-within}
 use Rattle.carrying.specs.Lists.{gather}
 use Rattle.reach.specs.Prepared.{latest}
-use Rattle.spots.specs.declared.Spots.{Spots}
 use Rattle.local_spots.specs.declared.Places.{Places}
-use Rattle.local_spots.specs.Locals.{touchesFor, endsFor, Laid, Chain, Chains, Fetched}
+use Rattle.local_spots.specs.Locals.{Laid, Chains, Fetched}
 use Rattle.local_spots.specs.Inner.{wordFor, wordsFor, Walkable, Walked}
 use Rattle.local_spots.proofs.ChainLaws.{chains-kept}
 

@@ -6,7 +6,7 @@ use mathlib.Core.Path.{_≡_, refl, sym, ap, _∙_, subst}
 use mathlib.Core.Logic.{_≢_, _⊎_, inl, inr}
 use mathlib.Core.Bool.{Bool, true, false, cond}
 use mathlib.Core.List.{List, [], _∷_, _++_}
-use lib.ListN.{length, getD, take, drop, set, length-set}
+use lib.ListN.{length, getD, set, length-set}
 use lib.Seq.{getD-set-same, getD-set-other}
 use lib.Dec.{eqb}
 use borrow.Author.Tests.{eqb-true, eq-eqb}
@@ -19,7 +19,7 @@ use Rattle.graph.specs.Work.{Within}
 use Rattle.graph.proofs.Within.{within-refl, within-set}
 use Rattle.carrying.specs.Lists.{gather}
 use Rattle.reach.specs.Prepared.{latest}
-use Rattle.local_spots.specs.Inner.{wordOf, wordFor, wordsFor, Walkable, Walked}
+use Rattle.local_spots.specs.Inner.{wordOf, wordFor, Walkable, Walked}
 
 -- a row as one word
 pub row-whole : {width : ℕ} (rows : List ℕ) (i : ℕ) → (width ≡ 2) ⊎ (width ≡ 3) → i < rowCount width rows → (width ≡ 3 → 3 * i + 2 < length rows) × (width ≢ 3 → (width ≡ 2) × (2 * i + 1 < length rows))

@@ -4,7 +4,7 @@ ghost use mathlib.Core.Logic.{_≢_};
 ghost use Prim.Native.Nat.{ℕ, _+_, _*_, _/_, _≤_, _<_};
 ghost use lib.ListN.{length, getD};
 ghost use Rattle.words.specs.Rows.{field};
-ghost use Rattle.local_spots.specs.Locals.{Laid, Chain, Chains, Chained, Fetched};
+ghost use Rattle.local_spots.specs.Locals.{Laid, Chains, Chained, Fetched};
 ghost use Rattle.local_spots.specs.Inner.{wordOf, Linked, Walkable, Walked};
 use spots::Spots;
 

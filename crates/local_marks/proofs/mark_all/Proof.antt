@@ -1,10 +1,7 @@
 -- `local_marks::mark_all` meets its contract: the first l locals are marked.
 use Rattle.local_marks.proofs.SweepLaws.{Sweep, cleared-kept, sweep-start, sweep-more, sweep-found, sweep-done}
 use native.Mathlib.Omega.{arith}
-use Prim.Native.Nat.{ℕ, suc, _+_, _-_, _*_, _≤_, _<_}
-use mathlib.Core.Path.{_≡_, refl, sym, ap, _∙_}
-use lib.ListN.{length, take, drop, getD, set, length-set}
-use borrow.Author.Needs.{needs}
+use Prim.Native.Nat.{_-_}
 use Rattle.local_marks.proofs.mark_all.Statement.{statement}
 use Rattle.local_marks.proofs.mark_all.Tie as tie
 

@@ -1,9 +1,6 @@
 -- `local_marks::mark_one` meets its contract.
 use Rattle.local_marks.proofs.BitLaws.{fetched-kept, inverted-one, standing, one-kept, marked-one}
 use native.Mathlib.Omega.{arith}
-use Prim.Native.Nat.{ℕ, suc, _+_, _-_, _*_, _≤_, _<_}
-use mathlib.Core.Path.{_≡_, refl, sym, ap, _∙_}
-use lib.ListN.{length, take, drop, getD, set, length-set}
 use borrow.Author.Needs.{needs}
 use Rattle.local_marks.proofs.mark_one.Statement.{statement}
 use Rattle.local_marks.proofs.mark_one.Tie as tie
@@ -12,7 +9,7 @@ fetch-requires : tie.Need-fetch-requires
 fetch-requires c κs = ((c .before .before .before .before .before .pre) .0 .laid, (c .before .before .before .before .before .pre) .0 .chains, (c .before .before .before .before .before .pre) .1)
 
 any-inverted-requires : tie.Need-any-inverted-requires
-any-inverted-requires c κs = ((c .before .before .before .before .before .before .before .before .before .pre) .0 .line, (c .before .before .before .fetch) .ensures .stand .touches-fit)
+any-inverted-requires c κs = ((c .before .before .before .before .before .before .before .before .before .pre) .0 .line, let z = (c .before .before .before .fetch) .ensures .stand .touches-fit in omega arith)
 
 same-length : tie.Need-same-length
 same-length c = search needs

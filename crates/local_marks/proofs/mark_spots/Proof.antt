@@ -2,15 +2,13 @@
 use Rattle.local_marks.proofs.BitLaws.{touches-ready, ends-ready, plain-kept, plain-marking, ending-kept, ending-marking}
 use mathlib.Core.List.{[]}
 use native.Mathlib.Omega.{arith}
-use Prim.Native.Nat.{ℕ, suc, _+_, _-_, _*_, _≤_, _<_}
-use mathlib.Core.Path.{_≡_, refl, sym, ap, _∙_}
-use lib.ListN.{length, take, drop, getD, set, length-set}
+use mathlib.Core.Path.{refl}
 use borrow.Author.Needs.{needs}
 use Rattle.local_marks.proofs.mark_spots.Statement.{statement}
 use Rattle.local_marks.proofs.mark_spots.Tie as tie
 
 mark-touched-requires : tie.Need-mark-touched-requires
-mark-touched-requires c κs = (touches-ready ((c .before .before .before .before .args) .blocks .now) ((c .before .before .before .before .args) .s) ((c .before .before .before .before .args) .g) ((c .before .before .before .before .args) .l) (c .before .before .before .before .pre) ((c .before .before .before .before .args) .g .touched) (omega arith) (omega arith), (c .before .before .before .before .pre) .upright)
+mark-touched-requires c κs = (touches-ready ((c .before .before .before .before .args) .blocks .now) ((c .before .before .before .before .args) .s) ((c .before .before .before .before .args) .g) ((c .before .before .before .before .args) .l) (c .before .before .before .before .pre) _ (omega arith) (omega arith), (c .before .before .before .before .pre) .upright)
 
 same-length : tie.Need-same-length
 same-length c = search needs
@@ -19,10 +17,10 @@ returns : tie.Need-returns
 returns c = (plain-kept ((c .before .before .before .before .before .before .before .args) .blocks .now) ((c .before .before .before .before .before .before .before .args) .s) ((c .before .before .before .before .before .before .before .args) .g) ((c .before .before .before .before .before .before .before .args) .l) (c .before .before .before .before .before .before .before .pre) ((c .before .before .mark-touched) .ensures), plain-marking ((c .before .before .before .before .before .before .before .args) .blocks .now) ((c .before .before .before .before .before .before .before .args) .s) ((c .before .before .before .before .before .before .before .args) .g) ((c .before .before .before .before .before .before .before .args) .l) (c .before .before .before .before .before .before .before .pre) ((c .before .before .mark-touched) .ensures) ((c .before .before .before .before .before .before .before .args) .plain) ((c .before .before .before .before .if1) .taken))
 
 mark-leaving-requires : tie.Need-mark-leaving-requires
-mark-leaving-requires c κs = (touches-ready ((c .before .before .before .before .args) .blocks .now) ((c .before .before .before .before .args) .s) ((c .before .before .before .before .args) .g) ((c .before .before .before .before .args) .l) (c .before .before .before .before .pre) ((c .before .before .before .before .args) .g .leaves) (omega arith) (omega arith), ends-ready ((c .before .before .before .before .args) .blocks .now) ((c .before .before .before .before .args) .s) ((c .before .before .before .before .args) .g) ((c .before .before .before .before .args) .l) (c .before .before .before .before .pre) ((c .before .before .before .before .args) .g .leaves) refl (omega arith) (omega arith), (c .before .before .before .before .pre) .stand .rising)
+mark-leaving-requires c κs = (touches-ready ((c .before .before .before .before .args) .blocks .now) ((c .before .before .before .before .args) .s) ((c .before .before .before .before .args) .g) ((c .before .before .before .before .args) .l) (c .before .before .before .before .pre) _ (omega arith) (omega arith), ends-ready ((c .before .before .before .before .args) .blocks .now) ((c .before .before .before .before .args) .s) ((c .before .before .before .before .args) .g) ((c .before .before .before .before .args) .l) (c .before .before .before .before .pre) _ refl (omega arith) (omega arith), (c .before .before .before .before .pre) .stand .rising)
 
 mark-passing-requires : tie.Need-mark-passing-requires
-mark-passing-requires c κs = ends-ready ((c .before .before .before .before .before .before .before .before .args) .blocks .now) ((c .before .before .before .before .before .before .before .before .args) .s) ((c .before .before .before .before .before .before .before .before .args) .g) ((c .before .before .before .before .before .before .before .before .args) .l) (c .before .before .before .before .before .before .before .before .pre) ((c .before .before .before .before .before .before .before .before .args) .g .passes) ((c .before .before .before .mark-leaving) .ensures [] .kept .len) (omega arith) (omega arith)
+mark-passing-requires c κs = ends-ready ((c .before .before .before .before .before .before .before .before .args) .blocks .now) ((c .before .before .before .before .before .before .before .before .args) .s) ((c .before .before .before .before .before .before .before .before .args) .g) ((c .before .before .before .before .before .before .before .before .args) .l) (c .before .before .before .before .before .before .before .before .pre) _ ((c .before .before .before .mark-leaving) .ensures [] .kept .len) (omega arith) (omega arith)
 
 same-length-2 : tie.Need-same-length-2
 same-length-2 c = search needs

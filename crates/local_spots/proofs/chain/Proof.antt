@@ -1,12 +1,10 @@
 -- `local_spots::chain` meets its contract: the first i rows are linked.
 use Rattle.local_spots.proofs.ChainLaws.{Linking, row-in, local-at, link-start, link-skip, link-put, link-done}
 use Rattle.words.specs.Rows.{field}
-use Prim.Native.Nat.{_/_}
 use native.Mathlib.Omega.{arith}
-use Prim.Native.Nat.{ℕ, suc, _+_, _-_, _*_, _≤_, _<_}
-use mathlib.Core.Path.{_≡_, refl, sym, ap, _∙_}
-use lib.ListN.{length, take, drop, getD, set, length-set}
-use borrow.Author.Needs.{needs}
+use Prim.Native.Nat.{_-_}
+use mathlib.Core.Path.{refl, sym, _∙_}
+use lib.ListN.{length-set}
 use Rattle.local_spots.proofs.chain.Statement.{statement}
 use Rattle.local_spots.proofs.chain.Tie as tie
 

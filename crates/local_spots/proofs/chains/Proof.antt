@@ -1,27 +1,25 @@
 -- `local_spots::chains` meets its contract: no local has a row, then both lists are linked.
 use Rattle.local_spots.proofs.ChainLaws.{touches-none, ends-none, chained}
 use native.Mathlib.Omega.{arith}
-use Prim.Native.Nat.{ℕ, suc, _+_, _-_, _*_, _≤_, _<_}
-use mathlib.Core.Path.{_≡_, refl, sym, ap, _∙_}
-use lib.ListN.{length, take, drop, getD, set, length-set}
+use mathlib.Core.Path.{refl}
 use borrow.Author.Needs.{needs}
 use Rattle.local_spots.proofs.chains.Statement.{statement}
 use Rattle.local_spots.proofs.chains.Tie as tie
 
 add-past : tie.Need-add-past
-add-past c = search needs
+add-past c = omega arith
 
 add-fill : tie.Need-add-fill
-add-fill c = search needs
+add-fill c = omega arith
 
 fill-requires : tie.Need-fill-requires
-fill-requires c κs = search needs
+fill-requires c κs = omega arith
 
 chain-requires : tie.Need-chain-requires
 chain-requires c κs = ((omega arith, refl, omega arith, omega arith), touches-none ((c .before .before .before .before .before .before .before .before .before .before .args) .p) ((c .before .before .before .before .before .before .before .before .before .before .args) .touches .now) ((c .before .before .before .before .before .before .before .before .before .before .args) .ends .now) (c .before .before .before .before .before .before .before .before .before .before .pre) ((c .before .before .before .fill) .ensures))
 
 add-chain : tie.Need-add-chain
-add-chain c = search needs
+add-chain c = omega arith
 
 chain-requires-2 : tie.Need-chain-requires-2
 chain-requires-2 c κs = ((omega arith, refl, omega arith, omega arith), ends-none ((c .before .before .before .before .before .before .before .before .before .before .before .before .before .before .before .args) .p) ((c .before .before .before .before .before .before .before .before .before .before .before .before .before .before .before .args) .touches .now) ((c .before .before .before .before .before .before .before .before .before .before .before .before .before .before .before .args) .ends .now) (c .before .before .before .before .before .before .before .before .before .before .before .before .before .before .before .pre) ((c .before .before .before .before .before .before .before .before .fill) .ensures) ((c .before .before .before .before .chain) .ensures))

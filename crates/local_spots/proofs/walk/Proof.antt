@@ -2,10 +2,9 @@
 use Rattle.words.specs.Rows.{rowCount, field}
 use Rattle.local_spots.proofs.WalkLaws.{Walking, row-whole, walk-start, walk-row, walk-back, walk-less, walk-more, walk-done}
 use native.Mathlib.Omega.{arith}
-use Prim.Native.Nat.{ℕ, suc, _+_, _-_, _*_, _≤_, _<_}
-use mathlib.Core.Path.{_≡_, refl, sym, ap, _∙_}
-use lib.ListN.{length, take, drop, getD, set, length-set}
-use borrow.Author.Needs.{needs}
+use Prim.Native.Nat.{_-_}
+use mathlib.Core.Path.{refl}
+use lib.ListN.{length-set}
 use Rattle.local_spots.proofs.walk.Statement.{statement}
 use Rattle.local_spots.proofs.walk.Tie as tie
 

@@ -1,9 +1,8 @@
 -- `local_spots::word` meets its contract: a touch packed, or a point.
 use Rattle.local_spots.proofs.WalkLaws.{word-touch, word-point}
 use native.Mathlib.Omega.{arith}
-use Prim.Native.Nat.{ℕ, suc, _+_, _-_, _*_, _≤_, _<_}
-use mathlib.Core.Path.{_≡_, refl, sym, ap, _∙_}
-use lib.ListN.{length, take, drop, getD, set, length-set}
+use Prim.Native.Nat.{_+_, _*_}
+use mathlib.Core.Path.{_∙_}
 use borrow.Author.Needs.{needs}
 use Rattle.local_spots.proofs.word.Statement.{statement}
 use Rattle.local_spots.proofs.word.Tie as tie
