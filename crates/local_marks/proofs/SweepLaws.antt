@@ -61,7 +61,7 @@ and-all true = refl
 and-all false = refl
 
 -- the marks of the first l locals
-pub record Marked-to (G : Graph) (kinds touches ends : List ℕ) (g : Grid) (n l : ℕ) (w : List ℕ) : Type 0 where
+pub record MarkedTo (G : Graph) (kinds touches ends : List ℕ) (g : Grid) (n l : ℕ) (w : List ℕ) : Type 0 where
   pub none : (m : ℕ) → m < l → any (inverted G) (touchesFor touches m) ≡ false
   pub touched-columns : Columns n (g .touched) (g .words) false (λ m k. plain kinds m && touched G (touchesFor touches m) k) l w
   pub leaves-columns : Columns n (g .leaves) (g .words) false (λ m k. not (plain kinds m) && leaves G (touchesFor touches m) (endsFor ends m) k) l w
@@ -71,7 +71,7 @@ pub record Sweep (p : Places) (g : Grid) (blocks kinds touches ends w₀ w : Lis
   pub ready : Ready p g blocks touches ends w
   pub kept : Within (p .at) (g .passes + rowCount 3 blocks * g .words) w₀ w
   pub l-le : l ≤ p .locals
-  pub so-far : (es : List Edge) → Marked-to (lineOf blocks es) kinds touches ends g (rowCount 3 blocks) l w
+  pub so-far : (es : List Edge) → MarkedTo (lineOf blocks es) kinds touches ends g (rowCount 3 blocks) l w
 
 pub cleared-kept : {p : Places} {g : Grid} {blocks touches ends w₀ w : List ℕ} → Ready p g blocks touches ends w₀ → Unmarked g (rowCount 3 blocks) w₀ w → Within (p .at) (g .passes + rowCount 3 blocks * g .words) w₀ w
 cleared-kept {p} {g} {blocks} R U = let a = R .apart in let b = R .laid .at-fits in within-wider (p .at) (g .passes + rowCount 3 blocks * g .words) (omega arith) (omega arith) (U .kept)

@@ -18,12 +18,6 @@ pub struct Places {
     pub ends: usize,
 }
 
-fn wide(x: u32) -> usize
-    ensures { λ r. ⌜ r ≡ x ⌝ }
-{
-    x as usize
-}
-
 // The rows of each local as a chain, the last first: `n` rows of `width` numbers, the local first.
 fn chain(
     rows: &[u32],
@@ -40,7 +34,7 @@ fn chain(
 {
     let mut i = 0;
     while i < n {
-        let l = wide(rows[width * i]);
+        let l = rows[width * i] as usize;
         if l < locals {
             work[nexts + i] = work[heads + l];
             work[heads + l] = i as u64 + 1;

@@ -2,8 +2,8 @@
 use Rattle.local_spots.proofs.ChainLaws.{Linking, row-in, local-at, link-start, link-skip, link-put, link-done}
 use Rattle.words.specs.Rows.{field}
 use native.Mathlib.Omega.{arith}
-use Prim.Native.Nat.{_-_}
-use mathlib.Core.Path.{refl, sym, _∙_}
+use Prim.Native.Nat.{_-_, _*_}
+use mathlib.Core.Path.{refl}
 use lib.ListN.{length-set}
 use Rattle.local_spots.proofs.chain.Statement.{statement}
 use Rattle.local_spots.proofs.chain.Tie as tie
@@ -15,19 +15,19 @@ abbrev μ-loop : tie.MeasureT-loop
 μ-loop rows width n locals work₀ heads nexts i₀ work i = n - i
 
 loop-holds : tie.Need-loop-holds Inv-loop μ-loop
-loop-holds c = link-start (λ j. field ((c .before .before .args) .width) ((c .before .before .args) .rows .now) j 0) _ _ _ _ _ (omega arith) (omega arith) ((c .before .before .pre) .1)
+loop-holds c = link-start (λ j. field ((c .args) .width) ((c .args) .rows .now) j 0) _ _ _ _ _ (omega arith) (omega arith) ((c .pre) .1)
 
-mul-wide : tie.Need-mul-wide Inv-loop μ-loop
-mul-wide c = omega (arith, row-in ((c .before .before .before .before .args) .width) ((c .before .before .before .before .args) .n) ((c .before .loop) .i) ((c .before .before .before .before .args) .rows .now) ((c .before .before .before .before .pre) .0 .0) ((c .before .before .before .before .pre) .0 .1) (omega arith))
+mul-l : tie.Need-mul-l Inv-loop μ-loop
+mul-l c = omega (arith, row-in ((c .before .before .args) .width) ((c .before .before .args) .n) ((c .before .loop) .i) ((c .before .before .args) .rows .now) ((c .before .before .pre) .0 .0) ((c .before .before .pre) .0 .1) (omega arith))
 
-mul-wide-2 : tie.Need-mul-wide-2 Inv-loop μ-loop
-mul-wide-2 c = omega (arith, row-in ((c .before .before .before .before .args) .width) ((c .before .before .before .before .args) .n) ((c .before .loop) .i) ((c .before .before .before .before .args) .rows .now) ((c .before .before .before .before .pre) .0 .0) ((c .before .before .before .before .pre) .0 .1) (omega arith))
+mul-l-2 : tie.Need-mul-l-2 Inv-loop μ-loop
+mul-l-2 c = omega (arith, row-in ((c .before .before .args) .width) ((c .before .before .args) .n) ((c .before .loop) .i) ((c .before .before .args) .rows .now) ((c .before .before .pre) .0 .0) ((c .before .before .pre) .0 .1) (omega arith))
 
-shared-slice-read-wide : tie.Need-shared-slice-read-wide Inv-loop μ-loop
-shared-slice-read-wide c = omega (arith, row-in ((c .before .before .before .before .before .args) .width) ((c .before .before .before .before .before .args) .n) ((c .before .before .loop) .i) ((c .before .before .before .before .before .args) .rows .now) ((c .before .before .before .before .before .pre) .0 .0) ((c .before .before .before .before .before .pre) .0 .1) (omega arith))
+shared-slice-read-l : tie.Need-shared-slice-read-l Inv-loop μ-loop
+shared-slice-read-l c = omega (arith, row-in ((c .before .before .before .args) .width) ((c .before .before .before .args) .n) ((c .before .before .loop) .i) ((c .before .before .before .args) .rows .now) ((c .before .before .before .pre) .0 .0) ((c .before .before .before .pre) .0 .1) (omega arith))
 
-wide-requires : tie.Need-wide-requires Inv-loop μ-loop
-wide-requires c κs = omega arith
+cast-l : tie.Need-cast-l Inv-loop μ-loop
+cast-l c = omega (arith, (c .shared-slice-known) .given ((c .before .before .before .args) .width * (c .before .before .loop) .i))
 
 add-work : tie.Need-add-work Inv-loop μ-loop
 add-work c = omega arith
@@ -66,7 +66,7 @@ loop-less : tie.Need-loop-less Inv-loop μ-loop
 loop-less c = omega arith
 
 loop-again : tie.Need-loop-again Inv-loop μ-loop
-loop-again c = link-put ((c .before .before .before .before .before .loop) .inv) _ _ _ _ _ (omega arith) (local-at ((c .before .before .before .before .before .before .before .before .args) .width) ((c .before .before .before .before .before .loop) .i) ((c .before .before .before .before .before .before .before .before .args) .rows .now) ∙ sym ((c .before .before .wide) .ensures)) (omega arith) refl refl refl refl
+loop-again c = link-put ((c .before .before .before .before .loop) .inv) _ _ _ _ _ (omega arith) (local-at ((c .before .before .before .before .before .args) .width) ((c .before .before .before .before .loop) .i) ((c .before .before .before .before .before .args) .rows .now)) (omega arith) refl refl refl refl
 
 add-i-2 : tie.Need-add-i-2 Inv-loop μ-loop
 add-i-2 c = omega arith
@@ -75,13 +75,13 @@ loop-less-2 : tie.Need-loop-less-2 Inv-loop μ-loop
 loop-less-2 c = omega arith
 
 loop-again-2 : tie.Need-loop-again-2 Inv-loop μ-loop
-loop-again-2 c = link-skip ((c .before .before .before .before .loop) .inv) (omega arith) (let z = local-at ((c .before .before .before .before .before .before .before .args) .width) ((c .before .before .before .before .loop) .i) ((c .before .before .before .before .before .before .before .args) .rows .now) ∙ sym ((c .before .wide) .ensures) in omega arith)
+loop-again-2 c = link-skip ((c .before .before .before .loop) .inv) (omega arith) (let z = local-at ((c .before .before .before .before .args) .width) ((c .before .before .before .loop) .i) ((c .before .before .before .before .args) .rows .now) in omega arith)
 
 same-length : tie.Need-same-length Inv-loop μ-loop
 same-length c = (c .before .loop) .inv .len
 
 returns : tie.Need-returns Inv-loop μ-loop
-returns c = link-done ((c .before .before .before .before .pre) .0 .1) ((c .before .loop) .inv) (omega arith)
+returns c = link-done ((c .before .before .pre) .0 .1) ((c .before .loop) .inv) (omega arith)
 
 pub chain-spec : {M : Type 1} → statement M
 chain-spec =
@@ -90,10 +90,10 @@ chain-spec =
     Inv-loop
     μ-loop
     loop-holds
-    mul-wide
-    mul-wide-2
-    shared-slice-read-wide
-    wide-requires
+    mul-l
+    mul-l-2
+    shared-slice-read-l
+    cast-l
     add-work
     mul-work
     slice-read-work
