@@ -1,0 +1,57 @@
+// The touches of one local of a job, in the work space: live pieces of the registers that carry its address, and the points of its listed instructions.
+ghost use mathlib.Core.Path.{_≡_};
+ghost use Prim.Native.Nat.{ℕ, _+_, _^_, _≤_, _<_};
+ghost use lib.ListN.{length, getD};
+ghost use Rattle.words.specs.Sort.{Distinct};
+ghost use Rattle.words.specs.Rows.{rowCount};
+ghost use Rattle.words.specs.Regions.{part};
+ghost use Rattle.live.specs.Live.{InOrder};
+ghost use Rattle.touches.specs.Touches.{Gathered, Linked, Listed};
+
+// The live pieces of the `count` registers from `from` on, each of them once, as words from `to` on; how many there are. The pieces stand in order from `keys` on.
+pub fn of_registers(
+    pieces: &[u32],
+    work: &mut [u64],
+    keys: usize,
+    from: usize,
+    count: usize,
+    to: usize,
+) -> usize
+    requires { ⌜ InOrder (now pieces) keys (now work) × (rowCount 3 (now pieces) ≤ 65536) × (keys + rowCount 3 (now pieces) ≤ to) × (from + count ≤ to) × (to + (rowCount 3 (now pieces) + rowCount 3 (now pieces)) ≤ length (now work)) ⌝ }
+    requires { ⌜ Distinct (part from count (now work)) × ((k : ℕ) → k < count → getD (now work) (from + k) 0 < 2 ^ 32) ⌝ }
+    ensures { λ r. ⌜ Gathered (now (pieces .entry)) from count to (now (work .entry)) (now (work .exit)) r ⌝ }
+{
+    let mut m = 0;
+    let mut k = 0;
+    while k < count {
+        let register = work[from + k] as u32;
+        m += live::fetch(pieces, work, keys, register, to + m);
+        k += 1;
+    }
+    m
+}
+
+// Early to late of each instruction that a local's address entries list, as words from `to` on; how many there are. The entries are chained, the last first.
+pub fn of_entries(
+    insts: &[u32],
+    addresses: &[u32],
+    work: &mut [u64],
+    heads: usize,
+    nexts: usize,
+    local: usize,
+    to: usize,
+) -> usize
+    requires { ⌜ Linked (now insts) (now addresses) heads nexts local to (now work) ⌝ }
+    ensures { λ r. ⌜ Listed (now (insts .entry)) (now (addresses .entry)) local to (now (work .entry)) (now (work .exit)) r ⌝ }
+{
+    let mut m = 0;
+    let mut next = work[heads + local];
+    while next != 0 {
+        let a = next as usize - 1;
+        let i = 9 * addresses[2 * a] as usize;
+        work[to + m] = packed::pack(insts[i + 2], insts[i + 3]);
+        m += 1;
+        next = work[nexts + a];
+    }
+    m
+}
