@@ -18,24 +18,16 @@ use Rattle.carrying.proofs.ListLaws.{any-false}
 use Rattle.areas.specs.Blocks.{Graph, blockOf, bounds, inverted, cover}
 use Rattle.areas.specs.Pieces.{through, throughs, endLine, arrivesRow, endingArea}
 use Rattle.areas.proofs.BlockLaws.{bounds-first, bounds-last, block-rises, block-below, clip-up}
-use Rattle.areas.proofs.PermuteLaws.{perm-refl, perm-append, perm-front, perm-exchange}
+use Rattle.areas.proofs.PermuteLaws.{perm-refl, perm-append, perm-front, perm-exchange, perm-is, perm-turn}
 use Rattle.area_ends.specs.Inner.{covering, touchPieces, arrival, arrivals}
 use Rattle.area_pieces.proofs.HullLaws.{keep-append, bounds-not}
 
 -- ---- lists in another order
 
-perm-is : {rs ss : List Range} → rs ≡ ss → Permuted rs ss
-perm-is {rs} e = subst (λ (l : List Range). Permuted rs l) e (perm-refl rs)
-
 perm-middle : (a b c d : List Range) → Permuted ((a ++ b) ++ (c ++ d)) ((a ++ c) ++ (b ++ d))
 perm-middle a b c d =
     Permuted.then (perm-is (append-assoc a b (c ++ d)))
     (Permuted.then (perm-front a (perm-exchange b c d)) (perm-is (sym (append-assoc a c (b ++ d)))))
-
-perm-turn : (a b : List Range) → Permuted (a ++ b) (b ++ a)
-perm-turn a b =
-    Permuted.then (perm-is (ap (λ (l : List Range). a ++ l) (sym (append-nil b))))
-    (Permuted.then (perm-exchange a b []) (perm-is (ap (λ (l : List Range). b ++ l) (append-nil a))))
 
 gather-both : {A : Type 0} (f g : A → List Range) (l : List A) → Permuted (gather f l ++ gather g l) (gather (λ a. f a ++ g a) l)
 unfolding gather

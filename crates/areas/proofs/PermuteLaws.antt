@@ -1,10 +1,10 @@
 -- An area does not depend on the order that its touches are listed in.
 use Prim.Native.Nat.{ℕ, zero, suc, _≤_}
 use native.Mathlib.Omega.{arith}
-use mathlib.Core.Path.{_≡_, refl, ap, _∙_, fun-ext, subst}
+use mathlib.Core.Path.{_≡_, refl, sym, ap, _∙_, fun-ext, subst}
 use mathlib.Core.Logic.{_⊎_, inl, inr}
 use mathlib.Core.Bool.{Bool, true, false, cond, _&&_, _||_}
-use mathlib.Core.List.{List, [], _∷_, _++_, map, List·Memᴰ, List·Memᴰ·head, List·Memᴰ·tail, List·Memᴰ·cases-cons, List·Memᴰ·not-nil}
+use mathlib.Core.List.{List, [], _∷_, _++_, map, append-nil, List·Memᴰ, List·Memᴰ·head, List·Memᴰ·tail, List·Memᴰ·cases-cons, List·Memᴰ·not-nil}
 use lib.ListN.{length}
 use lib.Dec.{leb}
 use Rattle.ranges.specs.declared.Range.{Range}
@@ -21,6 +21,9 @@ use Rattle.areas.proofs.PlainLaws.{least-le, most-ge, least-begun, most
 pub perm-refl : (rs : List Range) → Permuted rs rs
 perm-refl [] = Permuted.none
 perm-refl (r ∷ rs) = Permuted.keep r (perm-refl rs)
+
+pub perm-is : {rs ss : List Range} → rs ≡ ss → Permuted rs ss
+perm-is {rs} e = subst (λ (l : List Range). Permuted rs l) e (perm-refl rs)
 
 pub perm-sym : {rs ss : List Range} → Permuted rs ss → Permuted ss rs
 perm-sym Permuted.none = Permuted.none
@@ -66,6 +69,11 @@ perm-insert x (y ∷ ys) zs = Permuted.then (Permuted.swap x y (ys ++ zs)) (Perm
 pub perm-exchange : (xs ys zs : List Range) → Permuted (xs ++ (ys ++ zs)) (ys ++ (xs ++ zs))
 perm-exchange [] ys zs = perm-refl (ys ++ zs)
 perm-exchange (x ∷ xs) ys zs = Permuted.then (Permuted.keep x (perm-exchange xs ys zs)) (perm-insert x ys (xs ++ zs))
+
+pub perm-turn : (a b : List Range) → Permuted (a ++ b) (b ++ a)
+perm-turn a b =
+    Permuted.then (perm-is (ap (λ (l : List Range). a ++ l) (sym (append-nil b))))
+    (Permuted.then (perm-exchange a b []) (perm-is (ap (λ (l : List Range). b ++ l) (append-nil a))))
 
 perm-gather : (f : Range → List Range) {rs ss : List Range} → Permuted rs ss → Permuted (gather f rs) (gather f ss)
 unfolding gather
