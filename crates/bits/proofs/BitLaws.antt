@@ -90,6 +90,13 @@ pub done-aligned : {w₀ w : List ℕ} {to n : ℕ} {f : ℕ → ℕ} {k : ℕ} 
 done-aligned {k = k} d {from} (same-row e) h = done-next d (from + k) (omega arith)
 done-aligned {k = k} d {from} (apart a) h = done-source d a (from + k) (omega arith) (omega arith)
 
+-- words that z's words were put into, whose bits are s
+pub row-joined : (z : ℕ → ℕ) {w₀ w : List ℕ} {to n : ℕ} → Region w₀ w to n (λ i. bitOr (getD w₀ (to + i) 0) (z i)) → (s : ℕ → Bool)
+    → ((i j : ℕ) → i < n → j < 64 → bitOf (z i) j ≡ s (i * 64 + j)) → Row w₀ w to n (λ c. bit w₀ to c || s c)
+row-joined z {w₀} {w} {to} {n} r s f =
+    row-of r (λ c. bit w₀ to c || s c)
+    (λ i j l m. bit-or (getD w₀ (to + i) 0) (z i) j ∙ ap (λ (t : Bool). t || bitOf (z i) j) (sym (bit-at w₀ to i j m)) ∙ ap (λ (t : Bool). bit w₀ to (i * 64 + j) || t) (f i j l m))
+
 -- a row that is filled with a word of zeros, and one that is copied
 pub row-cleared : {w₀ w : List ℕ} {to n : ℕ} → Region w₀ w to n (λ _. 0) → Row w₀ w to n (λ _. false)
 row-cleared r = row-of r (λ _. false) (λ i k l m. bit-zero k)
@@ -167,8 +174,7 @@ module _ {w₀ w : List ℕ} {to n : ℕ} {z : ℕ → ℕ} {k : ℕ} {grew : Bo
   grown h s f =
       let r = done-all (g .done) h in
       record {
-        row = row-of r (λ c. bit w₀ to c || s c)
-            (λ i j l m. bit-or (getD w₀ (to + i) 0) (z i) j ∙ ap (λ (t : Bool). t || bitOf (z i) j) (sym (bit-at w₀ to i j m)) ∙ ap (λ (t : Bool). bit w₀ to (i * 64 + j) || t) (f i j l m));
+        row = row-joined z r s f;
         none = g .none;
         some = λ e. let q = g .some e in let li = q .1 in let lj = q .3 in (
           q .0 * 64 + q .2,
@@ -177,6 +183,11 @@ module _ {w₀ w : List ℕ} {to n : ℕ} {z : ℕ → ℕ} {k : ℕ} {grew : Bo
           bit-at w to (q .0) (q .2) lj ∙ ap (λ (y : ℕ). bitOf y (q .2)) (r .inside (to + q .0) (q .0) refl li) ∙ q .5,
         );
       }
+
+-- the bits of two rows
+pub bits-both : (w : List ℕ) (one two : ℕ) (i j : ℕ) → j < 64
+    → bitOf (bitOr (getD w (one + i) 0) (getD w (two + i) 0)) j ≡ (bit w one (i * 64 + j) || bit w two (i * 64 + j))
+bits-both w one two i j h = bit-or (getD w (one + i) 0) (getD w (two + i) 0) j ∙ rw (bit-at w one i j h, bit-at w two i j h)
 
 -- the bits of one row that pass another, and those of a third
 pub bits-passed : (w : List ℕ) (from pass leave : ℕ) (i j : ℕ) → j < 64

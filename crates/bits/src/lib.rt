@@ -3,7 +3,7 @@ ghost use mathlib.Core.Path.{_≡_};
 ghost use mathlib.Core.Bool.{true, false, _||_, _&&_};
 ghost use Prim.Native.Nat.{_+_, _*_, _/_, _^_, _≤_, _<_};
 ghost use lib.ListN.{length};
-ghost use Rattle.bits.specs.Bits.{bit, PutBit, Grown, Aligned, Lowest, Without, FirstSet};
+ghost use Rattle.bits.specs.Bits.{bit, PutBit, Row, Grown, Aligned, Lowest, Without, FirstSet};
 
 // Whether bit `b` of the row at `base` is set.
 pub fn test(w: &[u64], base: usize, b: usize) -> bool
@@ -31,28 +31,31 @@ pub fn unset(w: &mut [u64], base: usize, b: usize)
     w[i] = x ^ (x & (1 << (b % 64)));
 }
 
-// Puts the bits of the row at `from` into the row at `to`; whether one of them is new there.
-pub fn row_or(w: &mut [u64], to: usize, from: usize, n: usize) -> bool
+// Puts the bits of the row at `from` into the row at `to`.
+pub fn row_or(w: &mut [u64], to: usize, from: usize, n: usize)
     requires { ⌜ (to + n ≤ length (now w)) × (from + n ≤ length (now w)) × Aligned to from n ⌝ }
-    ensures { λ r. ⌜ Grown (now (w .entry)) (now (w .exit)) to n (λ c. bit (now (w .entry)) to c || bit (now (w .entry)) from c) r ⌝ }
+    ensures { λ _. ⌜ Row (now (w .entry)) (now (w .exit)) to n (λ c. bit (now (w .entry)) to c || bit (now (w .entry)) from c) ⌝ }
 {
-    let mut grew = false;
     let mut k = 0;
     while k < n {
-        let x = w[to + k];
-        let y = x | w[from + k];
-        if y != x {
-            w[to + k] = y;
-            grew = true;
-            k += 1;
-        } else {
-            k += 1;
-        }
+        w[to + k] = w[to + k] | w[from + k];
+        k += 1;
     }
-    grew
 }
 
-// The same with the bits of the row at `from` that `pass` has too, and those of `leave`.
+// The same with the bits of two rows, in one pass.
+pub fn row_or_two(w: &mut [u64], to: usize, one: usize, two: usize, n: usize)
+    requires { ⌜ (to + n ≤ length (now w)) × (one + n ≤ length (now w)) × (two + n ≤ length (now w)) × Aligned to one n × Aligned to two n ⌝ }
+    ensures { λ _. ⌜ Row (now (w .entry)) (now (w .exit)) to n (λ c. bit (now (w .entry)) to c || (bit (now (w .entry)) one c || bit (now (w .entry)) two c)) ⌝ }
+{
+    let mut k = 0;
+    while k < n {
+        w[to + k] = w[to + k] | (w[one + k] | w[two + k]);
+        k += 1;
+    }
+}
+
+// Puts into the row at `to` the bits of the row at `from` that `pass` has too, and those of `leave`; whether one of them is new there.
 pub fn row_pass(w: &mut [u64], to: usize, from: usize, pass: usize, leave: usize, n: usize) -> bool
     requires { ⌜ (to + n ≤ length (now w)) × (from + n ≤ length (now w)) × (pass + n ≤ length (now w)) × (leave + n ≤ length (now w)) ⌝ }
     requires { ⌜ Aligned to from n × Aligned to pass n × Aligned to leave n ⌝ }

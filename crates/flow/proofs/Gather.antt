@@ -6,13 +6,13 @@ use mathlib.Core.Bool.{Bool, true, false, _||_}
 use mathlib.Core.List.{List}
 use native.Mathlib.Omega.{arith}
 use lib.ListN.{length, getD}
-use Rattle.bits.specs.Bits.{bit, Grown, Aligned}
+use Rattle.bits.specs.Bits.{bit, Row, Aligned}
 use Rattle.words.proofs.Points.{cut, same}
 use Rattle.bits.proofs.BitLaws.{aligned-rows}
 use Rattle.graph.specs.Work.{Within}
 use Rattle.flow.specs.declared.Flow.{Flow}
 use Rattle.flow.specs.Flowed.{which, order, begins, ends, target, touchedBit, outBit, Laid, Across, Stays, Joins, Tells}
-use Rattle.flow.proofs.Joins.{row-in, which-kept, target-kept, touched-kept, laid-kept, row-wide, other-row, joins-none, joins-then, joins-as, joins-row, touched-aligned}
+use Rattle.flow.proofs.Joins.{row-in, which-kept, target-kept, touched-kept, laid-kept, row-wide, other-row, joins-none, joins-then, joins-as, joins-row, or-true, or-left, or-right, touched-aligned}
 
 -- the edges of u before e
 abbrev pub AcrossTo : Flow → List ℕ → ℕ → ℕ → ℕ → ℕ → Type 0
@@ -96,20 +96,19 @@ module _ {f : Flow} {u c x : ℕ} {w₀ w : List ℕ} {k : ℕ} {looped : Bool} 
     tells = record { yes-so = λ _. (k, t .from, omega arith, q); so-yes = λ _. refl };
   }
 
-  pub gather-go : {w₁ w₂ : List ℕ} {g₁ g₂ : Bool} → (which f w (target f w k) ≡ c → ⊥)
-      → Grown w w₁ (f .out + x * f .words) (f .words) (λ b. bit w (f .out + x * f .words) b || bit w (f .out + target f w k * f .words) b) g₁
-      → Grown w₁ w₂ (f .out + x * f .words) (f .words) (λ b. bit w₁ (f .out + x * f .words) b || bit w₁ (f .touched + target f w k * f .words) b) g₂
-      → Gathering f u c x w₀ w₂ (k + 1) looped
-  gather-go {w₁} {w₂} ne A B =
+  pub gather-go : {w₁ : List ℕ} → (which f w (target f w k) ≡ c → ⊥)
+      → Row w w₁ (f .out + x * f .words) (f .words)
+      (λ b. bit w (f .out + x * f .words) b || (bit w (f .out + target f w k * f .words) b || bit w (f .touched + target f w k * f .words) b))
+      → Gathering f u c x w₀ w₁ (k + 1) looped
+  gather-go {w₁} ne r =
       let g = target f w₀ k in
       let q : which f w₀ g ≢ c = λ o. ne (which-is ∙ o) in
       let g-x : g ≢ x = λ o. q (ap (which f w₀) o ∙ t .x-in) in
-      let JA = joins-row (f .out + target f w k * f .words) A in
-      let JB = joins-row (f .touched + target f w k * f .words) B in
-      let out-is : (b : ℕ) → b < f .words * 64 → bit w (f .out + target f w k * f .words) b ≡ outBit f w₀ g b =
+      let J = joins-row (λ b. outBit f w (target f w k) b || touchedBit f w (target f w k) b) r in
+      let out-is : (b : ℕ) → b < f .words * 64 → outBit f w (target f w k) b ≡ outBit f w₀ g b =
       λ b l. ap (λ (y : ℕ). outBit f w y b) target-is ∙ other-row (t .laid) x g b g-x l (t .joins .kept) in
-      let touched-is : (b : ℕ) → b < f .words * 64 → bit w₁ (f .touched + target f w k * f .words) b ≡ touchedBit f w₀ g b =
-      λ b l. ap (λ (y : ℕ). touchedBit f w₁ y b) target-is ∙ touched-kept (t .laid) (row-wide (t .laid) x (t .x-lt) (joins-then (t .joins) JA .kept)) g b target-lt l in
+      let touched-is : (b : ℕ) → b < f .words * 64 → touchedBit f w (target f w k) b ≡ touchedBit f w₀ g b =
+      λ b l. ap (λ (y : ℕ). touchedBit f w y b) target-is ∙ touched-kept (t .laid) wide g b target-lt l in
       record {
         laid = t .laid;
         u-lt = t .u-lt;
@@ -117,20 +116,17 @@ module _ {f : Flow} {u c x : ℕ} {w₀ w : List ℕ} {k : ℕ} {looped : Bool} 
         x-in = t .x-in;
         from = omega (arith, t .from);
         to = omega arith;
-        joins = joins-as (AcrossTo f w₀ u c (k + 1)) (joins-then (joins-then (t .joins) JA) JB)
+        joins = joins-as (AcrossTo f w₀ u c (k + 1)) (joins-then (t .joins) J)
             (λ b l s. ⊎-elim
-            (λ a. ⊎-elim
             (λ o. (o .0, o .1, omega (arith, o .2), o .3, o .4))
-            (λ o. (k, t .from, omega arith, q, inl (sym (out-is b l) ∙ o)))
-            a)
-            (λ o. (k, t .from, omega arith, q, inr (sym (touched-is b l) ∙ o)))
+            (λ o. (k, t .from, omega arith, q, ⊎-elim (λ a. inl (sym (out-is b l) ∙ a)) (λ a. inr (sym (touched-is b l) ∙ a)) (or-true (outBit f w (target f w k) b) (touchedBit f w (target f w k) b) o)))
             s)
             (λ b l s. same (s .0) k
-            (λ o. ⊎-elim
-            (λ a. inl (inr (out-is b l ∙ subst (λ (y : ℕ). outBit f w₀ (target f w₀ y) b ≡ true) o a)))
-            (λ a. inr (touched-is b l ∙ subst (λ (y : ℕ). touchedBit f w₀ (target f w₀ y) b ≡ true) o a))
-            (s .4))
-            (λ o. inl (inl (s .0, s .1, omega (arith, s .2), s .3, s .4))));
+            (λ o. inr (⊎-elim
+            (λ a. or-left (outBit f w (target f w k) b) (touchedBit f w (target f w k) b) (out-is b l ∙ subst (λ (y : ℕ). outBit f w₀ (target f w₀ y) b ≡ true) o a))
+            (λ a. or-right (outBit f w (target f w k) b) (touchedBit f w (target f w k) b) (touched-is b l ∙ subst (λ (y : ℕ). touchedBit f w₀ (target f w₀ y) b ≡ true) o a))
+            (s .4)))
+            (λ o. inl (s .0, s .1, omega (arith, s .2), s .3, s .4)));
         tells = record {
           yes-so = λ r. let s = t .tells .yes-so r in (s .0, s .1, omega (arith, s .2), s .3);
           so-yes = λ s. t .tells .so-yes (s .0, s .1, same (s .0) k (λ o. absurd (q (ap (λ (y : ℕ). which f w₀ (target f w₀ y)) (sym o) ∙ s .3))) (λ o. omega (arith, s .2)), s .3);

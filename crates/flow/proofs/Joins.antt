@@ -7,7 +7,7 @@ use mathlib.Core.List.{List}
 use native.Mathlib.Nat.{mul-le-mul-right}
 use native.Mathlib.Omega.{arith}
 use lib.ListN.{length, getD}
-use Rattle.bits.specs.Bits.{bit, bitOf, Row, Grown, Aligned, apart}
+use Rattle.bits.specs.Bits.{bit, bitOf, Row, Aligned, apart}
 use Rattle.words.specs.Regions.{Region, Disjoint, below, above}
 use Rattle.words.proofs.Points.{cut, same}
 use Rattle.words.proofs.RegionLaws.{row-before}
@@ -17,14 +17,14 @@ use Rattle.graph.proofs.Within.{within-refl, within-trans, within-wider}
 use Rattle.flow.specs.declared.Flow.{Flow}
 use Rattle.flow.specs.Flowed.{which, order, begins, ends, target, touchedBit, outBit, Laid, Across, Stays, Member, Joins, Tells}
 
-or-true : (a b : Bool) → (a || b) ≡ true → (a ≡ true) ⊎ (b ≡ true)
+pub or-true : (a b : Bool) → (a || b) ≡ true → (a ≡ true) ⊎ (b ≡ true)
 or-true true b e = inl refl
 or-true false b e = inr e
 
-or-left : (a b : Bool) → a ≡ true → (a || b) ≡ true
+pub or-left : (a b : Bool) → a ≡ true → (a || b) ≡ true
 or-left a b e = rw e refl
 
-or-right : (a b : Bool) → b ≡ true → (a || b) ≡ true
+pub or-right : (a b : Bool) → b ≡ true → (a || b) ≡ true
 or-right true b e = refl
 or-right false b e = e
 
@@ -119,14 +119,13 @@ module _ {f : Flow} {x : ℕ} where
       go b h (inl a) = inl a
       go b h (inr a) = inr (to b h a)
 
-  -- one row is put into another
-  pub joins-row : {w₀ w : List ℕ} (from : ℕ) {grew : Bool} → Grown w₀ w (f .out + x * f .words) (f .words) (λ c. bit w₀ (f .out + x * f .words) c || bit w₀ from c) grew
-      → Joins f x (λ b. bit w₀ from b ≡ true) w₀ w
-  joins-row {w₀} {w} from g = record {
-    kept = record { len = g .row .len; below = g .row .before; past = g .row .after };
-    old = λ b h o. g .row .bits b h ∙ or-left _ _ o;
-    new = λ b h s. g .row .bits b h ∙ or-right (outBit f w₀ x b) _ s;
-    only = λ b h o. or-true (outBit f w₀ x b) (bit w₀ from b) (sym (g .row .bits b h) ∙ o);
+  -- bits are put into the row
+  pub joins-row : (s : ℕ → Bool) {w₀ w : List ℕ} → Row w₀ w (f .out + x * f .words) (f .words) (λ c. bit w₀ (f .out + x * f .words) c || s c) → Joins f x (λ b. s b ≡ true) w₀ w
+  joins-row s {w₀} {w} r = record {
+    kept = record { len = r .len; below = r .before; past = r .after };
+    old = λ b h o. r .bits b h ∙ or-left _ _ o;
+    new = λ b h e. r .bits b h ∙ or-right (outBit f w₀ x b) _ e;
+    only = λ b h o. or-true (outBit f w₀ x b) (s b) (sym (r .bits b h) ∙ o);
   }
 
 -- a touched row and a row of the answer have no word in common

@@ -6,7 +6,7 @@ use mathlib.Core.Bool.{Bool, true, false, _||_}
 use mathlib.Core.List.{List}
 use native.Mathlib.Omega.{arith}
 use lib.ListN.{length, getD}
-use Rattle.bits.specs.Bits.{bit, bitOf, Grown, Aligned}
+use Rattle.bits.specs.Bits.{bit, bitOf, Row, Aligned}
 use Rattle.words.specs.Regions.{Region, Disjoint, below as lower, above as upper}
 use Rattle.words.proofs.Points.{cut, same}
 use Rattle.words.proofs.RegionLaws.{row-before}
@@ -218,9 +218,9 @@ module _ {f : Flow} {i j x : ℕ} {w₀ w : List ℕ} {p : ℕ} (t : Touching f 
   pub touch-node : order f w p < f .n
   touch-node = omega (arith, order-is, t .laid .listed p p-in)
 
-  pub touch-more : {w' : List ℕ} {g : Bool}
-      → Grown w w' (f .out + x * f .words) (f .words) (λ b. bit w (f .out + x * f .words) b || bit w (f .touched + order f w p * f .words) b) g → Touching f i j x w₀ w' (p + 1)
-  touch-more {w'} G =
+  pub touch-more : {w' : List ℕ}
+      → Row w w' (f .out + x * f .words) (f .words) (λ b. bit w (f .out + x * f .words) b || bit w (f .touched + order f w p * f .words) b) → Touching f i j x w₀ w' (p + 1)
+  touch-more {w'} r =
       let is : (b : ℕ) → b < f .words * 64 → bit w (f .touched + order f w p * f .words) b ≡ touchedBit f w₀ (order f w₀ p) b =
       λ b l. ap (λ (y : ℕ). touchedBit f w y b) order-is ∙ touched-kept (t .laid) kept-all (order f w₀ p) b (t .laid .listed p p-in) l in
       record {
@@ -229,7 +229,7 @@ module _ {f : Flow} {i j x : ℕ} {w₀ w : List ℕ} {p : ℕ} (t : Touching f 
         x-lt = t .x-lt;
         i-le = omega (arith, t .i-le);
         p-le = omega arith;
-        joins = joins-as (λ b. Member f w₀ i (p + 1) (λ u. touchedBit f w₀ u b ≡ true)) (joins-then (t .joins) (joins-row (f .touched + order f w p * f .words) G))
+        joins = joins-as (λ b. Member f w₀ i (p + 1) (λ u. touchedBit f w₀ u b ≡ true)) (joins-then (t .joins) (joins-row (λ b. touchedBit f w (order f w p) b) r))
             (λ b l s. more-member f w₀ i p (λ u. touchedBit f w₀ u b ≡ true) (t .i-le) (⊎-elim (λ a. inl a) (λ a. inr (sym (is b l) ∙ a)) s))
             (λ b l s. ⊎-elim (λ a. inl a) (λ a. inr (is b l ∙ a)) (last-member f w₀ i p (λ u. touchedBit f w₀ u b ≡ true) s));
       }

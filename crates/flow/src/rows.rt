@@ -29,8 +29,7 @@ fn gather(work: &mut [u64], f: Flow, u: usize, c: u64, x: usize) -> bool
             looped = true;
             k += 1;
         } else {
-            bits::row_or(work, row, out + g * words, words);
-            bits::row_or(work, row, touched + g * words, words);
+            bits::row_or_two(work, row, out + g * words, touched + g * words, words);
             k += 1;
         }
     }

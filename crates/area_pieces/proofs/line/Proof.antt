@@ -13,13 +13,13 @@ row-or-requires : tie.Need-row-or-requires
 row-or-requires c κs = (omega arith, omega arith, apart (above ((c .before .before .before .pre) .0 .row-fits)))
 
 visit-requires : tie.Need-visit-requires
-visit-requires c κs = both-asked (now ((c .before .before .before .before .before .before .before .args) .blocks)) ((c .before .before .before .before .before .before .before .pre) .0) ((c .before .before .before .before .before .before .before .pre) .1) ((c .before .before .before .row-or) .ensures .row)
+visit-requires c κs = both-asked (now ((c .before .before .before .before .before .before .before .args) .blocks)) ((c .before .before .before .before .before .before .before .pre) .0) ((c .before .before .before .before .before .before .before .pre) .1) ((c .before .before .before .row-or) .ensures)
 
 same-length : tie.Need-same-length
 same-length c = search needs
 
 returns : tie.Need-returns
-returns c = both-lined (now ((c .before .before .before .before .before .before .before .before .before .before .args) .blocks)) ((c .before .before .before .before .before .before .before .before .before .before .pre) .0) ((c .before .before .before .before .before .before .before .before .before .before .pre) .1) ((c .before .before .before .before .before .before .row-or) .ensures .row) ((c .before .before .visit) .ensures)
+returns c = both-lined (now ((c .before .before .before .before .before .before .before .before .before .before .args) .blocks)) ((c .before .before .before .before .before .before .before .before .before .before .pre) .0) ((c .before .before .before .before .before .before .before .before .before .before .pre) .1) ((c .before .before .before .before .before .before .row-or) .ensures) ((c .before .before .visit) .ensures)
 
 pub line-spec : {M : Type 1} → statement M
 line-spec = tie.close (tie.spec row-or-requires visit-requires same-length returns)

@@ -78,32 +78,31 @@ loop-less c = omega arith
 loop-again : tie.Need-loop-again Inv-loop μ-loop
 loop-again c = (c .before .before .before .before .loop .inv .0, gather-stay (c .before .before .before .before .loop .inv .1) (omega (arith, c .before .before .before .before .loop .inv .0)) (c .if1 .taken))
 
-mul-row-or : tie.Need-mul-row-or Inv-loop μ-loop
-mul-row-or c = omega (arith, at-edge (c .before .before .before .before .before .loop .inv .1) (omega (arith, c .before .before .before .before .before .loop .inv .0)))
+mul-row-or-two : tie.Need-mul-row-or-two Inv-loop μ-loop
+mul-row-or-two c = omega (arith, at-edge (c .before .before .before .before .before .loop .inv .1) (omega (arith, c .before .before .before .before .before .loop .inv .0)))
 
-add-row-or : tie.Need-add-row-or Inv-loop μ-loop
-add-row-or c = omega (arith, at-edge (c .before .before .before .before .before .loop .inv .1) (omega (arith, c .before .before .before .before .before .loop .inv .0)))
+add-row-or-two : tie.Need-add-row-or-two Inv-loop μ-loop
+add-row-or-two c = omega (arith, at-edge (c .before .before .before .before .before .loop .inv .1) (omega (arith, c .before .before .before .before .before .loop .inv .0)))
 
-row-or-requires : tie.Need-row-or-requires Inv-loop μ-loop
-row-or-requires c κs = (omega (arith, at-edge (c .before .before .before .before .before .loop .inv .1) (omega (arith, c .before .before .before .before .before .loop .inv .0))), omega (arith, at-edge (c .before .before .before .before .before .loop .inv .1) (omega (arith, c .before .before .before .before .before .loop .inv .0))), aligned-rows _ _ _ _)
+mul-row-or-two-2 : tie.Need-mul-row-or-two-2 Inv-loop μ-loop
+mul-row-or-two-2 c = omega (arith, at-edge (c .before .before .before .before .before .loop .inv .1) (omega (arith, c .before .before .before .before .before .loop .inv .0)))
 
-mul-row-or-2 : tie.Need-mul-row-or-2 Inv-loop μ-loop
-mul-row-or-2 c = omega (arith, at-edge (c .before .before .before .before .before .before .before .before .before .loop .inv .1) (omega (arith, c .before .before .before .before .before .before .before .before .before .loop .inv .0)))
+add-row-or-two-2 : tie.Need-add-row-or-two-2 Inv-loop μ-loop
+add-row-or-two-2 c = omega (arith, at-edge (c .before .before .before .before .before .loop .inv .1) (omega (arith, c .before .before .before .before .before .loop .inv .0)))
 
-add-row-or-2 : tie.Need-add-row-or-2 Inv-loop μ-loop
-add-row-or-2 c = omega (arith, at-edge (c .before .before .before .before .before .before .before .before .before .loop .inv .1) (omega (arith, c .before .before .before .before .before .before .before .before .before .loop .inv .0)))
-
-row-or-requires-2 : tie.Need-row-or-requires-2 Inv-loop μ-loop
-row-or-requires-2 c κs = (omega (arith, at-edge (c .before .before .before .before .before .before .before .before .before .loop .inv .1) (omega (arith, c .before .before .before .before .before .before .before .before .before .loop .inv .0)), c .before .before .before .row-or .ensures .row .len), omega (arith, at-edge (c .before .before .before .before .before .before .before .before .before .loop .inv .1) (omega (arith, c .before .before .before .before .before .before .before .before .before .loop .inv .0)), c .before .before .before .row-or .ensures .row .len), touched-apart (c .before .before .before .before .before .before .before .before .before .loop .inv .1) (omega (arith, c .before .before .before .before .before .before .before .before .before .loop .inv .0)))
+row-or-two-requires : tie.Need-row-or-two-requires Inv-loop μ-loop
+row-or-two-requires c κs =
+    let s = c .before .before .before .before .before .loop .inv in let a = at-edge (s .1) (omega (arith, s .0)) in
+    (omega (arith, a), omega (arith, a), omega (arith, a), aligned-rows _ _ _ _, touched-apart (s .1) (omega (arith, s .0)))
 
 add-k-3 : tie.Need-add-k-3 Inv-loop μ-loop
-add-k-3 c = omega (arith, at-edge (c .before .before .before .before .before .before .before .before .before .before .before .before .loop .inv .1) (omega (arith, c .before .before .before .before .before .before .before .before .before .before .before .before .loop .inv .0)), c .before .before .before .before .before .before .before .before .before .before .before .before .loop .inv .1 .laid .rows-fit _ (c .before .before .before .before .before .before .before .before .before .before .before .before .loop .inv .1 .u-lt), c .before .before .before .before .before .before .before .before .before .before .before .before .loop .inv .0)
+add-k-3 c = omega (arith, at-edge (c .before .before .before .before .before .before .before .before .loop .inv .1) (omega (arith, c .before .before .before .before .before .before .before .before .loop .inv .0)), c .before .before .before .before .before .before .before .before .loop .inv .1 .laid .rows-fit _ (c .before .before .before .before .before .before .before .before .loop .inv .1 .u-lt), c .before .before .before .before .before .before .before .before .loop .inv .0)
 
 loop-less-2 : tie.Need-loop-less-2 Inv-loop μ-loop
 loop-less-2 c = omega arith
 
 loop-again-2 : tie.Need-loop-again-2 Inv-loop μ-loop
-loop-again-2 c = (c .before .before .before .before .before .before .before .before .before .before .before .before .loop .inv .0, gather-go (c .before .before .before .before .before .before .before .before .before .before .before .before .loop .inv .1) (omega (arith, c .before .before .before .before .before .before .before .before .before .before .before .before .loop .inv .0)) (c .before .before .before .before .before .before .before .before .if1 .left) (c .before .before .before .before .before .before .row-or .ensures) (c .before .before .row-or2 .ensures))
+loop-again-2 c = let s = c .before .before .before .before .before .before .before .before .loop .inv in (s .0, gather-go (s .1) (omega (arith, s .0)) (c .before .before .before .before .if1 .left) (c .before .before .row-or-two .ensures))
 
 same-length : tie.Need-same-length Inv-loop μ-loop
 same-length c = c .before .loop .inv .1 .joins .kept .len
@@ -138,12 +137,11 @@ gather-spec =
     add-k-2
     loop-less
     loop-again
-    mul-row-or
-    add-row-or
-    row-or-requires
-    mul-row-or-2
-    add-row-or-2
-    row-or-requires-2
+    mul-row-or-two
+    add-row-or-two
+    mul-row-or-two-2
+    add-row-or-two-2
+    row-or-two-requires
     add-k-3
     loop-less-2
     loop-again-2
