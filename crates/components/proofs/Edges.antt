@@ -7,7 +7,7 @@ use native.Mathlib.Omega.{arith}
 use lib.ListN.{length, getD}
 use Rattle.graph.specs.Paths.{Edge as Jump, edge, Link, Route, one, more, Together, same as alone, loop, Between}
 use Rattle.graph.specs.Work.{EdgeRows}
-use Rattle.components.specs.Graph.{Edge, Reach, here, step, Pieces}
+use Rattle.components.specs.Graph.{Edge, Reach, here, step, ComponentsOf}
 use Rattle.components.specs.Space.{graph, rowsOf, Given, Pieced}
 use Rattle.components.specs.Components.{Components, InOrder, Walkable, Found}
 
@@ -46,7 +46,7 @@ module _ {es : List Jump} {n at : ℕ} {w : List ℕ} (B : Between n es) (R : Ed
   both (inr r) (inl q) = alone (sym q)
   both (inr r) (inr s) = loop r s
 
-  pub pieces-are : {which : ℕ → ℕ} {count : ℕ} → Pieces (graph n (rowsOf at (at + n + 1) w)) which count → Components es n which count
+  pub pieces-are : {which : ℕ → ℕ} {count : ℕ} → ComponentsOf (graph n (rowsOf at (at + n + 1) w)) which count → Components es n which count
   pieces-are {which} P = record {
     alike = λ j k h l t. go j k h l t;
     together = λ j k h l q. let p = P .together j k h l q in both (route-of h (p .0) .0) (route-of l (p .1) .0);

@@ -3,13 +3,13 @@ use mathlib.Core.Path.{_≡_, refl, sym, ap, _∙_}
 use Prim.Native.Nat.{ℕ, zero, suc, _+_, _-_, _≤_, _<_, min}
 use native.Mathlib.Omega.{arith}
 use Rattle.components.specs.Graph.{Graph, Sound, Edge, Reach}
-use Rattle.components.specs.Walk.{St, Bound, Fwd, Inv, Order}
+use Rattle.components.specs.Walk.{State, Bound, Fwd, Inv, Order}
 use Rattle.components.specs.Moves.{retired, closed}
 use Rattle.components.proofs.Tools.{cut, same, pasted-old, pasted-new, seen-same, upd-case, upd-at, shut-case, seen-mono}
 use Rattle.components.proofs.Steps.{edge-node, s-le, bound-top}
 
 -- ---- the top frame, over the frame e, is left, and its node stays held
-module _ (G : Graph) (z : St) (e : ℕ) where
+module _ (G : Graph) (z : State) (e : ℕ) where
   module _ (S : Sound G) (I : Inv G z) (top : z .d ≡ suc (suc e)) (less : z .lw (suc e) < z .fr (suc e))
       (done : G .end (z .stk (z .fr (suc e))) ≤ z .nxt (z .stk (z .fr (suc e)))) where
     left-le : (j : ℕ) → retired z e .lw j ≤ z .lw j
@@ -64,7 +64,7 @@ module _ (G : Graph) (z : St) (e : ℕ) where
     }
 
 -- ---- the top frame e is left, and what is held from its place on is a piece
-module _ (G : Graph) (z : St) (e : ℕ) where
+module _ (G : Graph) (z : State) (e : ℕ) where
   module _ (S : Sound G) (I : Inv G z) (top : z .d ≡ suc e) (all : z .fr e ≤ z .lw e)
       (done : G .end (z .stk (z .fr e)) ≤ z .nxt (z .stk (z .fr e))) where
     num-case : (P : ℕ → Type 0) (v : ℕ)

@@ -7,7 +7,7 @@ use Prim.Native.Nat.{ℕ, zero, suc, _+_, _-_, _≤_, _<_, min}
 use native.Mathlib.Omega.{arith}
 use lib.ListN.{length, getD, set, length-set}
 use Rattle.components.specs.Graph.{Graph, Sound}
-use Rattle.components.specs.Walk.{St, Walks}
+use Rattle.components.specs.Walk.{State, Walks}
 use Rattle.components.specs.Moves.{upd, view, Agree, pushed}
 use Rattle.components.specs.Space.{Rows, graph, rowsOf, Reads, Held, Ready, Kept, Still, pushList, Turned, Walked, Given, Pieced, Begun, Numbered}
 use Rattle.components.proofs.Tools.{cut, same, upd-case, upd-at, seen-le}

@@ -4,7 +4,7 @@ use mathlib.Core.Logic.{_⊎_, inl, inr}
 use Prim.Native.Nat.{ℕ, zero, suc, _+_, _≤_, _<_, min}
 use native.Mathlib.Omega.{arith}
 use Rattle.components.specs.Graph.{Graph, Sound, Edge, Reach, here, step}
-use Rattle.components.specs.Walk.{St, Bound, Fwd, seen, Inv, Order}
+use Rattle.components.specs.Walk.{State, Bound, Fwd, seen, Inv, Order}
 use Rattle.components.specs.Moves.{pushed, advanced, lowered}
 use Rattle.components.proofs.Tools.{cut, same, seen-upd, upd-case, upd-at, upd-off, seen-more, seen-le, seen-lt}
 
@@ -16,7 +16,7 @@ pub edge-node : {G : Graph} {u v : ℕ} → Sound G → u < G .n → Edge G u v 
 edge-node {G} {u} S l e = rw (← (e .is)) (S .nodes u (e .k) l (e .from) (e .to))
 
 -- ---- what follows from the invariant
-module _ {G : Graph} {z : St} (S : Sound G) (I : Inv G z) where
+module _ {G : Graph} {z : State} (S : Sound G) (I : Inv G z) where
   pub s-le : z .c + z .s ≤ G .n
   s-le = omega (arith, I .count, seen-le (G .n) (z .num))
 
@@ -52,7 +52,7 @@ module _ {G : Graph} {z : St} (S : Sound G) (I : Inv G z) where
     to-top p l = I .reach p (z .fr e) l (I .framed e (omega arith)) (λ b B _. bound-top B)
 
 -- ---- a node is taken up
-module _ (G : Graph) (z : St) (v : ℕ) where
+module _ (G : Graph) (z : State) (v : ℕ) where
   module _ (S : Sound G) (I : Inv G z) (l : v < G .n) (new : z .num v ≡ 0) (to : (p : ℕ) → p < z .s → Reach G (z .stk p) v) where
     room : z .s < G .n
     room = s-lt S I v l new
@@ -178,7 +178,7 @@ module _ (G : Graph) (z : St) (v : ℕ) where
     }
 
 -- ---- an edge was looked at: the next of the node at place p of the stack
-module _ (G : Graph) (z : St) (p : ℕ) where
+module _ (G : Graph) (z : State) (p : ℕ) where
   module _ (S : Sound G) (I : Inv G z) (l : p < z .s) (more : z .nxt (z .stk p) < G .end (z .stk p))
       (known : 0 < z .num (G .tgt (z .nxt (z .stk p))))
       (fwd : (q : ℕ) → z .num (G .tgt (z .nxt (z .stk p))) ≡ suc q → q < G .n → Fwd (z .fr) (z .lw) (z .d) p q) where
@@ -225,7 +225,7 @@ module _ (G : Graph) (z : St) (p : ℕ) where
         fwd-edge q k r h a e m (inr b) = λ o B n. fwd r (rw (b .1) at e) m o B (omega (arith, I .held q h, I .held p l, ap (z .num) (b .0)))
 
 -- ---- an edge of the top frame e goes to the held node at place q
-module _ (G : Graph) (z : St) (e q : ℕ) where
+module _ (G : Graph) (z : State) (e q : ℕ) where
   module _ (S : Sound G) (I : Inv G z) (top : z .d ≡ suc e) (l : q < z .s) (E : Edge G (z .stk (z .fr e)) (z .stk q)) where
     lw-le : (j : ℕ) → lowered z e q .lw j ≤ z .lw j
     lw-le j = upd-case (λ y. y ≤ z .lw j) (z .lw) e (min (z .lw e) q) j (λ h. omega (arith, ap (z .lw) h)) (λ _. omega arith)

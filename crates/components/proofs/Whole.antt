@@ -4,13 +4,13 @@ use mathlib.Core.Path.{_≡_, refl, sym, ap, _∙_, subst}
 use mathlib.Core.Logic.{_≢_, _⊎_, inl, inr}
 use Prim.Native.Nat.{ℕ, zero, suc, _+_, _-_, _≤_, _<_, min}
 use native.Mathlib.Omega.{arith}
-use Rattle.components.specs.Graph.{Graph, Sound, Edge, Reach, here, step, Pieces, Listed}
-use Rattle.components.specs.Walk.{St, Bound, Fwd, one, seen, Inv, Order, Walks}
+use Rattle.components.specs.Graph.{Graph, Sound, Edge, Reach, here, step, ComponentsOf, Listed}
+use Rattle.components.specs.Walk.{State, Bound, Fwd, one, seen, Inv, Order, Walks}
 use Rattle.components.specs.Moves.{upd, Agree, left}
 use Rattle.components.proofs.Tools.{cut, same, upd-case, upd-at, upd-off, seen-mono, seen-same, seen-le, one-pos}
 use Rattle.components.proofs.Steps.{s-le, d-le, looked, edge-node, bound-lt}
 
-module _ {G : Graph} {z z' : St} (S : Sound G) (I : Inv G z) (A : Agree (G .n) z z') where
+module _ {G : Graph} {z z' : State} (S : Sound G) (I : Inv G z) (A : Agree (G .n) z z') where
   size : z .c + z .s ≤ G .n
   size = s-le S I
 
@@ -122,7 +122,7 @@ unfolding seen
 zero-seen zero f h = refl
 zero-seen (suc m) f h = omega (arith, ap one (h m (omega arith)), zero-seen m f (λ v l. h v (omega arith)))
 
-pub start-walks : (G : Graph) (z : St) → Sound G → z .s ≡ 0 → z .d ≡ 0 → z .c ≡ 0 → z .e ≡ 0
+pub start-walks : (G : Graph) (z : State) → Sound G → z .s ≡ 0 → z .d ≡ 0 → z .c ≡ 0 → z .e ≡ 0
     → ((v : ℕ) → v < G .n → z .num v ≡ 0) → ((v : ℕ) → v < G .n → z .nxt v ≡ G .beg v) → Walks G z
 start-walks G z S s0 d0 c0 e0 f g = record {
   inv = record {
@@ -162,7 +162,7 @@ unfolding seen
 all-seen zero f h = refl
 all-seen (suc m) f h = omega (arith, one-pos (f m) (h m (omega arith)), all-seen m f (λ v l. h v (omega arith)))
 
-module _ {G : Graph} {z : St} (S : Sound G) (W : Walks G z) (stop : z .d ≡ 0) (all : (v : ℕ) → v < G .n → 0 < z .num v) where
+module _ {G : Graph} {z : State} (S : Sound G) (W : Walks G z) (stop : z .d ≡ 0) (all : (v : ℕ) → v < G .n → 0 < z .num v) where
   empty : z .s ≡ 0
   empty = W .inv .first stop
 
@@ -181,7 +181,7 @@ module _ {G : Graph} {z : St} (S : Sound G) (W : Walks G z) (stop : z .d ≡ 0) 
       let a = falls u x h r in
       (edge-node S (a .0) E, omega (arith, a .1, W .inv .shut x v (a .0) (shut-all x (a .0)) E .1))
 
-  pub last-pieces : (which : ℕ → ℕ) → ((v : ℕ) → v < G .n → which v ≡ z .num v - suc (G .n)) → Pieces G which (z .c)
+  pub last-pieces : (which : ℕ → ℕ) → ((v : ℕ) → v < G .n → which v ≡ z .num v - suc (G .n)) → ComponentsOf G which (z .c)
   last-pieces which is = record {
     count-le = omega (arith, s-le S (W .inv));
     which-lt = λ v h. omega (arith, is v h, shut-all v h, W .inv .below v h (shut-all v h));

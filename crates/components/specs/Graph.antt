@@ -25,17 +25,17 @@ pub data Reach (G : Graph) (u : ℕ) : ℕ → Type 0 where
   here : Reach G u u
   step : {v w : ℕ} → Reach G u v → Edge G v w → Reach G u w
 
--- the contract: the pieces of the graph, count of them, numbered so that an edge between two pieces goes to the lower
-pub record Pieces (G : Graph) (which : ℕ → ℕ) (count : ℕ) : Type 0 where
+-- the contract: the components of the graph, count of them, numbered so that an edge between two goes to the lower
+pub record ComponentsOf (G : Graph) (which : ℕ → ℕ) (count : ℕ) : Type 0 where
   pub count-le : count ≤ G .n
   pub which-lt : (v : ℕ) → v < G .n → which v < count
-  -- two nodes that reach each other are in one piece, and two nodes of one piece reach each other
+  -- two nodes that reach each other are in one component, and two nodes of one component reach each other
   pub alike : (u v : ℕ) → u < G .n → v < G .n → Reach G u v → Reach G v u → which u ≡ which v
   pub together : (u v : ℕ) → u < G .n → v < G .n → which u ≡ which v → Reach G u v × Reach G v u
   pub down : (u v : ℕ) → u < G .n → Edge G u v → which u ≢ which v → which v < which u
   pub used : (x : ℕ) → x < count → (v : ℕ) × (v < G .n) × (which v ≡ x)
 
--- the places in the pieces' order, each of the n once, so that each piece is a run
+-- the places in the components' order, each of the n once, so that each component is a run
 pub record Listed (n : ℕ) (which ord : ℕ → ℕ) : Type 0 where
   pub listed : (i : ℕ) → i < n → ord i < n
   pub sorted : (i j : ℕ) → i ≤ j → j < n → which (ord i) ≤ which (ord j)

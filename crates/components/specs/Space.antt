@@ -5,8 +5,8 @@ use mathlib.Core.Path.{_≡_}
 use mathlib.Core.List.{List}
 use Prim.Native.Nat.{ℕ, zero, suc, _+_, _-_, _≤_, _<_}
 use lib.ListN.{length, getD, set}
-use Rattle.components.specs.Graph.{Graph, Sound, Pieces, Listed}
-use Rattle.components.specs.Walk.{St, Walks}
+use Rattle.components.specs.Graph.{Graph, Sound, ComponentsOf, Listed}
+use Rattle.components.specs.Walk.{State, Walks}
 use Rattle.components.specs.Moves.{view, shutAt, pasted, left}
 
 pub record Rows : Type 0 where
@@ -98,7 +98,7 @@ pub record Given (n at to base : ℕ) (w : List ℕ) : Type 0 where
 
 pub record Pieced (n at to base : ℕ) (w w' : List ℕ) (count : ℕ) : Type 0 where
   pub kept : Kept n base w w'
-  pub pieces : Pieces (graph n (rowsOf at to w)) (λ v. getD w' (base + v) 0) count
+  pub pieces : ComponentsOf (graph n (rowsOf at to w)) (λ v. getD w' (base + v) 0) count
   pub listed : Listed n (λ v. getD w' (base + v) 0) (λ i. getD w' (base + n + n + n + n + n + i) 0)
 
 -- nothing seen yet, each node's edges all to look at

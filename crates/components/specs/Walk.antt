@@ -8,7 +8,7 @@ use mathlib.Core.Logic.{_≢_}
 use Prim.Native.Nat.{ℕ, zero, suc, _+_, _≤_, _<_}
 use Rattle.components.specs.Graph.{Graph, Edge, Reach}
 
-pub record St : Type 0 where
+pub record State : Type 0 where
   pub num : ℕ → ℕ
   pub stk : ℕ → ℕ
   pub fr : ℕ → ℕ
@@ -40,7 +40,7 @@ unfoldable pub seen : ℕ → (ℕ → ℕ) → ℕ
 seen zero f = 0
 seen (suc m) f = one (f m) + seen m f
 
-pub record Inv (G : Graph) (z : St) : Type 0 where
+pub record Inv (G : Graph) (z : State) : Type 0 where
   pub node : (p : ℕ) → p < z .s → z .stk p < G .n
   pub held : (p : ℕ) → p < z .s → z .num (z .stk p) ≡ suc p
   pub place : (v p : ℕ) → v < G .n → z .num v ≡ suc p → p < G .n → (p < z .s) × (z .stk p ≡ v)
@@ -71,6 +71,6 @@ pub record Order (n : ℕ) (num ord : ℕ → ℕ) (s e : ℕ) : Type 0 where
   pub once : (i j : ℕ) → i < j → j < e → ord i ≢ ord j
 
 -- both, of a state
-pub record Walks (G : Graph) (z : St) : Type 0 where
+pub record Walks (G : Graph) (z : State) : Type 0 where
   pub inv : Inv G z
   pub order : Order (G .n) (z .num) (z .ord) (z .s) (z .e)
