@@ -1,9 +1,8 @@
 // What flows along the edges: rows of bits over the places.
 ghost use mathlib.Core.Path.{_≡_};
 ghost use Prim.Native.Nat.{ℕ, _+_, _*_, _/_, _≤_, _<_};
-ghost use lib.ListN.{length, getD};
+ghost use lib.ListN.{length};
 ghost use Rattle.refusals.specs.declared.Verdict.the-variants.{Fine};
-ghost use Rattle.words.specs.Regions.{Region};
 ghost use Rattle.graph.specs.Line.{blocksOf, jumpsOf, edgeVerdict, Sound};
 ghost use Rattle.graph.specs.Work.{Neighbours};
 ghost use Rattle.components.specs.Entry.{edgesIn};
@@ -35,18 +34,6 @@ pub enum Over {
 pub enum Answer {
     Given,
     Refused(Refusal, usize),
-}
-
-// The `n` numbers of `s` from `from` on to `to`.
-pub fn copy_rows(w: &mut [u64], to: usize, s: &[u64], from: usize, n: usize)
-    requires { ⌜ (to + n ≤ length (now w)) × (from + n ≤ length (now s)) ⌝ }
-    ensures { λ _. ⌜ Region (now (w .entry)) (now (w .exit)) to n (λ i. getD (now (s .entry)) (from + i) 0) ⌝ }
-{
-    let mut i = 0;
-    while i < n {
-        w[to + i] = s[from + i];
-        i += 1;
-    }
 }
 
 // The refusals of the entry, lowest number first.
@@ -97,7 +84,7 @@ fn solve(over: Over, blocks: &[u32], edges: &[u32], touched: &[u64], words: usiz
     let lent = base + n + n + n + n + n + n;
     neighbours(over, blocks, edges, work);
     components::tarjan::components(work, n, e + e, base);
-    copy_rows(work, lent, touched, 0, touched.len());
+    words::copy_from(work, lent, touched, 0, touched.len());
     rows::flowed(
         work,
         Flow {
@@ -142,7 +129,7 @@ pub fn flowed(
     let e = edges.len() / 2;
     let lent = e + e + (n + 1 + e) + n + n + n + n + n + n;
     solve(over, blocks, edges, touched, words, work);
-    copy_rows(out, 0, work, lent + touched.len(), touched.len());
+    words::copy_from(out, 0, work, lent + touched.len(), touched.len());
     words::clear(work, 8 * (n + e + touched.len()));
     Answer::Given
 }

@@ -105,8 +105,8 @@ fn solve(
     let base = e + e + (n + 1 + e);
     let lent = base + n + n;
     prepare(blocks, edges, work);
-    flow::copy_rows(work, lent, leaves, 0, leaves.len());
-    flow::copy_rows(work, lent + leaves.len(), passes, 0, leaves.len());
+    words::copy_from(work, lent, leaves, 0, leaves.len());
+    words::copy_from(work, lent + leaves.len(), passes, 0, leaves.len());
     rows::spread(
         work,
         Layout {
@@ -154,7 +154,7 @@ pub fn spread(
     let e = edges.len() / 2;
     let lent = e + e + (n + 1 + e) + n + n;
     solve(blocks, edges, leaves, passes, words, work);
-    flow::copy_rows(
+    words::copy_from(
         out,
         0,
         work,

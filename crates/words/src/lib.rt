@@ -4,6 +4,7 @@ mod search; // search.rt: binary search
 
 pub use regions::clear;
 pub use regions::copy;
+pub use regions::copy_from;
 pub use regions::copy_u32;
 pub use regions::fill;
 pub use regions::narrow;

@@ -37,6 +37,18 @@ pub fn copy(w: &mut [u64], from: usize, to: usize, n: usize)
 }
 
 // The `n` numbers of `s` from `from` on to `to`.
+pub fn copy_from(w: &mut [u64], to: usize, s: &[u64], from: usize, n: usize)
+    requires { ⌜ (to + n ≤ length (now w)) × (from + n ≤ length (now s)) ⌝ }
+    ensures { λ _. ⌜ Region (now (w .entry)) (now (w .exit)) to n (λ i. getD (now (s .entry)) (from + i) 0) ⌝ }
+{
+    let mut i = 0;
+    while i < n {
+        w[to + i] = s[from + i];
+        i += 1;
+    }
+}
+
+// The same of smaller numbers.
 pub fn widen(w: &mut [u64], to: usize, s: &[u32], from: usize, n: usize)
     requires { ⌜ (to + n ≤ length (now w)) × (from + n ≤ length (now s)) ⌝ }
     ensures { λ _. ⌜ Region (now (w .entry)) (now (w .exit)) to n (λ i. getD (now (s .entry)) (from + i) 0) ⌝ }

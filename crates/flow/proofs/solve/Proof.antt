@@ -51,8 +51,8 @@ add-components c = omega (arith, some (c .before .before .before .before .before
 components-requires : tie.Need-components-requires
 components-requires c κs = walkable (c .before .before .before .before .before .before .before .before .before .args .over) (now (c .before .before .before .before .before .before .before .before .before .args .blocks)) (now (c .before .before .before .before .before .before .before .before .before .args .edges)) (now (c .before .before .before .before .before .before .before .before .before .args .touched)) (c .before .before .before .before .before .before .before .before .before .args .words) _ _ (some (c .before .before .before .before .before .before .before .before .before)) (c .before .before .before .before .before .before .before .before .before .pre .0 .2) (c .before .before .before .before .before .before .before .before .before .pre .1) (c .before .before .before .neighbours .ensures)
 
-copy-rows-requires : tie.Need-copy-rows-requires
-copy-rows-requires c κs = (copy-fits (c .before .before .before .before .before .before .before .before .before .before .before .before .before .args .over) (now (c .before .before .before .before .before .before .before .before .before .before .before .before .before .args .blocks)) (now (c .before .before .before .before .before .before .before .before .before .before .before .before .before .args .edges)) (now (c .before .before .before .before .before .before .before .before .before .before .before .before .before .args .touched)) (c .before .before .before .before .before .before .before .before .before .before .before .before .before .args .words) _ _ (some (c .before .before .before .before .before .before .before .before .before .before .before .before .before)) (c .before .before .before .before .before .before .before .before .before .before .before .before .before .pre .0 .2) (c .before .before .before .before .before .before .before .before .before .before .before .before .before .pre .1) (c .before .before .before .before .before .before .before .neighbours .ensures) (c .before .before .before .components .ensures), omega arith)
+copy-from-requires : tie.Need-copy-from-requires
+copy-from-requires c κs = (copy-fits (c .before .before .before .before .before .before .before .before .before .before .before .before .before .args .over) (now (c .before .before .before .before .before .before .before .before .before .before .before .before .before .args .blocks)) (now (c .before .before .before .before .before .before .before .before .before .before .before .before .before .args .edges)) (now (c .before .before .before .before .before .before .before .before .before .before .before .before .before .args .touched)) (c .before .before .before .before .before .before .before .before .before .before .before .before .before .args .words) _ _ (some (c .before .before .before .before .before .before .before .before .before .before .before .before .before)) (c .before .before .before .before .before .before .before .before .before .before .before .before .before .pre .0 .2) (c .before .before .before .before .before .before .before .before .before .before .before .before .before .pre .1) (c .before .before .before .before .before .before .before .neighbours .ensures) (c .before .before .before .components .ensures), omega arith)
 
 add-t11 : tie.Need-add-t11
 add-t11 c = omega (arith, some (c .before .before .before .before .before .before .before .before .before .before .before .before .before .before .before .before .before))
@@ -61,13 +61,13 @@ add-t14 : tie.Need-add-t14
 add-t14 c = omega (arith, some (c .before .before .before .before .before .before .before .before .before .before .before .before .before .before .before .before .before))
 
 flowed-requires : tie.Need-flowed-requires
-flowed-requires c κs = (laid (c .before .before .before .before .before .before .before .before .before .before .before .before .before .before .before .before .before .args .over) (now (c .before .before .before .before .before .before .before .before .before .before .before .before .before .before .before .before .before .args .blocks)) (now (c .before .before .before .before .before .before .before .before .before .before .before .before .before .before .before .before .before .args .edges)) (now (c .before .before .before .before .before .before .before .before .before .before .before .before .before .before .before .before .before .args .touched)) (c .before .before .before .before .before .before .before .before .before .before .before .before .before .before .before .before .before .args .words) _ _ (some (c .before .before .before .before .before .before .before .before .before .before .before .before .before .before .before .before .before)) (c .before .before .before .before .before .before .before .before .before .before .before .before .before .before .before .before .before .pre .0 .2) (c .before .before .before .before .before .before .before .before .before .before .before .before .before .before .before .before .before .pre .1) (c .before .before .before .before .before .before .before .before .before .before .before .neighbours .ensures) (c .before .before .before .before .before .before .before .components .ensures) (c .before .before .before .copy-rows .ensures), ordered (c .before .before .before .before .before .before .before .before .before .before .before .before .before .before .before .before .before .args .over) (now (c .before .before .before .before .before .before .before .before .before .before .before .before .before .before .before .before .before .args .blocks)) (now (c .before .before .before .before .before .before .before .before .before .before .before .before .before .before .before .before .before .args .edges)) (now (c .before .before .before .before .before .before .before .before .before .before .before .before .before .before .before .before .before .args .touched)) (c .before .before .before .before .before .before .before .before .before .before .before .before .before .before .before .before .before .args .words) _ _ (some (c .before .before .before .before .before .before .before .before .before .before .before .before .before .before .before .before .before)) (c .before .before .before .before .before .before .before .before .before .before .before .before .before .before .before .before .before .pre .0 .2) (c .before .before .before .before .before .before .before .before .before .before .before .before .before .before .before .before .before .pre .1) (c .before .before .before .before .before .before .before .before .before .before .before .neighbours .ensures) (c .before .before .before .before .before .before .before .components .ensures) (c .before .before .before .copy-rows .ensures))
+flowed-requires c κs = (laid (c .before .before .before .before .before .before .before .before .before .before .before .before .before .before .before .before .before .args .over) (now (c .before .before .before .before .before .before .before .before .before .before .before .before .before .before .before .before .before .args .blocks)) (now (c .before .before .before .before .before .before .before .before .before .before .before .before .before .before .before .before .before .args .edges)) (now (c .before .before .before .before .before .before .before .before .before .before .before .before .before .before .before .before .before .args .touched)) (c .before .before .before .before .before .before .before .before .before .before .before .before .before .before .before .before .before .args .words) _ _ (some (c .before .before .before .before .before .before .before .before .before .before .before .before .before .before .before .before .before)) (c .before .before .before .before .before .before .before .before .before .before .before .before .before .before .before .before .before .pre .0 .2) (c .before .before .before .before .before .before .before .before .before .before .before .before .before .before .before .before .before .pre .1) (c .before .before .before .before .before .before .before .before .before .before .before .neighbours .ensures) (c .before .before .before .before .before .before .before .components .ensures) (c .before .before .before .copy-from .ensures), ordered (c .before .before .before .before .before .before .before .before .before .before .before .before .before .before .before .before .before .args .over) (now (c .before .before .before .before .before .before .before .before .before .before .before .before .before .before .before .before .before .args .blocks)) (now (c .before .before .before .before .before .before .before .before .before .before .before .before .before .before .before .before .before .args .edges)) (now (c .before .before .before .before .before .before .before .before .before .before .before .before .before .before .before .before .before .args .touched)) (c .before .before .before .before .before .before .before .before .before .before .before .before .before .before .before .before .before .args .words) _ _ (some (c .before .before .before .before .before .before .before .before .before .before .before .before .before .before .before .before .before)) (c .before .before .before .before .before .before .before .before .before .before .before .before .before .before .before .before .before .pre .0 .2) (c .before .before .before .before .before .before .before .before .before .before .before .before .before .before .before .before .before .pre .1) (c .before .before .before .before .before .before .before .before .before .before .before .neighbours .ensures) (c .before .before .before .before .before .before .before .components .ensures) (c .before .before .before .copy-from .ensures))
 
 same-length : tie.Need-same-length
-same-length c = c .before .before .flowed .ensures .kept .len ∙ c .before .before .before .before .before .before .copy-rows .ensures .len ∙ c .before .before .before .before .before .before .before .before .before .before .components .ensures .kept .len ∙ c .before .before .before .before .before .before .before .before .before .before .before .before .before .before .neighbours .ensures .kept .len
+same-length c = c .before .before .flowed .ensures .kept .len ∙ c .before .before .before .before .before .before .copy-from .ensures .len ∙ c .before .before .before .before .before .before .before .before .before .before .components .ensures .kept .len ∙ c .before .before .before .before .before .before .before .before .before .before .before .before .before .before .neighbours .ensures .kept .len
 
 returns : tie.Need-returns
-returns c = solved (c .before .before .before .before .before .before .before .before .before .before .before .before .before .before .before .before .before .before .before .before .args .over) (now (c .before .before .before .before .before .before .before .before .before .before .before .before .before .before .before .before .before .before .before .before .args .blocks)) (now (c .before .before .before .before .before .before .before .before .before .before .before .before .before .before .before .before .before .before .before .before .args .edges)) (now (c .before .before .before .before .before .before .before .before .before .before .before .before .before .before .before .before .before .before .before .before .args .touched)) (c .before .before .before .before .before .before .before .before .before .before .before .before .before .before .before .before .before .before .before .before .args .words) _ _ (some (c .before .before .before .before .before .before .before .before .before .before .before .before .before .before .before .before .before .before .before .before)) (c .before .before .before .before .before .before .before .before .before .before .before .before .before .before .before .before .before .before .before .before .pre .0 .2) (c .before .before .before .before .before .before .before .before .before .before .before .before .before .before .before .before .before .before .before .before .pre .1) (c .before .before .before .before .before .before .before .before .before .before .before .before .before .before .neighbours .ensures) (c .before .before .before .before .before .before .before .before .before .before .components .ensures) (c .before .before .before .before .before .before .copy-rows .ensures) (c .before .before .flowed .ensures)
+returns c = solved (c .before .before .before .before .before .before .before .before .before .before .before .before .before .before .before .before .before .before .before .before .args .over) (now (c .before .before .before .before .before .before .before .before .before .before .before .before .before .before .before .before .before .before .before .before .args .blocks)) (now (c .before .before .before .before .before .before .before .before .before .before .before .before .before .before .before .before .before .before .before .before .args .edges)) (now (c .before .before .before .before .before .before .before .before .before .before .before .before .before .before .before .before .before .before .before .before .args .touched)) (c .before .before .before .before .before .before .before .before .before .before .before .before .before .before .before .before .before .before .before .before .args .words) _ _ (some (c .before .before .before .before .before .before .before .before .before .before .before .before .before .before .before .before .before .before .before .before)) (c .before .before .before .before .before .before .before .before .before .before .before .before .before .before .before .before .before .before .before .before .pre .0 .2) (c .before .before .before .before .before .before .before .before .before .before .before .before .before .before .before .before .before .before .before .before .pre .1) (c .before .before .before .before .before .before .before .before .before .before .before .before .before .before .neighbours .ensures) (c .before .before .before .before .before .before .before .before .before .before .components .ensures) (c .before .before .before .before .before .before .copy-from .ensures) (c .before .before .flowed .ensures)
 
 pub solve-spec : {M : Type 1} → statement M
 solve-spec =
@@ -86,7 +86,7 @@ solve-spec =
     neighbours-requires
     add-components
     components-requires
-    copy-rows-requires
+    copy-from-requires
     add-t11
     add-t14
     flowed-requires

@@ -33,14 +33,14 @@ add-lent-2 c = omega (arith, some (c .before .before .before .before .before))
 prepare-requires : tie.Need-prepare-requires
 prepare-requires c κs = ((c .before .before .before .before .before .before .pre .0 .0, c .before .before .before .before .before .before .pre .0 .1), omega arith)
 
-copy-rows-requires : tie.Need-copy-rows-requires
-copy-rows-requires c κs = (omega (arith, room (now (c .before .before .before .before .before .before .before .before .before .before .args .blocks)) (now (c .before .before .before .before .before .before .before .before .before .before .args .edges)) (now (c .before .before .before .before .before .before .before .before .before .before .args .leaves)) (now (c .before .before .before .before .before .before .before .before .before .before .args .passes)) (c .before .before .before .before .before .before .before .before .before .before .args .words) _ _ (c .before .before .before .before .before .before .before .before .before .before .pre .0 .2) (some (c .before .before .before .before .before .before .before .before .before .before)) (c .before .before .before .before .before .before .before .before .before .before .pre .1 .0 .0) (c .before .before .before .before .before .before .before .before .before .before .pre .1 .0 .1) (c .before .before .before .before .before .before .before .before .before .before .pre .1 .1) (c .before .before .before .prepare .ensures)), omega arith)
+copy-from-requires : tie.Need-copy-from-requires
+copy-from-requires c κs = (omega (arith, room (now (c .before .before .before .before .before .before .before .before .before .before .args .blocks)) (now (c .before .before .before .before .before .before .before .before .before .before .args .edges)) (now (c .before .before .before .before .before .before .before .before .before .before .args .leaves)) (now (c .before .before .before .before .before .before .before .before .before .before .args .passes)) (c .before .before .before .before .before .before .before .before .before .before .args .words) _ _ (c .before .before .before .before .before .before .before .before .before .before .pre .0 .2) (some (c .before .before .before .before .before .before .before .before .before .before)) (c .before .before .before .before .before .before .before .before .before .before .pre .1 .0 .0) (c .before .before .before .before .before .before .before .before .before .before .pre .1 .0 .1) (c .before .before .before .before .before .before .before .before .before .before .pre .1 .1) (c .before .before .before .prepare .ensures)), omega arith)
 
-add-copy-rows : tie.Need-add-copy-rows
-add-copy-rows c = omega (arith, some (c .before .before .before .before .before .before .before .before .before .before .before .before .before .before))
+add-copy-from : tie.Need-add-copy-from
+add-copy-from c = omega (arith, some (c .before .before .before .before .before .before .before .before .before .before .before .before .before .before))
 
-copy-rows-requires-2 : tie.Need-copy-rows-requires-2
-copy-rows-requires-2 c κs = (omega (arith, room (now (c .before .before .before .before .before .before .before .before .before .before .before .before .before .before .args .blocks)) (now (c .before .before .before .before .before .before .before .before .before .before .before .before .before .before .args .edges)) (now (c .before .before .before .before .before .before .before .before .before .before .before .before .before .before .args .leaves)) (now (c .before .before .before .before .before .before .before .before .before .before .before .before .before .before .args .passes)) (c .before .before .before .before .before .before .before .before .before .before .before .before .before .before .args .words) _ _ (c .before .before .before .before .before .before .before .before .before .before .before .before .before .before .pre .0 .2) (some (c .before .before .before .before .before .before .before .before .before .before .before .before .before .before)) (c .before .before .before .before .before .before .before .before .before .before .before .before .before .before .pre .1 .0 .0) (c .before .before .before .before .before .before .before .before .before .before .before .before .before .before .pre .1 .0 .1) (c .before .before .before .before .before .before .before .before .before .before .before .before .before .before .pre .1 .1) (c .before .before .before .before .before .before .before .prepare .ensures), c .before .before .before .copy-rows .ensures .len), omega (arith, c .before .before .before .before .before .before .before .before .before .before .before .before .before .before .pre .1 .0))
+copy-from-requires-2 : tie.Need-copy-from-requires-2
+copy-from-requires-2 c κs = (omega (arith, room (now (c .before .before .before .before .before .before .before .before .before .before .before .before .before .before .args .blocks)) (now (c .before .before .before .before .before .before .before .before .before .before .before .before .before .before .args .edges)) (now (c .before .before .before .before .before .before .before .before .before .before .before .before .before .before .args .leaves)) (now (c .before .before .before .before .before .before .before .before .before .before .before .before .before .before .args .passes)) (c .before .before .before .before .before .before .before .before .before .before .before .before .before .before .args .words) _ _ (c .before .before .before .before .before .before .before .before .before .before .before .before .before .before .pre .0 .2) (some (c .before .before .before .before .before .before .before .before .before .before .before .before .before .before)) (c .before .before .before .before .before .before .before .before .before .before .before .before .before .before .pre .1 .0 .0) (c .before .before .before .before .before .before .before .before .before .before .before .before .before .before .pre .1 .0 .1) (c .before .before .before .before .before .before .before .before .before .before .before .before .before .before .pre .1 .1) (c .before .before .before .before .before .before .before .prepare .ensures), c .before .before .before .copy-from .ensures .len), omega (arith, c .before .before .before .before .before .before .before .before .before .before .before .before .before .before .pre .1 .0))
 
 add-t12 : tie.Need-add-t12
 add-t12 c = omega (arith, some (c .before .before .before .before .before .before .before .before .before .before .before .before .before .before .before .before .before .before))
@@ -58,13 +58,13 @@ add-t27 : tie.Need-add-t27
 add-t27 c = omega (arith, some (c .before .before .before .before .before .before .before .before .before .before .before .before .before .before .before .before .before .before))
 
 spread-requires : tie.Need-spread-requires
-spread-requires c κs = laid (now (c .before .before .before .before .before .before .before .before .before .before .before .before .before .before .before .before .before .before .args .blocks)) (now (c .before .before .before .before .before .before .before .before .before .before .before .before .before .before .before .before .before .before .args .edges)) (now (c .before .before .before .before .before .before .before .before .before .before .before .before .before .before .before .before .before .before .args .leaves)) (now (c .before .before .before .before .before .before .before .before .before .before .before .before .before .before .before .before .before .before .args .passes)) (c .before .before .before .before .before .before .before .before .before .before .before .before .before .before .before .before .before .before .args .words) _ _ (c .before .before .before .before .before .before .before .before .before .before .before .before .before .before .before .before .before .before .pre .0 .2) (some (c .before .before .before .before .before .before .before .before .before .before .before .before .before .before .before .before .before .before)) (c .before .before .before .before .before .before .before .before .before .before .before .before .before .before .before .before .before .before .pre .1 .0 .0) (c .before .before .before .before .before .before .before .before .before .before .before .before .before .before .before .before .before .before .pre .1 .0 .1) (c .before .before .before .before .before .before .before .before .before .before .before .before .before .before .before .before .before .before .pre .1 .1) (c .before .before .before .before .before .before .before .before .before .before .before .prepare .ensures) (c .before .before .before .before .before .before .before .copy-rows .ensures) (c .before .before .before .copy-rows2 .ensures)
+spread-requires c κs = laid (now (c .before .before .before .before .before .before .before .before .before .before .before .before .before .before .before .before .before .before .args .blocks)) (now (c .before .before .before .before .before .before .before .before .before .before .before .before .before .before .before .before .before .before .args .edges)) (now (c .before .before .before .before .before .before .before .before .before .before .before .before .before .before .before .before .before .before .args .leaves)) (now (c .before .before .before .before .before .before .before .before .before .before .before .before .before .before .before .before .before .before .args .passes)) (c .before .before .before .before .before .before .before .before .before .before .before .before .before .before .before .before .before .before .args .words) _ _ (c .before .before .before .before .before .before .before .before .before .before .before .before .before .before .before .before .before .before .pre .0 .2) (some (c .before .before .before .before .before .before .before .before .before .before .before .before .before .before .before .before .before .before)) (c .before .before .before .before .before .before .before .before .before .before .before .before .before .before .before .before .before .before .pre .1 .0 .0) (c .before .before .before .before .before .before .before .before .before .before .before .before .before .before .before .before .before .before .pre .1 .0 .1) (c .before .before .before .before .before .before .before .before .before .before .before .before .before .before .before .before .before .before .pre .1 .1) (c .before .before .before .before .before .before .before .before .before .before .before .prepare .ensures) (c .before .before .before .before .before .before .before .copy-from .ensures) (c .before .before .before .copy-from2 .ensures)
 
 same-length : tie.Need-same-length
-same-length c = c .before .before .spread .ensures .kept .len ∙ c .before .before .before .before .before .before .copy-rows2 .ensures .len ∙ c .before .before .before .before .before .before .before .before .before .before .copy-rows .ensures .len ∙ c .before .before .before .before .before .before .before .before .before .before .before .before .before .before .prepare .ensures .kept .len
+same-length c = c .before .before .spread .ensures .kept .len ∙ c .before .before .before .before .before .before .copy-from2 .ensures .len ∙ c .before .before .before .before .before .before .before .before .before .before .copy-from .ensures .len ∙ c .before .before .before .before .before .before .before .before .before .before .before .before .before .before .prepare .ensures .kept .len
 
 returns : tie.Need-returns
-returns c = solved (now (c .before .before .before .before .before .before .before .before .before .before .before .before .before .before .before .before .before .before .before .before .before .args .blocks)) (now (c .before .before .before .before .before .before .before .before .before .before .before .before .before .before .before .before .before .before .before .before .before .args .edges)) (now (c .before .before .before .before .before .before .before .before .before .before .before .before .before .before .before .before .before .before .before .before .before .args .leaves)) (now (c .before .before .before .before .before .before .before .before .before .before .before .before .before .before .before .before .before .before .before .before .before .args .passes)) (c .before .before .before .before .before .before .before .before .before .before .before .before .before .before .before .before .before .before .before .before .before .args .words) _ _ (c .before .before .before .before .before .before .before .before .before .before .before .before .before .before .before .before .before .before .before .before .before .pre .0 .2) (some (c .before .before .before .before .before .before .before .before .before .before .before .before .before .before .before .before .before .before .before .before .before)) (c .before .before .before .before .before .before .before .before .before .before .before .before .before .before .before .before .before .before .before .before .before .pre .1 .0 .0) (c .before .before .before .before .before .before .before .before .before .before .before .before .before .before .before .before .before .before .before .before .before .pre .1 .0 .1) (c .before .before .before .before .before .before .before .before .before .before .before .before .before .before .before .before .before .before .before .before .before .pre .1 .1) (c .before .before .before .before .before .before .before .before .before .before .before .before .before .before .prepare .ensures) (c .before .before .before .before .before .before .before .before .before .before .copy-rows .ensures) (c .before .before .before .before .before .before .copy-rows2 .ensures) (c .before .before .spread .ensures)
+returns c = solved (now (c .before .before .before .before .before .before .before .before .before .before .before .before .before .before .before .before .before .before .before .before .before .args .blocks)) (now (c .before .before .before .before .before .before .before .before .before .before .before .before .before .before .before .before .before .before .before .before .before .args .edges)) (now (c .before .before .before .before .before .before .before .before .before .before .before .before .before .before .before .before .before .before .before .before .before .args .leaves)) (now (c .before .before .before .before .before .before .before .before .before .before .before .before .before .before .before .before .before .before .before .before .before .args .passes)) (c .before .before .before .before .before .before .before .before .before .before .before .before .before .before .before .before .before .before .before .before .before .args .words) _ _ (c .before .before .before .before .before .before .before .before .before .before .before .before .before .before .before .before .before .before .before .before .before .pre .0 .2) (some (c .before .before .before .before .before .before .before .before .before .before .before .before .before .before .before .before .before .before .before .before .before)) (c .before .before .before .before .before .before .before .before .before .before .before .before .before .before .before .before .before .before .before .before .before .pre .1 .0 .0) (c .before .before .before .before .before .before .before .before .before .before .before .before .before .before .before .before .before .before .before .before .before .pre .1 .0 .1) (c .before .before .before .before .before .before .before .before .before .before .before .before .before .before .before .before .before .before .before .before .before .pre .1 .1) (c .before .before .before .before .before .before .before .before .before .before .before .before .before .before .prepare .ensures) (c .before .before .before .before .before .before .before .before .before .before .copy-from .ensures) (c .before .before .before .before .before .before .copy-from2 .ensures) (c .before .before .spread .ensures)
 
 pub solve-spec : {M : Type 1} → statement M
 solve-spec =
@@ -77,9 +77,9 @@ solve-spec =
     add-lent
     add-lent-2
     prepare-requires
-    copy-rows-requires
-    add-copy-rows
-    copy-rows-requires-2
+    copy-from-requires
+    add-copy-from
+    copy-from-requires-2
     add-t12
     add-t13
     add-t23

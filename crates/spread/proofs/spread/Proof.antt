@@ -42,20 +42,20 @@ add-lent-6 c = let k = known (now (c .before .before .before .before .before .be
 solve-requires : tie.Need-solve-requires
 solve-requires c κs = let k = known (now (c .before .before .before .before .before .before .before .before .before .before .args .blocks)) (now (c .before .before .before .before .before .before .before .before .before .before .args .edges)) (c .before .before .before .before .before .before .before .before .before .before .args .points) (length (now (c .before .before .before .before .before .before .before .before .before .before .args .leaves))) (length (now (c .before .before .before .before .before .before .before .before .before .before .args .passes))) (c .before .before .before .before .before .before .before .before .before .before .args .words) (length (now (c .before .before .before .before .before .before .before .before .before .before .args .out))) (length (now (c .before .before .before .before .before .before .before .before .before .before .args .work))) (sym (c .before .before .before .refusal .ensures) ∙ c .before .enum-told .given .1) in ((k .rest .graph .sound, k .rest .graph .edges-fine, k .rest .graph .counts .few), ((k .rest .rows, k .passing-rows), k .rest .work-fits))
 
-add-copy-rows : tie.Need-add-copy-rows
-add-copy-rows c = let k = known (now (c .before .before .before .before .before .before .before .before .before .before .before .before .before .before .before .args .blocks)) (now (c .before .before .before .before .before .before .before .before .before .before .before .before .before .before .before .args .edges)) (c .before .before .before .before .before .before .before .before .before .before .before .before .before .before .before .args .points) (length (now (c .before .before .before .before .before .before .before .before .before .before .before .before .before .before .before .args .leaves))) (length (now (c .before .before .before .before .before .before .before .before .before .before .before .before .before .before .before .args .passes))) (c .before .before .before .before .before .before .before .before .before .before .before .before .before .before .before .args .words) (length (now (c .before .before .before .before .before .before .before .before .before .before .before .before .before .before .before .args .out))) (length (now (c .before .before .before .before .before .before .before .before .before .before .before .before .before .before .before .args .work))) (sym (c .before .before .before .before .before .before .before .before .refusal .ensures) ∙ c .before .before .before .before .before .before .enum-told .given .1) .rest in omega (arith, k .work-fits, k .graph .counts .few, k .graph .counts .some)
+add-copy-from : tie.Need-add-copy-from
+add-copy-from c = let k = known (now (c .before .before .before .before .before .before .before .before .before .before .before .before .before .before .before .args .blocks)) (now (c .before .before .before .before .before .before .before .before .before .before .before .before .before .before .before .args .edges)) (c .before .before .before .before .before .before .before .before .before .before .before .before .before .before .before .args .points) (length (now (c .before .before .before .before .before .before .before .before .before .before .before .before .before .before .before .args .leaves))) (length (now (c .before .before .before .before .before .before .before .before .before .before .before .before .before .before .before .args .passes))) (c .before .before .before .before .before .before .before .before .before .before .before .before .before .before .before .args .words) (length (now (c .before .before .before .before .before .before .before .before .before .before .before .before .before .before .before .args .out))) (length (now (c .before .before .before .before .before .before .before .before .before .before .before .before .before .before .before .args .work))) (sym (c .before .before .before .before .before .before .before .before .refusal .ensures) ∙ c .before .before .before .before .before .before .enum-told .given .1) .rest in omega (arith, k .work-fits, k .graph .counts .few, k .graph .counts .some)
 
-add-copy-rows-2 : tie.Need-add-copy-rows-2
-add-copy-rows-2 c = let k = known (now (c .before .before .before .before .before .before .before .before .before .before .before .before .before .before .before .args .blocks)) (now (c .before .before .before .before .before .before .before .before .before .before .before .before .before .before .before .args .edges)) (c .before .before .before .before .before .before .before .before .before .before .before .before .before .before .before .args .points) (length (now (c .before .before .before .before .before .before .before .before .before .before .before .before .before .before .before .args .leaves))) (length (now (c .before .before .before .before .before .before .before .before .before .before .before .before .before .before .before .args .passes))) (c .before .before .before .before .before .before .before .before .before .before .before .before .before .before .before .args .words) (length (now (c .before .before .before .before .before .before .before .before .before .before .before .before .before .before .before .args .out))) (length (now (c .before .before .before .before .before .before .before .before .before .before .before .before .before .before .before .args .work))) (sym (c .before .before .before .before .before .before .before .before .refusal .ensures) ∙ c .before .before .before .before .before .before .enum-told .given .1) .rest in omega (arith, k .work-fits, k .graph .counts .few, k .graph .counts .some)
+add-copy-from-2 : tie.Need-add-copy-from-2
+add-copy-from-2 c = let k = known (now (c .before .before .before .before .before .before .before .before .before .before .before .before .before .before .before .args .blocks)) (now (c .before .before .before .before .before .before .before .before .before .before .before .before .before .before .before .args .edges)) (c .before .before .before .before .before .before .before .before .before .before .before .before .before .before .before .args .points) (length (now (c .before .before .before .before .before .before .before .before .before .before .before .before .before .before .before .args .leaves))) (length (now (c .before .before .before .before .before .before .before .before .before .before .before .before .before .before .before .args .passes))) (c .before .before .before .before .before .before .before .before .before .before .before .before .before .before .before .args .words) (length (now (c .before .before .before .before .before .before .before .before .before .before .before .before .before .before .before .args .out))) (length (now (c .before .before .before .before .before .before .before .before .before .before .before .before .before .before .before .args .work))) (sym (c .before .before .before .before .before .before .before .before .refusal .ensures) ∙ c .before .before .before .before .before .before .enum-told .given .1) .rest in omega (arith, k .work-fits, k .graph .counts .few, k .graph .counts .some)
 
-add-copy-rows-3 : tie.Need-add-copy-rows-3
-add-copy-rows-3 c = let k = known (now (c .before .before .before .before .before .before .before .before .before .before .before .before .before .before .before .args .blocks)) (now (c .before .before .before .before .before .before .before .before .before .before .before .before .before .before .before .args .edges)) (c .before .before .before .before .before .before .before .before .before .before .before .before .before .before .before .args .points) (length (now (c .before .before .before .before .before .before .before .before .before .before .before .before .before .before .before .args .leaves))) (length (now (c .before .before .before .before .before .before .before .before .before .before .before .before .before .before .before .args .passes))) (c .before .before .before .before .before .before .before .before .before .before .before .before .before .before .before .args .words) (length (now (c .before .before .before .before .before .before .before .before .before .before .before .before .before .before .before .args .out))) (length (now (c .before .before .before .before .before .before .before .before .before .before .before .before .before .before .before .args .work))) (sym (c .before .before .before .before .before .before .before .before .refusal .ensures) ∙ c .before .before .before .before .before .before .enum-told .given .1) .rest in omega (arith, k .work-fits, k .graph .counts .few, k .graph .counts .some)
+add-copy-from-3 : tie.Need-add-copy-from-3
+add-copy-from-3 c = let k = known (now (c .before .before .before .before .before .before .before .before .before .before .before .before .before .before .before .args .blocks)) (now (c .before .before .before .before .before .before .before .before .before .before .before .before .before .before .before .args .edges)) (c .before .before .before .before .before .before .before .before .before .before .before .before .before .before .before .args .points) (length (now (c .before .before .before .before .before .before .before .before .before .before .before .before .before .before .before .args .leaves))) (length (now (c .before .before .before .before .before .before .before .before .before .before .before .before .before .before .before .args .passes))) (c .before .before .before .before .before .before .before .before .before .before .before .before .before .before .before .args .words) (length (now (c .before .before .before .before .before .before .before .before .before .before .before .before .before .before .before .args .out))) (length (now (c .before .before .before .before .before .before .before .before .before .before .before .before .before .before .before .args .work))) (sym (c .before .before .before .before .before .before .before .before .refusal .ensures) ∙ c .before .before .before .before .before .before .enum-told .given .1) .rest in omega (arith, k .work-fits, k .graph .counts .few, k .graph .counts .some)
 
-add-copy-rows-4 : tie.Need-add-copy-rows-4
-add-copy-rows-4 c = let k = known (now (c .before .before .before .before .before .before .before .before .before .before .before .before .before .before .before .args .blocks)) (now (c .before .before .before .before .before .before .before .before .before .before .before .before .before .before .before .args .edges)) (c .before .before .before .before .before .before .before .before .before .before .before .before .before .before .before .args .points) (length (now (c .before .before .before .before .before .before .before .before .before .before .before .before .before .before .before .args .leaves))) (length (now (c .before .before .before .before .before .before .before .before .before .before .before .before .before .before .before .args .passes))) (c .before .before .before .before .before .before .before .before .before .before .before .before .before .before .before .args .words) (length (now (c .before .before .before .before .before .before .before .before .before .before .before .before .before .before .before .args .out))) (length (now (c .before .before .before .before .before .before .before .before .before .before .before .before .before .before .before .args .work))) (sym (c .before .before .before .before .before .before .before .before .refusal .ensures) ∙ c .before .before .before .before .before .before .enum-told .given .1) .rest in omega (arith, k .work-fits, k .graph .counts .few, k .graph .counts .some)
+add-copy-from-4 : tie.Need-add-copy-from-4
+add-copy-from-4 c = let k = known (now (c .before .before .before .before .before .before .before .before .before .before .before .before .before .before .before .args .blocks)) (now (c .before .before .before .before .before .before .before .before .before .before .before .before .before .before .before .args .edges)) (c .before .before .before .before .before .before .before .before .before .before .before .before .before .before .before .args .points) (length (now (c .before .before .before .before .before .before .before .before .before .before .before .before .before .before .before .args .leaves))) (length (now (c .before .before .before .before .before .before .before .before .before .before .before .before .before .before .before .args .passes))) (c .before .before .before .before .before .before .before .before .before .before .before .before .before .before .before .args .words) (length (now (c .before .before .before .before .before .before .before .before .before .before .before .before .before .before .before .args .out))) (length (now (c .before .before .before .before .before .before .before .before .before .before .before .before .before .before .before .args .work))) (sym (c .before .before .before .before .before .before .before .before .refusal .ensures) ∙ c .before .before .before .before .before .before .enum-told .given .1) .rest in omega (arith, k .work-fits, k .graph .counts .few, k .graph .counts .some)
 
-copy-rows-requires : tie.Need-copy-rows-requires
-copy-rows-requires c κs = let k = known (now (c .before .before .before .before .before .before .before .before .before .before .before .before .before .before .before .args .blocks)) (now (c .before .before .before .before .before .before .before .before .before .before .before .before .before .before .before .args .edges)) (c .before .before .before .before .before .before .before .before .before .before .before .before .before .before .before .args .points) (length (now (c .before .before .before .before .before .before .before .before .before .before .before .before .before .before .before .args .leaves))) (length (now (c .before .before .before .before .before .before .before .before .before .before .before .before .before .before .before .args .passes))) (c .before .before .before .before .before .before .before .before .before .before .before .before .before .before .before .args .words) (length (now (c .before .before .before .before .before .before .before .before .before .before .before .before .before .before .before .args .out))) (length (now (c .before .before .before .before .before .before .before .before .before .before .before .before .before .before .before .args .work))) (sym (c .before .before .before .before .before .before .before .before .refusal .ensures) ∙ c .before .before .before .before .before .before .enum-told .given .1) .rest in (omega (arith, k .answer-fits), omega (arith, k .work-fits, k .graph .counts .some, c .before .before .before .before .solve .ensures .kept .len))
+copy-from-requires : tie.Need-copy-from-requires
+copy-from-requires c κs = let k = known (now (c .before .before .before .before .before .before .before .before .before .before .before .before .before .before .before .args .blocks)) (now (c .before .before .before .before .before .before .before .before .before .before .before .before .before .before .before .args .edges)) (c .before .before .before .before .before .before .before .before .before .before .before .before .before .before .before .args .points) (length (now (c .before .before .before .before .before .before .before .before .before .before .before .before .before .before .before .args .leaves))) (length (now (c .before .before .before .before .before .before .before .before .before .before .before .before .before .before .before .args .passes))) (c .before .before .before .before .before .before .before .before .before .before .before .before .before .before .before .args .words) (length (now (c .before .before .before .before .before .before .before .before .before .before .before .before .before .before .before .args .out))) (length (now (c .before .before .before .before .before .before .before .before .before .before .before .before .before .before .before .args .work))) (sym (c .before .before .before .before .before .before .before .before .refusal .ensures) ∙ c .before .before .before .before .before .before .enum-told .given .1) .rest in (omega (arith, k .answer-fits), omega (arith, k .work-fits, k .graph .counts .some, c .before .before .before .before .solve .ensures .kept .len))
 
 add-clear : tie.Need-add-clear
 add-clear c = let k = known (now (c .before .before .before .before .before .before .before .before .before .before .before .before .before .before .before .before .before .before .before .args .blocks)) (now (c .before .before .before .before .before .before .before .before .before .before .before .before .before .before .before .before .before .before .before .args .edges)) (c .before .before .before .before .before .before .before .before .before .before .before .before .before .before .before .before .before .before .before .args .points) (length (now (c .before .before .before .before .before .before .before .before .before .before .before .before .before .before .before .before .before .before .before .args .leaves))) (length (now (c .before .before .before .before .before .before .before .before .before .before .before .before .before .before .before .before .before .before .before .args .passes))) (c .before .before .before .before .before .before .before .before .before .before .before .before .before .before .before .before .before .before .before .args .words) (length (now (c .before .before .before .before .before .before .before .before .before .before .before .before .before .before .before .before .before .before .before .args .out))) (length (now (c .before .before .before .before .before .before .before .before .before .before .before .before .before .before .before .before .before .before .before .args .work))) (sym (c .before .before .before .before .before .before .before .before .before .before .before .before .refusal .ensures) ∙ c .before .before .before .before .before .before .before .before .before .before .enum-told .given .1) .rest in omega (arith, k .work-fits, k .graph .counts .few, k .graph .counts .some)
@@ -70,13 +70,13 @@ clear-requires : tie.Need-clear-requires
 clear-requires c κs = let k = known (now (c .before .before .before .before .before .before .before .before .before .before .before .before .before .before .before .before .before .before .before .args .blocks)) (now (c .before .before .before .before .before .before .before .before .before .before .before .before .before .before .before .before .before .before .before .args .edges)) (c .before .before .before .before .before .before .before .before .before .before .before .before .before .before .before .before .before .before .before .args .points) (length (now (c .before .before .before .before .before .before .before .before .before .before .before .before .before .before .before .before .before .before .before .args .leaves))) (length (now (c .before .before .before .before .before .before .before .before .before .before .before .before .before .before .before .before .before .before .before .args .passes))) (c .before .before .before .before .before .before .before .before .before .before .before .before .before .before .before .before .before .before .before .args .words) (length (now (c .before .before .before .before .before .before .before .before .before .before .before .before .before .before .before .before .before .before .before .args .out))) (length (now (c .before .before .before .before .before .before .before .before .before .before .before .before .before .before .before .before .before .before .before .args .work))) (sym (c .before .before .before .before .before .before .before .before .before .before .before .before .refusal .ensures) ∙ c .before .before .before .before .before .before .before .before .before .before .enum-told .given .1) .rest in omega (arith, k .work-fits, c .before .before .before .before .before .before .before .before .solve .ensures .kept .len)
 
 same-length : tie.Need-same-length
-same-length c = c .before .before .before .before .before .before .copy-rows .ensures .len
+same-length c = c .before .before .before .before .before .before .copy-from .ensures .len
 
 same-length-2 : tie.Need-same-length-2
 same-length-2 c = ap length (c .before .before .clear .ensures) ∙ simp (length-append, length-replicate, length-drop) (let k = known (now (c .before .before .before .before .before .before .before .before .before .before .before .before .before .before .before .before .before .before .before .before .before .before .args .blocks)) (now (c .before .before .before .before .before .before .before .before .before .before .before .before .before .before .before .before .before .before .before .before .before .before .args .edges)) (c .before .before .before .before .before .before .before .before .before .before .before .before .before .before .before .before .before .before .before .before .before .before .args .points) (length (now (c .before .before .before .before .before .before .before .before .before .before .before .before .before .before .before .before .before .before .before .before .before .before .args .leaves))) (length (now (c .before .before .before .before .before .before .before .before .before .before .before .before .before .before .before .before .before .before .before .before .before .before .args .passes))) (c .before .before .before .before .before .before .before .before .before .before .before .before .before .before .before .before .before .before .before .before .before .before .args .words) (length (now (c .before .before .before .before .before .before .before .before .before .before .before .before .before .before .before .before .before .before .before .before .before .before .args .out))) (length (now (c .before .before .before .before .before .before .before .before .before .before .before .before .before .before .before .before .before .before .before .before .before .before .args .work))) (sym (c .before .before .before .before .before .before .before .before .before .before .before .before .before .before .before .refusal .ensures) ∙ c .before .before .before .before .before .before .before .before .before .before .before .before .before .enum-told .given .1) .rest in omega (arith, k .work-fits, c .before .before .before .before .before .before .before .before .before .before .before .solve .ensures .kept .len))
 
 returns-2 : tie.Need-returns-2
-returns-2 c = rows-given (now (c .before .before .before .before .before .before .before .before .before .before .before .before .before .before .before .before .before .before .before .before .before .before .args .blocks)) (now (c .before .before .before .before .before .before .before .before .before .before .before .before .before .before .before .before .before .before .before .before .before .before .args .edges)) (c .before .before .before .before .before .before .before .before .before .before .before .before .before .before .before .before .before .before .before .before .before .before .args .points) (now (c .before .before .before .before .before .before .before .before .before .before .before .before .before .before .before .before .before .before .before .before .before .before .args .leaves)) (now (c .before .before .before .before .before .before .before .before .before .before .before .before .before .before .before .before .before .before .before .before .before .before .args .passes)) (c .before .before .before .before .before .before .before .before .before .before .before .before .before .before .before .before .before .before .before .before .before .before .args .words) _ _ _ _ _ (sym (c .before .before .before .before .before .before .before .before .before .before .before .before .before .before .before .refusal .ensures) ∙ c .before .before .before .before .before .before .before .before .before .before .before .before .before .enum-told .given .1) (c .before .before .before .before .before .before .before .before .before .before .before .solve .ensures) (c .before .before .before .before .before .before .copy-rows .ensures) (c .before .before .clear .ensures)
+returns-2 c = rows-given (now (c .before .before .before .before .before .before .before .before .before .before .before .before .before .before .before .before .before .before .before .before .before .before .args .blocks)) (now (c .before .before .before .before .before .before .before .before .before .before .before .before .before .before .before .before .before .before .before .before .before .before .args .edges)) (c .before .before .before .before .before .before .before .before .before .before .before .before .before .before .before .before .before .before .before .before .before .before .args .points) (now (c .before .before .before .before .before .before .before .before .before .before .before .before .before .before .before .before .before .before .before .before .before .before .args .leaves)) (now (c .before .before .before .before .before .before .before .before .before .before .before .before .before .before .before .before .before .before .before .before .before .before .args .passes)) (c .before .before .before .before .before .before .before .before .before .before .before .before .before .before .before .before .before .before .before .before .before .before .args .words) _ _ _ _ _ (sym (c .before .before .before .before .before .before .before .before .before .before .before .before .before .before .before .refusal .ensures) ∙ c .before .before .before .before .before .before .before .before .before .before .before .before .before .enum-told .given .1) (c .before .before .before .before .before .before .before .before .before .before .before .solve .ensures) (c .before .before .before .before .before .before .copy-from .ensures) (c .before .before .clear .ensures)
 
 pub spread-spec : {M : Type 1} → statement M
 spread-spec =
@@ -93,11 +93,11 @@ spread-spec =
     add-lent-5
     add-lent-6
     solve-requires
-    add-copy-rows
-    add-copy-rows-2
-    add-copy-rows-3
-    add-copy-rows-4
-    copy-rows-requires
+    add-copy-from
+    add-copy-from-2
+    add-copy-from-3
+    add-copy-from-4
+    copy-from-requires
     add-clear
     add-clear-2
     mul-clear

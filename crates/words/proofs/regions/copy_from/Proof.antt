@@ -1,14 +1,14 @@
--- `flow::copy_rows` meets its contract: the first i numbers are copied.
+-- `words::regions::copy_from` meets its contract: a turn keeps `Done`.
+use Rattle.words.proofs.RegionLaws.{Done, done-start, done-more, done-all}
 use native.Mathlib.Omega.{arith}
 use Prim.Native.Nat.{_+_, _-_}
 use mathlib.Core.Path.{refl}
 use lib.ListN.{getD}
-use Rattle.flow.proofs.copy_rows.Statement.{statement}
-use Rattle.words.proofs.RegionLaws.{Done, done-start, done-more, done-all}
-use Rattle.flow.proofs.copy_rows.Tie as tie
+use Rattle.words.proofs.regions.copy_from.Statement.{statement}
+use Rattle.words.proofs.regions.copy_from.Tie as tie
 
 abbrev Inv-loop : tie.InvT-loop
-Inv-loop w₀ to s from n i₀ w i = Done w₀ w to n (λ j. getD s (from + j) 0) i
+Inv-loop w₀ to s from n i₀ w i = Done w₀ w to n (λ k. getD s (from + k) 0) i
 
 abbrev μ-loop : tie.MeasureT-loop
 μ-loop w₀ to s from n i₀ w i = n - i
@@ -44,13 +44,13 @@ loop-again : tie.Need-loop-again Inv-loop μ-loop
 loop-again c = done-more (c .before .before .loop .inv) _ _ (omega arith) refl refl
 
 same-length : tie.Need-same-length Inv-loop μ-loop
-same-length c = c .before .loop .inv .now-is .len
+same-length c = omega arith
 
 returns : tie.Need-returns Inv-loop μ-loop
-returns c = done-all (c .before .loop .inv) (omega arith)
+returns c = done-all (c .before .loop .inv) (c .loop-test .left)
 
-pub copy-rows-spec : {M : Type 1} → statement M
-copy-rows-spec =
+pub copy-from-spec : {M : Type 1} → statement M
+copy-from-spec =
     tie.close
     (tie.spec
     Inv-loop
