@@ -1,0 +1,43 @@
+-- `measure_one` meets its contract: the area is made, its item noted, and it is put behind those so far.
+use native.Mathlib.Omega.{arith}
+use Prim.Native.Nat.{_-_}
+use mathlib.Core.Path.{refl}
+use denote.Ref.{now}
+use lib.ListN.{length-set}
+use borrow.Author.Needs.{needs}
+use Rattle.area_measure.proofs.MeasureLaws.{slot-in, area-in, areas-clear, areas-in, measured}
+use Rattle.area_measure.proofs.measure_one.Statement.{statement}
+use Rattle.area_measure.proofs.measure_one.Tie as tie
+
+area-requires : tie.Need-area-requires
+area-requires c κs = ((c .before .before .before .pre) .0, (c .before .before .before .pre) .1)
+
+mul-work : tie.Need-mul-work
+mul-work c = omega (arith, (c .before .before .before .before .before .before .pre) .2 .small)
+
+add-work : tie.Need-add-work
+add-work c = omega (arith, (c .before .before .before .before .before .before .pre) .2 .small, ((c .before .before .area) .ensures) .count)
+
+add-work-2 : tie.Need-add-work-2
+add-work-2 c = omega (arith, (c .before .before .before .before .before .before .pre) .2 .small, ((c .before .before .area) .ensures) .count)
+
+add-work-3 : tie.Need-add-work-3
+add-work-3 c = omega (arith, slot-in (now ((c .before .before .before .before .before .before .before .before .args) .blocks)) ((c .before .before .before .before .before .before .before .before .args) .kind) ((c .before .before .before .before .before .before .before .before .args) .t) ((c .before .before .before .before .before .before .before .before .args) .s) ((c .before .before .before .before .before .before .before .before .args) .o) ((c .before .before .before .before .before .before .before .before .args) .total) ((c .before .before .before .before .before .before .before .before .pre) .1) ((c .before .before .before .before .before .before .before .before .pre) .2) ((c .before .before .before .before .area) .ensures))
+
+mul-work-2 : tie.Need-mul-work-2
+mul-work-2 c = omega (arith, slot-in (now ((c .before .before .before .before .before .before .before .before .args) .blocks)) ((c .before .before .before .before .before .before .before .before .args) .kind) ((c .before .before .before .before .before .before .before .before .args) .t) ((c .before .before .before .before .before .before .before .before .args) .s) ((c .before .before .before .before .before .before .before .before .args) .o) ((c .before .before .before .before .before .before .before .before .args) .total) ((c .before .before .before .before .before .before .before .before .pre) .1) ((c .before .before .before .before .before .before .before .before .pre) .2) ((c .before .before .before .before .area) .ensures))
+
+slice-write-work : tie.Need-slice-write-work
+slice-write-work c = slot-in (now ((c .before .before .before .before .before .before .before .before .args) .blocks)) ((c .before .before .before .before .before .before .before .before .args) .kind) ((c .before .before .before .before .before .before .before .before .args) .t) ((c .before .before .before .before .before .before .before .before .args) .s) ((c .before .before .before .before .before .before .before .before .args) .o) ((c .before .before .before .before .before .before .before .before .args) .total) ((c .before .before .before .before .before .before .before .before .pre) .1) ((c .before .before .before .before .before .before .before .before .pre) .2) ((c .before .before .before .before .area) .ensures)
+
+append-requires : tie.Need-append-requires
+append-requires c κs = (omega (arith, (c .before .before .before .before .before .before .before .before .before .pre) .2 .small, ((c .before .before .before .before .before .area) .ensures) .count), simp length-set (areas-in (now ((c .before .before .before .before .before .before .before .before .before .args) .blocks)) ((c .before .before .before .before .before .before .before .before .before .args) .kind) ((c .before .before .before .before .before .before .before .before .before .args) .t) ((c .before .before .before .before .before .before .before .before .before .args) .s) ((c .before .before .before .before .before .before .before .before .before .args) .o) ((c .before .before .before .before .before .before .before .before .before .args) .total) ((c .before .before .before .before .before .before .before .before .before .pre) .1) ((c .before .before .before .before .before .before .before .before .before .pre) .2) ((c .before .before .before .before .before .area) .ensures)), simp length-set (area-in (now ((c .before .before .before .before .before .before .before .before .before .args) .blocks)) ((c .before .before .before .before .before .before .before .before .before .args) .kind) ((c .before .before .before .before .before .before .before .before .before .args) .t) ((c .before .before .before .before .before .before .before .before .before .args) .s) ((c .before .before .before .before .before .before .before .before .before .args) .o) ((c .before .before .before .before .before .before .before .before .before .args) .total) ((c .before .before .before .before .before .before .before .before .before .pre) .1) ((c .before .before .before .before .before .before .before .before .before .pre) .2) ((c .before .before .before .before .before .area) .ensures)), areas-clear (now ((c .before .before .before .before .before .before .before .before .before .args) .blocks)) ((c .before .before .before .before .before .before .before .before .before .args) .kind) ((c .before .before .before .before .before .before .before .before .before .args) .t) ((c .before .before .before .before .before .before .before .before .before .args) .s) ((c .before .before .before .before .before .before .before .before .before .args) .o) ((c .before .before .before .before .before .before .before .before .before .args) .total) ((c .before .before .before .before .before .before .before .before .before .pre) .1) ((c .before .before .before .before .before .before .before .before .before .pre) .2) ((c .before .before .before .before .before .area) .ensures))
+
+returns : tie.Need-returns
+returns c = measured (now ((c .before .before .before .before .before .before .before .before .before .before .before .before .args) .blocks)) ((c .before .before .before .before .before .before .before .before .before .before .before .before .args) .kind) ((c .before .before .before .before .before .before .before .before .before .before .before .before .args) .t) ((c .before .before .before .before .before .before .before .before .before .before .before .before .args) .s) ((c .before .before .before .before .before .before .before .before .before .before .before .before .args) .o) ((c .before .before .before .before .before .before .before .before .before .before .before .before .args) .total) ((c .before .before .before .before .before .before .before .before .before .before .before .before .pre) .1) ((c .before .before .before .before .before .before .before .before .before .before .before .before .pre) .2) ((c .before .before .before .before .before .before .before .before .area) .ensures) refl ((c .before .before .append) .ensures)
+
+same-length : tie.Need-same-length
+same-length c = returns c .len
+
+pub measure-one-spec : {M : Type 1} → statement M
+measure-one-spec = tie.close (tie.spec area-requires mul-work add-work add-work-2 add-work-3 mul-work-2 slice-write-work append-requires same-length returns)
