@@ -1,1 +1,3 @@
 pub mod MeasureLaws
+pub mod ListLaws
+pub mod LocalLaws

@@ -6,6 +6,8 @@ ghost use Rattle.area_measure.specs.Measure.{Measurable, AreaIn, Listabl
 use area_pieces::Local;
 use spots::Spots;
 
+pub mod locals; // locals.rt: all locals of touches lent by themselves
+
 const HALF: u64 = 0x1_0000_0000;
 
 // Where the areas stand in the work space, with room for `room` ranges, and from `items` on a word a local: the first of its ranges and one more than

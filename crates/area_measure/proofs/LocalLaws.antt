@@ -1,0 +1,275 @@
+-- Local after local: what is fetched and measured leaves the rows of the others, and puts one area more.
+use Prim.Native.Nat.{ℕ, _+_, _-_, _*_, _/_, _%_, _^_, _≤_, _<_}
+use native.Mathlib.Nat.{mul-le-mul-right, mul-comm, mul-add}
+use native.Mathlib.Omega.{arith}
+use mathlib.Core.Path.{_≡_, refl, sym, ap, _∙_}
+use mathlib.Core.Logic.{_⊎_, inl, inr}
+use mathlib.Core.Bool.{Bool, false, _&&_}
+use mathlib.Core.Option.{Option, some}
+use mathlib.Core.List.{List}
+use lib.ListN.{length, getD}
+use Rattle.words.specs.Sort.{sortOf}
+use Rattle.words.specs.Rows.{rowCount}
+use Rattle.words.proofs.RegionLaws.{row-before}
+use Rattle.bits.specs.Bits.{bit, bitOf}
+use Rattle.ranges.specs.declared.Range.{Range}
+use Rattle.graph.specs.Paths.{Edge}
+use Rattle.graph.specs.Line.{blocksOf}
+use Rattle.graph.proofs.Line.{blocks-length}
+use Rattle.carrying.specs.Lists.{any}
+use Rattle.carrying.specs.declared.Kind.{Kind}
+use Rattle.carrying.specs.declared.Kind.the-variants.{Unfollowed, Plain, Ending}
+use Rattle.areas.specs.Blocks.{Graph, inverted}
+use Rattle.areas.specs.Job.{areaBy, rangesIn}
+use Rattle.spots.specs.declared.Spots.{Spots}
+use Rattle.spots.specs.Spots.{lineOf, touchesAt, endsAt}
+use Rattle.area_pieces.specs.Local.{blockCount}
+use Rattle.area_flow.specs.declared.Grid.{Grid}
+use Rattle.area_flow.specs.Grid.{rowBit, blockBit}
+use Rattle.local_spots.specs.declared.Places.{Places}
+use Rattle.local_spots.specs.Locals.{touchesFor, endsFor, Laid, Chains, Fetched}
+use Rattle.local_spots.proofs.OrderLaws.{arrives-sorted, ending-sorted}
+use Rattle.area_measure.specs.declared.Listing.{Listing}
+use Rattle.area_measure.specs.Measure.{kindBy, RowsFor, Measurable, Listable, Measured}
+use Rattle.area_measure.specs.Locals.{localAt, mostIn, Listed, Fits, Ready, RowsOf, areaFor, Spared, Next, ListedFor, MeasuredAll}
+use Rattle.area_measure.proofs.ListLaws.{listed-start, listed-more}
+
+-- the order of its ends does not matter
+area-sorted : (G : Graph) (K : Kind) (ts : List Range) (es : List ℕ) → areaBy G K ts (sortOf es) ≡ areaBy G K ts es
+area-sorted G Unfollowed ts es = refl
+area-sorted G Plain ts es = refl
+area-sorted G Ending ts es = ap (λ (l : List Range). some l) (ending-sorted G es ts)
+
+-- the chains, where their words stay
+pub chains-kept : (touches ends : List ℕ) (p : Places) {w₀ w : List ℕ} → Laid p (rowCount 3 touches) (rowCount 2 ends) w₀ → ((i : ℕ) → p .heads ≤ i → i < p .at → getD w i 0 ≡ getD w₀ i 0) → Chains p touches ends w₀ → Chains p touches ends w
+chains-kept touches ends p L S C = record {
+  touches-chain = record {
+    head = λ l h. S (p .heads + l) (omega arith) (omega (arith, L .heads-fit, L .nexts-fit)) ∙ C .touches-chain .head l h;
+    next = λ i h m. S (p .nexts + i) (omega (arith, L .heads-fit)) (omega (arith, L .nexts-fit)) ∙ C .touches-chain .next i h m;
+  };
+  ends-chain = record {
+    head = λ l h. S (p .heads + p .locals + l) (omega arith) (omega (arith, L .heads-fit, L .nexts-fit)) ∙ C .ends-chain .head l h;
+    next = λ i h m. S (p .nexts + rowCount 3 touches + i) (omega (arith, L .heads-fit)) (omega (arith, L .nexts-fit)) ∙ C .ends-chain .next i h m;
+  };
+}
+
+module _ (blocks kinds touches ends : List ℕ) (p : Places) (g : Grid) (mark : ℕ) (o : Listing) where
+  abbrev n : ℕ
+  n = blockCount blocks
+
+  -- ---- what stays when the rows are spared
+
+  module _ {w₀ w : List ℕ} (F : Fits blocks kinds touches ends p g mark o w₀) (S : Spared blocks touches ends p g mark w₀ w) where
+    written-kept : (k l : ℕ) → k < n → l < g .words * 64 → rowBit g (g .written) w k l ≡ rowBit g (g .written) w₀ k l
+    written-kept k l h m =
+        let r = row-before k n (g .words) h in
+        ap (λ (y : ℕ). bitOf y (l % 64)) (S .rows (g .written + k * g .words + l / 64) (omega (arith, F .spots-fit)) (omega (arith, F .written-fits, F .read-fits, F .to-fits)))
+
+    read-kept : (k l : ℕ) → k < n → l < g .words * 64 → rowBit g (g .read) w k l ≡ rowBit g (g .read) w₀ k l
+    read-kept k l h m =
+        let r = row-before k n (g .words) h in
+        ap (λ (y : ℕ). bitOf y (l % 64)) (S .rows (g .read + k * g .words + l / 64) (omega (arith, F .spots-fit, F .written-fits)) (omega (arith, F .read-fits, F .to-fits)))
+
+    block-kept : (l b : ℕ) → l < length kinds → b < g .width * 64 → blockBit g w l b ≡ blockBit g w₀ l b
+    block-kept l b h m =
+        let r = row-before l (length kinds) (g .width) h in
+        ap (λ (y : ℕ). bitOf y (b % 64)) (S .rows (g .to + l * g .width + b / 64) (omega (arith, F .spots-fit, F .written-fits, F .read-fits)) (omega (arith, F .to-fits)))
+
+    pub fits-kept : Fits blocks kinds touches ends p g mark o w
+    fits-kept = record {
+      locals-are = F .locals-are;
+      areas-fit = F .areas-fit;
+      items-fit = F .items-fit;
+      spots = record { heads-fit = F .spots .heads-fit; nexts-fit = F .spots .nexts-fit; at-fits = F .spots .at-fits; ends-fit = omega (arith, F .spots .ends-fit, S .len) };
+      spots-fit = F .spots-fit;
+      written-fits = F .written-fits;
+      read-fits = F .read-fits;
+      to-fits = F .to-fits;
+      fits = omega (arith, F .fits, S .len);
+      small = F .small;
+      wide = F .wide;
+      narrow = F .narrow;
+      long = F .long;
+      few = F .few;
+    }
+
+    pub rows-kept : (es : List Edge) (l : ℕ) → l < length kinds → RowsOf blocks kinds touches ends g mark w₀ es l → RowsOf blocks kinds touches ends g mark w es l
+    rows-kept es l h R = record {
+      plain = λ e. record {
+        written = λ k m. written-kept k l (omega (arith, blocks-length blocks)) (omega (arith, F .long)) ∙ R .plain e .written k m;
+        read = λ k m. read-kept k l (omega (arith, blocks-length blocks)) (omega (arith, F .long)) ∙ R .plain e .read k m;
+      };
+      ending = λ e. record { arriving = λ k m. block-kept l k h (omega (arith, F .wide, blocks-length blocks)) ∙ R .ending e .arriving k m };
+    }
+
+  module _ {w₀ w : List ℕ} (D : Ready blocks kinds touches ends p g mark o w₀) (S : Spared blocks touches ends p g mark w₀ w) (u : (c : ℕ) → c < g .width * 64 → bit w mark c ≡ false) where
+    pub ready-kept : Ready blocks kinds touches ends p g mark o w
+    ready-kept =
+        let F = D .laid in
+        record {
+          laid = fits-kept F S;
+          chains = chains-kept touches ends p (F .spots) (S .chains) (D .chains);
+          unmarked = u;
+          rest = λ l b h m q. block-kept F S l b h q ∙ D .rest l b h m q;
+          both = λ l k h e m.
+              block-kept F S l k h (omega (arith, F .wide)) ∙ D .both l k h e m
+              ∙ sym (ap (λ (x : Bool). x && rowBit g (g .read) w k l) (written-kept F S k l m (omega (arith, F .long)))
+              ∙ ap (λ (x : Bool). rowBit g (g .written) w₀ k l && x) (read-kept F S k l m (omega (arith, F .long))));
+          upright = D .upright;
+        }
+
+  -- ---- one local
+
+  module _ (l total : ℕ) {w₀ w₁ : List ℕ} {t : Spots} (D : Ready blocks kinds touches ends p g mark o w₀) (h : l < length kinds) (few : total ≤ l * mostIn blocks touches) (C : Fetched p touches ends l w₀ w₁ t) where
+    fetch-spares : Spared blocks touches ends p g mark w₀ w₁
+    fetch-spares =
+        let F = D .laid in
+        record {
+          len = C .kept .len;
+          chains = λ i a b. C .kept .below i b;
+          rows = λ i a b. C .kept .past i a;
+          past = λ i a. C .kept .past i (omega (arith, F .spots-fit, F .written-fits, F .read-fits, F .to-fits));
+        }
+
+    marks-stay : (c : ℕ) → c < g .width * 64 → bit w₁ mark c ≡ false
+    marks-stay c m =
+        let F = D .laid in
+        ap (λ (y : ℕ). bitOf y (c % 64)) (C .kept .past (mark + c / 64) (omega (arith, F .spots-fit, F .written-fits, F .read-fits, F .to-fits))) ∙ D .unmarked c m
+
+    pub next-ready : Ready blocks kinds touches ends p g mark o w₁
+    next-ready = ready-kept D fetch-spares marks-stay
+
+    pub count-in : t .count ≤ rowCount 3 touches
+    count-in = omega (arith, C .touches-low, C .touches-high)
+
+    pub next-measurable : Measurable blocks (getD kinds l 0) t (localAt g n mark l) w₁
+    next-measurable =
+        let E = next-ready in
+        let F = E .laid in
+        let r = row-before l (length kinds) (g .width) h in
+        record {
+          laid = record {
+            free = record {
+              wide = F .wide;
+              small = omega (arith, F .narrow);
+              mark-fits = omega arith;
+              span-fits = omega arith;
+              fits = omega (arith, F .fits, count-in);
+            };
+            touches-fit = omega (arith, C .touches-high, F .spots .at-fits, F .spots-fit, F .written-fits, F .read-fits, F .to-fits);
+            ends-fit = omega (arith, C .ends-high, F .spots-fit, F .written-fits, F .read-fits, F .to-fits);
+            row-fits = omega (arith, F .to-fits);
+          };
+          flowing = record { written-fits = omega (arith, F .written-fits, F .read-fits, F .to-fits); read-fits = omega (arith, F .read-fits, F .to-fits); bit-in = omega (arith, F .long) };
+          stand = C .stand;
+          unmarked = record { none = λ c m. E .unmarked c m };
+          bounded = record { past = λ c a b. E .rest l c h a b };
+          both = λ e. record { bits = λ k m. E .both l k h e m; bounded = record { past = λ c a b. E .rest l c h a b } };
+          upright = λ es. ap (λ (ts : List Range). any (inverted (lineOf blocks es)) ts) (C .touches-are) ∙ E .upright l h es;
+        }
+
+    pub next-listable : Listable blocks t (localAt g n mark l) o total
+    next-listable =
+        let F = D .laid in
+        let m : l * mostIn blocks touches + mostIn blocks touches ≤ length kinds * mostIn blocks touches = row-before l (length kinds) (mostIn blocks touches) h in
+        record {
+          areas-fit = F .areas-fit;
+          items-fit = omega (arith, F .items-fit, F .spots .heads-fit, F .spots .nexts-fit, F .spots .at-fits, F .spots-fit, F .written-fits, F .read-fits, F .to-fits);
+          small = omega (arith, F .few, count-in);
+        }
+
+    module _ {w : List ℕ} {r : ℕ} (M : Measured blocks (getD kinds l 0) t (localAt g n mark l) o total w₁ w r) where
+      as-fetched : (es : List Edge) → RowsOf blocks kinds touches ends g mark w₀ es l → RowsFor (lineOf blocks es) (getD kinds l 0) (localAt g n mark l) (touchesAt t w₁) (endsAt t w₁) w₁
+      as-fetched es R =
+          let K = rows-kept (D .laid) fetch-spares es l h R in
+          rw (C .touches-are, C .ends-are) (record {
+            plain = K .plain;
+            ending = λ e. record { arriving = λ k m. K .ending e .arriving k m ∙ ap (λ (f : ℕ → Bool). f k) (sym (arrives-sorted (lineOf blocks es) (endsFor ends l) (touchesFor touches l))) };
+          })
+
+      is-fetched : (es : List Edge) → areaBy (lineOf blocks es) (kindBy (getD kinds l 0)) (touchesAt t w₁) (endsAt t w₁) ≡ areaFor (lineOf blocks es) kinds touches ends l
+      is-fetched es =
+          ap (λ (ts : List Range). areaBy (lineOf blocks es) (kindBy (getD kinds l 0)) ts (endsAt t w₁)) (C .touches-are)
+          ∙ ap (λ (e : List ℕ). areaBy (lineOf blocks es) (kindBy (getD kinds l 0)) (touchesFor touches l) e) (C .ends-are)
+          ∙ area-sorted (lineOf blocks es) (kindBy (getD kinds l 0)) (touchesFor touches l) (endsFor ends l)
+
+      pub next-done : Next blocks kinds touches ends p g mark o l total w₀ w r
+      next-done =
+          let F = D .laid in
+          let L = F .spots in
+          record {
+            spared = record {
+              len = M .len ∙ C .kept .len;
+              chains = λ i a b. M .same i (inr (omega (arith, F .areas-fit, F .items-fit))) (λ e. absurd (omega (arith, F .items-fit))) (inl (omega (arith, L .at-fits, F .spots-fit, F .written-fits, F .read-fits, F .to-fits))) ∙ C .kept .below i b;
+              rows = λ i a b. M .same i (inr (omega (arith, F .areas-fit, F .items-fit, L .heads-fit, L .nexts-fit, L .at-fits))) (λ e. absurd (omega (arith, F .items-fit, L .heads-fit, L .nexts-fit, L .at-fits))) (inl b) ∙ C .kept .past i a;
+              past = λ i a. M .same i (inr (omega (arith, F .areas-fit, F .items-fit, L .heads-fit, L .nexts-fit, L .at-fits, F .spots-fit, F .written-fits, F .read-fits, F .to-fits)))
+                  (λ e. absurd (omega (arith, F .items-fit, L .heads-fit, L .nexts-fit, L .at-fits, F .spots-fit, F .written-fits, F .read-fits, F .to-fits))) (inr (omega (arith, count-in)))
+                  ∙ C .kept .past i (omega (arith, F .spots-fit, F .written-fits, F .read-fits, F .to-fits));
+            };
+            unmarked = λ c m. M .unmarked .none c m;
+            least = M .least;
+            most = omega (arith, M .most, count-in);
+            word = M .word;
+            same = λ i a d b. M .same i a d (inl (omega (arith, L .heads-fit, L .nexts-fit, L .at-fits, F .spots-fit, F .written-fits, F .read-fits, F .to-fits))) ∙ C .kept .below i (omega (arith, L .heads-fit, L .nexts-fit));
+            count = λ es R. M .count es (as-fetched es R) ∙ ap (λ (a : Option (List Range)). total + rangesIn a) (is-fetched es);
+            put = λ es R q. sym (is-fetched es) ∙ M .put es (as-fetched es R) q;
+          }
+
+  -- ---- all of them
+
+  -- the first l locals are measured
+  pub record Going (w₀ w : List ℕ) (l total : ℕ) : Type 0 where
+    pub l-le : l ≤ length kinds
+    pub begun : Ready blocks kinds touches ends p g mark o w₀
+    pub spared : Spared blocks touches ends p g mark w₀ w
+    pub unmarked : (c : ℕ) → c < g .width * 64 → bit w mark c ≡ false
+    pub most : total ≤ l * mostIn blocks touches
+    pub listed : ListedFor blocks kinds touches ends g mark o l w₀ w total
+
+  pub going-start : (w : List ℕ) → Ready blocks kinds touches ends p g mark o w → Going w w 0 0
+  going-start w D = record {
+    l-le = omega arith;
+    begun = D;
+    spared = record { len = refl; chains = λ i a b. refl; rows = λ i a b. refl; past = λ i a. refl };
+    unmarked = D .unmarked;
+    most = omega arith;
+    listed = record { is = λ es R. listed-start o (areaFor (lineOf blocks es) kinds touches ends) w };
+  }
+
+  module _ {w₀ w : List ℕ} {l total : ℕ} (G : Going w₀ w l total) where
+    pub going-ready : Ready blocks kinds touches ends p g mark o w
+    going-ready = ready-kept (G .begun) (G .spared) (G .unmarked)
+
+    pub going-more : {w′ : List ℕ} {r : ℕ} → l < length kinds → Next blocks kinds touches ends p g mark o l total w w′ r → Going w₀ w′ (l + 1) r
+    going-more {w′} {r} h N =
+        let F = going-ready .laid in
+        let L = F .spots in
+        record {
+          l-le = omega arith;
+          begun = G .begun;
+          spared = record {
+            len = N .spared .len ∙ G .spared .len;
+            chains = λ i a b. N .spared .chains i a b ∙ G .spared .chains i a b;
+            rows = λ i a b. N .spared .rows i a b ∙ G .spared .rows i a b;
+            past = λ i a. N .spared .past i a ∙ G .spared .past i a;
+          };
+          unmarked = N .unmarked;
+          most = let z : (l + 1) * mostIn blocks touches ≡ l * mostIn blocks touches + mostIn blocks touches = omega arith in omega (arith, N .most, G .most);
+          listed = record {
+            is = λ es R.
+                let row = rows-kept (G .begun .laid) (G .spared) es l h (R l h) in
+                listed-more o (areaFor (lineOf blocks es) kinds touches ends) w′ r (G .listed .is es R) (N .spared .len) (F .areas-fit) (omega (arith, F .items-fit, L .heads-fit, L .nexts-fit, L .at-fits, L .ends-fit)) (N .least)
+                (λ i b c. N .same i (inl b) (λ e. absurd (omega arith)) (omega (arith, F .items-fit)))
+                (λ i b. N .same (o .items + i) (inr (omega (arith, F .areas-fit))) (λ e. absurd (omega arith)) (omega (arith, F .items-fit)))
+                (N .word) (N .count es row) (λ q. N .put es row q);
+          };
+        }
+
+    pub going-done : length kinds ≤ l → MeasuredAll blocks kinds touches ends p g mark o w₀ w total
+    going-done h =
+        let e : l ≡ length kinds = omega (arith, G .l-le) in
+        record {
+          spared = G .spared;
+          most = rw e at (G .most);
+          listed = rw e at (G .listed);
+        }
