@@ -1,0 +1,5 @@
+pub mod FitLaws
+pub mod CheckLaws
+pub mod TableLaws
+pub mod SolveLaws
+pub mod EntryLaws

@@ -1,0 +1,34 @@
+-- `tell` meets its contract: number 8, or what `list` tells.
+use native.Mathlib.Omega.{arith}
+use Prim.Native.Nat.{_+_, _-_, _*_, _/_}
+use mathlib.Core.Path.{refl, sym, _∙_}
+use lib.ListN.{length}
+use denote.Ref.{now}
+use borrow.Author.Needs.{needs}
+use Rattle.area_entries.proofs.EntryLaws.{held-list, tell-reversed, tell-ranges}
+use Rattle.area_entries.proofs.tell.Statement.{statement}
+use Rattle.area_entries.proofs.tell.Tie as tie
+
+enum-told : tie.Need-enum-told
+enum-told c = search needs
+
+enum-known-f : tie.Need-enum-known-f
+enum-known-f c = search needs
+
+list-requires : tie.Need-list-requires
+list-requires c κs = (held-list ((c .before .before .before .before .before .before .before .before .args) .locals) (length (now ((c .before .before .before .before .before .before .before .before .args) .areas)) / 2) (now ((c .before .before .before .before .before .before .before .before .args) .areas)) (now ((c .before .before .before .before .before .before .before .before .args) .items)) (now ((c .before .before .before .before .before .before .before .before .args) .work)) ((c .before .before .before .before .before .before .before .before .args) .f) ((c .before .before .before .f) .given .1) ((c .before .before .before .before .before .before .before .before .pre) .0), (c .before .before .before .before .before .before .before .before .pre) .1, (c .before .before .before .before .before .before .before .before .pre) .2, (c .before .before .before .before .before .before .before .before .pre) .3)
+
+returns : tie.Need-returns
+returns c = tell-reversed ((c .before .before .before .before .before .args) .locals) (length (now ((c .before .before .before .before .before .args) .areas)) / 2) (now ((c .before .before .before .before .before .args) .areas)) (now ((c .before .before .before .before .before .args) .items)) (now ((c .before .before .before .before .before .args) .work)) ((c .before .before .before .before .before .args) .f) ((c .enum-told) .given .1)
+
+same-length : tie.Need-same-length
+same-length c = search needs
+
+same-length-2 : tie.Need-same-length-2
+same-length-2 c = search needs
+
+returns-2 : tie.Need-returns-2
+returns-2 c = tell-ranges ((c .before .before .before .before .before .before .before .before .before .before .before .before .before .args) .locals) (length (now ((c .before .before .before .before .before .before .before .before .before .before .before .before .before .args) .areas)) / 2) (now ((c .before .before .before .before .before .before .before .before .before .before .before .before .before .args) .areas)) (now ((c .before .before .before .before .before .before .before .before .before .before .before .before .before .args) .items)) (now ((c .before .before .before .before .before .before .before .before .before .before .before .before .before .args) .work)) ((c .before .before .before .before .before .before .before .before .before .before .before .before .before .args) .f) ((c .before .before .before .before .before .before .before .before .f) .given .1) ((c .before .before .before .before .list) .ensures)
+
+pub tell-spec : {M : Type 1} → statement M
+tell-spec = tie.close (tie.spec enum-told enum-known-f list-requires returns same-length same-length-2 returns-2)

@@ -1,0 +1,101 @@
+// The areas of locals whose touches and ends are lent by themselves.
+ghost use mathlib.Core.Path.{_≡_};
+ghost use mathlib.Core.Bool.{Bool};
+ghost use mathlib.Core.Option.{Option};
+ghost use mathlib.Core.List.{List};
+ghost use Prim.Native.Nat.{ℕ, _+_, _*_, _/_, _≤_};
+ghost use lib.ListN.{length};
+ghost use Rattle.refusals.specs.Verdicts.{first, check};
+ghost use Rattle.refusals.specs.declared.Refusal.the-variants.{Inverted};
+ghost use Rattle.ranges.specs.declared.Range.{Range};
+ghost use Rattle.area_measure.specs.Locals.{Listed};
+ghost use Rattle.area_entries.specs.Entry.{listVerdict, AnsweredBy, LocalAreas};
+ghost use Rattle.area_entries.specs.Inner.{listing, FoundAs, Held, HeldList};
+use refusals::Refusal;
+use refusals::Verdict;
+use solve::Found;
+
+mod layout; // layout.rt: where the regions stand in the work space
+mod checks; // checks.rt: refusals 1, 2, 3 and 7
+mod solve; // solve.rt: the areas in the work space
+mod tables; // tables.rt: from the work space into the answer lists
+
+// How many ranges all areas have, or a refusal with the index of the first offending record.
+pub enum Answer {
+    Given(usize),
+    Refused(Refusal, usize),
+}
+
+// Writes the areas and the items, where all n ranges fit the area list (else 9).
+fn list(n: usize, areas: &mut [u32], items: &mut [u32], work: &[u64], locals: usize) -> Answer
+    requires { ⌜ HeldList locals (length (now areas) / 2) n (now work) × (2 * locals ≤ length (now items)) × (length (now areas) / 2 ≤ 65536) × (length (now areas) / 2 + locals ≤ length (now work)) ⌝ }
+    ensures { λ r. ⌜ ((A : ℕ → Option (List Range)) → Listed (listing (length (now (areas .entry)) / 2)) A locals n (now (work .entry))
+        → AnsweredBy (listVerdict locals A (length (now (areas .entry)) / 2)) locals A (now (areas .entry)) (now (items .entry)) r (now (areas .exit)) (now (items .exit))) ⌝ }
+{
+    let room = areas.len() / 2;
+    if room < n {
+        return Answer::Refused(Refusal::List, 0);
+    }
+    tables::write_rows(areas, work, 0, n, 0);
+    tables::write_rows(items, work, room, locals, 1);
+    Answer::Given(n)
+}
+
+// The same, or number 8.
+fn tell(f: Found, areas: &mut [u32], items: &mut [u32], work: &[u64], locals: usize) -> Answer
+    requires { ⌜ Held locals (length (now areas) / 2) (now work) f × (2 * locals ≤ length (now items)) × (length (now areas) / 2 ≤ 65536) × (length (now areas) / 2 + locals ≤ length (now work)) ⌝ }
+    ensures { λ r. ⌜ ((bad : Bool) (A : ℕ → Option (List Range)) → FoundAs bad A locals (length (now (areas .entry)) / 2) (now (work .entry)) f
+        → AnsweredBy (first (check Inverted bad) (listVerdict locals A (length (now (areas .entry)) / 2))) locals A (now (areas .entry)) (now (items .entry)) r (now (areas .exit)) (now (items .exit))) ⌝ }
+{
+    match f {
+        Found::Reversed => Answer::Refused(Refusal::Inverted, 0),
+        Found::Ranges(n) => list(n, areas, items, work, locals),
+    }
+}
+
+// The area of each local, from its touches (rows local, start, end) and, for a kind other than 0, its ends (rows local, point); rows whose local is past
+// the end count for nobody. Areas come back as rows of start and end, items as rows of first and count, one a local; the answer is the number of ranges.
+// Refuses lengths that are no whole rows or over their limits (1), blocks out of line (2), an edge naming no block (3), an item list under the locals or a work
+// space under W = 8 × (blocks + edges + locals + touches + ends + blocks × ⌈locals/64⌉ + ranges of the area list) (7), a touch that ends before it starts
+// where it is clipped to its first or last block (8), and more ranges than the area list holds (9).
+pub fn local_areas(
+    blocks: &[u32],
+    edges: &[u32],
+    points: u32,
+    kinds: &[u32],
+    touches: &[u32],
+    ends: &[u32],
+    areas: &mut [u32],
+    items: &mut [u32],
+    work: &mut [u64],
+) -> Answer
+    ensures { λ r. ⌜ LocalAreas (now (blocks .entry)) (now (edges .entry)) points (now (kinds .entry)) (now (touches .entry)) (now (ends .entry))
+        (now (areas .entry)) (now (items .entry)) (now (work .entry)) r (now (areas .exit)) (now (items .exit)) (now (work .exit)) ⌝ }
+{
+    let v = checks::refusal(
+        blocks,
+        edges,
+        points,
+        kinds.len(),
+        touches.len(),
+        ends.len(),
+        areas.len(),
+        items.len(),
+        work.len(),
+    );
+    if let Verdict::Bad(r, i) = v {
+        return Answer::Refused(r, i);
+    }
+    let w = checks::needed(layout::Sizes {
+        blocks: blocks.len() / 3,
+        edges: edges.len() / 2,
+        locals: kinds.len(),
+        touches: touches.len() / 3,
+        ends: ends.len() / 2,
+        room: areas.len() / 2,
+    });
+    let f = solve::solve(blocks, edges, kinds, touches, ends, work, areas.len());
+    let r = tell(f, areas, items, work, kinds.len());
+    words::clear(work, w);
+    r
+}
