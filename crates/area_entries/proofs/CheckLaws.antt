@@ -1,5 +1,5 @@
 -- What each way out of the checks comes to, and what is left where none refuses.
-use Prim.Native.Nat.{ℕ, _+_, _*_, _/_, _%_, _≤_, _<_}
+use Prim.Native.Nat.{ℕ, _*_, _/_, _%_, _≤_, _<_}
 use native.Mathlib.Omega.{arith}
 use mathlib.Core.Path.{_≡_, refl, sym, _∙_}
 use mathlib.Core.Bool.{Bool, true, false, not, _||_}
@@ -13,14 +13,13 @@ use Rattle.refusals.specs.declared.Refusal.{Refusal}
 use Rattle.refusals.specs.declared.Refusal.the-variants.{Count, Space}
 use Rattle.refusals.specs.Verdicts.{first, check}
 use Rattle.refusals.proofs.Laws.{first-fine, first-bad, first-left, first-right}
-use Rattle.words.specs.Rows.{rowCount}
 use Rattle.ranges.proofs.PointLaws.{or-none}
 use Rattle.graph.specs.Checks.{graphVerdict}
 use Rattle.graph.proofs.Refusals.{passed}
 use Rattle.insts.specs.Counts.{badRows, rowsVerdict, mostVerdict}
 use Rattle.area_entries.specs.declared.layout.Sizes.{Sizes}
 use Rattle.area_entries.specs.Layout.{spaceFor, Small}
-use Rattle.area_entries.specs.Entry.{rowCounts, sizesOf, badSpace, lentVerdict}
+use Rattle.area_entries.specs.Entry.{rowCounts, sizesOf, spaceVerdict, lentVerdict}
 use Rattle.area_entries.specs.Inner.{Lent}
 
 check-told : (r : Refusal) (t : Bool) → check r t ≡ Fine → t ≡ false
@@ -58,13 +57,13 @@ module _ (kinds touches ends areas items : ℕ) where
 -- ---- number 7
 
 module _ (z : Sizes) (items work : ℕ) where
-  pub short-work : work < spaceFor z → Bad Space 0 ≡ badSpace z items work
+  pub short-work : work < spaceFor z → Bad Space 0 ≡ spaceVerdict z items work
   short-work h = simp (lt-ltb work (spaceFor z) h)
 
-  pub short-items : spaceFor z ≤ work → items / 2 < z .locals → Bad Space 0 ≡ badSpace z items work
+  pub short-items : spaceFor z ≤ work → items / 2 < z .locals → Bad Space 0 ≡ spaceVerdict z items work
   short-items h m = simp (le-ltb work (spaceFor z) h, lt-ltb (items / 2) (z .locals) m)
 
-  pub enough : spaceFor z ≤ work → z .locals ≤ items / 2 → Fine ≡ badSpace z items work
+  pub enough : spaceFor z ≤ work → z .locals ≤ items / 2 → Fine ≡ spaceVerdict z items work
   enough h m = simp (le-ltb work (spaceFor z) h, le-ltb (items / 2) (z .locals) m)
 
 -- ---- all of them
@@ -92,7 +91,7 @@ module _ (blocks edges : List ℕ) (points kinds touches ends areas items work :
   unfolding lentVerdict
   by-graph r i e f = sym (first-fine (rowCounts kinds touches ends areas items) _ e ∙ first-bad _ _ r i f)
 
-  pub by-space : (v : Verdict) → rowCounts kinds touches ends areas items ≡ Fine → graphVerdict blocks edges points ≡ Fine → v ≡ badSpace (sizesOf blocks edges kinds touches ends areas) items work
+  pub by-space : (v : Verdict) → rowCounts kinds touches ends areas items ≡ Fine → graphVerdict blocks edges points ≡ Fine → v ≡ spaceVerdict (sizesOf blocks edges kinds touches ends areas) items work
       → v ≡ lentVerdict blocks edges points kinds touches ends areas items work
   unfolding lentVerdict
   by-space v e f h = h ∙ sym (first-fine (rowCounts kinds touches ends areas items) _ e ∙ first-fine (graphVerdict blocks edges points) _ f)

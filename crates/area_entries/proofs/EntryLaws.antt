@@ -1,37 +1,35 @@
 -- From what was found to the answer, and to what the entry leaves.
-use Prim.Native.Nat.{ℕ, _+_, _-_, _*_, _/_, _≤_, _<_}
-use native.Mathlib.Omega.{arith}
+use Prim.Native.Nat.{ℕ, _/_}
 use mathlib.Core.Path.{_≡_, refl, sym, ap, _∙_, subst}
-use mathlib.Core.Bool.{Bool, true, false}
+use mathlib.Core.Bool.{Bool, true}
 use mathlib.Core.Option.{Option}
 use mathlib.Core.List.{List, _++_}
-use lib.ListN.{length, getD, drop, replicate, length-drop, length-replicate}
-use lib.Seq.{ext-getD, getD-drop}
+use lib.ListN.{length, drop, replicate, length-replicate}
 use Rattle.refusals.specs.declared.Verdict.{Verdict}
 use Rattle.refusals.specs.declared.Verdict.the-variants.{Fine, Bad}
 use Rattle.refusals.specs.declared.Refusal.{Refusal}
-use Rattle.refusals.specs.declared.Refusal.the-variants.{Inverted}
+use Rattle.refusals.specs.declared.Refusal.the-variants.{Inverted as InvertedWord}
 use Rattle.refusals.specs.Verdicts.{first, check}
 use Rattle.refusals.proofs.Laws.{first-fine, first-bad}
 use Rattle.words.specs.Regions.{cleared}
 use Rattle.ranges.specs.declared.Range.{Range}
 use Rattle.graph.specs.Work.{Within}
-use Rattle.local_marks.specs.Marks.{someInverted}
+use Rattle.components.proofs.Entries.{cleared-same}
 use Rattle.area_measure.specs.Locals.{areaFor, Listed}
 use Rattle.area_entries.specs.declared.Answer.{Answer}
-use Rattle.area_entries.specs.declared.Answer.the-variants.{Given, Refused}
+use Rattle.area_entries.specs.declared.Answer.the-variants.{Refused}
 use Rattle.area_entries.specs.declared.solve.Found.{Found}
-use Rattle.area_entries.specs.declared.solve.Found.the-variants.{Reversed, Ranges}
+use Rattle.area_entries.specs.declared.solve.Found.the-variants.{Inverted, Ranges}
 use Rattle.area_entries.specs.Layout.{spaceFor}
-use Rattle.area_entries.specs.Entry.{listVerdict, areaVerdict, sizesOf, lentVerdict, graphFor, verdictOf, AnsweredBy, LocalAreas}
-use Rattle.area_entries.specs.Inner.{listing, FoundAs, Held, HeldList, Solved}
+use Rattle.area_entries.specs.Entry.{listVerdict, areaVerdict, sizesOf, lentVerdict, graphFor, AnsweredBy, LocalAreas}
+use Rattle.area_entries.specs.Inner.{listing, FoundAs, Held, HeldList}
 
 module _ (locals room : ℕ) (areas items w : List ℕ) (f : Found) where
-  pub tell-reversed : f ≡ Reversed → (bad : Bool) (A : ℕ → Option (List Range)) → FoundAs bad A locals room w f
-      → AnsweredBy (first (check Inverted bad) (listVerdict locals A room)) locals A areas items (Refused Inverted 0) areas items
-  tell-reversed e bad A F =
+  pub tell-inverted : f ≡ Inverted → (bad : Bool) (A : ℕ → Option (List Range)) → FoundAs bad A locals room w f
+      → AnsweredBy (first (check InvertedWord bad) (listVerdict locals A room)) locals A areas items (Refused InvertedWord 0) areas items
+  tell-inverted e bad A F =
       let b : bad ≡ true = subst (λ (x : Found). FoundAs bad A locals room w x) e F in
-      rw (first-bad (check Inverted bad) (listVerdict locals A room) Inverted 0 (ap (check Inverted) b)) (record { answer = refl; in-areas = refl; in-items = refl })
+      rw (first-bad (check InvertedWord bad) (listVerdict locals A room) InvertedWord 0 (ap (check InvertedWord) b)) (record { answer = refl; in-areas = refl; in-items = refl })
 
   module _ {n : ℕ} (e : f ≡ Ranges n) where
     pub held-list : Held locals room w f → HeldList locals room n w
@@ -39,16 +37,12 @@ module _ (locals room : ℕ) (areas items w : List ℕ) (f : Found) where
 
     pub tell-ranges : {r : Answer} {areas′ items′ : List ℕ}
         → ((A : ℕ → Option (List Range)) → Listed (listing room) A locals n w → AnsweredBy (listVerdict locals A room) locals A areas items r areas′ items′)
-        → (bad : Bool) (A : ℕ → Option (List Range)) → FoundAs bad A locals room w f → AnsweredBy (first (check Inverted bad) (listVerdict locals A room)) locals A areas items r areas′ items′
+        → (bad : Bool) (A : ℕ → Option (List Range)) → FoundAs bad A locals room w f → AnsweredBy (first (check InvertedWord bad) (listVerdict locals A room)) locals A areas items r areas′ items′
     tell-ranges B bad A F =
         let b = subst (λ (x : Found). FoundAs bad A locals room w x) e F in
-        rw (first-fine (check Inverted bad) (listVerdict locals A room) (ap (check Inverted) (b .0))) (B A (b .1))
+        rw (first-fine (check InvertedWord bad) (listVerdict locals A room) (ap (check InvertedWord) (b .0))) (B A (b .1))
 
 -- ---- the entry
-
-drop-same : (n : ℕ) (v w : List ℕ) → length v ≡ length w → ((x : ℕ) → n ≤ x → getD v x 0 ≡ getD w x 0) → drop n v ≡ drop n w
-drop-same n v w e f =
-    ext-getD 0 (drop n v) (drop n w) (simp length-drop (ap (λ (k : ℕ). k - n) e)) (λ i h. getD-drop n v i 0 ∙ f (n + i) (omega arith) ∙ sym (getD-drop n w i 0))
 
 module _ (blocks edges : List ℕ) (points : ℕ) (kinds touches ends areas items work : List ℕ) where
   abbrev lentV : Verdict
@@ -68,6 +62,6 @@ module _ (blocks edges : List ℕ) (points : ℕ) (kinds touches ends areas item
       → Within 0 space work w → {n : ℕ} → n ≡ space → work′ ≡ cleared n w → LocalAreas blocks edges points kinds touches ends areas items work r areas′ items′ work′
   answered-entry e {r} {areas′} {items′} {w} {work′} B K {n} en Z = record {
     lists = rw (first-fine lentV (areaVerdict (graphFor blocks edges) touches (length kinds) (areaFor (graphFor blocks edges) kinds touches ends) (length areas / 2)) e) B;
-    in-work = rw e (Z ∙ ap (λ (k : ℕ). cleared k w) en ∙ ap (λ (l : List ℕ). replicate space 0 ++ l) (drop-same space w work (K .len) (λ x h. K .past x h))
+    in-work = rw e (Z ∙ ap (λ (k : ℕ). cleared k w) en ∙ cleared-same space work w K
         ∙ ap (λ (k : ℕ). replicate space 0 ++ drop k work) (sym (length-replicate space 0)));
   }

@@ -1,6 +1,6 @@
 -- The areas in the work space: the regions fit, and each phase leaves what the next one asks.
-use Prim.Native.Nat.{ℕ, zero, suc, _+_, _-_, _*_, _/_, _%_, _^_, _≤_, _<_}
-use native.Mathlib.Nat.{mul-le-mul-left, mul-le-mul-right}
+use Prim.Native.Nat.{ℕ, zero, suc, _+_, _*_, _/_, _%_, _^_, _≤_, _<_}
+use native.Mathlib.Nat.{mul-le-mul-right}
 use native.Mathlib.Omega.{arith}
 use mathlib.Core.Path.{_≡_, refl, sym, ap, _∙_}
 use mathlib.Core.Logic.{inl, inr}
@@ -9,15 +9,12 @@ use mathlib.Core.List.{List, []}
 use lib.ListN.{length, getD}
 use borrow.Author.Tests.{eq-eqb, ne-eqb}
 use Rattle.words.specs.Rows.{rowCount, tabulate}
-use Rattle.words.specs.Regions.{Region}
 use Rattle.words.proofs.RowLaws.{mem-tabulate}
 use Rattle.words.proofs.RegionLaws.{row-before}
-use Rattle.bits.specs.Bits.{bit, bitOf}
+use Rattle.bits.specs.Bits.{bitOf}
 use Rattle.bits.proofs.DigitLaws.{bit-zero}
-use Rattle.ranges.specs.declared.Range.{Range}
 use Rattle.graph.specs.Paths.{Edge}
 use Rattle.graph.specs.Line.{blocksOf}
-use Rattle.graph.specs.Work.{Within}
 use Rattle.graph.proofs.Line.{blocks-length}
 use Rattle.components.specs.Entry.{edgesIn}
 use Rattle.carrying.specs.Lists.{any}
@@ -30,15 +27,15 @@ use Rattle.area_flow.specs.Grid.{rowBit, blockBit, AreaRows}
 use Rattle.area_flow.specs.Grid.{Laid as GridLaid}
 use Rattle.area_flow.proofs.BlockRows.{by-line, plain-written, plain-read, plain-blocks, ending-blocks}
 use Rattle.local_spots.specs.declared.Places.{Places}
-use Rattle.local_spots.specs.Locals.{touchesFor, endsFor, Laid, Chains, Chained}
+use Rattle.local_spots.specs.Locals.{touchesFor, endsFor, Laid, Chained}
 use Rattle.local_marks.specs.Marks.{plain, someInverted, Marks, MarkedAll}
 use Rattle.local_marks.specs.Marks.{Ready as MarkReady}
 use Rattle.area_measure.specs.Locals.{areaFor, Fits, Ready, RowsOf, MeasuredAll}
 use Rattle.area_measure.proofs.ListLaws.{listed-start}
 use Rattle.area_measure.proofs.LocalLaws.{chains-kept}
 use Rattle.area_entries.specs.declared.layout.Sizes.{Sizes}
-use Rattle.area_entries.specs.declared.solve.Found.the-variants.{Reversed, Ranges}
-use Rattle.area_entries.specs.Layout.{wordsFor, spaceFor, Small, Placed, Gridded, markOf}
+use Rattle.area_entries.specs.declared.solve.Found.the-variants.{Inverted, Ranges}
+use Rattle.area_entries.specs.Layout.{spaceFor, Placed, Gridded, markOf}
 use Rattle.area_entries.specs.Entry.{sizesOf, graphFor}
 use Rattle.area_entries.specs.Inner.{listing, Lent, Markable, Marking, Rowed, Solved}
 use Rattle.area_entries.proofs.FitLaws.{rows-small, layout-fits}
@@ -320,8 +317,8 @@ module _ (blocks edges kinds touches ends : List ℕ) (areas : ℕ) (p : Places)
           found = (ap (λ (k : ℕ). someInverted (graphFor blocks edges) touches k) (sym (P .locals-are)) ∙ sym (M .answer es) ∙ fine, D .listed .is es rows-are);
         }
 
-  pub reversed : {w : List ℕ} {r : Bool} → Marking p g blocks kinds touches ends w₀ w r → r ≡ true → Solved blocks edges kinds touches ends areas w₀ w Reversed
-  reversed {w} {r} M e =
+  pub inverted-found : {w : List ℕ} {r : Bool} → Marking p g blocks kinds touches ends w₀ w r → r ≡ true → Solved blocks edges kinds touches ends areas w₀ w Inverted
+  inverted-found {w} {r} M e =
       let o = order in
       record {
         kept = record {

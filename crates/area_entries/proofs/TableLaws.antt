@@ -1,14 +1,11 @@
 -- The answer lists' rows, by the words of the areas and of the items.
 use Prim.Native.Nat.{ℕ, _+_, _-_, _*_, _/_, _%_, _^_, _≤_, _<_}
 use native.Mathlib.Omega.{arith}
-use native.Mathlib.Numerals.{add-one}
 use mathlib.Core.Path.{_≡_, refl, sym, ap, _∙_}
-use mathlib.Core.Bool.{Bool}
 use mathlib.Core.Option.{Option}
 use mathlib.Core.List.{List, [], _∷_, _++_, map}
 use lib.ListN.{length, getD, drop}
 use borrow.Author.Tests.{lt-ltb, le-ltb}
-use Rattle.refusals.specs.declared.Verdict.{Verdict}
 use Rattle.refusals.specs.declared.Verdict.the-variants.{Fine, Bad}
 use Rattle.refusals.specs.declared.Refusal.the-variants.{List as ListWord}
 use Rattle.refusals.specs.Verdicts.{check}
@@ -20,12 +17,10 @@ use Rattle.words.proofs.RegionLaws.{length-part, getD-part}
 use Rattle.words.proofs.FlatLaws.{flat-length}
 use Rattle.ranges.specs.declared.Range.{Range}
 use Rattle.ranges.specs.Forms.{unpack, unpacked}
-use Rattle.carrying.specs.Lists.{gather}
 use Rattle.areas.specs.Job.{rangesIn, rangesOf}
 use Rattle.area_measure.specs.Measure.{itemWord}
-use Rattle.area_measure.specs.Locals.{listed, Listed}
+use Rattle.area_measure.specs.Locals.{Listed}
 use Rattle.area_measure.proofs.ListLaws.{ranges-append, ranges-more}
-use Rattle.area_entries.specs.declared.Answer.{Answer}
 use Rattle.area_entries.specs.declared.Answer.the-variants.{Given, Refused}
 use Rattle.area_entries.specs.Entry.{listVerdict, areaRows, itemRows, AnsweredBy}
 use Rattle.area_entries.specs.Inner.{halves, rowsIn, listing}

@@ -1,7 +1,7 @@
 -- Document 01, "Areas of items", of touches and ends lent by themselves: what the entry answers and refuses (numbers 1, 2, 3, 7, 8 and 9).
-use Prim.Native.Nat.{ℕ, _+_, _*_, _/_}
+use Prim.Native.Nat.{ℕ, _/_}
 use mathlib.Core.Path.{_≡_}
-use mathlib.Core.Bool.{Bool, _||_}
+use mathlib.Core.Bool.{_||_}
 use mathlib.Core.Option.{Option}
 use mathlib.Core.List.{List, [], _∷_, map}
 use lib.ListN.{length, replicate}
@@ -42,13 +42,13 @@ sizesOf blocks edges kinds touches ends areas =
     record { blocks = rowCount 3 blocks; edges = rowCount 2 edges; locals = kinds; touches = touches / 3; ends = ends / 2; room = areas / 2 }
 
 -- number 7: work space under W, item list under the item count
-abbrev pub badSpace : Sizes → ℕ → ℕ → Verdict
-badSpace z items work = check Space (ltb work (spaceFor z) || ltb (items / 2) (z .locals))
+abbrev pub spaceVerdict : Sizes → ℕ → ℕ → Verdict
+spaceVerdict z items work = check Space (ltb work (spaceFor z) || ltb (items / 2) (z .locals))
 
 -- numbers 1, 2, 3 and 7: what is refused before anything is measured
 unfoldable pub lentVerdict : List ℕ → List ℕ → ℕ → ℕ → ℕ → ℕ → ℕ → ℕ → ℕ → Verdict
 lentVerdict blocks edges points kinds touches ends areas items work =
-    first (rowCounts kinds touches ends areas items) (first (graphVerdict blocks edges points) (badSpace (sizesOf blocks edges kinds touches ends areas) items work))
+    first (rowCounts kinds touches ends areas items) (first (graphVerdict blocks edges points) (spaceVerdict (sizesOf blocks edges kinds touches ends areas) items work))
 
 -- the blocks and the edges by place
 abbrev pub graphFor : List ℕ → List ℕ → Graph

@@ -1,5 +1,5 @@
 -- What the entry's functions promise each other. No public promise names these.
-use Prim.Native.Nat.{ℕ, _+_, _-_, _*_, _/_, _%_, _^_, _≤_, _<_}
+use Prim.Native.Nat.{ℕ, _+_, _-_, _*_, _/_, _%_, _^_, _≤_}
 use mathlib.Core.Path.{_≡_}
 use mathlib.Core.Bool.{Bool, true, false}
 use mathlib.Core.Option.{Option}
@@ -21,7 +21,7 @@ use Rattle.local_marks.specs.Marks.{someInverted, Marks}
 use Rattle.area_measure.specs.declared.Listing.{Listing}
 use Rattle.area_measure.specs.Locals.{areaFor, Listed}
 use Rattle.area_entries.specs.declared.solve.Found.{Found}
-use Rattle.area_entries.specs.declared.solve.Found.the-variants.{Reversed, Ranges}
+use Rattle.area_entries.specs.declared.solve.Found.the-variants.{Inverted, Ranges}
 use Rattle.area_entries.specs.Layout.{spaceFor, Small}
 use Rattle.area_entries.specs.Entry.{sizesOf, graphFor}
 
@@ -38,7 +38,7 @@ listing room = record { areas = 0; room = room; items = room }
 
 -- what was found: a touch that is inverted, or the areas, of so many ranges
 abbrev pub FoundAs : Bool → (ℕ → Option (List Range)) → ℕ → ℕ → List ℕ → Found → Type 0
-FoundAs bad A locals room w Reversed = bad ≡ true
+FoundAs bad A locals room w Inverted = bad ≡ true
 FoundAs bad A locals room w (Ranges n) = (bad ≡ false) × Listed (listing room) A locals n w
 
 -- the same of some areas

@@ -1,7 +1,7 @@
 // The refusals that come before the areas are measured: numbers 1, 2, 3 and 7, in linear time and without work space.
 ghost use mathlib.Core.Path.{_≡_};
 ghost use Rattle.area_entries.specs.Layout.{spaceFor, Small};
-ghost use Rattle.area_entries.specs.Entry.{rowCounts, sizesOf, badSpace, lentVerdict};
+ghost use Rattle.area_entries.specs.Entry.{rowCounts, spaceVerdict, lentVerdict};
 use crate::layout::Sizes;
 use refusals::Refusal;
 use refusals::Verdict;
@@ -33,7 +33,7 @@ pub fn needed(z: Sizes) -> usize
 // Refusal 7: work space under W, or an item list under the locals.
 fn short(z: Sizes, items: usize, work: usize) -> Verdict
     requires { ⌜ Small z ⌝ }
-    ensures { λ r. ⌜ r ≡ badSpace z items work ⌝ }
+    ensures { λ r. ⌜ r ≡ spaceVerdict z items work ⌝ }
 {
     if work < needed(z) {
         return Verdict::Bad(Refusal::Space, 0);

@@ -1,5 +1,4 @@
 // Where the regions stand in the work space, one behind another.
-ghost use mathlib.Core.Path.{_≡_};
 ghost use Prim.Native.Nat.{_≤_};
 ghost use Rattle.area_entries.specs.Layout.{Small, Placed, Gridded};
 use area_flow::Grid;

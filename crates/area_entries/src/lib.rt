@@ -1,5 +1,4 @@
 // The areas of locals whose touches and ends are lent by themselves.
-ghost use mathlib.Core.Path.{_≡_};
 ghost use mathlib.Core.Bool.{Bool};
 ghost use mathlib.Core.Option.{Option};
 ghost use mathlib.Core.List.{List};
@@ -48,7 +47,7 @@ fn tell(f: Found, areas: &mut [u32], items: &mut [u32], work: &[u64], locals: us
         → AnsweredBy (first (check Inverted bad) (listVerdict locals A (length (now (areas .entry)) / 2))) locals A (now (areas .entry)) (now (items .entry)) r (now (areas .exit)) (now (items .exit))) ⌝ }
 {
     match f {
-        Found::Reversed => Answer::Refused(Refusal::Inverted, 0),
+        Found::Inverted => Answer::Refused(Refusal::Inverted, 0),
         Found::Ranges(n) => list(n, areas, items, work, locals),
     }
 }

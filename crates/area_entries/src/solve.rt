@@ -15,7 +15,7 @@ use local_spots::Places;
 
 // Some touch is inverted, or how many ranges the areas have.
 pub enum Found {
-    Reversed,
+    Inverted,
     Ranges(usize),
 }
 
@@ -76,7 +76,7 @@ pub fn solve(
     let from = g.to + g.locals * g.width;
     let bad = mark(blocks, kinds, touches, ends, work, p, g);
     if bad {
-        return Found::Reversed;
+        return Found::Inverted;
     }
     rows(blocks, edges, work, g, from);
     let n = area_measure::locals::measure_all(

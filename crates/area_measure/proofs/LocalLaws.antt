@@ -1,9 +1,8 @@
 -- Local after local: what is fetched and measured leaves the rows of the others, and puts one area more.
-use Prim.Native.Nat.{ℕ, _+_, _-_, _*_, _/_, _%_, _^_, _≤_, _<_}
-use native.Mathlib.Nat.{mul-le-mul-right, mul-comm, mul-add}
+use Prim.Native.Nat.{ℕ, _+_, _*_, _/_, _%_, _≤_, _<_}
 use native.Mathlib.Omega.{arith}
 use mathlib.Core.Path.{_≡_, refl, sym, ap, _∙_}
-use mathlib.Core.Logic.{_⊎_, inl, inr}
+use mathlib.Core.Logic.{inl, inr}
 use mathlib.Core.Bool.{Bool, false, _&&_}
 use mathlib.Core.Option.{Option, some}
 use mathlib.Core.List.{List}
@@ -14,7 +13,6 @@ use Rattle.words.proofs.RegionLaws.{row-before}
 use Rattle.bits.specs.Bits.{bit, bitOf}
 use Rattle.ranges.specs.declared.Range.{Range}
 use Rattle.graph.specs.Paths.{Edge}
-use Rattle.graph.specs.Line.{blocksOf}
 use Rattle.graph.proofs.Line.{blocks-length}
 use Rattle.carrying.specs.Lists.{any}
 use Rattle.carrying.specs.declared.Kind.{Kind}
@@ -31,7 +29,7 @@ use Rattle.local_spots.specs.Locals.{touchesFor, endsFor, Laid, Chains, Fetched
 use Rattle.local_spots.proofs.OrderLaws.{arrives-sorted, ending-sorted}
 use Rattle.area_measure.specs.declared.Listing.{Listing}
 use Rattle.area_measure.specs.Measure.{kindBy, RowsFor, Measurable, Listable, Measured}
-use Rattle.area_measure.specs.Locals.{localAt, mostIn, Listed, Fits, Ready, RowsOf, areaFor, Spared, Next, ListedFor, MeasuredAll}
+use Rattle.area_measure.specs.Locals.{localAt, mostIn, Fits, Ready, RowsOf, areaFor, Spared, Next, ListedFor, MeasuredAll}
 use Rattle.area_measure.proofs.ListLaws.{listed-start, listed-more}
 
 -- the order of its ends does not matter

@@ -1,13 +1,12 @@
 -- Laws of one local's area: by its kind, and put behind those so far.
-use Prim.Native.Nat.{ℕ, _+_, _-_, _*_, _/_, _%_, _^_, _≤_, _<_}
+use Prim.Native.Nat.{ℕ, _+_, _-_, _/_, _%_, _≤_, _<_}
 use native.Mathlib.Omega.{arith}
 use mathlib.Core.Path.{_≡_, refl, sym, ap, _∙_}
 use mathlib.Core.Logic.{_⊎_, inl, inr, ⊎-elim}
-use mathlib.Core.Bool.{Bool, true, false, cond}
+use mathlib.Core.Bool.{Bool, cond}
 use mathlib.Core.Option.{some}
 use mathlib.Core.List.{List}
 use lib.ListN.{length, getD, set, length-set}
-use lib.Dec.{eqb}
 use borrow.Author.Tests.{eq-eqb, ne-eqb}
 use Rattle.words.specs.Regions.{part}
 use Rattle.words.proofs.Points.{cut, stored}
@@ -17,21 +16,18 @@ use Rattle.ranges.specs.declared.Range.{Range}
 use Rattle.ranges.specs.Forms.{unpacked}
 use Rattle.ranges.proofs.FormLaws.{unpacked-length}
 use Rattle.packed.specs.Work.{Clear}
-use Rattle.graph.specs.Paths.{Edge}
 use Rattle.graph.proofs.Within.{within-wider}
 use Rattle.carrying.specs.declared.Kind.{Kind}
 use Rattle.carrying.specs.declared.Kind.the-variants.{Plain, Ending}
-use Rattle.areas.specs.Blocks.{Graph}
 use Rattle.areas.specs.Job.{areaBy, rangesIn}
 use Rattle.spots.specs.declared.Spots.{Spots}
 use Rattle.spots.specs.Spots.{lineOf, touchesAt, endsAt}
 use Rattle.area_pieces.specs.declared.Local.{Local}
-use Rattle.area_pieces.specs.Local.{Laid, Appended, PlainIn}
-use Rattle.area_pieces.proofs.AreaLaws.{laid-less}
+use Rattle.area_pieces.specs.Local.{Appended, PlainIn}
 use Rattle.area_pieces.proofs.PushLaws.{set-other}
 use Rattle.area_ends.specs.Ending.{EndingIn}
 use Rattle.area_measure.specs.declared.Listing.{Listing}
-use Rattle.area_measure.specs.Measure.{kindBy, mostOf, itemWord, RowsFor, Measurable, AreaIn, Listable, Measured}
+use Rattle.area_measure.specs.Measure.{kindBy, mostOf, itemWord, Measurable, AreaIn, Listable, Measured}
 
 pub plain-kind : (k : ℕ) → k ≡ 0 → kindBy k ≡ Plain
 plain-kind k e = ap (λ (b : Bool). cond b Plain Ending) (eq-eqb k 0 e)

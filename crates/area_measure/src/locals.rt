@@ -1,5 +1,4 @@
 // The areas of all locals whose touches and ends are lent by themselves.
-ghost use mathlib.Core.Path.{_≡_};
 ghost use Prim.Native.Nat.{_+_, _*_, _/_, _≤_, _<_};
 ghost use lib.ListN.{length};
 ghost use Rattle.graph.specs.Line.{blocksOf, Sound};

@@ -1,7 +1,6 @@
 -- `list` meets its contract: refused, or written out.
 use native.Mathlib.Omega.{arith}
-use Prim.Native.Nat.{_+_, _-_, _*_, _/_}
-use mathlib.Core.Path.{refl, sym, _∙_}
+use Prim.Native.Nat.{_-_, _/_}
 use lib.ListN.{length}
 use denote.Ref.{now}
 use borrow.Author.Needs.{needs}
@@ -16,7 +15,7 @@ write-rows-requires : tie.Need-write-rows-requires
 write-rows-requires c κs = (omega arith, omega (arith, (c .before .before .before .before .before .pre) .3), λ i h. omega arith)
 
 write-rows-requires-2 : tie.Need-write-rows-requires-2
-write-rows-requires-2 c κs = (omega (arith, (c .before .before .before .before .before .before .before .before .before .pre) .1), omega (arith, (c .before .before .before .before .before .before .before .before .before .pre) .3), word-some ((c .before .before .before .before .before .before .before .before .before .pre) .0 .area) ((c .before .before .before .before .before .before .before .before .before .args) .locals) (length (now ((c .before .before .before .before .before .before .before .before .before .args) .areas)) / 2) ((c .before .before .before .before .before .before .before .before .before .args) .n) (now ((c .before .before .before .before .before .before .before .before .before .args) .work)) ((c .before .before .before .before .before .before .before .before .before .pre) .0 .found))
+write-rows-requires-2 c κs = (omega (arith, (c .before .before .before .before .before .before .before .before .before .pre) .1), omega (arith, (c .before .before .before .before .before .before .before .before .before .pre) .3), λ i h. omega (arith, word-some ((c .before .before .before .before .before .before .before .before .before .pre) .0 .area) ((c .before .before .before .before .before .before .before .before .before .args) .locals) (length (now ((c .before .before .before .before .before .before .before .before .before .args) .areas)) / 2) ((c .before .before .before .before .before .before .before .before .before .args) .n) (now ((c .before .before .before .before .before .before .before .before .before .args) .work)) ((c .before .before .before .before .before .before .before .before .before .pre) .0 .found) i (omega arith)))
 
 same-length : tie.Need-same-length
 same-length c = search needs

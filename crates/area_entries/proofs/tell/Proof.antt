@@ -1,11 +1,9 @@
 -- `tell` meets its contract: number 8, or what `list` tells.
-use native.Mathlib.Omega.{arith}
-use Prim.Native.Nat.{_+_, _-_, _*_, _/_}
-use mathlib.Core.Path.{refl, sym, _∙_}
+use Prim.Native.Nat.{_-_, _/_}
 use lib.ListN.{length}
 use denote.Ref.{now}
 use borrow.Author.Needs.{needs}
-use Rattle.area_entries.proofs.EntryLaws.{held-list, tell-reversed, tell-ranges}
+use Rattle.area_entries.proofs.EntryLaws.{held-list, tell-inverted, tell-ranges}
 use Rattle.area_entries.proofs.tell.Statement.{statement}
 use Rattle.area_entries.proofs.tell.Tie as tie
 
@@ -19,7 +17,7 @@ list-requires : tie.Need-list-requires
 list-requires c κs = (held-list ((c .before .before .before .before .before .before .before .before .args) .locals) (length (now ((c .before .before .before .before .before .before .before .before .args) .areas)) / 2) (now ((c .before .before .before .before .before .before .before .before .args) .areas)) (now ((c .before .before .before .before .before .before .before .before .args) .items)) (now ((c .before .before .before .before .before .before .before .before .args) .work)) ((c .before .before .before .before .before .before .before .before .args) .f) ((c .before .before .before .f) .given .1) ((c .before .before .before .before .before .before .before .before .pre) .0), (c .before .before .before .before .before .before .before .before .pre) .1, (c .before .before .before .before .before .before .before .before .pre) .2, (c .before .before .before .before .before .before .before .before .pre) .3)
 
 returns : tie.Need-returns
-returns c = tell-reversed ((c .before .before .before .before .before .args) .locals) (length (now ((c .before .before .before .before .before .args) .areas)) / 2) (now ((c .before .before .before .before .before .args) .areas)) (now ((c .before .before .before .before .before .args) .items)) (now ((c .before .before .before .before .before .args) .work)) ((c .before .before .before .before .before .args) .f) ((c .enum-told) .given .1)
+returns c = tell-inverted ((c .before .before .before .before .before .args) .locals) (length (now ((c .before .before .before .before .before .args) .areas)) / 2) (now ((c .before .before .before .before .before .args) .areas)) (now ((c .before .before .before .before .before .args) .items)) (now ((c .before .before .before .before .before .args) .work)) ((c .before .before .before .before .before .args) .f) ((c .enum-told) .given .1)
 
 same-length : tie.Need-same-length
 same-length c = search needs

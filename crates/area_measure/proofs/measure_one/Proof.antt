@@ -4,7 +4,6 @@ use Prim.Native.Nat.{_-_}
 use mathlib.Core.Path.{refl}
 use denote.Ref.{now}
 use lib.ListN.{length-set}
-use borrow.Author.Needs.{needs}
 use Rattle.area_measure.proofs.MeasureLaws.{slot-in, area-in, areas-clear, areas-in, measured}
 use Rattle.area_measure.proofs.measure_one.Statement.{statement}
 use Rattle.area_measure.proofs.measure_one.Tie as tie

@@ -1,9 +1,5 @@
 -- `counts` meets its contract: the first that refuses.
-use native.Mathlib.Omega.{arith}
-use Prim.Native.Nat.{_+_, _-_, _*_, _/_}
-use mathlib.Core.Path.{refl, sym, _∙_}
-use lib.ListN.{length}
-use denote.Ref.{now}
+use Prim.Native.Nat.{_-_}
 use borrow.Author.Needs.{needs}
 use Rattle.area_entries.proofs.CheckLaws.{counts-chain}
 use Rattle.area_entries.proofs.checks.counts.Statement.{statement}

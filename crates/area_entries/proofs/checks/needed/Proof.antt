@@ -1,10 +1,7 @@
 -- `needed` meets its contract: W, which is small.
 use native.Mathlib.Omega.{arith}
-use Prim.Native.Nat.{_+_, _-_, _*_, _/_}
-use mathlib.Core.Path.{refl, sym, _∙_}
-use lib.ListN.{length}
-use denote.Ref.{now}
-use borrow.Author.Needs.{needs}
+use Prim.Native.Nat.{_-_}
+use mathlib.Core.Path.{refl}
 use Rattle.area_entries.proofs.FitLaws.{rows-small}
 use Rattle.area_entries.proofs.checks.needed.Statement.{statement}
 use Rattle.area_entries.proofs.checks.needed.Tie as tie

@@ -1,8 +1,6 @@
 -- `refusal` meets its contract: the counts, the graph, then the space.
-use native.Mathlib.Omega.{arith}
-use Prim.Native.Nat.{_+_, _-_, _*_, _/_}
-use mathlib.Core.Path.{refl, sym, _∙_}
-use lib.ListN.{length}
+use Prim.Native.Nat.{_-_}
+use mathlib.Core.Path.{sym, _∙_}
 use denote.Ref.{now}
 use borrow.Author.Needs.{needs}
 use Rattle.area_entries.proofs.CheckLaws.{small, by-counts, by-graph, by-space}

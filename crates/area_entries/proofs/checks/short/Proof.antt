@@ -1,10 +1,6 @@
 -- `short` meets its contract: one law for each way out.
 use native.Mathlib.Omega.{arith}
-use Prim.Native.Nat.{_+_, _-_, _*_, _/_}
-use mathlib.Core.Path.{refl, sym, _∙_}
-use lib.ListN.{length}
-use denote.Ref.{now}
-use borrow.Author.Needs.{needs}
+use Prim.Native.Nat.{_-_}
 use Rattle.area_entries.proofs.CheckLaws.{short-work, short-items, enough}
 use Rattle.area_entries.proofs.checks.short.Statement.{statement}
 use Rattle.area_entries.proofs.checks.short.Tie as tie

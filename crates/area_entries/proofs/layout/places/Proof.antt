@@ -1,10 +1,7 @@
 -- `places` meets its contract: each region begins where the one before ends.
 use native.Mathlib.Omega.{arith}
-use Prim.Native.Nat.{_+_, _-_, _*_, _/_}
-use mathlib.Core.Path.{refl, sym, _∙_}
-use lib.ListN.{length}
-use denote.Ref.{now}
-use borrow.Author.Needs.{needs}
+use Prim.Native.Nat.{_-_}
+use mathlib.Core.Path.{refl}
 use Rattle.area_entries.proofs.layout.places.Statement.{statement}
 use Rattle.area_entries.proofs.layout.places.Tie as tie
 

@@ -1,8 +1,5 @@
 -- `mark` meets its contract: the locals are chained, then marked.
-use native.Mathlib.Omega.{arith}
-use Prim.Native.Nat.{_+_, _-_, _*_, _/_}
-use mathlib.Core.Path.{refl, sym, _∙_}
-use lib.ListN.{length}
+use Prim.Native.Nat.{_-_}
 use denote.Ref.{now}
 use borrow.Author.Needs.{needs}
 use Rattle.area_entries.proofs.SolveLaws.{mark-ready, mark-done}

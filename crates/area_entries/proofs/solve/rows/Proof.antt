@@ -1,9 +1,6 @@
 -- `rows` meets its contract: the rows, and behind them a row of zeros.
 use native.Mathlib.Omega.{arith}
-use Prim.Native.Nat.{_+_, _-_, _*_, _/_}
-use mathlib.Core.Path.{refl, sym, _∙_}
-use lib.ListN.{length}
-use denote.Ref.{now}
+use Prim.Native.Nat.{_-_}
 use borrow.Author.Needs.{needs}
 use Rattle.area_entries.proofs.solve.rows.Statement.{statement}
 use Rattle.area_entries.proofs.solve.rows.Tie as tie

@@ -1,13 +1,10 @@
 -- `solve` meets its contract: the regions are laid out, the locals marked, the rows made, and the areas measured.
 use native.Mathlib.Omega.{arith}
-use Prim.Native.Nat.{_+_, _-_, _*_, _/_}
-use mathlib.Core.Path.{refl, sym, _∙_}
-use lib.ListN.{length}
+use Prim.Native.Nat.{_-_}
 use denote.Ref.{now}
 use borrow.Author.Needs.{needs}
 use mathlib.Core.List.{[]}
-use Rattle.area_entries.proofs.FitLaws.{rows-small}
-use Rattle.area_entries.proofs.SolveLaws.{positive, markable, grid-laid, mark-room, from-small, ready, solved, reversed, solved-none}
+use Rattle.area_entries.proofs.SolveLaws.{positive, markable, grid-laid, mark-room, from-small, ready, solved, inverted-found, solved-none}
 use Rattle.area_entries.proofs.solve.solve.Statement.{statement}
 use Rattle.area_entries.proofs.solve.solve.Tie as tie
 
@@ -36,7 +33,7 @@ same-length : tie.Need-same-length
 same-length c = search needs
 
 returns-2 : tie.Need-returns-2
-returns-2 c = let a = (c .before .before .before .before .before .before .before .before .before .before .before .before .before .before .before .before .before .before .args) in reversed (now (a .blocks)) (now (a .edges)) (now (a .kinds)) (now (a .touches)) (now (a .ends)) (a .areas) _ _ (c .before .before .before .before .before .before .before .before .before .before .before .before .before .before .before .before .before .before .pre) (positive _ ((c .before .before .before .before .before .before .before .before .before .before .before .if1) .left)) ((c .before .before .before .before .before .before .before .before .before .before .places) .ensures) ((c .before .before .before .before .before .before .before .grid) .ensures) ((c .before .before .before .mark) .ensures) ((c .if2) .taken)
+returns-2 c = let a = (c .before .before .before .before .before .before .before .before .before .before .before .before .before .before .before .before .before .before .args) in inverted-found (now (a .blocks)) (now (a .edges)) (now (a .kinds)) (now (a .touches)) (now (a .ends)) (a .areas) _ _ (c .before .before .before .before .before .before .before .before .before .before .before .before .before .before .before .before .before .before .pre) (positive _ ((c .before .before .before .before .before .before .before .before .before .before .before .if1) .left)) ((c .before .before .before .before .before .before .before .before .before .before .places) .ensures) ((c .before .before .before .before .before .before .before .grid) .ensures) ((c .before .before .before .mark) .ensures) ((c .if2) .taken)
 
 rows-requires : tie.Need-rows-requires
 rows-requires c κs = let a = (c .before .before .before .before .before .before .before .before .before .before .before .before .before .before .before .before .before .before .before .args) in (((c .before .before .before .before .before .before .before .before .before .before .before .before .before .before .before .before .before .before .before .pre) .sound, (c .before .before .before .before .before .before .before .before .before .before .before .before .before .before .before .before .before .before .before .pre) .edges-fine, grid-laid (now (a .blocks)) (now (a .edges)) (now (a .kinds)) (now (a .touches)) (now (a .ends)) (a .areas) _ _ (c .before .before .before .before .before .before .before .before .before .before .before .before .before .before .before .before .before .before .before .pre) (positive _ ((c .before .before .before .before .before .before .before .before .before .before .before .before .if1) .left)) ((c .before .before .before .before .before .before .before .before .before .before .before .places) .ensures) ((c .before .before .before .before .before .before .before .before .grid) .ensures) ((c .before .before .before .before .mark) .ensures .kept .len)), ((c .before .before .before .before .mark) .ensures .marks [] ((c .before .if2) .left) .quiet, mark-room (now (a .blocks)) (now (a .edges)) (now (a .kinds)) (now (a .touches)) (now (a .ends)) (a .areas) _ _ (c .before .before .before .before .before .before .before .before .before .before .before .before .before .before .before .before .before .before .before .pre) (positive _ ((c .before .before .before .before .before .before .before .before .before .before .before .before .if1) .left)) ((c .before .before .before .before .before .before .before .before .before .before .before .places) .ensures) ((c .before .before .before .before .before .before .before .before .grid) .ensures) ((c .before .before .before .before .mark) .ensures)))

@@ -3,7 +3,6 @@ use native.Mathlib.Omega.{arith}
 use Prim.Native.Nat.{_-_}
 use lib.ListN.{length}
 use denote.Ref.{now}
-use borrow.Author.Needs.{needs}
 use Rattle.area_measure.proofs.LocalLaws.{Going, going-start, going-ready, going-more, going-done}
 use Rattle.area_measure.proofs.locals.measure_all.Statement.{statement}
 use Rattle.area_measure.proofs.locals.measure_all.Tie as tie

@@ -1,12 +1,11 @@
 -- `measure_next` meets its contract: the local is fetched and measured.
 use native.Mathlib.Omega.{arith}
-use Prim.Native.Nat.{_+_, _-_, _*_}
-use mathlib.Core.Path.{refl}
+use Prim.Native.Nat.{_-_}
 use denote.Ref.{now}
 use borrow.Author.Needs.{needs}
 use Rattle.words.proofs.RegionLaws.{row-before}
 use lib.ListN.{length}
-use Rattle.area_measure.proofs.LocalLaws.{next-ready, next-measurable, next-listable, next-done}
+use Rattle.area_measure.proofs.LocalLaws.{next-measurable, next-listable, next-done}
 use Rattle.area_measure.proofs.locals.measure_next.Statement.{statement}
 use Rattle.area_measure.proofs.locals.measure_next.Tie as tie
 
