@@ -1,4 +1,5 @@
-//! `flowed` and `spread` on the largest graphs: 4,096 blocks, 16,384 edges, rows of 32 words.
+//! `flowed` and `spread` on the largest graphs: 4,096 blocks, 16,384 edges, rows of 32 words. Both sides begin with the records of blocks and edges; slots.rs's functions
+//! are also timed alone, with the lists of the edges, which its `areas` makes first, lent to them.
 use crate::entries;
 use crate::timing::{row, timed, Random};
 use reference::slots::probe;
@@ -14,19 +15,32 @@ struct Graph {
     behind: Vec<Vec<usize>>,
 }
 
+/// The edges by place, as slots.rs's `areas` makes them, from the records: to where each place's edges lead, or from where they come.
+fn listed(blocks: &[u32], edges: &[u32], over: u32) -> Vec<Vec<usize>> {
+    let mut place = vec![0usize; blocks.len() / 3];
+    for (at, block) in blocks.chunks(3).enumerate() {
+        place[block[0] as usize] = at;
+    }
+    let mut lists = vec![Vec::new(); blocks.len() / 3];
+    for edge in edges.chunks(2) {
+        let (from, to) = (place[edge[0] as usize], place[edge[1] as usize]);
+        if over == 0 {
+            lists[to].push(from);
+        } else {
+            lists[from].push(to);
+        }
+    }
+    lists
+}
+
 /// Block k has the number k and two points.
 fn graph(edges: Vec<(usize, usize)>) -> Graph {
     let mut blocks = Vec::new();
     for k in 0..BLOCKS as u32 {
         blocks.extend([k, 2 * k, 2 * k + 1]);
     }
-    let (mut ahead, mut behind) = (vec![Vec::new(); BLOCKS], vec![Vec::new(); BLOCKS]);
-    let mut rows = Vec::new();
-    for (a, b) in edges {
-        ahead[a].push(b);
-        behind[b].push(a);
-        rows.extend([a as u32, b as u32]);
-    }
+    let rows: Vec<u32> = edges.iter().flat_map(|&(a, b)| [a as u32, b as u32]).collect();
+    let (behind, ahead) = (listed(&blocks, &rows, 0), listed(&blocks, &rows, 1));
     Graph { blocks, edges: rows, ahead, behind }
 }
 
@@ -54,11 +68,13 @@ fn time_flowed(name: &str, g: &Graph, touched: &[u64]) {
     for (over, edges, what) in [(0, &g.behind, "predecessors"), (1, &g.ahead, "successors")] {
         assert_eq!(entries::flowed(over, &g.blocks, &g.edges, 2 * BLOCKS as u32, touched, WORDS, &mut out, &mut work), 0);
         assert_eq!(parted(&out), probe::flowed(edges, &lent, WORDS));
+        let mut component = || timed(|| entries::flowed(over, &g.blocks, &g.edges, 2 * BLOCKS as u32, touched, WORDS, &mut out, &mut work));
         row(
             &format!("flowed {what}, {name}"),
-            &mut || timed(|| probe::flowed(edges, &lent, WORDS)),
-            &mut || timed(|| entries::flowed(over, &g.blocks, &g.edges, 2 * BLOCKS as u32, touched, WORDS, &mut out, &mut work)),
+            &mut || timed(|| probe::flowed(&listed(&g.blocks, &g.edges, over), &lent, WORDS)),
+            &mut component,
         );
+        row("  with the edges' lists lent", &mut || timed(|| probe::flowed(edges, &lent, WORDS)), &mut component);
     }
 }
 
@@ -68,11 +84,13 @@ fn time_spread(name: &str, g: &Graph, leaves: &[u64], passes: &[u64]) {
     let mut work = vec![0u64; 8 * (BLOCKS + g.edges.len() / 2 + BLOCKS * WORDS)];
     assert_eq!(entries::spread(&g.blocks, &g.edges, 2 * BLOCKS as u32, leaves, passes, WORDS, &mut out, &mut work), 0);
     assert_eq!(parted(&out), probe::spread(&g.behind, &one, &two, WORDS));
+    let mut component = || timed(|| entries::spread(&g.blocks, &g.edges, 2 * BLOCKS as u32, leaves, passes, WORDS, &mut out, &mut work));
     row(
         &format!("spread, {name}"),
-        &mut || timed(|| probe::spread(&g.behind, &one, &two, WORDS)),
-        &mut || timed(|| entries::spread(&g.blocks, &g.edges, 2 * BLOCKS as u32, leaves, passes, WORDS, &mut out, &mut work)),
+        &mut || timed(|| probe::spread(&listed(&g.blocks, &g.edges, 0), &one, &two, WORDS)),
+        &mut component,
     );
+    row("  with the edges' lists lent", &mut || timed(|| probe::spread(&g.behind, &one, &two, WORDS)), &mut component);
 }
 
 pub fn run() {
