@@ -31,10 +31,10 @@ use Rattle.fit.proofs.ListLaws.{Same, listed-end, list-kept, area-same}
 -- ---- none, and one after another
 
 pub folded-none : {w : List ℕ} {at items n end k top : ℕ} → Topped w at items n end k top → Folded w w at items n end k top top
-folded-none t = record { len = refl; topped = t; keeps = λ w₁ budget cells left p H. H }
+folded-none t = record { len = refl; topped = t; keeps = λ w₁ budget cells left p H. H; rest = λ x h. refl }
 
 pub folded-then : {w₀ w₁ w₂ : List ℕ} {at items n end k t₀ t₁ t₂ : ℕ} → Folded w₀ w₁ at items n end k t₀ t₁ → Folded w₁ w₂ at items n end k t₁ t₂ → Folded w₀ w₂ at items n end k t₀ t₂
-folded-then f g = record { len = g .len ∙ f .len; topped = g .topped; keeps = λ w₁ budget cells left p H. g .keeps w₁ budget cells left p (f .keeps w₁ budget cells left p H) }
+folded-then f g = record { len = g .len ∙ f .len; topped = g .topped; keeps = λ w₁ budget cells left p H. g .keeps w₁ budget cells left p (f .keeps w₁ budget cells left p H); rest = λ x h. g .rest x h ∙ f .rest x h }
 
 -- ---- the two lists
 
@@ -246,14 +246,16 @@ module _ {w₀ : List ℕ} {at items n end k q top : ℕ} (T : Topped w₀ at it
           ∙ sym (ap (λ (m : ℕ). allow (areaAt w at items n) (chain (nextAt w items n) m) a) (head-else c (omega (arith, H .cells-le, k-lt))) ∙ any-chain a u (headAt w₀ items n c) (H .heads c h));
     }
       where
-        tables : (j : ℕ) → (j < items + 3 * n) ⊎ (end ≤ j) → getD w j 0 ≡ getD w₂ j 0
-        tables j (inl h) = table j (omega arith) (λ e. omega arith) (λ e. omega arith) ∙ H .tables j (inl h)
-        tables j (inr h) =
-            stores j (λ e. omega (arith, T .linked .low, T .top-end, k-lt)) (λ e. omega (arith, T .linked .low, T .top-end, k-lt)) ∙ U .after j (omega (arith, r-small)) ∙ H .tables j (inr h)
+        tables : (j : ℕ) → j < items + 3 * n → getD w j 0 ≡ getD w₂ j 0
+        tables j h = table j (omega arith) (λ e. omega arith) (λ e. omega arith) ∙ H .tables j h
+
+    after : (j : ℕ) → end ≤ j → getD w j 0 ≡ getD w₀ j 0
+    after j h = stores j (λ e. omega (arith, T .linked .low, T .top-end, k-lt)) (λ e. omega (arith, T .linked .low, T .top-end, k-lt)) ∙ U .after j (omega (arith, r-small))
 
     pub folded : Folded w₀ (set (set w₁ (items + 7 * n + k) ((top - at) * 2 ^ 32 + r + 1)) (items + 4 * n + k) (nextAt w₀ items n q)) at items n end k top (top + r)
     folded = record {
       len = len-w;
       topped = record { linked = linked; top-end = r-small; end-le = omega (arith, len-w, T .end-le); small = T .small };
       keeps = holds;
+      rest = after;
     }

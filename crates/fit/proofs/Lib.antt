@@ -6,5 +6,8 @@ pub mod LinkLaws
 pub mod FoldLaws
 pub mod StepLaws
 pub mod PutLaws
+pub mod PlanLaws
 pub mod CodeLaws
+pub mod MarkLaws
 pub mod RunLaws
+pub mod EachLaws

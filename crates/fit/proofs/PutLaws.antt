@@ -2,7 +2,7 @@
 use Prim.Native.Nat.{ℕ, suc, _+_, _-_, _*_, _≤_, _<_, min, max}
 use native.Mathlib.Omega.{arith}
 use mathlib.Core.Path.{_≡_, refl, ap, sym, _∙_, subst}
-use mathlib.Core.Logic.{_≢_, inl}
+use mathlib.Core.Logic.{_≢_}
 use mathlib.Core.Bool.{Bool, true, false, not, _&&_, _||_, false≢true}
 use mathlib.Core.Option.{Option, some, none}
 use mathlib.Core.List.{List, [], _∷_, _++_}
@@ -51,7 +51,7 @@ not-or true false = refl
 not-or false true = refl
 not-or false false = refl
 
-join-area : (o : Option (List Range)) (a b : List Range) → joinable o a ≡ true → ((rs : List Range) → o ≡ some rs → Upright rs) → Upright a → Upright b
+pub join-area : (o : Option (List Range)) (a b : List Range) → joinable o a ≡ true → ((rs : List Range) → o ≡ some rs → Upright rs) → Upright a → Upright b
     → joinable (some (union (rangesIn o) a)) b ≡ joinable (some a) b && joinable o b
 join-area none a b e f u v = absurd (false≢true e)
 join-area (some rs) a b e f u v = ap not (union-clashes rs a b (f rs refl) u v) ∙ not-or (clashes rs b) (clashes a b)
@@ -66,7 +66,7 @@ module _ {w₁ : List ℕ} {at items n : ℕ} (L : Lent w₁ at items n) (known 
   here = rw i-is (known k k-lt)
 
   word-is : getD w (items + n + i) 0 ≡ getD w₁ (items + n + i) 0
-  word-is = H .tables (items + n + i) (inl (omega (arith, here)))
+  word-is = H .tables (items + n + i) (omega (arith, here))
 
   want-is : wantAt (wantsIn w₁ at items n) i ≡ wantIn w₁ at items n i
   want-is = want-at L i here

@@ -3,7 +3,7 @@ use Prim.Native.Nat.{ℕ, zero, suc, _+_, _-_, _*_, _^_, _≤_, _<_, min, max}
 use native.Mathlib.Omega.{arith}
 use native.Mathlib.Numerals.{add-one}
 use mathlib.Core.Path.{_≡_, refl, ap, sym, _∙_, subst}
-use mathlib.Core.Logic.{_⊎_, inl, inr}
+use mathlib.Core.Logic.{_⊎_, inl, inr, ⊎-elim}
 use mathlib.Core.Bool.{Bool, true, false, cond}
 use mathlib.Core.Option.{some, none, Option·none-ne-some}
 use mathlib.Core.List.{List, [], _∷_, _++_}
@@ -18,24 +18,42 @@ use Rattle.order.specs.Keys.{sizeOf, alignOf, OrderedIn}
 use Rattle.sorting.proofs.RankLaws.{mem-at}
 use Rattle.fit.specs.declared.Progress.{Progress}
 use Rattle.fit.specs.Tables.{rangesAt, areaIn, wantIn, wantsIn, Lent, planIn, Fitted}
-use Rattle.fit.specs.Inner.{orderAt, headAt, Linked, Probed, enteredIn, Holds, InOrder, Ready, Stepped, Placed, Summed, Folded}
+use Rattle.fit.specs.Inner.{orderAt, headAt, Linked, Probed, enteredIn, Holds, InOrder, Ready, Stepped, Placed, Each, Summed, Folded}
 use Rattle.fit.proofs.TableLaws.{area-none, area-some, want-at, sized, area-kept, lent-kept, wants-kept}
+use Rattle.fit.proofs.EnterLaws.{entered-length, entered-rest}
 use Rattle.fit.proofs.StepLaws.{linked, order-kept}
 use Rattle.fit.proofs.PutLaws.{open-none, open-miss, join-hit}
 
 -- ---- one item
 
 module _ {w₀ : List ℕ} {at items n end k cells top : ℕ} (left : ℕ) (R : Ready w₀ at items n end k cells top) (i : ℕ) (i-is : i ≡ orderAt w₀ items n k) where
+  room : items + 8 * n ≤ length w₀
+  room = omega (arith, R .linked .low, R .linked .top-le)
+
+  i-in : i < n
+  i-in = rw i-is (R .known k (R .k-lt))
+
+  -- what is elsewhere
+  module _ (w : List ℕ) (c link word x : ℕ) (c-lt : c < n) (e : w ≡ enteredIn w₀ items n k i c link word x) where
+    len-is : length w ≡ length w₀
+    len-is = ap length e ∙ entered-length w₀ items n k i c link word x room (R .k-lt) i-in c-lt
+
+    else-is : (y : ℕ) → end ≤ y → getD w y 0 ≡ getD w₀ y 0
+    else-is y h = ap (λ (v : List ℕ). getD v y 0) e ∙ entered-rest w₀ items n k i c link word x room (R .k-lt) i-in c-lt y (inr (omega (arith, R .linked .low, R .top-end)))
+
+  cells-lt : cells < n
+  cells-lt = omega (arith, R .cells-le, R .k-lt)
+
   -- of any plan that the tables hold
   module _ {w₁ : List ℕ} {budget : ℕ} {p : Plan} (L : Lent w₁ at items n) (known : (q : ℕ) → q < n → orderAt w₁ items n q < n) (H : Holds w₁ w₀ at items n end budget k cells left top p) where
     i-was : i ≡ orderAt w₁ items n k
-    i-was = i-is ∙ H .tables (items + 2 * n + k) (inl (omega (arith, R .k-lt)))
+    i-was = i-is ∙ H .tables (items + 2 * n + k) (omega (arith, R .k-lt))
 
     here : i < n
     here = rw i-was (known k (R .k-lt))
 
     area-is : wantAt (wantsIn w₁ at items n) i .area ≡ areaIn w₀ at (getD w₀ (items + i) 0)
-    area-is = ap (λ (x : Want). x .area) (want-at L i here) ∙ sym (area-kept L w₀ (H .len) (λ x h. H .tables x (inl (omega arith))) i here)
+    area-is = ap (λ (x : Want). x .area) (want-at L i here) ∙ sym (area-kept L w₀ (H .len) (λ x h. H .tables x (omega arith)) i here)
 
     none-there : getD w₀ (items + i) 0 < 1 → wantAt (wantsIn w₁ at items n) i .area ≡ none
     none-there h = area-is ∙ area-none w₀ at (getD w₀ (items + i) 0) (omega arith)
@@ -52,6 +70,8 @@ module _ {w₀ : List ℕ} {at items n end k cells top : ℕ} (left : ℕ) (R : 
       → Stepped w₀ w at items n end k cells left top (record { cells = cells + 1; left = left; top = top })
   stepped-none {w} h e = record {
     keeps = λ w₁ budget p L known H. moved L known H w _ _ _ _ e (open-none L known H i (i-was L known H) (R .k-lt) (none-there L known H h));
+    len = len-is w cells 0 (getD w₀ (items + n + i) 0) (getD w₀ (items + i) 0) cells-lt e;
+    rest = else-is w cells 0 (getD w₀ (items + n + i) 0) (getD w₀ (items + i) 0) cells-lt e;
   }
 
   module _ (most r : ℕ) (m : most ≡ min cells left) (h : 0 < getD w₀ (items + i) 0) (P : Probed w₀ at items n most (rangesAt w₀ at (getD w₀ (items + i) 0)) r) where
@@ -60,6 +80,8 @@ module _ {w₀ : List ℕ} {at items n end k cells top : ℕ} (left : ℕ) (R : 
     stepped-miss {w} q e = record {
       keeps = λ w₁ budget p L known H. moved L known H w _ _ _ _ e
           (open-miss L known H i (i-was L known H) (R .k-lt) (rangesAt w₀ at (getD w₀ (items + i) 0)) (some-there L known H h) most r m P q);
+      len = len-is w cells 0 (getD w₀ (items + n + i) 0) (getD w₀ (items + i) 0) cells-lt e;
+      rest = else-is w cells 0 (getD w₀ (items + n + i) 0) (getD w₀ (items + i) 0) cells-lt e;
     }
 
     -- the item has entered cell r, and its list may have been united with others
@@ -70,6 +92,8 @@ module _ {w₀ : List ℕ} {at items n end k cells top : ℕ} (left : ℕ) (R : 
     stepped-hit {v} {w} {t} q word s e F = record {
       keeps = λ w₁ budget p L known H. F .keeps w₁ budget cells (left - (r + 1)) _ (moved L known H v _ _ _ _ e
           (join-hit L known H i (i-was L known H) (R .k-lt) (rangesAt w₀ at (getD w₀ (items + i) 0)) (some-there L known H h) most r m P q word (s .0) (s .1)));
+      len = F .len ∙ len-is v r (headAt w₀ items n r) word (getD w₀ (items + i) 0) (omega (arith, cells-lt)) e;
+      rest = λ x l. F .rest x l ∙ else-is v r (headAt w₀ items n r) word (getD w₀ (items + i) 0) (omega (arith, cells-lt)) e x l;
     }
 
 pub linked-below : {w : List ℕ} {at items n top k : ℕ} → Linked w at items n top k → (m : ℕ) → m ≤ k → Linked w at items n top m
@@ -132,6 +156,15 @@ module _ {w₁ : List ℕ} {at items n end : ℕ} (O : InOrder w₁ at items n e
     same = λ c h. absurd (omega arith);
   })
 
+  pub plan-next : (budget k : ℕ) → k < n → put (wantsIn w₁ at items n) budget (orderAt w₁ items n k) (planTo w₁ at items n budget k) ≡ planTo w₁ at items n budget (k + 1)
+  plan-next budget k h =
+      ap (λ (i : ℕ). put (wantsIn w₁ at items n) budget i (planTo w₁ at items n budget k)) (O .is k h)
+      ∙ sym (fit-append (wantsIn w₁ at items n) budget (take k order) (getD order k 0) nothing)
+      ∙ ap (λ (l : List ℕ). fit (wantsIn w₁ at items n) budget l nothing) (sym (ap (λ (j : ℕ). take j order) (add-one k) ∙ take-suc order k 0 (rw length-order h)))
+    where
+      order : List ℕ
+      order = orderOf (wantsIn w₁ at items n)
+
   module _ {w : List ℕ} {budget k cells left top : ℕ} (H : Holds w₁ w at items n end budget k cells left top (planTo w₁ at items n budget k)) where
     pub run-ready : k < n → Ready w at items n end k cells top
     run-ready h = record {
@@ -147,25 +180,17 @@ module _ {w₁ : List ℕ} {at items n end : ℕ} (O : InOrder w₁ at items n e
 
     pub run-more : {v : List ℕ} {r : Progress} → k < n → Stepped w v at items n end k cells left top r → Holds w₁ v at items n end budget (k + 1) (r .cells) (r .left) (r .top) (planTo w₁ at items n budget (k + 1))
     run-more {v} {r} h S =
-        subst (λ (q : Plan). Holds w₁ v at items n end budget (k + 1) (r .cells) (r .left) (r .top) q) next
+        subst (λ (q : Plan). Holds w₁ v at items n end budget (k + 1) (r .cells) (r .left) (r .top) q) (plan-next budget k h)
         (S .keeps w₁ budget (planTo w₁ at items n budget k) (O .lent) order-known H)
-      where
-        order : List ℕ
-        order = orderOf (wantsIn w₁ at items n)
 
-        next : put (wantsIn w₁ at items n) budget (orderAt w₁ items n k) (planTo w₁ at items n budget k) ≡ planTo w₁ at items n budget (k + 1)
-        next =
-            ap (λ (i : ℕ). put (wantsIn w₁ at items n) budget i (planTo w₁ at items n budget k)) (O .is k h)
-            ∙ sym (fit-append (wantsIn w₁ at items n) budget (take k order) (getD order k 0) nothing)
-            ∙ ap (λ (l : List ℕ). fit (wantsIn w₁ at items n) budget l nothing) (sym (ap (λ (j : ℕ). take j order) (add-one k) ∙ take-suc order k 0 (rw length-order h)))
-
-    pub run-done : n ≤ k → Placed w₁ w at items n end budget (record { cells = cells; left = left; top = top })
-    run-done h =
+    pub run-done : (width : ℕ) → n ≤ k → ((x : ℕ) → end + n * width ≤ x → getD w x 0 ≡ getD w₁ x 0) → Each w₁ w at items n end width budget (record { cells = cells; left = left; top = top })
+    run-done width h rest =
         let e : k ≡ n = omega (arith, H .k-le) in
         record {
           holds = subst (λ (q : Plan). Holds w₁ w at items n end budget n cells left top q)
               (ap (λ (l : List ℕ). fit (wantsIn w₁ at items n) budget l nothing) (take-all n (orderOf (wantsIn w₁ at items n)) (omega (arith, length-order))))
               (rw e at H);
+          rest = rest;
         }
 
 -- ---- ordering, then placing
@@ -198,7 +223,7 @@ module _ {w₀ w₁ w₂ : List ℕ} {at items n end : ℕ} (L : Lent w₀ at it
   pub fitted : {w₃ : List ℕ} {budget : ℕ} {s : Progress} (d : ℕ) → Placed w₂ w₃ at items n end budget s → Summed w₃ (items + 5 * n) (s .cells) d
       → Fitted w₀ w₃ at items n end budget (record { cells = s .cells; probes = budget - s .left; depth = d })
   fitted {w₃} {budget} {s} d P D =
-      let H = subst (λ (q : Plan). Holds w₂ w₃ at items n end budget n (s .cells) (s .left) (s .top) q) (plan-same budget) (P .holds) in
+      let H = subst (λ (q : Plan). Holds w₂ w₃ at items n (P .rows) budget n (s .cells) (s .left) (s .top) q) (plan-same budget) (P .holds) in
       record {
         len = H .len ∙ same-length;
         cells = H .cells-is;
@@ -206,12 +231,8 @@ module _ {w₀ w₁ w₂ : List ℕ} {at items n end : ℕ} (L : Lent w₀ at it
         probes = omega (arith, H .left-is);
         depth = D .is (planIn w₀ at items n budget .cells) (sym (H .cells-is)) (λ c h. H .shown .size c (rw (H .cells-is) at h));
         shown = H .shown;
-        rest = λ x o. rest′ H x o;
+        rest = λ x o. ⊎-elim (λ h. H .tables x (omega arith) ∙ tables-kept x h) (λ h. P .rest x h ∙ F .after x (omega arith) ∙ O .rest x (inr (omega arith))) o;
       }
-    where
-      rest′ : Holds w₂ w₃ at items n end budget n (s .cells) (s .left) (s .top) (planIn w₀ at items n budget) → (x : ℕ) → (x < items + 2 * n) ⊎ (end ≤ x) → getD w₃ x 0 ≡ getD w₀ x 0
-      rest′ H x (inl h) = H .tables x (inl (omega arith)) ∙ tables-kept x h
-      rest′ H x (inr h) = H .tables x (inr h) ∙ F .after x (omega arith) ∙ O .rest x (inr (omega arith))
 
   pub cells-few : {w₃ : List ℕ} {budget : ℕ} {s : Progress} → Placed w₂ w₃ at items n end budget s → (s .cells ≤ n) × (length w₃ ≡ length w₀) × (s .left ≤ budget)
   cells-few P = (P .holds .cells-le, P .holds .len ∙ same-length, omega (arith, P .holds .left-is))

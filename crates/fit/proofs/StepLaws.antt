@@ -27,7 +27,7 @@ use Rattle.fit.proofs.TableLaws.{want-at, lent-kept, area-kept}
 module _ {w₁ : List ℕ} {at items n : ℕ} (L : Lent w₁ at items n) (known : (q : ℕ) → q < n → orderAt w₁ items n q < n) where
   module _ {w : List ℕ} {end budget k cells left top : ℕ} {p : Plan} (H : Holds w₁ w at items n end budget k cells left top p) where
     kept : (x : ℕ) → x < items + 3 * n → getD w x 0 ≡ getD w₁ x 0
-    kept x h = H .tables x (inl h)
+    kept x h = H .tables x h
 
     pub linked : Linked w at items n top k
     linked = record {
@@ -77,9 +77,8 @@ module _ {w₁ : List ℕ} {at items n : ℕ} (L : Lent w₁ at items n) (known 
       len′ : length (enteredIn w items n k i c link word area) ≡ length w₁
       len′ = entered-length w items n k i c link word area room k-lt i-lt c-lt ∙ H .len
 
-      tables′ : (x : ℕ) → (x < items + 3 * n) ⊎ (end ≤ x) → getD (enteredIn w items n k i c link word area) x 0 ≡ getD w₁ x 0
-      tables′ x (inl h) = entered-rest w items n k i c link word area room k-lt i-lt c-lt x (inl h) ∙ H .tables x (inl h)
-      tables′ x (inr h) = entered-rest w items n k i c link word area room k-lt i-lt c-lt x (inr (omega (arith, H .low, H .high))) ∙ H .tables x (inr h)
+      tables′ : (x : ℕ) → x < items + 3 * n → getD (enteredIn w items n k i c link word area) x 0 ≡ getD w₁ x 0
+      tables′ x h = entered-rest w items n k i c link word area room k-lt i-lt c-lt x (inl h) ∙ H .tables x h
 
       same : Same w (enteredIn w items n k i c link word area) items n top
       same = entered-same linked i c link word area area-is k-lt i-lt c-lt link-le
@@ -95,7 +94,7 @@ module _ {w₁ : List ℕ} {at items n : ℕ} (L : Lent w₁ at items n) (known 
       area-new : areaAt (enteredIn w items n k i c link word area) at items n k ≡ wantAt (wantsIn w₁ at items n) i .area
       area-new =
           ap (areaIn (enteredIn w items n k i c link word area) at) (list-same w items n k i c link word area room k-lt i-lt c-lt ∙ sym (item-same linked i c link word area area-is k-lt i-lt c-lt link-le))
-          ∙ area-kept L (enteredIn w items n k i c link word area) len′ (λ x l. tables′ x (inl (omega arith))) i i-lt ∙ sym (ap (λ (x : Want). x .area) (want-at L i i-lt))
+          ∙ area-kept L (enteredIn w items n k i c link word area) len′ (λ x l. tables′ x (omega arith)) i i-lt ∙ sym (ap (λ (x : Want). x .area) (want-at L i i-lt))
 
       next-was : (q : ℕ) → q < k → nextAt w items n q ≡ nextAt (enteredIn w items n k i c link word area) items n q
       next-was q h = sym (next-other w items n k i c link word area room k-lt i-lt c-lt q (omega arith) (λ e. omega arith))

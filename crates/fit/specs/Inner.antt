@@ -2,18 +2,20 @@
 use Prim.Native.Nat.{ℕ, zero, suc, _+_, _-_, _*_, _/_, _%_, _^_, _<_, _≤_, max}
 use mathlib.Core.Path.{_≡_}
 use mathlib.Core.Logic.{_⊎_}
-use mathlib.Core.Bool.{Bool, true, false, _&&_}
+use mathlib.Core.Bool.{Bool, true, false, _&&_, _||_}
 use mathlib.Core.Option.{Option, some}
 use mathlib.Core.List.{List, [], _∷_}
 use lib.ListN.{length, getD, set}
 use Rattle.ranges.specs.declared.Range.{Range}
-use Rattle.ranges.specs.Points.{Upright, Apart}
+use Rattle.ranges.specs.Points.{Upright, Apart, Point}
 use Rattle.ranges.specs.Forms.{unpacked}
 use Rattle.words.specs.Regions.{part}
+use Rattle.bits.specs.Bits.{bitOf, bit, Row}
 use Rattle.fitting.specs.Wants.{Want, wantAt, orderOf}
 use Rattle.fitting.specs.Plan.{Cell, cellAt, joinable, Plan, put, depthOf}
 use Rattle.order.specs.Keys.{sizeOf, alignOf}
 use Rattle.fit.specs.declared.Progress.{Progress}
+use Rattle.fit.specs.declared.Own.{Own}
 use Rattle.fit.specs.Tables.{firstOf, countOf, rangesAt, areaIn, wantsIn, Lent, Shown, planIn}
 
 -- the places that a link leads to: a link is 0, or one more than a place
@@ -75,6 +77,48 @@ pub record Probed (w : List ℕ) (at items n most : ℕ) (a : List Range) (r : �
   pub hit : r < most → opens w at items n a r ≡ true
   pub miss : (c : ℕ) → c < r → opens w at items n a c ≡ false
 
+-- the item at place k of the order: its area's ranges, and its cell
+abbrev pub itemAt : List ℕ → ℕ → ℕ → ℕ → ℕ → List Range
+itemAt w at items n k = rangesAt w at (getD w (items + orderAt w items n k) 0)
+
+abbrev pub cellIn : List ℕ → ℕ → ℕ → ℕ → ℕ
+cellIn w items n k = getD w (items + 6 * n + orderAt w items n k) 0
+
+-- a bit that a cell's word and an item's have in common rules the cell out
+pub record Sure (w : List ℕ) (at items n base width own most : ℕ) (a : List Range) : Type 0 where
+  pub inside : (c : ℕ) → c < most → 0 < own → base + c * width < length w
+  pub rules : (c t : ℕ) → c < most → t < 64 → bitOf own t ≡ true → bitOf (getD w (base + c * width) 0) t ≡ true → opens w at items n a c ≡ false
+
+-- each cell has a row of `width` words from `rows` on: bit t stands for the sample point t * step
+pub record Gridded (w : List ℕ) (n rows width step : ℕ) : Type 0 where
+  pub rows-le : rows + n * width ≤ length w
+  pub narrow : width ≤ 8
+  pub some-step : 0 < step
+  pub step-le : step ≤ 2 ^ 32
+
+-- a bit is set only where the sample point is in the cell's area, so that no area with that point may join
+pub record Marks (w : List ℕ) (rows width step : ℕ) (p : Plan) : Type 0 where
+  pub sure : (c t : ℕ) → c < length (p .cells) → t < width * 64 → bit w (rows + c * width) t ≡ true → (a : List Range) → Upright a → Point a (t * step) → joinable (cellAt (p .cells) c .area) a ≡ false
+
+-- bits of the row at `row` have been set, each for a sample point of a; r is a word of the row
+pub record Pointed (w₀ w : List ℕ) (row width step : ℕ) (a : List Range) (r : ℕ) : Type 0 where
+  pub len : length w ≡ length w₀
+  pub rest : (x : ℕ) → (x < row) ⊎ (row + width ≤ x) → getD w x 0 ≡ getD w₀ x 0
+  pub sound : (t : ℕ) → t < width * 64 → bit w row t ≡ true → (bit w₀ row t ≡ true) ⊎ Point a (t * step)
+  pub within : r < width
+
+-- the row at `row` is that of the item at place k, if it has an area
+pub record Drawn (w₀ w : List ℕ) (at items n k row width step : ℕ) (r : Own) : Type 0 where
+  pub len : length w ≡ length w₀
+  pub rest : (x : ℕ) → (x < row) ⊎ (row + width ≤ x) → getD w x 0 ≡ getD w₀ x 0
+  pub sound : 0 < getD w₀ (items + orderAt w₀ items n k) 0 → (t : ℕ) → t < width * 64 → bit w row t ≡ true → Point (itemAt w₀ at items n k) (t * step)
+  pub own : 0 < r .word → (r .at < width) × (r .word ≡ getD w (row + r .at) 0) × (0 < getD w₀ (items + orderAt w₀ items n k) 0)
+  pub fits : r .at ≤ width
+
+-- the row of number `cells` has joined that of the cell of the item at place k
+pub record Joined (w₀ w : List ℕ) (items n k rows width cells : ℕ) : Type 0 where
+  pub row : Row w₀ w (rows + cellIn w₀ items n k * width) width (λ t. bit w₀ (rows + cellIn w₀ items n k * width) t || bit w₀ (rows + cells * width) t)
+
 -- the item i at place k of the order, with the area of word x, has entered cell c, whose size and alignment are now `word` and whose other lists `link` leads to
 abbrev pub enteredIn : List ℕ → ℕ → ℕ → ℕ → ℕ → ℕ → ℕ → ℕ → ℕ → List ℕ
 enteredIn w items n k i c link word x =
@@ -83,7 +127,7 @@ enteredIn w items n k i c link word x =
 -- the tables hold the plan of the first k places; w₁ holds the wants and the order
 pub record Holds (w₁ w : List ℕ) (at items n end budget k cells left top : ℕ) (p : Plan) : Type 0 where
   pub len : length w ≡ length w₁
-  pub tables : (x : ℕ) → (x < items + 3 * n) ⊎ (end ≤ x) → getD w x 0 ≡ getD w₁ x 0
+  pub tables : (x : ℕ) → x < items + 3 * n → getD w x 0 ≡ getD w₁ x 0
   pub low : items + 8 * n ≤ top
   pub high : top ≤ end
   pub end-le : end ≤ length w₁
@@ -121,10 +165,19 @@ pub record Ready (w : List ℕ) (at items n end k cells top : ℕ) : Type 0 wher
 pub record Stepped (w₀ w : List ℕ) (at items n end k cells left top : ℕ) (r : Progress) : Type 0 where
   pub keeps : (w₁ : List ℕ) (budget : ℕ) (p : Plan) → Lent w₁ at items n → ((q : ℕ) → q < n → orderAt w₁ items n q < n) → Holds w₁ w₀ at items n end budget k cells left top p
       → Holds w₁ w at items n end budget (k + 1) (r .cells) (r .left) (r .top) (put (wantsIn w₁ at items n) budget (orderAt w₁ items n k) p)
+  pub len : length w ≡ length w₀
+  pub rest : (x : ℕ) → end ≤ x → getD w x 0 ≡ getD w₀ x 0
+
+-- every item put, with rows of sample points from `rows` on
+pub record Each (w₁ w : List ℕ) (at items n rows width budget : ℕ) (r : Progress) : Type 0 where
+  pub holds : Holds w₁ w at items n rows budget n (r .cells) (r .left) (r .top) (planIn w₁ at items n budget)
+  pub rest : (x : ℕ) → rows + n * width ≤ x → getD w x 0 ≡ getD w₁ x 0
 
 -- every item put
 pub record Placed (w₁ w : List ℕ) (at items n end budget : ℕ) (r : Progress) : Type 0 where
-  pub holds : Holds w₁ w at items n end budget n (r .cells) (r .left) (r .top) (planIn w₁ at items n budget)
+  pub rows : ℕ
+  pub holds : Holds w₁ w at items n rows budget n (r .cells) (r .left) (r .top) (planIn w₁ at items n budget)
+  pub rest : (x : ℕ) → end ≤ x → getD w x 0 ≡ getD w₁ x 0
 
 -- the list of place k can be united with lists that it is linked to
 pub record Topped (w : List ℕ) (at items n end k top : ℕ) : Type 0 where
@@ -145,6 +198,7 @@ pub record Folded (w₀ w : List ℕ) (at items n end k top top′ : ℕ) : Type
   pub len : length w ≡ length w₀
   pub topped : Topped w at items n end k top′
   pub keeps : (w₁ : List ℕ) (budget cells left : ℕ) (p : Plan) → Holds w₁ w₀ at items n end budget (k + 1) cells left top p → Holds w₁ w at items n end budget (k + 1) cells left top′ p
+  pub rest : (x : ℕ) → end ≤ x → getD w x 0 ≡ getD w₀ x 0
 
 -- r is the sum of the sizes of the cells whose words stand from `at` on
 pub record Summed (w : List ℕ) (at cells r : ℕ) : Type 0 where

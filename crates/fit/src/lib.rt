@@ -2,13 +2,15 @@
 ghost use mathlib.Core.Path.{_≡_};
 ghost use Prim.Native.Nat.{ℕ, _+_, _-_, _*_, _/_, _%_, _^_, _<_, _≤_, max, min};
 ghost use lib.ListN.{length, getD};
+ghost use lib.Bits.{bitAnd};
+ghost use mathlib.Core.Bool.{true};
 ghost use Rattle.words.specs.Regions.{part};
 ghost use Rattle.ranges.specs.Points.{Apart};
 ghost use Rattle.ranges.specs.Forms.{unpacked};
 ghost use Rattle.fitting.specs.Plan.{joinable};
 ghost use Rattle.order.specs.Keys.{sizeOf, alignOf};
 ghost use Rattle.fit.specs.Tables.{Proper, Lent, areaIn, countOf, Fitted};
-ghost use Rattle.fit.specs.Inner.{chain, allow, nextAt, headAt, areaAt, Linked, Probed, enteredIn, InOrder, Ready, Stepped, Placed, Summed, Topped, Meets, Folded};
+ghost use Rattle.fit.specs.Inner.{chain, allow, nextAt, headAt, areaAt, orderAt, itemAt, cellIn, Linked, Probed, Sure, enteredIn, InOrder, Ready, Gridded, Drawn, Pointed, Joined, Stepped, Placed, Each, Summed, Topped, Meets, Folded};
 
 const HALF: u64 = 0x1_0000_0000;
 
@@ -27,6 +29,12 @@ struct Progress {
     cells: usize,
     left: u64,
     top: usize,
+}
+
+// A word of the sample points that an item's area has, and which word of its row it is.
+struct Own {
+    at: usize,
+    word: u64,
 }
 
 // Whether a list, by its word, is there and does not clash with the `count` ranges from `from` on.
@@ -68,7 +76,18 @@ fn joins(
     true
 }
 
-// The first of `most` cells that has an area and does not clash, else `most`.
+// Whether a cell's word and an item's have a sample point in common.
+fn hit(w: &[u64], base: usize, width: usize, c: usize, own: u64) -> bool
+    requires { ⌜ (0 < own → base + c * width < length (now w)) ⌝ }
+    ensures { λ r. ⌜ (r ≡ true → 0 < bitAnd (getD (now (w .entry)) (base + c * width) 0) own) ⌝ }
+{
+    if own < 1 {
+        return false;
+    }
+    w[base + c * width] & own != 0
+}
+
+// The first of `most` cells that has an area and does not clash, else `most`. A sample point in common is a clash.
 fn probe(
     w: &[u64],
     at: usize,
@@ -79,16 +98,24 @@ fn probe(
     most: usize,
     from: usize,
     count: usize,
+    base: usize,
+    width: usize,
+    own: u64,
 ) -> usize
-    requires { ⌜ Linked (now w) at items n top k × (most ≤ k) × ((c : ℕ) → c < most → headAt (now w) items n c ≤ k) × (from + count ≤ length (now w)) × Apart (unpacked (part from count (now w))) ⌝ }
+    requires { ⌜ Linked (now w) at items n top k × (most ≤ k) × ((c : ℕ) → c < most → headAt (now w) items n c ≤ k) × (from + count ≤ length (now w)) × Apart (unpacked (part from count (now w)))
+        × Sure (now w) at items n base width own most (unpacked (part from count (now w))) ⌝ }
     ensures { λ r. ⌜ Probed (now (w .entry)) at items n most (unpacked (part from count (now (w .entry)))) r ⌝ }
 {
     let mut c = 0;
     while c < most {
-        if joins(w, at, items, n, top, w[items + 3 * n + c], from, count) {
-            return c;
+        if hit(w, base, width, c, own) {
+            c += 1;
+        } else {
+            if joins(w, at, items, n, top, w[items + 3 * n + c], from, count) {
+                return c;
+            }
+            c += 1;
         }
-        c += 1;
     }
     c
 }
@@ -182,7 +209,7 @@ fn together(y: u64, z: u64) -> u64
     }
     let ones = (y - 1) % HALF;
     let twos = (z - 1) % HALF;
-    if 8 * ones < twos {
+    if 3 * ones < twos {
         return NEVER;
     }
     ones + twos
@@ -219,8 +246,11 @@ fn put(
     cells: usize,
     left: u64,
     top: usize,
+    base: usize,
+    width: usize,
+    own: u64,
 ) -> Progress
-    requires { ⌜ Ready (now w) at items n end k cells top ⌝ }
+    requires { ⌜ Ready (now w) at items n end k cells top × Sure (now w) at items n base width own cells (itemAt (now w) at items n k) ⌝ }
     ensures { λ r. ⌜ Stepped (now (w .entry)) (now (w .exit)) at items n end k cells left top r ⌝ }
 {
     let i = w[items + 2 * n + k] as usize;
@@ -237,7 +267,7 @@ fn put(
     let most = least(cells, left);
     let from = at + ((x - 1) / HALF) as usize;
     let count = ((x - 1) % HALF) as usize;
-    let c = probe(w, at, items, n, top, k, most, from, count);
+    let c = probe(w, at, items, n, top, k, most, from, count, base, width, own);
     if c < most {
         let link = w[items + 3 * n + c];
         let wide = wider(w[items + 5 * n + c], word);
@@ -257,17 +287,130 @@ fn put(
     }
 }
 
+// The sample point that an area's first range begins at or after.
+fn first_point(w: &[u64], from: usize, count: usize, step: u64) -> usize
+    requires { ⌜ (from + count ≤ length (now w)) × (0 < step) ⌝ }
+{
+    if count < 1 {
+        return 0;
+    }
+    (w[from] / HALF / step) as usize
+}
+
+// Sets the row's bits of the sample points that are in `count` ranges from `from` on; the word that the last of them is in.
+fn points(w: &mut [u64], row: usize, width: usize, step: u64, from: usize, count: usize) -> usize
+    requires { ⌜ (row + width ≤ length (now w)) × (from + count ≤ row) × (0 < width) × (width ≤ 8) × (0 < step) × (step ≤ 2 ^ 32) ⌝ }
+    ensures { λ r. ⌜ Pointed (now (w .entry)) (now (w .exit)) row width step (unpacked (part from count (now (w .entry)))) r ⌝ }
+{
+    let mut t = first_point(w, from, count, step);
+    let mut i = 0;
+    let mut last = 0;
+    while t < width * 64 {
+        if i >= count {
+            return last;
+        }
+        let x = w[from + i];
+        let p = t as u64 * step;
+        if x % HALF < p {
+            i += 1;
+        } else {
+            if x / HALF <= p {
+                bits::set(w, row, t);
+                last = t / 64;
+                t += 1;
+            } else {
+                t += 1;
+            }
+        }
+    }
+    last
+}
+
+// The row at `row` becomes that of the item at place `k` of the order.
+fn draw(
+    w: &mut [u64],
+    at: usize,
+    items: usize,
+    n: usize,
+    k: usize,
+    row: usize,
+    width: usize,
+    step: u64,
+) -> Own
+    requires { ⌜ Lent (now w) at items n × (orderAt (now w) items n k < n) × (k < n) × (items + 8 * n ≤ row) × (row + width ≤ length (now w)) × (width ≤ 8) × (0 < step) × (step ≤ 2 ^ 32) ⌝ }
+    ensures { λ r. ⌜ Drawn (now (w .entry)) (now (w .exit)) at items n k row width step r ⌝ }
+{
+    let i = w[items + 2 * n + k] as usize;
+    let x = w[items + i];
+    if x < 1 {
+        return Own { at: 0, word: 0 };
+    }
+    if width < 1 {
+        return Own { at: 0, word: 0 };
+    }
+    let from = at + ((x - 1) / HALF) as usize;
+    let count = ((x - 1) % HALF) as usize;
+    words::fill(w, row, width, 0);
+    let last = points(w, row, width, step, from, count);
+    Own {
+        at: last,
+        word: w[row + last],
+    }
+}
+
+// The row at `row`, of the item at place `k`, joins that of its cell.
+fn join_row(
+    w: &mut [u64],
+    items: usize,
+    n: usize,
+    k: usize,
+    rows: usize,
+    width: usize,
+    cells: usize,
+)
+    requires { ⌜ (items + 8 * n ≤ rows) × (rows + n * width ≤ length (now w)) × (k < n) × (cells < n) × (orderAt (now w) items n k < n) × (cellIn (now w) items n k < n) ⌝ }
+    ensures { λ _. ⌜ Joined (now (w .entry)) (now (w .exit)) items n k rows width cells ⌝ }
+{
+    let i = w[items + 2 * n + k] as usize;
+    let c = w[items + 6 * n + i] as usize;
+    bits::row_or(w, rows + c * width, rows + cells * width, width);
+}
+
 // Each item in order.
-fn place(w: &mut [u64], at: usize, items: usize, n: usize, end: usize, budget: u64) -> Progress
-    requires { ⌜ InOrder (now w) at items n end × ((i : ℕ) → i < n → getD (now w) (items + 6 * n + i) 0 ≡ 0) ⌝ }
-    ensures { λ r. ⌜ Placed (now (w .entry)) (now (w .exit)) at items n end budget r ⌝ }
+fn each(
+    w: &mut [u64],
+    at: usize,
+    items: usize,
+    n: usize,
+    rows: usize,
+    width: usize,
+    step: u64,
+    budget: u64,
+) -> Progress
+    requires { ⌜ InOrder (now w) at items n rows × ((i : ℕ) → i < n → getD (now w) (items + 6 * n + i) 0 ≡ 0) × Gridded (now w) n rows width step ⌝ }
+    ensures { λ r. ⌜ Each (now (w .entry)) (now (w .exit)) at items n rows width budget r ⌝ }
 {
     let mut cells = 0;
     let mut left = budget;
     let mut top = items + 8 * n;
     let mut k = 0;
     while k < n {
-        let s = put(w, at, items, n, end, k, cells, left, top);
+        let own = draw(w, at, items, n, k, rows + cells * width, width, step);
+        let s = put(
+            w,
+            at,
+            items,
+            n,
+            rows,
+            k,
+            cells,
+            left,
+            top,
+            rows + own.at,
+            width,
+            own.word,
+        );
+        join_row(w, items, n, k, rows, width, cells);
         cells = s.cells;
         left = s.left;
         top = s.top;
@@ -278,6 +421,61 @@ fn place(w: &mut [u64], at: usize, items: usize, n: usize, end: usize, budget: u
         left: left,
         top: top,
     }
+}
+
+// The last point of a list, by its word, or 0.
+fn last_point(w: &[u64], at: usize, top: usize, x: u64) -> u64
+    requires { ⌜ (0 < x → Proper (now w) at top x) × (top ≤ length (now w)) ⌝ }
+    ensures { λ r. ⌜ r < 2 ^ 32 ⌝ }
+{
+    if x < 1 {
+        return 0;
+    }
+    let count = ((x - 1) % HALF) as usize;
+    if count < 1 {
+        return 0;
+    }
+    w[at + ((x - 1) / HALF) as usize + count - 1] % HALF
+}
+
+// The last point of all areas.
+fn reach(w: &[u64], at: usize, items: usize, n: usize) -> u64
+    requires { ⌜ Lent (now w) at items n ⌝ }
+    ensures { λ r. ⌜ r < 2 ^ 32 ⌝ }
+{
+    let mut most = 0;
+    let mut i = 0;
+    while i < n {
+        most = larger(most, last_point(w, at, items, w[items + i]));
+        i += 1;
+    }
+    most
+}
+
+// How many words of sample points a cell has: none for few items, and at most a third of the room for all.
+fn width_for(n: usize, room: usize) -> usize
+    ensures { λ r. ⌜ (r ≤ 6) × (n * r ≤ room) ⌝ }
+{
+    if n < 64 {
+        return 0;
+    }
+    if n <= room / 18 {
+        return 6;
+    }
+    if n <= room / 6 {
+        return 2;
+    }
+    0
+}
+
+// Each item in order, with sample points spread over all areas.
+fn place(w: &mut [u64], at: usize, items: usize, n: usize, end: usize, budget: u64) -> Progress
+    requires { ⌜ InOrder (now w) at items n end × ((i : ℕ) → i < n → getD (now w) (items + 6 * n + i) 0 ≡ 0) ⌝ }
+    ensures { λ r. ⌜ Placed (now (w .entry)) (now (w .exit)) at items n end budget r ⌝ }
+{
+    let width = width_for(n, end - (items + 8 * n));
+    let step = reach(w, at, items, n) / (64 * width as u64 + 1) + 1;
+    each(w, at, items, n, end - n * width, width, step, budget)
 }
 
 // The sum of the cells' sizes.

@@ -1,56 +1,70 @@
--- `place` meets its contract: the tables hold the plan of the places passed.
-use Rattle.fit.specs.Inner.{Holds, InOrder}
-use Rattle.fit.proofs.RunLaws.{planTo, run-start, run-ready, run-more, run-done}
+-- `place` meets its contract: the rows stand at the end of the room.
+use Rattle.fit.proofs.EachLaws.{in-order-below, step-fits, step-word}
 use native.Mathlib.Omega.{arith}
-use Prim.Native.Nat.{_-_}
+use Prim.Native.Nat.{ℕ, suc, _+_, _-_, _*_, _≤_, _<_}
+use mathlib.Core.Path.{_≡_, refl, sym, ap, _∙_}
+use lib.ListN.{length, take, drop, getD, set, length-set}
+use borrow.Author.Needs.{needs}
 use Rattle.fit.proofs.place.Statement.{statement}
 use Rattle.fit.proofs.place.Tie as tie
 
-abbrev Inv-loop : tie.InvT-loop
-Inv-loop w₀ at items n end budget cells₀ left₀ top₀ k₀ w cells left top k = InOrder w₀ at items n end × Holds w₀ w at items n end budget k cells left top (planTo w₀ at items n budget k)
+mul-width-for : tie.Need-mul-width-for
+mul-width-for c = search needs
 
-abbrev μ-loop : tie.MeasureT-loop
-μ-loop w₀ at items n end budget cells₀ left₀ top₀ k₀ w cells left top k = n - k
+add-width-for : tie.Need-add-width-for
+add-width-for c = search needs
 
-mul-top : tie.Need-mul-top Inv-loop μ-loop
-mul-top c = omega (arith, (c .before .pre) .0 .low, (c .before .pre) .0 .high)
+sub-width-for : tie.Need-sub-width-for
+sub-width-for c = search needs
 
-add-top : tie.Need-add-top Inv-loop μ-loop
-add-top c = omega (arith, (c .before .pre) .0 .low, (c .before .pre) .0 .high)
+width-for-requires : tie.Need-width-for-requires
+width-for-requires c κs = search needs
 
-loop-holds : tie.Need-loop-holds Inv-loop μ-loop
-loop-holds c = ((c .before .pre) .0, run-start ((c .before .pre) .0) _ ((c .before .pre) .1))
+reach-requires : tie.Need-reach-requires
+reach-requires c κs = search needs
 
-put-requires : tie.Need-put-requires Inv-loop μ-loop
-put-requires c κs = run-ready ((c .before .before .loop) .inv .0) ((c .before .before .loop) .inv .1) (omega arith)
+mul-step : tie.Need-mul-step
+mul-step c = search needs
 
-add-k : tie.Need-add-k Inv-loop μ-loop
-add-k c = omega arith
+add-step : tie.Need-add-step
+add-step c = search needs
 
-loop-less : tie.Need-loop-less Inv-loop μ-loop
-loop-less c = omega arith
+div-step : tie.Need-div-step
+div-step c = search needs
 
-loop-again : tie.Need-loop-again Inv-loop μ-loop
-loop-again c = ((c .before .before .before .before .before .loop) .inv .0, run-more ((c .before .before .before .before .before .loop) .inv .0) ((c .before .before .before .before .before .loop) .inv .1) (omega arith) ((c .before .before .put) .ensures))
+add-step-2 : tie.Need-add-step-2
+add-step-2 c = record { fits = step-word _ _ ((c .reach) .ensures) }
 
-same-length : tie.Need-same-length Inv-loop μ-loop
-same-length c = (c .before .loop) .inv .1 .len
+mul-each : tie.Need-mul-each
+mul-each c = omega (arith, (c .before .before .before .width-for) .ensures .1, (c .before .before .before .width-for) .ensures .0, (c .before .before .before .before .before .pre) .0 .low, (c .before .before .before .before .before .pre) .0 .high)
 
-returns : tie.Need-returns Inv-loop μ-loop
-returns c = run-done ((c .before .loop) .inv .0) ((c .before .loop) .inv .1) (omega arith)
+sub-each : tie.Need-sub-each
+sub-each c = omega (arith, (c .before .before .before .width-for) .ensures .1, (c .before .before .before .width-for) .ensures .0, (c .before .before .before .before .before .pre) .0 .low, (c .before .before .before .before .before .pre) .0 .high)
+
+each-requires : tie.Need-each-requires
+each-requires c κs = (in-order-below ((c .before .before .before .before .before .pre) .0) _ (omega (arith, (c .before .before .before .width-for) .ensures .1, (c .before .before .before .width-for) .ensures .0, (c .before .before .before .before .before .pre) .0 .low, (c .before .before .before .before .before .pre) .0 .high)) (omega (arith, (c .before .before .before .width-for) .ensures .1, (c .before .before .before .width-for) .ensures .0, (c .before .before .before .before .before .pre) .0 .low, (c .before .before .before .before .before .pre) .0 .high)), (c .before .before .before .before .before .pre) .1, record { rows-le = omega (arith, (c .before .before .before .width-for) .ensures .1, (c .before .before .before .width-for) .ensures .0, (c .before .before .before .before .before .pre) .0 .low, (c .before .before .before .before .before .pre) .0 .high); narrow = omega (arith, (c .before .before .before .width-for) .ensures .0); some-step = omega arith; step-le = step-fits _ _ ((c .before .reach) .ensures) })
+
+same-length : tie.Need-same-length
+same-length c = search needs
+
+returns : tie.Need-returns
+returns c = record { rows = _; holds = (c .before .before .each) .ensures .holds; rest = λ x h. (c .before .before .each) .ensures .rest x (omega (arith, (c .before .before .before .before .before .before .width-for) .ensures .1, (c .before .before .before .before .before .before .width-for) .ensures .0, (c .before .before .before .before .before .before .before .before .pre) .0 .low, (c .before .before .before .before .before .before .before .before .pre) .0 .high)) }
 
 pub place-spec : {M : Type 1} → statement M
 place-spec =
     tie.close
     (tie.spec
-    Inv-loop
-    μ-loop
-    mul-top
-    add-top
-    loop-holds
-    put-requires
-    add-k
-    loop-less
-    loop-again
+    mul-width-for
+    add-width-for
+    sub-width-for
+    width-for-requires
+    reach-requires
+    mul-step
+    add-step
+    div-step
+    add-step-2
+    mul-each
+    sub-each
+    each-requires
     same-length
     returns)
