@@ -9,11 +9,12 @@ use mathlib.Core.List.{List, [], _∷_, List·Memᴰ, List·Memᴰ·head, List·
 use lib.Bits.{bitAnd, and-le-r}
 use lib.Count.{trailingZeros}
 use lib.Dec.{eqb}
-use lib.ListN.{length, getD}
+use lib.ListN.{length, getD, set, length-set}
+use lib.Seq.{getD-set-other}
 use borrow.Author.Tests.{eq-eqb, ne-eqb}
 use Rattle.words.specs.Regions.{part, Kept, Region}
 use Rattle.words.proofs.RegionLaws.{row-before, getD-part, length-part, kept-part-list}
-use native.Mathlib.Nat.{mul-le-mul-right}
+use native.Mathlib.Nat.{mul-le-mul-right, add-mul}
 use Rattle.words.proofs.Points.{cut, same as same-or}
 use Rattle.bits.specs.Bits.{bitOf, bit, PutBit}
 use Rattle.bits.proofs.DigitLaws.{bit-and, bit-zero, lowest-is}
@@ -23,7 +24,7 @@ use Rattle.ranges.specs.Points.{Upright, Point}
 use Rattle.fitting.specs.Plan.{cellAt, joinable, Plan}
 use Rattle.ranges.specs.Forms.{unpack, unpacked}
 use Rattle.fit.specs.Tables.{firstOf, countOf, Lent}
-use Rattle.fit.specs.Inner.{opens, orderAt, itemAt, Sure, Pointed, Drawn}
+use Rattle.fit.specs.Inner.{opens, orderAt, itemAt, Sure, MarkedTo, Pointed, Drawn}
 
 -- ---- one word
 
@@ -67,13 +68,44 @@ module _ {w₀ : List ℕ} {row width step : ℕ} {a : List Range} where
   pub pointed-start : 0 < width → Pointed w₀ w₀ row width step a 0
   pointed-start h = record { len = refl; rest = λ x o. refl; sound = λ t l b. inl b; within = h }
 
-  pub pointed-more : {w v : List ℕ} {r t : ℕ} → Pointed w₀ w row width step a r → PutBit w v row t true → t < width * 64 → Point a (t * step) → Pointed w₀ v row width step a (t / 64)
-  pointed-more {w} {v} {r} {t} P B h p = record {
+  -- s and t are points of one range, or the bit was set before
+  pub pointed-more : {w v : List ℕ} {r t e next : ℕ} → Pointed w₀ w row width step a r → MarkedTo w v row t step e next → t < width * 64
+      → ((p : ℕ) → t * step ≤ p → p ≤ e → Point a p) → Pointed w₀ v row width step a (t / 64)
+  pointed-more {w} {v} {r} {t} {e} P B h f = record {
     len = B .len ∙ P .len;
-    rest = λ x o. B .rest x (λ e. ⊎-elim (λ l. omega arith) (λ l. omega arith) o) ∙ P .rest x o;
-    sound = λ s l b. same-or s t (λ e. inr (rw e p)) (λ d. P .sound s l (sym (B .bits s ∙ ap (λ (q : Bool). cond q true (bit w row s)) (ne-eqb s t d)) ∙ b));
+    rest = λ x o. B .rest x (λ q. ⊎-elim (λ l. omega arith) (λ l. omega arith) o) ∙ P .rest x o;
+    sound = λ s l b. ⊎-elim (λ q. P .sound s l q) (λ q. inr (f (s * step) (mul-le-mul-right step (q .0)) (q .1))) (B .sound s b);
     within = omega arith;
   }
+
+-- ---- one bit, or a whole word of bits
+
+module _ {w₀ : List ℕ} {row t step e : ℕ} where
+  pub marked-bit : {w : List ℕ} → PutBit w₀ w row t true → t * step ≤ e → MarkedTo w₀ w row t step e (t + 1)
+  marked-bit {w} B h = record {
+    len = B .len;
+    rest = B .rest;
+    sound = λ s b. same-or s t (λ q. inr (omega arith, rw q h)) (λ d. inl (sym (B .bits s ∙ ap (λ (q : Bool). cond q true (bit w₀ row s)) (ne-eqb s t d)) ∙ b));
+    past = omega arith;
+    near = omega arith;
+  }
+
+  pub marked-word : (x : ℕ) → row + t / 64 < length w₀ → t % 64 ≡ 0 → t * step + 63 * step ≤ e → MarkedTo w₀ (set w₀ (row + t / 64) x) row t step e (t + 64)
+  marked-word x h z l = record {
+    len = length-set w₀ (row + t / 64) x;
+    rest = λ y d. getD-set-other w₀ (row + t / 64) y x 0 d;
+    sound = λ s b. same-or (s / 64) (t / 64)
+        (λ q. let k : s ≤ t + 63 = omega arith in inr (omega arith, below-end s k))
+        (λ d. inl (ap (λ (y : ℕ). bitOf y (s % 64)) (sym (getD-set-other w₀ (row + t / 64) (row + s / 64) x 0 (λ q. d (omega arith)))) ∙ b));
+    past = omega arith;
+    near = omega arith;
+  }
+    where
+      below-end : (s : ℕ) → s ≤ t + 63 → s * step ≤ e
+      below-end s k =
+          let m : s * step ≤ (t + 63) * step = mul-le-mul-right step k in
+          let q : (t + 63) * step ≡ t * step + 63 * step = add-mul t 63 step in
+          omega arith
 
 -- a sample point between the ends of a range is one of the list's points
 mem-unpacked : (l : List ℕ) (k : ℕ) → k < length l → List·Memᴰ (unpack (getD l k 0)) (unpacked l)
@@ -93,6 +125,11 @@ pointed-range P x h = P .rest x (inl h)
 
 pub product-fits : (t width step : ℕ) → t < width * 64 → width ≤ 8 → step ≤ 2 ^ 32 → t * step < 2 ^ 64
 product-fits t width step h k l =
+    let a : t * step ≤ 512 * step = mul-le-mul-right step (omega arith) in
+    omega arith
+
+pub product-small : (t width step : ℕ) → t < width * 64 → width ≤ 8 → step ≤ 2 ^ 32 → t * step ≤ 2 ^ 62
+product-small t width step h k l =
     let a : t * step ≤ 512 * step = mul-le-mul-right step (omega arith) in
     omega arith
 
@@ -128,11 +165,11 @@ module _ (w : List ℕ) (at items n k row width step : ℕ) where
     clear : (t : ℕ) → t < width * 64 → bit v row t ≡ false
     clear t h = ap (λ (y : ℕ). bitOf y (t % 64)) (F .inside (row + t / 64) (t / 64) refl (omega arith)) ∙ bit-zero (t % 64)
 
-    pub drawn-points : Drawn w u at items n k row width step (record { at = r; word = getD u (row + r) 0 })
-    drawn-points = record {
+    pub drawn-points : (m : ℕ) → m < width → Drawn w u at items n k row width step (record { at = m; word = getD u (row + m) 0 })
+    drawn-points m in-row = record {
       len = P .len ∙ F .len;
       rest = λ x o. P .rest x o ∙ ⊎-elim (λ h. F .before x h) (λ h. F .after x h) o;
       sound = λ h t l b. ⊎-elim (λ q. absurd (false≢true (sym (clear t l) ∙ q))) (λ q. rw item-is at q) (P .sound t l b);
-      own = λ h. (P .within, refl, there);
-      fits = omega (arith, P .within);
+      own = λ h. (in-row, refl, there);
+      fits = omega arith;
     }

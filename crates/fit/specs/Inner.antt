@@ -100,6 +100,14 @@ pub record Gridded (w : List ℕ) (n rows width step : ℕ) : Type 0 where
 pub record Marks (w : List ℕ) (rows width step : ℕ) (p : Plan) : Type 0 where
   pub sure : (c t : ℕ) → c < length (p .cells) → t < width * 64 → bit w (rows + c * width) t ≡ true → (a : List Range) → Upright a → Point a (t * step) → joinable (cellAt (p .cells) c .area) a ≡ false
 
+-- bits of the row at `row` from t on have been set, each for a sample point that is at most `end`; r is past t
+pub record MarkedTo (w₀ w : List ℕ) (row t step end r : ℕ) : Type 0 where
+  pub len : length w ≡ length w₀
+  pub rest : (x : ℕ) → (x ≡ row + t / 64 → ⊥) → getD w x 0 ≡ getD w₀ x 0
+  pub sound : (s : ℕ) → bit w row s ≡ true → (bit w₀ row s ≡ true) ⊎ ((t ≤ s) × (s * step ≤ end))
+  pub past : t < r
+  pub near : r ≤ t + 64
+
 -- bits of the row at `row` have been set, each for a sample point of a; r is a word of the row
 pub record Pointed (w₀ w : List ℕ) (row width step : ℕ) (a : List Range) (r : ℕ) : Type 0 where
   pub len : length w ≡ length w₀

@@ -10,11 +10,11 @@ ghost use Rattle.ranges.specs.Forms.{unpacked};
 ghost use Rattle.fitting.specs.Plan.{joinable};
 ghost use Rattle.order.specs.Keys.{sizeOf, alignOf};
 ghost use Rattle.fit.specs.Tables.{Proper, Lent, areaIn, countOf, Fitted};
-ghost use Rattle.fit.specs.Inner.{chain, allow, nextAt, headAt, areaAt, orderAt, itemAt, cellIn, Linked, Probed, Sure, enteredIn, InOrder, Ready, Gridded, Drawn, Pointed, Joined, Stepped, Placed, Each, Summed, Topped, Meets, Folded};
+ghost use Rattle.fit.specs.Inner.{chain, allow, nextAt, headAt, areaAt, orderAt, itemAt, cellIn, Linked, Probed, Sure, enteredIn, InOrder, Ready, Gridded, Drawn, MarkedTo, Pointed, Joined, Stepped, Placed, Each, Summed, Topped, Meets, Folded};
 
 const HALF: u64 = 0x1_0000_0000;
 
-// More ranges than any list has.
+// More ranges than any list has; as a word, every bit.
 const NEVER: u64 = 0xffff_ffff_ffff_ffff;
 
 // A plan's counts: its cells, the probes spent and the sum of the cells' sizes.
@@ -287,7 +287,7 @@ fn put(
     }
 }
 
-// The sample point that an area's first range begins at or after.
+// The last sample point at or before an area.
 fn first_point(w: &[u64], from: usize, count: usize, step: u64) -> usize
     requires { ⌜ (from + count ≤ length (now w)) × (0 < step) ⌝ }
 {
@@ -297,12 +297,35 @@ fn first_point(w: &[u64], from: usize, count: usize, step: u64) -> usize
     (w[from] / HALF / step) as usize
 }
 
-// Sets the row's bits of the sample points that are in `count` ranges from `from` on; the word that the last of them is in.
-fn points(w: &mut [u64], row: usize, width: usize, step: u64, from: usize, count: usize) -> usize
+// Sets bit `t` of a row, or its whole word where `t` begins one whose sample points all are at most `end`: the next bit.
+fn mark(w: &mut [u64], row: usize, t: usize, p: u64, step: u64, end: u64) -> usize
+    requires { ⌜ (row + t / 64 < length (now w)) × (p ≡ t * step) × (p ≤ end) × (p ≤ 2 ^ 62) × (step ≤ 2 ^ 32) × (t < 2 ^ 62) ⌝ }
+    ensures { λ r. ⌜ MarkedTo (now (w .entry)) (now (w .exit)) row t step end r ⌝ }
+{
+    if t % 64 == 0 {
+        if p + 63 * step <= end {
+            w[row + t / 64] = NEVER;
+            return t + 64;
+        }
+    }
+    bits::set(w, row, t);
+    t + 1
+}
+
+// Sets the row's bits of the sample points from `first` on that are in `count` ranges from `from` on; the word that the last of them is in.
+fn points(
+    w: &mut [u64],
+    row: usize,
+    width: usize,
+    step: u64,
+    from: usize,
+    count: usize,
+    first: usize,
+) -> usize
     requires { ⌜ (row + width ≤ length (now w)) × (from + count ≤ row) × (0 < width) × (width ≤ 8) × (0 < step) × (step ≤ 2 ^ 32) ⌝ }
     ensures { λ r. ⌜ Pointed (now (w .entry)) (now (w .exit)) row width step (unpacked (part from count (now (w .entry)))) r ⌝ }
 {
-    let mut t = first_point(w, from, count, step);
+    let mut t = first;
     let mut i = 0;
     let mut last = 0;
     while t < width * 64 {
@@ -315,12 +338,25 @@ fn points(w: &mut [u64], row: usize, width: usize, step: u64, from: usize, count
             i += 1;
         } else {
             if x / HALF <= p {
-                bits::set(w, row, t);
                 last = t / 64;
-                t += 1;
+                t = mark(w, row, t, p, step, x % HALF);
             } else {
                 t += 1;
             }
+        }
+    }
+    last
+}
+
+// A word of the row with a bit set, where there is one: the middle one, which is full where the area is wide, else the last.
+fn choose(w: &[u64], row: usize, width: usize, first: usize, last: usize) -> usize
+    requires { ⌜ (row + width ≤ length (now w)) × (last < width) ⌝ }
+    ensures { λ r. ⌜ r < width ⌝ }
+{
+    if first < last {
+        let middle = first + (last - first) / 2;
+        if 0 < w[row + middle] {
+            return middle;
         }
     }
     last
@@ -351,10 +387,12 @@ fn draw(
     let from = at + ((x - 1) / HALF) as usize;
     let count = ((x - 1) % HALF) as usize;
     words::fill(w, row, width, 0);
-    let last = points(w, row, width, step, from, count);
+    let first = first_point(w, from, count, step);
+    let last = points(w, row, width, step, from, count, first);
+    let word = choose(w, row, width, first / 64, last);
     Own {
-        at: last,
-        word: w[row + last],
+        at: word,
+        word: w[row + word],
     }
 }
 
@@ -452,15 +490,15 @@ fn reach(w: &[u64], at: usize, items: usize, n: usize) -> u64
     most
 }
 
-// How many words of sample points a cell has: none for few items, and at most a third of the room for all.
+// How many words of sample points a cell has: none for few items, and less than half of the room for all.
 fn width_for(n: usize, room: usize) -> usize
-    ensures { λ r. ⌜ (r ≤ 6) × (n * r ≤ room) ⌝ }
+    ensures { λ r. ⌜ (r ≤ 8) × (n * r ≤ room) ⌝ }
 {
     if n < 64 {
         return 0;
     }
-    if n <= room / 18 {
-        return 6;
+    if n <= room / 20 {
+        return 8;
     }
     if n <= room / 6 {
         return 2;

@@ -46,23 +46,29 @@ add-from c = omega (arith, ((c .before .before .before .before .before .pre) .0 
 fill-requires : tie.Need-fill-requires
 fill-requires c κs = omega (arith, (c .before .before .before .before .before .before .pre) .4)
 
+first-point-requires : tie.Need-first-point-requires
+first-point-requires c κs = (omega (arith, ((c .before .before .before .before .before .before .before .before .before .before .pre) .0 .proper (getD (now ((c .before .before .before .before .before .before .before .before .before .before .args) .w)) ((c .before .before .before .before .before .before .before .before .before .before .args) .items + 2 * (c .before .before .before .before .before .before .before .before .before .before .args) .n + (c .before .before .before .before .before .before .before .before .before .before .args) .k) 0) ((c .before .before .before .before .before .before .before .before .before .before .pre) .1) (omega arith)) .inside, (c .before .before .before .before .before .before .before .before .before .before .pre) .3, (c .before .before .before .before .before .before .before .before .before .before .pre) .4, (c .before .before .before .fill) .kept .0), (c .before .before .before .before .before .before .before .before .before .before .pre) .6)
+
 points-requires : tie.Need-points-requires
-points-requires c κs = (omega (arith, (c .before .before .before .before .before .before .before .before .before .before .pre) .4, (c .before .before .before .fill) .kept .0), omega (arith, ((c .before .before .before .before .before .before .before .before .before .before .pre) .0 .proper (getD (now ((c .before .before .before .before .before .before .before .before .before .before .args) .w)) ((c .before .before .before .before .before .before .before .before .before .before .args) .items + 2 * (c .before .before .before .before .before .before .before .before .before .before .args) .n + (c .before .before .before .before .before .before .before .before .before .before .args) .k) 0) ((c .before .before .before .before .before .before .before .before .before .before .pre) .1) (omega arith)) .inside, (c .before .before .before .before .before .before .before .before .before .before .pre) .3), omega arith, (c .before .before .before .before .before .before .before .before .before .before .pre) .5, (c .before .before .before .before .before .before .before .before .before .before .pre) .6, (c .before .before .before .before .before .before .before .before .before .before .pre) .7)
+points-requires c κs = (omega (arith, (c .before .before .before .before .before .before .before .before .before .before .before .before .pre) .4, (c .before .before .before .before .before .fill) .kept .0), omega (arith, ((c .before .before .before .before .before .before .before .before .before .before .before .before .pre) .0 .proper (getD (now ((c .before .before .before .before .before .before .before .before .before .before .before .before .args) .w)) ((c .before .before .before .before .before .before .before .before .before .before .before .before .args) .items + 2 * (c .before .before .before .before .before .before .before .before .before .before .before .before .args) .n + (c .before .before .before .before .before .before .before .before .before .before .before .before .args) .k) 0) ((c .before .before .before .before .before .before .before .before .before .before .before .before .pre) .1) (omega arith)) .inside, (c .before .before .before .before .before .before .before .before .before .before .before .before .pre) .3), omega arith, (c .before .before .before .before .before .before .before .before .before .before .before .before .pre) .5, (c .before .before .before .before .before .before .before .before .before .before .before .before .pre) .6, (c .before .before .before .before .before .before .before .before .before .before .before .before .pre) .7)
 
-add-t17 : tie.Need-add-t17
-add-t17 c = omega (arith, (c .before .before .before .before .before .before .before .before .before .before .before .before .before .pre) .4, (c .before .before .points) .ensures .within, (c .before .before .points) .ensures .len, (c .before .before .before .before .before .before .fill) .kept .0)
+choose-requires : tie.Need-choose-requires
+choose-requires c κs = omega (arith, (c .before .before .before .before .before .before .before .before .before .before .before .before .before .before .before .before .pre) .4, (c .before .before .before .points) .ensures .within, (c .before .before .before .points) .ensures .len, (c .before .before .before .before .before .before .before .before .before .fill) .kept .0)
 
-mul-t14 : tie.Need-mul-t14
-mul-t14 c = omega (arith, (c .before .before .before .before .before .before .before .before .before .before .before .before .before .pre) .4, (c .before .before .points) .ensures .within, (c .before .before .points) .ensures .len, (c .before .before .before .before .before .before .fill) .kept .0)
+add-t16 : tie.Need-add-t16
+add-t16 c = omega (arith, (c .before .before .before .before .before .before .before .before .before .before .before .before .before .before .before .before .before .pre) .4, (c .choose) .ensures, (c .before .before .before .before .points) .ensures .len, (c .before .before .before .before .before .before .before .before .before .before .fill) .kept .0)
 
-slice-read-t22 : tie.Need-slice-read-t22
-slice-read-t22 c = omega (arith, (c .before .before .before .before .before .before .before .before .before .before .before .before .before .before .pre) .4, (c .before .before .before .points) .ensures .within, (c .before .before .before .points) .ensures .len, (c .before .before .before .before .before .before .before .fill) .kept .0)
+mul-t19 : tie.Need-mul-t19
+mul-t19 c = omega (arith, (c .before .before .before .before .before .before .before .before .before .before .before .before .before .before .before .before .before .pre) .4, (c .choose) .ensures, (c .before .before .before .before .points) .ensures .len, (c .before .before .before .before .before .before .before .before .before .before .fill) .kept .0)
+
+slice-read-t24 : tie.Need-slice-read-t24
+slice-read-t24 c = omega (arith, (c .before .before .before .before .before .before .before .before .before .before .before .before .before .before .before .before .before .before .pre) .4, (c .before .choose) .ensures, (c .before .before .before .before .before .points) .ensures .len, (c .before .before .before .before .before .before .before .before .before .before .before .fill) .kept .0)
 
 same-length : tie.Need-same-length
 same-length c = search needs
 
 returns-3 : tie.Need-returns-3
-returns-3 c = drawn-points (now ((c .before .before .before .before .before .before .before .before .before .before .before .before .before .before .args) .w)) ((c .before .before .before .before .before .before .before .before .before .before .before .before .before .before .args) .at) ((c .before .before .before .before .before .before .before .before .before .before .before .before .before .before .args) .items) ((c .before .before .before .before .before .before .before .before .before .before .before .before .before .before .args) .n) ((c .before .before .before .before .before .before .before .before .before .before .before .before .before .before .args) .k) ((c .before .before .before .before .before .before .before .before .before .before .before .before .before .before .args) .row) ((c .before .before .before .before .before .before .before .before .before .before .before .before .before .before .args) .width) ((c .before .before .before .before .before .before .before .before .before .before .before .before .before .before .args) .step) ((c .before .before .before .before .before .before .before .before .before .before .before .before .before .before .pre) .0) ((c .before .before .before .before .before .before .before .before .before .before .before .before .before .before .pre) .1) ((c .before .before .before .before .before .before .before .before .before .before .before .before .before .before .pre) .3) ((c .before .before .before .before .before .before .before .before .before .before .before .before .before .before .pre) .4) (omega arith) ((c .before .before .before .before .before .before .before .fill) .ensures) ((c .before .before .before .points) .ensures)
+returns-3 c = drawn-points (now ((c .before .before .before .before .before .before .before .before .before .before .before .before .before .before .before .before .before .before .args) .w)) ((c .before .before .before .before .before .before .before .before .before .before .before .before .before .before .before .before .before .before .args) .at) ((c .before .before .before .before .before .before .before .before .before .before .before .before .before .before .before .before .before .before .args) .items) ((c .before .before .before .before .before .before .before .before .before .before .before .before .before .before .before .before .before .before .args) .n) ((c .before .before .before .before .before .before .before .before .before .before .before .before .before .before .before .before .before .before .args) .k) ((c .before .before .before .before .before .before .before .before .before .before .before .before .before .before .before .before .before .before .args) .row) ((c .before .before .before .before .before .before .before .before .before .before .before .before .before .before .before .before .before .before .args) .width) ((c .before .before .before .before .before .before .before .before .before .before .before .before .before .before .before .before .before .before .args) .step) ((c .before .before .before .before .before .before .before .before .before .before .before .before .before .before .before .before .before .before .pre) .0) ((c .before .before .before .before .before .before .before .before .before .before .before .before .before .before .before .before .before .before .pre) .1) ((c .before .before .before .before .before .before .before .before .before .before .before .before .before .before .before .before .before .before .pre) .3) ((c .before .before .before .before .before .before .before .before .before .before .before .before .before .before .before .before .before .before .pre) .4) (omega arith) ((c .before .before .before .before .before .before .before .before .before .before .before .fill) .ensures) ((c .before .before .before .before .before .points) .ensures) _ ((c .before .choose) .ensures)
 
 pub draw-spec : {M : Type 1} → statement M
 draw-spec =
@@ -80,9 +86,11 @@ draw-spec =
     returns-2
     add-from
     fill-requires
+    first-point-requires
     points-requires
-    add-t17
-    mul-t14
-    slice-read-t22
+    choose-requires
+    add-t16
+    mul-t19
+    slice-read-t24
     same-length
     returns-3)

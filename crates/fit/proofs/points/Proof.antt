@@ -3,7 +3,7 @@ use denote.Ref.{now}
 use Rattle.words.specs.Regions.{part}
 use Rattle.ranges.specs.Forms.{unpacked}
 use Rattle.fit.specs.Inner.{Pointed}
-use Rattle.fit.proofs.MarkLaws.{pointed-start, pointed-more, point-at, pointed-range, product-fits}
+use Rattle.fit.proofs.MarkLaws.{pointed-start, pointed-more, point-at, pointed-range, product-fits, product-small}
 use native.Mathlib.Omega.{arith}
 use Prim.Native.Nat.{ℕ, suc, _+_, _-_, _*_, _≤_, _<_}
 use mathlib.Core.Path.{_≡_, refl, sym, ap, _∙_}
@@ -13,16 +13,13 @@ use Rattle.fit.proofs.points.Statement.{statement}
 use Rattle.fit.proofs.points.Tie as tie
 
 abbrev Inv-loop : tie.InvT-loop
-Inv-loop w₀ row width step from count t₀ i₀ last₀ w t i last = (i ≤ count) × Pointed w₀ w row width step (unpacked (part from count w₀)) last
+Inv-loop w₀ row width step from count first t₀ i₀ last₀ w t i last = (i ≤ count) × Pointed w₀ w row width step (unpacked (part from count w₀)) last
 
 abbrev μ-loop : tie.MeasureT-loop
-μ-loop w₀ row width step from count t₀ i₀ last₀ w t i last = (width * 64 - t) + (count - i)
-
-first-point-requires : tie.Need-first-point-requires Inv-loop μ-loop
-first-point-requires c κs = omega arith
+μ-loop w₀ row width step from count first t₀ i₀ last₀ w t i last = (width * 64 - t) + (count - i)
 
 loop-holds : tie.Need-loop-holds Inv-loop μ-loop
-loop-holds c = (omega arith, pointed-start ((c .before .before .before .pre) .2))
+loop-holds c = (omega arith, pointed-start ((c .before .pre) .2))
 
 mul-loop : tie.Need-mul-loop Inv-loop μ-loop
 mul-loop c = omega arith
@@ -43,7 +40,7 @@ slice-read-x : tie.Need-slice-read-x Inv-loop μ-loop
 slice-read-x c = omega (arith, (c .before .before .before .loop) .inv .1 .len)
 
 mul-p : tie.Need-mul-p Inv-loop μ-loop
-mul-p c = record { fits = product-fits ((c .before .before .before .loop) .t) ((c .before .before .before .before .before .before .before .args) .width) ((c .before .before .before .before .before .before .before .args) .step) (omega arith) ((c .before .before .before .before .before .before .before .pre) .3) ((c .before .before .before .before .before .before .before .pre) .5) }
+mul-p c = record { fits = product-fits ((c .before .before .before .loop) .t) ((c .before .before .before .before .before .args) .width) ((c .before .before .before .before .before .args) .step) (omega arith) ((c .before .before .before .before .before .pre) .3) ((c .before .before .before .before .before .pre) .5) }
 
 add-i : tie.Need-add-i Inv-loop μ-loop
 add-i c = omega arith
@@ -54,20 +51,17 @@ loop-less c = omega arith
 loop-again : tie.Need-loop-again Inv-loop μ-loop
 loop-again c = (omega arith, (c .before .before .before .before .loop) .inv .1)
 
-set-requires : tie.Need-set-requires Inv-loop μ-loop
-set-requires c κs = omega (arith, (c .before .before .before .before .before .before .loop) .inv .1 .len)
+mark-requires : tie.Need-mark-requires Inv-loop μ-loop
+mark-requires c κs = (omega (arith, (c .before .before .before .before .before .before .loop) .inv .1 .len), refl, omega arith, product-small ((c .before .before .before .before .before .before .loop) .t) ((c .before .before .before .before .before .before .before .before .args) .width) ((c .before .before .before .before .before .before .before .before .args) .step) (omega arith) ((c .before .before .before .before .before .before .before .before .pre) .3) ((c .before .before .before .before .before .before .before .before .pre) .5), (c .before .before .before .before .before .before .before .before .pre) .5, omega arith)
+
+loop-less-2 : tie.Need-loop-less-2 Inv-loop μ-loop
+loop-less-2 c = omega (arith, (c .before .before .mark) .ensures .past)
+
+loop-again-2 : tie.Need-loop-again-2 Inv-loop μ-loop
+loop-again-2 c = (omega arith, pointed-more ((c .before .before .before .before .before .before .before .before .before .loop) .inv .1) ((c .before .before .mark) .ensures) (omega arith) (λ q a b. point-at (now ((c .before .before .before .before .before .before .before .before .before .before .before .args) .w)) ((c .before .before .before .before .before .before .before .before .before .before .before .args) .from) ((c .before .before .before .before .before .before .before .before .before .before .before .args) .count) ((c .before .before .before .before .before .before .before .before .before .loop) .i) q (omega arith) (omega arith) (omega (arith, pointed-range ((c .before .before .before .before .before .before .before .before .before .loop) .inv .1) ((c .before .before .before .before .before .before .before .before .before .before .before .args) .from + (c .before .before .before .before .before .before .before .before .before .loop) .i) (omega arith), a)) (omega (arith, pointed-range ((c .before .before .before .before .before .before .before .before .before .loop) .inv .1) ((c .before .before .before .before .before .before .before .before .before .before .before .args) .from + (c .before .before .before .before .before .before .before .before .before .loop) .i) (omega arith), b))))
 
 add-t : tie.Need-add-t Inv-loop μ-loop
 add-t c = omega arith
-
-loop-less-2 : tie.Need-loop-less-2 Inv-loop μ-loop
-loop-less-2 c = omega arith
-
-loop-again-2 : tie.Need-loop-again-2 Inv-loop μ-loop
-loop-again-2 c = (omega arith, pointed-more ((c .before .before .before .before .before .before .before .before .before .loop) .inv .1) ((c .before .before .set) .ensures) (omega arith) (point-at (now ((c .before .before .before .before .before .before .before .before .before .before .before .before .before .args) .w)) ((c .before .before .before .before .before .before .before .before .before .before .before .before .before .args) .from) ((c .before .before .before .before .before .before .before .before .before .before .before .before .before .args) .count) ((c .before .before .before .before .before .before .before .before .before .loop) .i) _ (omega arith) (omega arith) (omega (arith, pointed-range ((c .before .before .before .before .before .before .before .before .before .loop) .inv .1) ((c .before .before .before .before .before .before .before .before .before .before .before .before .before .args) .from + (c .before .before .before .before .before .before .before .before .before .loop) .i) (omega arith))) (omega (arith, pointed-range ((c .before .before .before .before .before .before .before .before .before .loop) .inv .1) ((c .before .before .before .before .before .before .before .before .before .before .before .before .before .args) .from + (c .before .before .before .before .before .before .before .before .before .loop) .i) (omega arith)))))
-
-add-t-2 : tie.Need-add-t-2 Inv-loop μ-loop
-add-t-2 c = omega arith
 
 loop-less-3 : tie.Need-loop-less-3 Inv-loop μ-loop
 loop-less-3 c = omega arith
@@ -87,7 +81,6 @@ points-spec =
     (tie.spec
     Inv-loop
     μ-loop
-    first-point-requires
     loop-holds
     mul-loop
     same-length
@@ -99,11 +92,10 @@ points-spec =
     add-i
     loop-less
     loop-again
-    set-requires
-    add-t
+    mark-requires
     loop-less-2
     loop-again-2
-    add-t-2
+    add-t
     loop-less-3
     loop-again-3
     same-length-2
