@@ -1,4 +1,4 @@
--- Wants and a plan in tables of one work space. From `items` on stand eight tables of n words: items, wants, order, heads, links, cells, each item's cell, lists by place; then the lists, up to `end`.
+-- Wants and a plan in tables of one work space. From `items` on stand eight tables of n words: items, wants, order, heads, links, cells, each item's cell, lists by place; then the lists and rows of sample points, up to `end`.
 use Prim.Native.Nat.{ℕ, _+_, _-_, _*_, _/_, _%_, _^_, _<_, _≤_}
 use mathlib.Core.Path.{_≡_}
 use mathlib.Core.Logic.{_⊎_}

@@ -4,8 +4,8 @@ use Prim.Native.Nat.{ℕ, suc, _+_, _-_, _*_, _≤_, _<_}
 use mathlib.Core.Path.{_≡_, refl, sym, ap, _∙_}
 use lib.ListN.{length, take, drop, getD, set, length-set}
 use borrow.Author.Needs.{needs}
-use Rattle.fit.proofs.last_point.Statement.{statement}
-use Rattle.fit.proofs.last_point.Tie as tie
+use Rattle.fit.proofs.samples.last_point.Statement.{statement}
+use Rattle.fit.proofs.samples.last_point.Tie as tie
 
 returns : tie.Need-returns
 returns c = search needs

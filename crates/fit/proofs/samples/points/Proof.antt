@@ -9,8 +9,8 @@ use Prim.Native.Nat.{ℕ, suc, _+_, _-_, _*_, _≤_, _<_}
 use mathlib.Core.Path.{_≡_, refl, sym, ap, _∙_}
 use lib.ListN.{length, take, drop, getD, set, length-set}
 use borrow.Author.Needs.{needs}
-use Rattle.fit.proofs.points.Statement.{statement}
-use Rattle.fit.proofs.points.Tie as tie
+use Rattle.fit.proofs.samples.points.Statement.{statement}
+use Rattle.fit.proofs.samples.points.Tie as tie
 
 abbrev Inv-loop : tie.InvT-loop
 Inv-loop w₀ row width step from count first t₀ i₀ last₀ w t i last = (i ≤ count) × Pointed w₀ w row width step (unpacked (part from count w₀)) last

@@ -8,8 +8,8 @@ use Prim.Native.Nat.{ℕ, suc, _+_, _-_, _*_, _≤_, _<_}
 use mathlib.Core.Path.{_≡_, refl, sym, ap, _∙_}
 use lib.ListN.{length, take, drop, getD, set, length-set}
 use borrow.Author.Needs.{needs}
-use Rattle.fit.proofs.join_row.Statement.{statement}
-use Rattle.fit.proofs.join_row.Tie as tie
+use Rattle.fit.proofs.samples.join_row.Statement.{statement}
+use Rattle.fit.proofs.samples.join_row.Tie as tie
 
 mul-i : tie.Need-mul-i
 mul-i c = search needs

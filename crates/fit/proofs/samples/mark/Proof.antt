@@ -5,8 +5,8 @@ use Prim.Native.Nat.{ℕ, suc, _+_, _-_, _*_, _≤_, _<_}
 use mathlib.Core.Path.{_≡_, refl, sym, ap, _∙_}
 use lib.ListN.{length, take, drop, getD, set, length-set}
 use borrow.Author.Needs.{needs}
-use Rattle.fit.proofs.mark.Statement.{statement}
-use Rattle.fit.proofs.mark.Tie as tie
+use Rattle.fit.proofs.samples.mark.Statement.{statement}
+use Rattle.fit.proofs.samples.mark.Tie as tie
 
 mul-if2 : tie.Need-mul-if2
 mul-if2 c = search needs

@@ -8,8 +8,8 @@ use Prim.Native.Nat.{ℕ, suc, _+_, _-_, _*_, _≤_, _<_}
 use mathlib.Core.Path.{_≡_, refl, sym, ap, _∙_}
 use lib.ListN.{length, take, drop, getD, set, length-set}
 use borrow.Author.Needs.{needs}
-use Rattle.fit.proofs.hit.Statement.{statement}
-use Rattle.fit.proofs.hit.Tie as tie
+use Rattle.fit.proofs.samples.hit.Statement.{statement}
+use Rattle.fit.proofs.samples.hit.Tie as tie
 
 returns : tie.Need-returns
 returns c = λ e. absurd (false≢true e)

@@ -7,8 +7,8 @@ use Prim.Native.Nat.{ℕ, suc, _+_, _-_, _*_, _≤_, _<_}
 use mathlib.Core.Path.{_≡_, refl, sym, ap, _∙_}
 use lib.ListN.{length, take, drop, getD, set, length-set}
 use borrow.Author.Needs.{needs}
-use Rattle.fit.proofs.draw.Statement.{statement}
-use Rattle.fit.proofs.draw.Tie as tie
+use Rattle.fit.proofs.samples.draw.Statement.{statement}
+use Rattle.fit.proofs.samples.draw.Tie as tie
 
 mul-i : tie.Need-mul-i
 mul-i c = omega (arith, (c .before .pre) .1, (c .before .pre) .2, (c .before .pre) .3, (c .before .pre) .4)

@@ -5,8 +5,8 @@ use Prim.Native.Nat.{ℕ, suc, _+_, _-_, _*_, _≤_, _<_}
 use mathlib.Core.Path.{_≡_, refl, sym, ap, _∙_}
 use lib.ListN.{length, take, drop, getD, set, length-set}
 use borrow.Author.Needs.{needs}
-use Rattle.fit.proofs.reach.Statement.{statement}
-use Rattle.fit.proofs.reach.Tie as tie
+use Rattle.fit.proofs.samples.reach.Statement.{statement}
+use Rattle.fit.proofs.samples.reach.Tie as tie
 
 abbrev Inv-loop : tie.InvT-loop
 Inv-loop w at items n most₀ i₀ most i = (most < 2 ^ 32) × (i ≤ n)
