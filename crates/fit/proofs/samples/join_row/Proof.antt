@@ -60,7 +60,7 @@ same-length : tie.Need-same-length
 same-length c = search needs
 
 returns : tie.Need-returns
-returns c = record { row = (c .before .before .row-or) .ensures .row }
+returns c = record { row = (c .before .before .row-or) .ensures }
 
 pub join-row-spec : {M : Type 1} → statement M
 join-row-spec =
