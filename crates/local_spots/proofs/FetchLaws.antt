@@ -2,7 +2,6 @@
 use Prim.Native.Nat.{ℕ, zero, suc, _+_, _-_, _*_, _^_, _≤_, _<_}
 use native.Mathlib.Omega.{arith}
 use mathlib.Core.Path.{_≡_, refl, ap, _∙_}
-use mathlib.Core.Logic.{inl, inr}
 use mathlib.Core.Bool.{Bool, true, false, cond}
 use mathlib.Core.List.{List, [], _∷_, _++_}
 use lib.ListN.{length, getD}
@@ -20,9 +19,11 @@ use Rattle.graph.specs.Work.{Within}
 use Rattle.graph.proofs.Within.{within-trans, within-wider, region-within}
 use Rattle.carrying.specs.Lists.{gather}
 use Rattle.reach.specs.Prepared.{latest}
+use Rattle.chains.specs.Chains.{Walkable, Walked}
+use Rattle.chains.proofs.WalkLaws.{words-are}
 use Rattle.local_spots.specs.declared.Places.{Places}
 use Rattle.local_spots.specs.Locals.{Laid, Chains, Fetched}
-use Rattle.local_spots.specs.Inner.{wordFor, wordsFor, Walkable, Walked}
+use Rattle.local_spots.specs.Inner.{wordOf, wordFor, wordsFor}
 use Rattle.local_spots.proofs.ChainLaws.{chains-kept}
 
 -- the words of touches are the touches
@@ -37,11 +38,10 @@ unpacked-words l (suc n) r small = go _ (eqb (r 0 0) l) (unpacked-words l n (λ 
     go ws false e = e
 
 module _ {p : Places} {touches ends w₀ : List ℕ} {l : ℕ} (L : Laid p (rowCount 3 touches) (rowCount 2 ends) w₀) (C : Chains p touches ends w₀) (h : l < p .locals) where
-  pub touches-walkable : (top : ℕ) → top ≡ p .at + rowCount 3 touches → Walkable 3 touches l (p .heads) (p .nexts) top w₀
+  pub touches-walkable : (top : ℕ) → top ≡ p .at + rowCount 3 touches → Walkable (λ i. field 3 touches i 0) (rowCount 3 touches) l (p .heads) (p .nexts) top w₀
   touches-walkable top e =
       let a = L .heads-fit in let b = L .nexts-fit in let c = L .at-fits in let d = L .ends-fit in
       record {
-        widths = inr refl;
         heads-fit = omega arith;
         nexts-fit = omega arith;
         top-fits = omega arith;
@@ -49,16 +49,15 @@ module _ {p : Places} {touches ends w₀ : List ℕ} {l : ℕ} (L : Laid p (rowC
         next = λ i g q. C .touches-chain .next i g (omega arith) ∙ ap (λ (m : ℕ). latest (λ j. field 3 touches j 0) m i) q;
       }
 
-  module _ {w₁ : List ℕ} {top count : ℕ} (e : top ≡ p .at + rowCount 3 touches) (A : Walked 3 touches l top w₀ w₁ count) where
+  module _ {w₁ : List ℕ} {top count : ℕ} (e : top ≡ p .at + rowCount 3 touches) (A : Walked (λ i. field 3 touches i 0) (λ i. wordOf 3 (field 3 touches i)) (rowCount 3 touches) l top w₀ w₁ count) where
     kept₁ : Within (p .at) (p .ends) w₀ w₁
     kept₁ = let c = L .at-fits in within-wider (p .at) (p .ends) (omega arith) (omega arith) (A .kept)
 
-    pub ends-walkable : (last : ℕ) → last ≡ p .ends + rowCount 2 ends → Walkable 2 ends l (p .heads + p .locals) (p .nexts + rowCount 3 touches) last w₁
+    pub ends-walkable : (last : ℕ) → last ≡ p .ends + rowCount 2 ends → Walkable (λ i. field 2 ends i 0) (rowCount 2 ends) l (p .heads + p .locals) (p .nexts + rowCount 3 touches) last w₁
     ends-walkable last f =
         let a = L .heads-fit in let b = L .nexts-fit in let c = L .at-fits in let d = L .ends-fit in let k = kept₁ .len in
         let D : Chains p touches ends w₁ = chains-kept (L .heads-fit) (λ i x y. kept₁ .below i (omega arith)) C in
         record {
-          widths = inl refl;
           heads-fit = omega arith;
           nexts-fit = omega arith;
           top-fits = omega arith;
@@ -66,7 +65,7 @@ module _ {p : Places} {touches ends w₀ : List ℕ} {l : ℕ} (L : Laid p (rowC
           next = λ i g q. D .ends-chain .next i g (omega arith) ∙ ap (λ (m : ℕ). latest (λ j. field 2 ends j 0) m i) q;
         }
 
-    module _ {w₂ w₃ : List ℕ} {last stops : ℕ} (f : last ≡ p .ends + rowCount 2 ends) (B : Walked 2 ends l last w₁ w₂ stops)
+    module _ {w₂ w₃ : List ℕ} {last stops : ℕ} (f : last ≡ p .ends + rowCount 2 ends) (B : Walked (λ i. field 2 ends i 0) (λ i. wordOf 2 (field 2 ends i)) (rowCount 2 ends) l last w₁ w₂ stops)
         (R : Region w₂ w₃ (last - stops) stops (λ i. getD (sortOf (part (last - stops) stops w₂)) i 0)) where
       pub ends-fit : last - stops + stops ≤ length w₂
       ends-fit = let d = L .ends-fit in let k = kept₁ .len in let m = B .kept .len in let n = B .few in omega arith
@@ -88,7 +87,7 @@ module _ {p : Places} {touches ends w₀ : List ℕ} {l : ℕ} (L : Laid p (rowC
           touches-part =
               let c = L .at-fits in let d = L .ends-fit in let n = A .few in let k = kept₁ .len in
               let K : Kept w₁ w₃ (top - count) count = record { same = λ i a b. kept₃ .below i (omega arith) } in
-              kept-part-list K (omega arith) (kept₃ .len) ∙ A .words
+              kept-part-list K (omega arith) (kept₃ .len) ∙ A .words ∙ words-are l (wordFor 3 l) (field 3 touches) (λ i. field 3 touches i 0) (λ i. wordOf 3 (field 3 touches i)) (rowCount 3 touches) (λ i. refl)
 
           sorted : part (last - stops) stops w₃ ≡ sortOf (part (last - stops) stops w₂)
           sorted = part-is (last - stops) stops w₃ (sortOf (part (last - stops) stops w₂)) (let z = R .len in omega (arith, ends-fit))
@@ -98,7 +97,7 @@ module _ {p : Places} {touches ends w₀ : List ℕ} {l : ℕ} (L : Laid p (rowC
           whole = record {
             kept = all;
             touches-are = ap unpacked touches-part ∙ unpacked-words l (rowCount 3 touches) (field 3 touches) (λ i g. small (3 * i + 2));
-            ends-are = sorted ∙ ap sortOf (B .words);
+            ends-are = sorted ∙ ap sortOf (B .words ∙ words-are l (wordFor 2 l) (field 2 ends) (λ i. field 2 ends i 0) (λ i. wordOf 2 (field 2 ends i)) (rowCount 2 ends) (λ i. refl));
             stand = record {
               touches-fit = let c = L .at-fits in let d = L .ends-fit in let n = A .few in let k = all .len in omega arith;
               ends-fit = let z = R .len in omega (arith, ends-fit);

@@ -1,9 +1,9 @@
 -- Touches and ends that are lent by themselves: rows `local,start,end` and rows `local,point`, and those of one local in the work space.
-use Prim.Native.Nat.{ℕ, _+_, _≤_, _<_}
+use Prim.Native.Nat.{ℕ, _+_, _≤_}
 use mathlib.Core.Path.{_≡_}
 use mathlib.Core.Bool.{cond}
 use mathlib.Core.List.{List, [], _∷_}
-use lib.ListN.{length, getD}
+use lib.ListN.{length}
 use lib.Dec.{eqb}
 use Rattle.words.specs.Sort.{sortOf}
 use Rattle.words.specs.Rows.{rowCount, field, records}
@@ -11,7 +11,7 @@ use Rattle.ranges.specs.declared.Range.{Range}
 use Rattle.ranges.specs.Points.{range}
 use Rattle.graph.specs.Work.{Within}
 use Rattle.carrying.specs.Lists.{gather}
-use Rattle.reach.specs.Prepared.{latest}
+use Rattle.chains.specs.Chains.{Chain}
 use Rattle.spots.specs.declared.Spots.{Spots}
 use Rattle.spots.specs.Spots.{touchesAt, endsAt, Stand}
 use Rattle.local_spots.specs.declared.Places.{Places}
@@ -31,15 +31,10 @@ pub record Laid (p : Places) (t e : ℕ) (w : List ℕ) : Type 0 where
   pub at-fits : p .at + t ≤ p .ends
   pub ends-fit : p .ends + e ≤ length w
 
--- the rows of each local as a chain, last first: the last at the local's head, and at each row the one before it, each plus 1, or 0 where there is none
-pub record Chain (width : ℕ) (rows : List ℕ) (locals heads nexts : ℕ) (w : List ℕ) : Type 0 where
-  pub head : (l : ℕ) → l < locals → getD w (heads + l) 0 ≡ latest (λ i. field width rows i 0) l (rowCount width rows)
-  pub next : (i : ℕ) → i < rowCount width rows → field width rows i 0 < locals → getD w (nexts + i) 0 ≡ latest (λ j. field width rows j 0) (field width rows i 0) i
-
--- of the touches, and behind them of the ends
+-- the chains of the touches, and behind them of the ends, by the local that each names first
 pub record Chains (p : Places) (touches ends w : List ℕ) : Type 0 where
-  pub touches-chain : Chain 3 touches (p .locals) (p .heads) (p .nexts) w
-  pub ends-chain : Chain 2 ends (p .locals) (p .heads + p .locals) (p .nexts + rowCount 3 touches) w
+  pub touches-chain : Chain (λ i. field 3 touches i 0) (rowCount 3 touches) (p .locals) (p .heads) (p .nexts) w
+  pub ends-chain : Chain (λ i. field 2 ends i 0) (rowCount 2 ends) (p .locals) (p .heads + p .locals) (p .nexts + rowCount 3 touches) w
 
 pub record Chained (p : Places) (touches ends w₀ w : List ℕ) : Type 0 where
   pub kept : Within (p .heads) (p .nexts + rowCount 3 touches + rowCount 2 ends) w₀ w

@@ -1,11 +1,12 @@
 // Touches and ends lent by themselves, by local: the rows of each local as a chain, and one local's touches and ends fetched into the work space.
 ghost use mathlib.Core.Path.{_≡_};
-ghost use mathlib.Core.Logic.{_≢_};
-ghost use Prim.Native.Nat.{ℕ, _+_, _*_, _/_, _≤_, _<_};
-ghost use lib.ListN.{length, getD};
-ghost use Rattle.words.specs.Rows.{field};
+ghost use mathlib.Core.Logic.{_≢_, _⊎_};
+ghost use Prim.Native.Nat.{_+_, _*_, _/_, _<_};
+ghost use lib.ListN.{length};
+ghost use Rattle.words.specs.Rows.{rowCount, field};
+ghost use Rattle.chains.specs.Chains.{Walkable, Walked};
 ghost use Rattle.local_spots.specs.Locals.{Laid, Chains, Chained, Fetched};
-ghost use Rattle.local_spots.specs.Inner.{wordOf, Linked, Walkable, Walked};
+ghost use Rattle.local_spots.specs.Inner.{wordOf};
 use spots::Spots;
 
 // Where the rows of `locals` locals are kept, each region past the one before: from `heads` on each local's last touch, then each local's last end; from `nexts` on
@@ -18,33 +19,6 @@ pub struct Places {
     pub ends: usize,
 }
 
-// The rows of each local as a chain, the last first: `n` rows of `width` numbers, the local first.
-fn chain(
-    rows: &[u32],
-    width: usize,
-    n: usize,
-    locals: usize,
-    work: &mut [u64],
-    heads: usize,
-    nexts: usize,
-)
-    requires { ⌜ (0 < width) × (n ≡ length (now rows) / width) × (heads + locals ≤ nexts) × (nexts + n ≤ length (now work)) ⌝ }
-    requires { ⌜ ((l : ℕ) → l < locals → getD (now work) (heads + l) 0 ≡ 0) ⌝ }
-    ensures { λ _. ⌜ Linked width (now (rows .entry)) locals heads nexts (now (work .entry)) (now (work .exit)) ⌝ }
-{
-    let mut i = 0;
-    while i < n {
-        let l = rows[width * i] as usize;
-        if l < locals {
-            work[nexts + i] = work[heads + l];
-            work[heads + l] = i as u64 + 1;
-            i += 1;
-        } else {
-            i += 1;
-        }
-    }
-}
-
 // The touches and the ends of each local as chains.
 pub fn chains(touches: &[u32], ends: &[u32], work: &mut [u64], p: Places)
     requires { ⌜ Laid p (length (now touches) / 3) (length (now ends) / 2) (now work) ⌝ }
@@ -54,8 +28,8 @@ pub fn chains(touches: &[u32], ends: &[u32], work: &mut [u64], p: Places)
     let e = ends.len() / 2;
     let past = p.heads + p.locals;
     words::fill(work, p.heads, p.locals + p.locals, 0);
-    chain(touches, 3, t, p.locals, work, p.heads, p.nexts);
-    chain(ends, 2, e, p.locals, work, past, p.nexts + t);
+    chains::chain(touches, 3, 0, t, p.locals, work, p.heads, p.nexts);
+    chains::chain(ends, 2, 0, e, p.locals, work, past, p.nexts + t);
 }
 
 // Row i as one word: a touch packed, or a point.
@@ -79,8 +53,8 @@ fn walk(
     nexts: usize,
     top: usize,
 ) -> usize
-    requires { ⌜ Walkable width (now rows) l heads nexts top (now work) ⌝ }
-    ensures { λ r. ⌜ Walked width (now (rows .entry)) l top (now (work .entry)) (now (work .exit)) r ⌝ }
+    requires { ⌜ ((width ≡ 2) ⊎ (width ≡ 3)) × Walkable (λ i. field width (now rows) i 0) (rowCount width (now rows)) l heads nexts top (now work) ⌝ }
+    ensures { λ r. ⌜ Walked (λ i. field width (now (rows .entry)) i 0) (λ i. wordOf width (field width (now (rows .entry)) i)) (rowCount width (now (rows .entry))) l top (now (work .entry)) (now (work .exit)) r ⌝ }
 {
     let mut next = work[heads + l];
     let mut to = top;

@@ -18,23 +18,30 @@ use graph::Block;
 use refusals::Refusal;
 use refusals::Verdict;
 
-// The point of a move by its kind: early or late of an instruction, start or end of a block. The table of places stands at 0.
-fn position(blocks: &[u32], insts: &[u32], work: &[u64], kind: u32, number: u32) -> Spot
-    requires { ⌜ Sound (blocksOf (now blocks)) × Table (blocksOf (now blocks)) 0 (now work) × (length (now blocks) / 3 ≤ length (now work)) ⌝ }
+// The point of a move by its kind: early or late of an instruction, start or end of a block. The table of places stands from `table` on.
+pub fn position(
+    blocks: &[u32],
+    insts: &[u32],
+    work: &[u64],
+    table: usize,
+    kind: u32,
+    number: u32,
+) -> Spot
+    requires { ⌜ Sound (blocksOf (now blocks)) × Table (blocksOf (now blocks)) table (now work) × (table + length (now blocks) / 3 ≤ length (now work)) ⌝ }
     requires { ⌜ badMove (blocksOf (now blocks)) (instsOf (now insts) []) kind number ≡ false ⌝ }
     ensures { λ r. ⌜ r ≡ positionAt (blocksOf (now (blocks .entry))) (instsOf (now (insts .entry)) []) kind number ⌝ }
 {
     match kind {
         0 => Spot::At(insts[9 * number as usize + 2]),
         1 => Spot::At(insts[9 * number as usize + 3]),
-        2 => Spot::At(blocks[3 * graph::rows::place_of(work, 0, Block(number)).0 + 1]),
-        3 => Spot::At(blocks[3 * graph::rows::place_of(work, 0, Block(number)).0 + 2]),
+        2 => Spot::At(blocks[3 * graph::rows::place_of(work, table, Block(number)).0 + 1]),
+        3 => Spot::At(blocks[3 * graph::rows::place_of(work, table, Block(number)).0 + 2]),
         _ => Spot::Nowhere,
     }
 }
 
 // The point before `p`, or 0.
-fn preceding(p: u32) -> u32
+pub fn preceding(p: u32) -> u32
     ensures { λ r. ⌜ r ≡ p - 1 ⌝ }
 {
     if p == 0 {
@@ -44,7 +51,7 @@ fn preceding(p: u32) -> u32
 }
 
 // The point after `p`, at most `points`.
-fn beyond(p: u32, points: u32) -> u32
+pub fn beyond(p: u32, points: u32) -> u32
     ensures { λ r. ⌜ r ≡ min (p + 1) points ⌝ }
 {
     if p < points {
@@ -81,7 +88,7 @@ fn covers(
     requires { ⌜ (i < length (now moves) / 4) × (moveVerdict (blocksOf (now blocks)) (instsOf (now insts) []) (movesOf (now moves)) ≡ Fine) × (2 * k + 4 ≤ length (now out)) ⌝ }
     ensures { λ r. ⌜ Wrote (now (out .entry)) (now (out .exit)) k r (covering points (blocksOf (now (blocks .entry))) (instsOf (now (insts .entry)) []) slot (moveRow (now (moves .entry)) i)) ⌝ }
 {
-    let at = position(blocks, insts, work, moves[4 * i], moves[4 * i + 1]);
+    let at = position(blocks, insts, work, 0, moves[4 * i], moves[4 * i + 1]);
     let Spot::At(p) = at else {
         return k;
     };

@@ -2,6 +2,7 @@
 use Rattle.local_spots.proofs.FetchLaws.{touches-walkable, ends-walkable, fetched}
 use native.Mathlib.Omega.{arith}
 use mathlib.Core.Path.{refl}
+use mathlib.Core.Logic.{inl, inr}
 use borrow.Author.Needs.{needs}
 use Rattle.local_spots.proofs.fetch.Statement.{statement}
 use Rattle.local_spots.proofs.fetch.Tie as tie
@@ -13,7 +14,7 @@ add-last : tie.Need-add-last
 add-last c = omega arith
 
 walk-requires : tie.Need-walk-requires
-walk-requires c κs = touches-walkable ((c .before .before .before .before .before .before .pre) .0) ((c .before .before .before .before .before .before .pre) .1) ((c .before .before .before .before .before .before .pre) .2) _ refl
+walk-requires c κs = (inr refl, touches-walkable ((c .before .before .before .before .before .before .pre) .0) ((c .before .before .before .before .before .before .pre) .1) ((c .before .before .before .before .before .before .pre) .2) _ refl)
 
 add-walk : tie.Need-add-walk
 add-walk c = omega arith
@@ -22,7 +23,7 @@ add-walk-2 : tie.Need-add-walk-2
 add-walk-2 c = omega arith
 
 walk-requires-2 : tie.Need-walk-requires-2
-walk-requires-2 c κs = ends-walkable ((c .before .before .before .before .before .before .before .before .before .before .before .before .pre) .0) ((c .before .before .before .before .before .before .before .before .before .before .before .before .pre) .1) ((c .before .before .before .before .before .before .before .before .before .before .before .before .pre) .2) refl ((c .before .before .before .before .before .walk) .ensures) _ refl
+walk-requires-2 c κs = (inl refl, ends-walkable ((c .before .before .before .before .before .before .before .before .before .before .before .before .pre) .0) ((c .before .before .before .before .before .before .before .before .before .before .before .before .pre) .1) ((c .before .before .before .before .before .before .before .before .before .before .before .before .pre) .2) refl ((c .before .before .before .before .before .walk) .ensures) _ refl)
 
 sub-sort-part : tie.Need-sub-sort-part
 sub-sort-part c = omega arith

@@ -12,59 +12,59 @@ use Rattle.graph.proofs.Line.{blocks-length, place-lt}
 use Rattle.spills.proofs.moved.position.Statement.{statement}
 use Rattle.spills.proofs.moved.position.Tie as tie
 
-mul-t8 : tie.Need-mul-t8
-mul-t8 c = omega arith
+mul-t9 : tie.Need-mul-t9
+mul-t9 c = omega arith
 
-add-t9 : tie.Need-add-t9
-add-t9 c = omega arith
+add-t10 : tie.Need-add-t10
+add-t10 c = omega arith
 
-mul-t10 : tie.Need-mul-t10
-mul-t10 c = omega arith
+mul-t11 : tie.Need-mul-t11
+mul-t11 c = omega arith
 
-shared-slice-read-t12 : tie.Need-shared-slice-read-t12
-shared-slice-read-t12 c = let h = inst-there-0 (blocksOf (((c .before .before .before .before .before .args) .blocks .now))) (((c .before .before .before .before .before .args) .insts .now)) ((c .before .before .before .before .before .args) .kind) ((c .before .before .before .before .before .args) .number) ((c .before .before .before .before .before .pre) .1) (omega arith) in omega arith
+shared-slice-read-t13 : tie.Need-shared-slice-read-t13
+shared-slice-read-t13 c = let h = inst-there-0 (blocksOf (((c .before .before .before .before .before .args) .blocks .now))) (((c .before .before .before .before .before .args) .insts .now)) ((c .before .before .before .before .before .args) .kind) ((c .before .before .before .before .before .args) .number) ((c .before .before .before .before .before .pre) .1) (omega arith) in omega arith
 
-mul-t14 : tie.Need-mul-t14
-mul-t14 c = omega arith
+mul-t15 : tie.Need-mul-t15
+mul-t15 c = omega arith
 
-add-t15 : tie.Need-add-t15
-add-t15 c = omega arith
+add-t16 : tie.Need-add-t16
+add-t16 c = omega arith
 
-mul-t16 : tie.Need-mul-t16
-mul-t16 c = omega arith
+mul-t17 : tie.Need-mul-t17
+mul-t17 c = omega arith
 
-shared-slice-read-t18 : tie.Need-shared-slice-read-t18
-shared-slice-read-t18 c = let h = inst-there-1 (blocksOf (((c .before .before .before .before .before .args) .blocks .now))) (((c .before .before .before .before .before .args) .insts .now)) ((c .before .before .before .before .before .args) .kind) ((c .before .before .before .before .before .args) .number) ((c .before .before .before .before .before .pre) .1) (omega arith) in omega arith
+shared-slice-read-t19 : tie.Need-shared-slice-read-t19
+shared-slice-read-t19 c = let h = inst-there-1 (blocksOf (((c .before .before .before .before .before .args) .blocks .now))) (((c .before .before .before .before .before .args) .insts .now)) ((c .before .before .before .before .before .args) .kind) ((c .before .before .before .before .before .args) .number) ((c .before .before .before .before .before .pre) .1) (omega arith) in omega arith
 
 place-of-requires : tie.Need-place-of-requires
 place-of-requires c κs = let n = blocks-length (((c .before .before .before .before .args) .blocks .now)) in let h = block-there-2 (blocksOf (((c .before .before .before .before .args) .blocks .now))) (((c .before .before .before .before .args) .insts .now)) ((c .before .before .before .before .args) .kind) ((c .before .before .before .before .args) .number) ((c .before .before .before .before .pre) .1) (omega arith) in omega arith
 
-mul-t21 : tie.Need-mul-t21
-mul-t21 c = let n = blocks-length (((c .before .before .before .before .before .before .args) .blocks .now)) in let h = block-there-2 (blocksOf (((c .before .before .before .before .before .before .args) .blocks .now))) (((c .before .before .before .before .before .before .args) .insts .now)) ((c .before .before .before .before .before .before .args) .kind) ((c .before .before .before .before .before .before .args) .number) ((c .before .before .before .before .before .before .pre) .1) (omega arith) in let p : (c .before .place-of) .result .0 ≡ placeIn (blocksOf (((c .before .before .before .before .before .before .args) .blocks .now))) ((c .before .before .before .before .before .before .args) .number) = (c .before .place-of) .ensures ∙ (c .before .before .before .before .before .before .pre) .0 .1 .place ((c .before .before .before .before .before .before .args) .number) h in let l = place-lt ((c .before .before .before .before .before .before .pre) .0 .0) ((c .before .before .before .before .before .before .args) .number) h in omega arith
+mul-t22 : tie.Need-mul-t22
+mul-t22 c = let n = blocks-length (((c .before .before .before .before .before .before .args) .blocks .now)) in let h = block-there-2 (blocksOf (((c .before .before .before .before .before .before .args) .blocks .now))) (((c .before .before .before .before .before .before .args) .insts .now)) ((c .before .before .before .before .before .before .args) .kind) ((c .before .before .before .before .before .before .args) .number) ((c .before .before .before .before .before .before .pre) .1) (omega arith) in let p : (c .before .place-of) .result .0 ≡ placeIn (blocksOf (((c .before .before .before .before .before .before .args) .blocks .now))) ((c .before .before .before .before .before .before .args) .number) = (c .before .place-of) .ensures ∙ (c .before .before .before .before .before .before .pre) .0 .1 .place ((c .before .before .before .before .before .before .args) .number) h in let l = place-lt ((c .before .before .before .before .before .before .pre) .0 .0) ((c .before .before .before .before .before .before .args) .number) h in omega arith
 
-add-t22 : tie.Need-add-t22
-add-t22 c = let n = blocks-length (((c .before .before .before .before .before .before .args) .blocks .now)) in let h = block-there-2 (blocksOf (((c .before .before .before .before .before .before .args) .blocks .now))) (((c .before .before .before .before .before .before .args) .insts .now)) ((c .before .before .before .before .before .before .args) .kind) ((c .before .before .before .before .before .before .args) .number) ((c .before .before .before .before .before .before .pre) .1) (omega arith) in let p : (c .before .place-of) .result .0 ≡ placeIn (blocksOf (((c .before .before .before .before .before .before .args) .blocks .now))) ((c .before .before .before .before .before .before .args) .number) = (c .before .place-of) .ensures ∙ (c .before .before .before .before .before .before .pre) .0 .1 .place ((c .before .before .before .before .before .before .args) .number) h in let l = place-lt ((c .before .before .before .before .before .before .pre) .0 .0) ((c .before .before .before .before .before .before .args) .number) h in omega arith
+add-t23 : tie.Need-add-t23
+add-t23 c = let n = blocks-length (((c .before .before .before .before .before .before .args) .blocks .now)) in let h = block-there-2 (blocksOf (((c .before .before .before .before .before .before .args) .blocks .now))) (((c .before .before .before .before .before .before .args) .insts .now)) ((c .before .before .before .before .before .before .args) .kind) ((c .before .before .before .before .before .before .args) .number) ((c .before .before .before .before .before .before .pre) .1) (omega arith) in let p : (c .before .place-of) .result .0 ≡ placeIn (blocksOf (((c .before .before .before .before .before .before .args) .blocks .now))) ((c .before .before .before .before .before .before .args) .number) = (c .before .place-of) .ensures ∙ (c .before .before .before .before .before .before .pre) .0 .1 .place ((c .before .before .before .before .before .before .args) .number) h in let l = place-lt ((c .before .before .before .before .before .before .pre) .0 .0) ((c .before .before .before .before .before .before .args) .number) h in omega arith
 
-mul-t23 : tie.Need-mul-t23
-mul-t23 c = let n = blocks-length (((c .before .before .before .before .before .before .args) .blocks .now)) in let h = block-there-2 (blocksOf (((c .before .before .before .before .before .before .args) .blocks .now))) (((c .before .before .before .before .before .before .args) .insts .now)) ((c .before .before .before .before .before .before .args) .kind) ((c .before .before .before .before .before .before .args) .number) ((c .before .before .before .before .before .before .pre) .1) (omega arith) in let p : (c .before .place-of) .result .0 ≡ placeIn (blocksOf (((c .before .before .before .before .before .before .args) .blocks .now))) ((c .before .before .before .before .before .before .args) .number) = (c .before .place-of) .ensures ∙ (c .before .before .before .before .before .before .pre) .0 .1 .place ((c .before .before .before .before .before .before .args) .number) h in let l = place-lt ((c .before .before .before .before .before .before .pre) .0 .0) ((c .before .before .before .before .before .before .args) .number) h in omega arith
+mul-t24 : tie.Need-mul-t24
+mul-t24 c = let n = blocks-length (((c .before .before .before .before .before .before .args) .blocks .now)) in let h = block-there-2 (blocksOf (((c .before .before .before .before .before .before .args) .blocks .now))) (((c .before .before .before .before .before .before .args) .insts .now)) ((c .before .before .before .before .before .before .args) .kind) ((c .before .before .before .before .before .before .args) .number) ((c .before .before .before .before .before .before .pre) .1) (omega arith) in let p : (c .before .place-of) .result .0 ≡ placeIn (blocksOf (((c .before .before .before .before .before .before .args) .blocks .now))) ((c .before .before .before .before .before .before .args) .number) = (c .before .place-of) .ensures ∙ (c .before .before .before .before .before .before .pre) .0 .1 .place ((c .before .before .before .before .before .before .args) .number) h in let l = place-lt ((c .before .before .before .before .before .before .pre) .0 .0) ((c .before .before .before .before .before .before .args) .number) h in omega arith
 
-shared-slice-read-t25 : tie.Need-shared-slice-read-t25
-shared-slice-read-t25 c = let n = blocks-length (((c .before .before .before .before .before .before .before .args) .blocks .now)) in let h = block-there-2 (blocksOf (((c .before .before .before .before .before .before .before .args) .blocks .now))) (((c .before .before .before .before .before .before .before .args) .insts .now)) ((c .before .before .before .before .before .before .before .args) .kind) ((c .before .before .before .before .before .before .before .args) .number) ((c .before .before .before .before .before .before .before .pre) .1) (omega arith) in let p : (c .before .before .place-of) .result .0 ≡ placeIn (blocksOf (((c .before .before .before .before .before .before .before .args) .blocks .now))) ((c .before .before .before .before .before .before .before .args) .number) = (c .before .before .place-of) .ensures ∙ (c .before .before .before .before .before .before .before .pre) .0 .1 .place ((c .before .before .before .before .before .before .before .args) .number) h in let l = place-lt ((c .before .before .before .before .before .before .before .pre) .0 .0) ((c .before .before .before .before .before .before .before .args) .number) h in omega arith
+shared-slice-read-t26 : tie.Need-shared-slice-read-t26
+shared-slice-read-t26 c = let n = blocks-length (((c .before .before .before .before .before .before .before .args) .blocks .now)) in let h = block-there-2 (blocksOf (((c .before .before .before .before .before .before .before .args) .blocks .now))) (((c .before .before .before .before .before .before .before .args) .insts .now)) ((c .before .before .before .before .before .before .before .args) .kind) ((c .before .before .before .before .before .before .before .args) .number) ((c .before .before .before .before .before .before .before .pre) .1) (omega arith) in let p : (c .before .before .place-of) .result .0 ≡ placeIn (blocksOf (((c .before .before .before .before .before .before .before .args) .blocks .now))) ((c .before .before .before .before .before .before .before .args) .number) = (c .before .before .place-of) .ensures ∙ (c .before .before .before .before .before .before .before .pre) .0 .1 .place ((c .before .before .before .before .before .before .before .args) .number) h in let l = place-lt ((c .before .before .before .before .before .before .before .pre) .0 .0) ((c .before .before .before .before .before .before .before .args) .number) h in omega arith
 
 place-of-requires-2 : tie.Need-place-of-requires-2
 place-of-requires-2 c κs = let n = blocks-length (((c .before .before .before .before .args) .blocks .now)) in let h = block-there-3 (blocksOf (((c .before .before .before .before .args) .blocks .now))) (((c .before .before .before .before .args) .insts .now)) ((c .before .before .before .before .args) .kind) ((c .before .before .before .before .args) .number) ((c .before .before .before .before .pre) .1) (omega arith) in omega arith
 
-mul-t28 : tie.Need-mul-t28
-mul-t28 c = let n = blocks-length (((c .before .before .before .before .before .before .args) .blocks .now)) in let h = block-there-3 (blocksOf (((c .before .before .before .before .before .before .args) .blocks .now))) (((c .before .before .before .before .before .before .args) .insts .now)) ((c .before .before .before .before .before .before .args) .kind) ((c .before .before .before .before .before .before .args) .number) ((c .before .before .before .before .before .before .pre) .1) (omega arith) in let p : (c .before .place-of2) .result .0 ≡ placeIn (blocksOf (((c .before .before .before .before .before .before .args) .blocks .now))) ((c .before .before .before .before .before .before .args) .number) = (c .before .place-of2) .ensures ∙ (c .before .before .before .before .before .before .pre) .0 .1 .place ((c .before .before .before .before .before .before .args) .number) h in let l = place-lt ((c .before .before .before .before .before .before .pre) .0 .0) ((c .before .before .before .before .before .before .args) .number) h in omega arith
+mul-t29 : tie.Need-mul-t29
+mul-t29 c = let n = blocks-length (((c .before .before .before .before .before .before .args) .blocks .now)) in let h = block-there-3 (blocksOf (((c .before .before .before .before .before .before .args) .blocks .now))) (((c .before .before .before .before .before .before .args) .insts .now)) ((c .before .before .before .before .before .before .args) .kind) ((c .before .before .before .before .before .before .args) .number) ((c .before .before .before .before .before .before .pre) .1) (omega arith) in let p : (c .before .place-of2) .result .0 ≡ placeIn (blocksOf (((c .before .before .before .before .before .before .args) .blocks .now))) ((c .before .before .before .before .before .before .args) .number) = (c .before .place-of2) .ensures ∙ (c .before .before .before .before .before .before .pre) .0 .1 .place ((c .before .before .before .before .before .before .args) .number) h in let l = place-lt ((c .before .before .before .before .before .before .pre) .0 .0) ((c .before .before .before .before .before .before .args) .number) h in omega arith
 
-add-t29 : tie.Need-add-t29
-add-t29 c = let n = blocks-length (((c .before .before .before .before .before .before .args) .blocks .now)) in let h = block-there-3 (blocksOf (((c .before .before .before .before .before .before .args) .blocks .now))) (((c .before .before .before .before .before .before .args) .insts .now)) ((c .before .before .before .before .before .before .args) .kind) ((c .before .before .before .before .before .before .args) .number) ((c .before .before .before .before .before .before .pre) .1) (omega arith) in let p : (c .before .place-of2) .result .0 ≡ placeIn (blocksOf (((c .before .before .before .before .before .before .args) .blocks .now))) ((c .before .before .before .before .before .before .args) .number) = (c .before .place-of2) .ensures ∙ (c .before .before .before .before .before .before .pre) .0 .1 .place ((c .before .before .before .before .before .before .args) .number) h in let l = place-lt ((c .before .before .before .before .before .before .pre) .0 .0) ((c .before .before .before .before .before .before .args) .number) h in omega arith
+add-t30 : tie.Need-add-t30
+add-t30 c = let n = blocks-length (((c .before .before .before .before .before .before .args) .blocks .now)) in let h = block-there-3 (blocksOf (((c .before .before .before .before .before .before .args) .blocks .now))) (((c .before .before .before .before .before .before .args) .insts .now)) ((c .before .before .before .before .before .before .args) .kind) ((c .before .before .before .before .before .before .args) .number) ((c .before .before .before .before .before .before .pre) .1) (omega arith) in let p : (c .before .place-of2) .result .0 ≡ placeIn (blocksOf (((c .before .before .before .before .before .before .args) .blocks .now))) ((c .before .before .before .before .before .before .args) .number) = (c .before .place-of2) .ensures ∙ (c .before .before .before .before .before .before .pre) .0 .1 .place ((c .before .before .before .before .before .before .args) .number) h in let l = place-lt ((c .before .before .before .before .before .before .pre) .0 .0) ((c .before .before .before .before .before .before .args) .number) h in omega arith
 
-mul-t30 : tie.Need-mul-t30
-mul-t30 c = let n = blocks-length (((c .before .before .before .before .before .before .args) .blocks .now)) in let h = block-there-3 (blocksOf (((c .before .before .before .before .before .before .args) .blocks .now))) (((c .before .before .before .before .before .before .args) .insts .now)) ((c .before .before .before .before .before .before .args) .kind) ((c .before .before .before .before .before .before .args) .number) ((c .before .before .before .before .before .before .pre) .1) (omega arith) in let p : (c .before .place-of2) .result .0 ≡ placeIn (blocksOf (((c .before .before .before .before .before .before .args) .blocks .now))) ((c .before .before .before .before .before .before .args) .number) = (c .before .place-of2) .ensures ∙ (c .before .before .before .before .before .before .pre) .0 .1 .place ((c .before .before .before .before .before .before .args) .number) h in let l = place-lt ((c .before .before .before .before .before .before .pre) .0 .0) ((c .before .before .before .before .before .before .args) .number) h in omega arith
+mul-t31 : tie.Need-mul-t31
+mul-t31 c = let n = blocks-length (((c .before .before .before .before .before .before .args) .blocks .now)) in let h = block-there-3 (blocksOf (((c .before .before .before .before .before .before .args) .blocks .now))) (((c .before .before .before .before .before .before .args) .insts .now)) ((c .before .before .before .before .before .before .args) .kind) ((c .before .before .before .before .before .before .args) .number) ((c .before .before .before .before .before .before .pre) .1) (omega arith) in let p : (c .before .place-of2) .result .0 ≡ placeIn (blocksOf (((c .before .before .before .before .before .before .args) .blocks .now))) ((c .before .before .before .before .before .before .args) .number) = (c .before .place-of2) .ensures ∙ (c .before .before .before .before .before .before .pre) .0 .1 .place ((c .before .before .before .before .before .before .args) .number) h in let l = place-lt ((c .before .before .before .before .before .before .pre) .0 .0) ((c .before .before .before .before .before .before .args) .number) h in omega arith
 
-shared-slice-read-t32 : tie.Need-shared-slice-read-t32
-shared-slice-read-t32 c = let n = blocks-length (((c .before .before .before .before .before .before .before .args) .blocks .now)) in let h = block-there-3 (blocksOf (((c .before .before .before .before .before .before .before .args) .blocks .now))) (((c .before .before .before .before .before .before .before .args) .insts .now)) ((c .before .before .before .before .before .before .before .args) .kind) ((c .before .before .before .before .before .before .before .args) .number) ((c .before .before .before .before .before .before .before .pre) .1) (omega arith) in let p : (c .before .before .place-of2) .result .0 ≡ placeIn (blocksOf (((c .before .before .before .before .before .before .before .args) .blocks .now))) ((c .before .before .before .before .before .before .before .args) .number) = (c .before .before .place-of2) .ensures ∙ (c .before .before .before .before .before .before .before .pre) .0 .1 .place ((c .before .before .before .before .before .before .before .args) .number) h in let l = place-lt ((c .before .before .before .before .before .before .before .pre) .0 .0) ((c .before .before .before .before .before .before .before .args) .number) h in omega arith
+shared-slice-read-t33 : tie.Need-shared-slice-read-t33
+shared-slice-read-t33 c = let n = blocks-length (((c .before .before .before .before .before .before .before .args) .blocks .now)) in let h = block-there-3 (blocksOf (((c .before .before .before .before .before .before .before .args) .blocks .now))) (((c .before .before .before .before .before .before .before .args) .insts .now)) ((c .before .before .before .before .before .before .before .args) .kind) ((c .before .before .before .before .before .before .before .args) .number) ((c .before .before .before .before .before .before .before .pre) .1) (omega arith) in let p : (c .before .before .place-of2) .result .0 ≡ placeIn (blocksOf (((c .before .before .before .before .before .before .before .args) .blocks .now))) ((c .before .before .before .before .before .before .before .args) .number) = (c .before .before .place-of2) .ensures ∙ (c .before .before .before .before .before .before .before .pre) .0 .1 .place ((c .before .before .before .before .before .before .before .args) .number) h in let l = place-lt ((c .before .before .before .before .before .before .before .pre) .0 .0) ((c .before .before .before .before .before .before .before .args) .number) h in omega arith
 
 returns : tie.Need-returns
 returns c = spot-0 (((c .before .before .before .before .before .args) .blocks .now)) (((c .before .before .before .before .before .args) .insts .now)) ((c .before .before .before .before .before .args) .kind) ((c .before .before .before .before .before .args) .number) (omega arith) (inst-there-0 (blocksOf (((c .before .before .before .before .before .args) .blocks .now))) (((c .before .before .before .before .before .args) .insts .now)) ((c .before .before .before .before .before .args) .kind) ((c .before .before .before .before .before .args) .number) ((c .before .before .before .before .before .pre) .1) (omega arith))
@@ -85,24 +85,24 @@ pub position-spec : {M : Type 1} → statement M
 position-spec =
     tie.close
     (tie.spec
-    mul-t8
-    add-t9
-    mul-t10
-    shared-slice-read-t12
-    mul-t14
-    add-t15
-    mul-t16
-    shared-slice-read-t18
+    mul-t9
+    add-t10
+    mul-t11
+    shared-slice-read-t13
+    mul-t15
+    add-t16
+    mul-t17
+    shared-slice-read-t19
     place-of-requires
-    mul-t21
-    add-t22
-    mul-t23
-    shared-slice-read-t25
+    mul-t22
+    add-t23
+    mul-t24
+    shared-slice-read-t26
     place-of-requires-2
-    mul-t28
-    add-t29
-    mul-t30
-    shared-slice-read-t32
+    mul-t29
+    add-t30
+    mul-t31
+    shared-slice-read-t33
     returns
     returns-2
     returns-3
