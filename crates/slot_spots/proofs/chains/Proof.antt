@@ -1,0 +1,44 @@
+-- `slot_spots::chains` meets its contract: no slot has a move, then the moves are linked by each of the two columns.
+use native.Mathlib.Omega.{arith}
+use mathlib.Core.Path.{refl}
+use borrow.Author.Needs.{needs}
+use Rattle.slot_spots.proofs.MoveLaws.{to-none, from-none, chained}
+use Rattle.slot_spots.proofs.chains.Statement.{statement}
+use Rattle.slot_spots.proofs.chains.Tie as tie
+
+add-past : tie.Need-add-past
+add-past c = omega arith
+
+add-fill : tie.Need-add-fill
+add-fill c = omega arith
+
+fill-requires : tie.Need-fill-requires
+fill-requires c κs = omega arith
+
+chain-requires : tie.Need-chain-requires
+chain-requires c κs = ((omega arith, refl, omega arith, omega arith), to-none ((c .before .before .before .before .before .before .before .before .before .args) .p) ((c .before .before .before .before .before .before .before .before .before .args) .moves .now) ((c .before .before .before .before .before .before .before .before .before .pre) .0) ((c .before .before .before .fill) .ensures))
+
+add-chain : tie.Need-add-chain
+add-chain c = omega arith
+
+chain-requires-2 : tie.Need-chain-requires-2
+chain-requires-2 c κs = ((omega arith, refl, omega arith, omega arith), from-none ((c .before .before .before .before .before .before .before .before .before .before .before .before .before .before .args) .p) ((c .before .before .before .before .before .before .before .before .before .before .before .before .before .before .args) .moves .now) ((c .before .before .before .before .before .before .before .before .before .before .before .before .before .before .pre) .0) ((c .before .before .before .before .before .before .before .before .fill) .ensures) ((c .before .before .before .before .chain) .ensures))
+
+same-length : tie.Need-same-length
+same-length c = search needs
+
+returns : tie.Need-returns
+returns c = chained ((c .before .before .before .before .before .before .before .before .before .before .before .before .before .before .before .before .before .args) .p) ((c .before .before .before .before .before .before .before .before .before .before .before .before .before .before .before .before .before .args) .moves .now) ((c .before .before .before .before .before .before .before .before .before .before .before .before .before .before .before .before .before .pre) .0) ((c .before .before .before .before .before .before .before .before .before .before .before .fill) .ensures) ((c .before .before .before .before .before .before .before .chain) .ensures) ((c .before .before .chain2) .ensures)
+
+pub chains-spec : {M : Type 1} → statement M
+chains-spec =
+    tie.close
+    (tie.spec
+    add-past
+    add-fill
+    fill-requires
+    chain-requires
+    add-chain
+    chain-requires-2
+    same-length
+    returns)
