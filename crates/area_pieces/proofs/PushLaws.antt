@@ -22,7 +22,7 @@ use Rattle.area_pieces.specs.Inner.{Listed, JoinedIn}
 
 -- ---- one word stored
 
-part-push : (w : List ℕ) (at k x : ℕ) → at + k < length w → part at (k + 1) (set w (at + k) x) ≡ part at k w ++ (x ∷ [])
+pub part-push : (w : List ℕ) (at k x : ℕ) → at + k < length w → part at (k + 1) (set w (at + k) x) ≡ part at k w ++ (x ∷ [])
 part-push w at k x h =
     ap (λ (l : List ℕ). take (k + 1) l) (drop-set-add at w k x) ∙ ap (λ (n : ℕ). take n (set (drop at w) k x)) (add-one k)
     ∙ take-suc-set (drop at w) k x (simp length-drop (omega arith))

@@ -1,5 +1,5 @@
--- The chain of a local's address entries, walked from the last.
-use Prim.Native.Nat.{ℕ, zero, suc, _+_, _-_, _*_, _≤_, _<_, _^_}
+-- The chain of a local's rows, walked from the last: what each row gives is put behind what the later ones gave.
+use Prim.Native.Nat.{ℕ, zero, suc, _+_, _-_, _*_, _≤_, _<_}
 use mathlib.Core.Path.{_≡_, refl, sym, ap, subst, _∙_}
 use mathlib.Core.Logic.{_≢_}
 use mathlib.Core.Bool.{Bool, true, false, cond}
@@ -7,118 +7,133 @@ use mathlib.Core.List.{List, [], _∷_, _++_, append-nil, append-assoc}
 use native.Mathlib.Omega.{arith}
 use lib.ListN.{length, getD, set}
 use lib.Dec.{eqb}
-use borrow.Author.Tests.{eqb-true, eqb-false, eq-eqb, ne-eqb}
+use borrow.Author.Tests.{eq-eqb, ne-eqb}
 use Rattle.words.specs.Rows.{rowCount, field}
 use Rattle.words.specs.Regions.{part}
-use Rattle.ranges.specs.declared.Range.{Range}
-use Rattle.ranges.specs.Points.{range}
-use Rattle.ranges.specs.Forms.{pack, unpack, unpacked}
-use Rattle.ranges.proofs.FormLaws.{unpack-pack}
 use Rattle.graph.specs.Work.{Within}
 use Rattle.graph.proofs.Within.{within-refl, within-wider, within-set}
 use Rattle.reach.specs.Prepared.{latest}
 use Rattle.reach.specs.Steps.{rowLocal}
 use Rattle.follow.proofs.BeginLaws.{latest-le, latest-is}
-use Rattle.area_pieces.proofs.PushLaws.{pushed, set-other}
-use Rattle.touches.specs.Touches.{listedAt, listedDown, Linked, Listed}
+use Rattle.area_pieces.proofs.PushLaws.{part-push, set-other}
+use Rattle.touches.specs.Touches.{downBy, endAt, Linked, Listed}
 
-module _ (insts addresses : List ℕ) (l : ℕ) where
-  abbrev down : ℕ → List Range
-  down = listedDown insts addresses l
-
+module _ (insts rows : List ℕ) (g : ℕ → List ℕ) (l : ℕ) where
   abbrev f : ℕ → ℕ
-  f = rowLocal addresses
+  f = rowLocal rows
 
-  down-here : (n : ℕ) → f n ≡ l → down (suc n) ≡ listedAt insts addresses n ∷ down n
-  unfolding listedDown
-  down-here n e = ap (λ (t : Bool). cond t (listedAt insts addresses n ∷ []) [] ++ down n) (eq-eqb (f n) l e)
+  abbrev down : ℕ → List ℕ
+  down = downBy f l g
 
-  -- the entries behind the last of the local are others'
+  down-here : (n : ℕ) → f n ≡ l → down (suc n) ≡ g n ++ down n
+  unfolding downBy
+  down-here n e = ap (λ (t : Bool). cond t (g n) [] ++ down n) (eq-eqb (f n) l e)
+
+  -- the rows behind the last of the local are others'
   down-latest : (n : ℕ) → down n ≡ down (latest f l n)
-  unfolding listedDown latest
+  unfolding downBy latest
   down-latest zero = refl
   down-latest (suc n) = go (eqb (f n) l) refl (down-latest n)
     where
-      go : (t : Bool) → eqb (f n) l ≡ t → down n ≡ down (latest f l n) → cond t (listedAt insts addresses n ∷ []) [] ++ down n ≡ down (cond t (suc n) (latest f l n))
-      go true e h = ap (λ (t : Bool). cond t (listedAt insts addresses n ∷ []) [] ++ down n) (sym e)
+      go : (t : Bool) → eqb (f n) l ≡ t → down n ≡ down (latest f l n) → cond t (g n) [] ++ down n ≡ down (cond t (suc n) (latest f l n))
+      go true e h = ap (λ (t : Bool). cond t (g n) [] ++ down n) (sym e)
       go false e h = h
 
   down-none : down 0 ≡ []
-  unfolding listedDown
+  unfolding downBy
   down-none = refl
 
   pub record Walking (heads nexts to : ℕ) (w₀ w : List ℕ) (m next : ℕ) : Type 0 where
-    pub linked : Linked insts addresses heads nexts l to w₀
-    pub from : (n : ℕ) × (n ≤ rowCount 2 addresses) × (next ≡ latest f l n)
-    pub few : m + next ≤ rowCount 2 addresses
+    pub linked : Linked insts rows heads nexts l to w₀
+    pub from : (n : ℕ) × (n ≤ rowCount 2 rows) × (next ≡ latest f l n)
+    pub few : m + next ≤ rowCount 2 rows
     pub kept : Within to (to + m) w₀ w
-    pub is : unpacked (part to m w) ++ down next ≡ down (rowCount 2 addresses)
+    pub is : part to m w ++ down next ≡ down (rowCount 2 rows)
 
-  pub walk-start : (heads nexts to : ℕ) (w : List ℕ) (next : ℕ) → Linked insts addresses heads nexts l to w → next ≡ getD w (heads + l) 0 → Walking heads nexts to w w 0 next
+  pub walk-start : (heads nexts to : ℕ) (w : List ℕ) (next : ℕ) → Linked insts rows heads nexts l to w → next ≡ getD w (heads + l) 0 → Walking heads nexts to w w 0 next
   walk-start heads nexts to w next L e = record {
     linked = L;
-    from = (rowCount 2 addresses, omega arith, e ∙ L .head);
-    few = omega (arith, e, L .head, latest-le f l (rowCount 2 addresses));
+    from = (rowCount 2 rows, omega arith, e ∙ L .head);
+    few = omega (arith, e, L .head, latest-le f l (rowCount 2 rows));
     kept = within-refl to (to + 0) w;
-    is = ap down (e ∙ L .head) ∙ sym (down-latest (rowCount 2 addresses));
+    is = ap down (e ∙ L .head) ∙ sym (down-latest (rowCount 2 rows));
   }
 
   module _ {heads nexts to : ℕ} {w₀ w : List ℕ} {m next : ℕ} (W : Walking heads nexts to w₀ w m next) where
-    -- the entry that comes next is one of the local's
+    -- the row that comes next is one of the local's
     pub record Turn (a : ℕ) : Type 0 where
-      pub low : a < rowCount 2 addresses
+      pub low : a < rowCount 2 rows
       pub mine : f a ≡ l
-      pub inst : getD addresses (2 * a) 0 < rowCount 9 insts
+      pub inst : getD rows (2 * a) 0 < rowCount 9 insts
       pub link : getD w (nexts + a) 0 ≡ latest f l a
+      pub after : next ≡ suc a
 
     pub turn : (a : ℕ) → next ≢ 0 → a ≡ next - 1 → Turn a
     turn a d e =
         let s : next ≡ suc a = omega (arith, e, some next d) in
-        let h : a < rowCount 2 addresses = omega (arith, s, W .few) in
+        let h : a < rowCount 2 rows = omega (arith, s, W .few) in
         let i = latest-is f l (W .from .0) a (sym (W .from .2) ∙ s) in
         record {
           low = h;
           mine = i;
           inst = W .linked .found a h;
           link = W .kept .below (nexts + a) (omega (arith, W .linked .nexts-fit, h)) ∙ W .linked .next a h i;
+          after = s;
         }
       where
         some : (n : ℕ) → n ≢ 0 → 0 < n
-        some zero g = absurd (g refl)
-        some (suc n) g = omega arith
+        some zero c = absurd (c refl)
+        some (suc n) c = omega arith
 
-    following : {a : ℕ} → Turn a → (v x z : ℕ) → x < length w → x ≡ to + m → z ≡ getD (set w x v) (nexts + a) 0 → z ≡ latest f l a
-    following {a} T v x z h dx dz = dz ∙ set-other w x v (nexts + a) h (λ q. absurd (omega (arith, q, dx, W .linked .nexts-fit, T .low))) ∙ T .link
+    module _ {a : ℕ} (T : Turn a) where
+      pub walk-less : (z : ℕ) → z ≡ getD w (nexts + a) 0 → z < next
+      walk-less z e = omega (arith, e, T .link, latest-le f l a, T .after)
 
-    pub walk-less : {a : ℕ} → Turn a → next ≡ suc a → (v x z : ℕ) → x < length w → x ≡ to + m → z ≡ getD (set w x v) (nexts + a) 0 → z < next
-    walk-less {a} T s v x z h dx dz = omega (arith, following T v x z h dx dz, latest-le f l a, s)
+      -- the link is read before the word is put, or after
+      pub link-stays : (v x : ℕ) → x ≡ to + m → getD (set w x v) (nexts + a) 0 ≡ getD w (nexts + a) 0
+      link-stays v x dx = set-other w x v (nexts + a) (omega (arith, dx, W .kept .len, W .linked .room, W .few, T .after)) (λ q. absurd (omega (arith, q, dx, W .linked .nexts-fit, T .low)))
 
-    pub walk-more : {a v : ℕ} → Turn a → next ≡ suc a → v ≡ pack (listedAt insts addresses a) → ((y : ℕ) → getD insts y 0 < 2 ^ 32) → (x z : ℕ) → x ≡ to + m → z ≡ getD (set w x v) (nexts + a) 0
-        → Walking heads nexts to w₀ (set w x v) (m + 1) z
-    walk-more {a} {v} T s e b x z dx dz = record {
-      linked = W .linked;
-      from = (a, omega (arith, T .low), after);
-      few = omega (arith, W .few, s, after, latest-le f l a);
-      kept = within-set (within-wider to (to + (m + 1)) (omega arith) (omega arith) (W .kept)) x v (omega arith) (omega arith);
-      is = subst (λ t. unpacked (part to (m + 1) (set w t v)) ++ down z ≡ down (rowCount 2 addresses)) (sym dx)
-          (ap (λ (r : List Range). r ++ down z) (pushed w to m (omega (arith, W .kept .len, W .linked .room, W .few, s)) v .is)
-          ∙ append-assoc (unpacked (part to m w)) (unpack v ∷ []) (down z)
-          ∙ ap (λ (r : List Range). unpacked (part to m w) ++ r) (ap (λ (r : Range). r ∷ down z) there ∙ ap (λ (r : List Range). listedAt insts addresses a ∷ r) rest ∙ sym (down-here a (T .mine)) ∙ ap down (sym s))
-          ∙ W .is);
-    }
-      where
-        after : z ≡ latest f l a
-        after = following T v x z (omega (arith, dx, W .kept .len, W .linked .room, W .few, s)) dx dz
+      rest : (z : ℕ) → z ≡ getD w (nexts + a) 0 → g a ++ down z ≡ down next
+      rest z e = ap (λ (r : List ℕ). g a ++ r) (ap down (e ∙ T .link) ∙ sym (down-latest a)) ∙ sym (down-here a (T .mine)) ∙ ap down (sym (T .after))
 
-        there : unpack v ≡ listedAt insts addresses a
-        there = ap unpack e ∙ unpack-pack (listedAt insts addresses a .start) (listedAt insts addresses a .end) (b (9 * getD addresses (2 * a) 0 + 3))
+      pub walk-skip : g a ≡ [] → (z : ℕ) → z ≡ getD w (nexts + a) 0 → Walking heads nexts to w₀ w m z
+      walk-skip e z d = record {
+        linked = W .linked;
+        from = (a, omega (arith, T .low), d ∙ T .link);
+        few = omega (arith, W .few, walk-less z d);
+        kept = W .kept;
+        is = ap (λ (r : List ℕ). part to m w ++ r) (ap (λ (r : List ℕ). r ++ down z) (sym e) ∙ rest z d) ∙ W .is;
+      }
 
-        rest : down z ≡ down a
-        rest = ap down after ∙ sym (down-latest a)
+      pub walk-more : (v : ℕ) → g a ≡ v ∷ [] → (x z : ℕ) → x ≡ to + m → z ≡ getD w (nexts + a) 0 → Walking heads nexts to w₀ (set w x v) (m + 1) z
+      walk-more v e x z dx d = record {
+        linked = W .linked;
+        from = (a, omega (arith, T .low), d ∙ T .link);
+        few = omega (arith, W .few, walk-less z d);
+        kept = within-set (within-wider to (to + (m + 1)) (omega arith) (omega arith) (W .kept)) x v (omega arith) (omega arith);
+        is = subst (λ (t : ℕ). part to (m + 1) (set w t v) ++ down z ≡ down (rowCount 2 rows)) (sym dx)
+            (ap (λ (r : List ℕ). r ++ down z) (part-push w to m v (omega (arith, W .kept .len, W .linked .room, W .few, T .after)) ∙ ap (λ (r : List ℕ). part to m w ++ r) (sym e))
+            ∙ append-assoc (part to m w) (g a) (down z)
+            ∙ ap (λ (r : List ℕ). part to m w ++ r) (rest z d)
+            ∙ W .is);
+      }
 
-    pub walk-done : next ≡ 0 → Listed insts addresses l to w₀ w m
+    pub walk-done : next ≡ 0 → Listed rows g l to w₀ w m
     walk-done e = record {
       kept = W .kept;
       count-le = omega (arith, W .few);
-      is = sym (append-nil (unpacked (part to m w))) ∙ ap (λ (r : List Range). unpacked (part to m w) ++ r) (sym (ap down e ∙ down-none)) ∙ W .is;
+      is = sym (append-nil (part to m w)) ∙ ap (λ (r : List ℕ). part to m w ++ r) (sym (ap down e ∙ down-none)) ∙ W .is;
     }
+
+-- what an end gives, by the flag that is read
+module _ (insts ends : List ℕ) (k x : ℕ) (e : x ≡ 9 * getD ends (2 * k) 0) where
+  flag : field 9 insts (getD ends (2 * k) 0) 0 ≡ getD insts x 0
+  flag = ap (λ (z : ℕ). getD insts z 0) (omega arith)
+
+  pub end-given : getD insts x 0 ≡ 1 → endAt insts ends k ≡ getD insts (x + 2) 0 ∷ []
+  end-given h =
+      ap (λ (t : Bool). cond t (field 9 insts (getD ends (2 * k) 0) 2 ∷ []) []) (eq-eqb (field 9 insts (getD ends (2 * k) 0) 0) 1 (flag ∙ h))
+      ∙ ap (λ (z : ℕ). getD insts z 0 ∷ []) (omega arith)
+
+  pub end-none : getD insts x 0 ≢ 1 → endAt insts ends k ≡ []
+  end-none h = ap (λ (t : Bool). cond t (field 9 insts (getD ends (2 * k) 0) 2 ∷ []) []) (ne-eqb (field 9 insts (getD ends (2 * k) 0) 0) 1 (λ q. h (sym flag ∙ q)))

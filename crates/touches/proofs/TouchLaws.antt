@@ -1,5 +1,5 @@
 -- The registers and entries of one local, in whatever order they come, give the touches of document 01, in another order.
-use Prim.Native.Nat.{ℕ, zero, suc, _+_, _*_, _≤_, _<_}
+use Prim.Native.Nat.{ℕ, zero, suc, _+_, _*_, _^_, _≤_, _<_}
 use mathlib.Core.Path.{_≡_, refl, sym, ap, subst, _∙_}
 use mathlib.Core.Logic.{_⊎_, inl, inr}
 use mathlib.Core.Bool.{Bool, true, false, cond}
@@ -8,22 +8,25 @@ use native.Mathlib.Omega.{arith}
 use lib.ListN.{length, getD}
 use lib.Dec.{eqb}
 use Rattle.words.specs.Rows.{rowCount, field, tabulate}
-use Rattle.words.specs.Sort.{Distinct}
+use Rattle.words.specs.Sort.{sortOf, Distinct}
 use Rattle.words.proofs.RowLaws.{tabulate-suc}
+use Rattle.words.proofs.SortLaws.{sort-append-comm, sort-append-left}
 use Rattle.ranges.specs.declared.Range.{Range}
 use Rattle.ranges.specs.Points.{range}
 use Rattle.ranges.proofs.MergeLaws.{Permuted}
-use Rattle.ranges.proofs.FormLaws.{map-append}
+use Rattle.ranges.specs.Forms.{unpack, unpacked}
+use Rattle.ranges.proofs.FormLaws.{map-append, unpack-pack}
 use Rattle.carrying.specs.Lists.{keep, gather, below}
-use Rattle.carrying.specs.Carried.{Mention, Code, Carries, mentions, mentionsOf, mentioned, carried, carries, piecesOf, livePieces, touchesOf}
+use Rattle.carrying.specs.Carried.{Mention, Code, Carries, mentions, mentionsOf, mentioned, carried, carries, piecesOf, livePieces, touchesOf, endsOf}
 use Rattle.carrying.proofs.CarryLaws.{carried-least}
 use Rattle.carrying.proofs.ListLaws.{of-below}
-use Rattle.insts.proofs.DealtLaws.{early-is, late-is}
+use Rattle.carrying.specs.Insts.{instsOf, instAt, isSet}
+use Rattle.insts.proofs.DealtLaws.{placed-is, early-is, late-is}
 use Rattle.areas.proofs.PermuteLaws.{perm-refl, perm-is, perm-front, perm-append, perm-exchange, perm-turn}
 use Rattle.area_pieces.proofs.HullLaws.{keep-append, gather-append}
 use Rattle.reach.specs.Prepared.{codeOf}
 use Rattle.reach.specs.Steps.{rowLocal}
-use Rattle.touches.specs.Touches.{listedAt, listedDown}
+use Rattle.touches.specs.Touches.{listedAt, downBy, entryAt, endAt}
 
 -- ---- lists that name the same numbers, each once
 
@@ -171,24 +174,80 @@ module _ (v : ℕ) (insts operands crossings addresses ends : List ℕ) (l : ℕ
         rw k (sym (ap (λ z. range z (mentioned code (record { inst = getD addresses (2 * a) 0; local = field 2 addresses a 1 }) .late)) (early-is insts operands (getD addresses (2 * a) 0) (found a h))
         ∙ ap (λ z. range (field 9 insts (getD addresses (2 * a) 0) 2) z) (late-is insts operands (getD addresses (2 * a) 0) (found a h))))
 
-    listed-permuted : (n : ℕ) → n ≤ rowCount 2 addresses → Permuted (listedDown insts addresses l n) (up n)
-    unfolding listedDown tabulate keep
-    listed-permuted zero h = Permuted.none
-    listed-permuted (suc n) h =
-        Permuted.then (perm-front (cond (eqb (rowLocal addresses n) l) (listedAt insts addresses n ∷ []) []) (listed-permuted n (omega arith)))
-        (Permuted.then (perm-is (ap (λ (k : List Range). k ++ up n) (one (eqb (rowLocal addresses n) l))))
-        (Permuted.then (perm-turn (map points (cond (named (row n)) (row n ∷ []) [])) (up n)) (perm-is (sym (up-next n)))))
+    module _ (small : (y : ℕ) → getD insts y 0 < 2 ^ 32) where
+      listed-permuted : (n : ℕ) → n ≤ rowCount 2 addresses → Permuted (unpacked (downBy (rowLocal addresses) l (entryAt insts addresses) n)) (up n)
+      unfolding downBy tabulate keep
+      listed-permuted zero h = Permuted.none
+      listed-permuted (suc n) h =
+          Permuted.then (perm-is (map-append unpack (cond (eqb (rowLocal addresses n) l) (entryAt insts addresses n) []) (downBy (rowLocal addresses) l (entryAt insts addresses) n)))
+          (Permuted.then (perm-front (unpacked (cond (eqb (rowLocal addresses n) l) (entryAt insts addresses n) [])) (listed-permuted n (omega arith)))
+          (Permuted.then (perm-is (ap (λ (k : List Range). k ++ up n) (one (eqb (rowLocal addresses n) l))))
+          (Permuted.then (perm-turn (map points (cond (named (row n)) (row n ∷ []) [])) (up n)) (perm-is (sym (up-next n))))))
+        where
+          one : (t : Bool) → unpacked (cond t (entryAt insts addresses n) []) ≡ map points (cond t (row n ∷ []) [])
+          one true =
+              ap (λ (r : Range). r ∷ [])
+              (unpack-pack (listedAt insts addresses n .start) (listedAt insts addresses n .end) (small (9 * getD addresses (2 * n) 0 + 3)) ∙ at-points n (omega arith))
+          one false = refl
+
+      -- ---- both together
+
+      pub touches-permuted : (pieces registers : List ℕ) → Distinct registers → ((r : ℕ) → List·Memᴰ r registers → Carries code l r) → ((r : ℕ) → Carries code l r → List·Memᴰ r registers)
+          → Permuted (gather (livePieces (piecesOf pieces)) registers ++ unpacked (downBy (rowLocal addresses) l (entryAt insts addresses) (rowCount 2 addresses))) (touchesOf code (piecesOf pieces) l)
+      unfolding touchesOf carried
+      touches-permuted pieces registers d only all =
+          perm-append
+          (gather-same (livePieces (piecesOf pieces)) registers (below v (carries code l)) d (distinct-below v (carries code l)) (λ r m. carried-least code l r .1 (only r m)) (λ r m. all r (carried-least code l r .0 m)))
+          (listed-permuted (rowCount 2 addresses) (omega arith))
+
+  -- ---- the ends
+
+  abbrev endRow : ℕ → Mention
+  endRow k = record { inst = field 2 ends k 0; local = field 2 ends k 1 }
+
+  abbrev placed : Mention → Bool
+  placed m = isSet (mentioned code m .placed)
+
+  abbrev early : Mention → ℕ
+  early m = mentioned code m .early
+
+  abbrev endsTo : ℕ → List ℕ
+  endsTo n = map early (keep placed (keep named (tabulate n endRow)))
+
+  ends-next : (n : ℕ) → endsTo (suc n) ≡ endsTo n ++ map early (keep placed (cond (named (endRow n)) (endRow n ∷ []) []))
+  ends-next n =
+      ap (λ (k : List Mention). map early (keep placed (keep named k))) (tabulate-suc n endRow)
+      ∙ ap (λ (k : List Mention). map early (keep placed k)) (keep-append named (tabulate n endRow) (endRow n ∷ []) ∙ ap (λ (k : List Mention). keep named (tabulate n endRow) ++ k) (keep-one named (endRow n)))
+      ∙ ap (map early) (keep-append placed (keep named (tabulate n endRow)) (cond (named (endRow n)) (endRow n ∷ []) []))
+      ∙ map-append early (keep placed (keep named (tabulate n endRow))) (keep placed (cond (named (endRow n)) (endRow n ∷ []) []))
+
+  module _ (found : (k : ℕ) → k < rowCount 2 ends → getD ends (2 * k) 0 < rowCount 9 insts) where
+    end-is : (k : ℕ) → k < rowCount 2 ends → endAt insts ends k ≡ map early (keep placed (endRow k ∷ []))
+    end-is k h =
+        let e : 2 * k + 0 ≡ 2 * k = omega arith in
+        let i : field 2 ends k 0 ≡ getD ends (2 * k) 0 = ap (λ z. getD ends z 0) e in
+        sym (ap (map early) (keep-one placed (endRow k))
+        ∙ ap (λ z. map (λ (m : Mention). instAt (instsOf insts operands) (m .inst) .early) (cond (isSet (instAt (instsOf insts operands) z .placed)) (record { inst = z; local = field 2 ends k 1 } ∷ []) [])) i
+        ∙ ap (λ z. map (λ (m : Mention). instAt (instsOf insts operands) (m .inst) .early) (cond (isSet z) (record { inst = getD ends (2 * k) 0; local = field 2 ends k 1 } ∷ []) [])) (placed-is insts operands (getD ends (2 * k) 0) (found k h))
+        ∙ given (isSet (field 9 insts (getD ends (2 * k) 0) 0)))
       where
-        one : (t : Bool) → cond t (listedAt insts addresses n ∷ []) [] ≡ map points (cond t (row n ∷ []) [])
-        one true = ap (λ (r : Range). r ∷ []) (at-points n (omega arith))
+        given : (t : Bool) → map (λ (m : Mention). instAt (instsOf insts operands) (m .inst) .early) (cond t (record { inst = getD ends (2 * k) 0; local = field 2 ends k 1 } ∷ []) []) ≡ cond t (field 9 insts (getD ends (2 * k) 0) 2 ∷ []) []
+        given true = ap (λ z. z ∷ []) (early-is insts operands (getD ends (2 * k) 0) (found k h))
+        given false = refl
+
+    sorted-to : (n : ℕ) → n ≤ rowCount 2 ends → sortOf (downBy (rowLocal ends) l (endAt insts ends) n) ≡ sortOf (endsTo n)
+    unfolding downBy tabulate keep
+    sorted-to zero h = refl
+    sorted-to (suc n) h =
+        sort-append-left (cond (eqb (rowLocal ends n) l) (endAt insts ends n) []) (downBy (rowLocal ends) l (endAt insts ends) n) (endsTo n) (sorted-to n (omega arith))
+        ∙ sort-append-comm (cond (eqb (rowLocal ends n) l) (endAt insts ends n) []) (endsTo n)
+        ∙ ap (λ (k : List ℕ). sortOf (endsTo n ++ k)) (one (eqb (rowLocal ends n) l))
+        ∙ ap sortOf (sym (ends-next n))
+      where
+        one : (t : Bool) → cond t (endAt insts ends n) [] ≡ map early (keep placed (cond t (endRow n ∷ []) []))
+        one true = end-is n (omega arith)
         one false = refl
 
-    -- ---- both together
-
-    pub touches-permuted : (pieces registers : List ℕ) → Distinct registers → ((r : ℕ) → List·Memᴰ r registers → Carries code l r) → ((r : ℕ) → Carries code l r → List·Memᴰ r registers)
-        → Permuted (gather (livePieces (piecesOf pieces)) registers ++ listedDown insts addresses l (rowCount 2 addresses)) (touchesOf code (piecesOf pieces) l)
-    unfolding touchesOf carried
-    touches-permuted pieces registers d only all =
-        perm-append
-        (gather-same (livePieces (piecesOf pieces)) registers (below v (carries code l)) d (distinct-below v (carries code l)) (λ r m. carried-least code l r .1 (only r m)) (λ r m. all r (carried-least code l r .0 m)))
-        (listed-permuted (rowCount 2 addresses) (omega arith))
+    -- a local's ends, sorted
+    pub ends-sorted : sortOf (downBy (rowLocal ends) l (endAt insts ends) (rowCount 2 ends)) ≡ sortOf (endsOf code l)
+    ends-sorted = sorted-to (rowCount 2 ends) (omega arith)

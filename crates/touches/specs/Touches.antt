@@ -9,9 +9,10 @@ use Rattle.words.specs.Rows.{rowCount, field}
 use Rattle.words.specs.Regions.{part}
 use Rattle.ranges.specs.declared.Range.{Range}
 use Rattle.ranges.specs.Points.{range}
-use Rattle.ranges.specs.Forms.{unpacked}
+use Rattle.ranges.specs.Forms.{pack, unpacked}
 use Rattle.graph.specs.Work.{Within}
 use Rattle.carrying.specs.Lists.{gather}
+use Rattle.carrying.specs.Insts.{isSet}
 use Rattle.carrying.specs.Carried.{piecesOf, livePieces}
 use Rattle.reach.specs.Prepared.{latest}
 use Rattle.reach.specs.Steps.{rowLocal}
@@ -26,23 +27,31 @@ pub record Gathered (pieces : List ℕ) (from count to : ℕ) (w₀ w : List ℕ
 abbrev pub listedAt : List ℕ → List ℕ → ℕ → Range
 listedAt insts addresses a = range (field 9 insts (getD addresses (2 * a) 0) 2) (field 9 insts (getD addresses (2 * a) 0) 3)
 
--- of the first n address entries those of the local, the last first
-unfoldable pub listedDown : List ℕ → List ℕ → ℕ → ℕ → List Range
-listedDown insts addresses l zero = []
-listedDown insts addresses l (suc n) =
-    cond (eqb (rowLocal addresses n) l) (listedAt insts addresses n ∷ []) [] ++ listedDown insts addresses l n
+-- of the first n rows those of local l, the last first: what each of them gives
+unfoldable pub downBy : (ℕ → ℕ) → ℕ → (ℕ → List ℕ) → ℕ → List ℕ
+downBy f l g zero = []
+downBy f l g (suc n) = cond (eqb (f n) l) (g n) [] ++ downBy f l g n
 
--- the local's address entries are a chain, the last first, and there is room for a word an entry
-pub record Linked (insts addresses : List ℕ) (heads nexts l to : ℕ) (w : List ℕ) : Type 0 where
-  pub found : (a : ℕ) → a < rowCount 2 addresses → getD addresses (2 * a) 0 < rowCount 9 insts
+-- an address entry gives its instruction's points, as one word
+abbrev pub entryAt : List ℕ → List ℕ → ℕ → List ℕ
+entryAt insts addresses a = pack (listedAt insts addresses a) ∷ []
+
+-- an end gives its instruction's early point; "an end at an unplaced instruction is no end of its local"
+abbrev pub endAt : List ℕ → List ℕ → ℕ → List ℕ
+endAt insts ends k =
+    cond (isSet (field 9 insts (getD ends (2 * k) 0) 0)) (field 9 insts (getD ends (2 * k) 0) 2 ∷ []) []
+
+-- the local's rows, each of an instruction and a local, are a chain, the last first, and there is room for a word a row
+pub record Linked (insts rows : List ℕ) (heads nexts l to : ℕ) (w : List ℕ) : Type 0 where
+  pub found : (a : ℕ) → a < rowCount 2 rows → getD rows (2 * a) 0 < rowCount 9 insts
   pub head-fits : heads + l < to
-  pub nexts-fit : nexts + rowCount 2 addresses ≤ to
-  pub room : to + rowCount 2 addresses ≤ length w
-  pub head : getD w (heads + l) 0 ≡ latest (rowLocal addresses) l (rowCount 2 addresses)
-  pub next : (a : ℕ) → a < rowCount 2 addresses → rowLocal addresses a ≡ l → getD w (nexts + a) 0 ≡ latest (rowLocal addresses) l a
+  pub nexts-fit : nexts + rowCount 2 rows ≤ to
+  pub room : to + rowCount 2 rows ≤ length w
+  pub head : getD w (heads + l) 0 ≡ latest (rowLocal rows) l (rowCount 2 rows)
+  pub next : (a : ℕ) → a < rowCount 2 rows → rowLocal rows a ≡ l → getD w (nexts + a) 0 ≡ latest (rowLocal rows) l a
 
--- the listed instructions' points stand from `to` on
-pub record Listed (insts addresses : List ℕ) (l to : ℕ) (w₀ w : List ℕ) (r : ℕ) : Type 0 where
+-- what the local's rows give stands from `to` on
+pub record Listed (rows : List ℕ) (g : ℕ → List ℕ) (l to : ℕ) (w₀ w : List ℕ) (r : ℕ) : Type 0 where
   pub kept : Within to (to + r) w₀ w
-  pub count-le : r ≤ rowCount 2 addresses
-  pub is : unpacked (part to r w) ≡ listedDown insts addresses l (rowCount 2 addresses)
+  pub count-le : r ≤ rowCount 2 rows
+  pub is : part to r w ≡ downBy (rowLocal rows) l g (rowCount 2 rows)

@@ -1,4 +1,4 @@
-// The touches of one local of a job, in the work space: live pieces of the registers that carry its address, and the points of its listed instructions.
+// The touches and ends of one local of a job, in the work space: live pieces of the registers that carry its address, the points of its listed instructions, and its ends.
 ghost use mathlib.Core.Path.{_≡_};
 ghost use Prim.Native.Nat.{ℕ, _+_, _^_, _≤_, _<_};
 ghost use lib.ListN.{length, getD};
@@ -6,7 +6,7 @@ ghost use Rattle.words.specs.Sort.{Distinct};
 ghost use Rattle.words.specs.Rows.{rowCount};
 ghost use Rattle.words.specs.Regions.{part};
 ghost use Rattle.live.specs.Live.{InOrder};
-ghost use Rattle.touches.specs.Touches.{Gathered, Linked, Listed};
+ghost use Rattle.touches.specs.Touches.{Gathered, entryAt, endAt, Linked, Listed};
 
 // The live pieces of the `count` registers from `from` on, each of them once, as words from `to` on; how many there are. The pieces stand in order from `keys` on.
 pub fn of_registers(
@@ -42,7 +42,7 @@ pub fn of_entries(
     to: usize,
 ) -> usize
     requires { ⌜ Linked (now insts) (now addresses) heads nexts local to (now work) ⌝ }
-    ensures { λ r. ⌜ Listed (now (insts .entry)) (now (addresses .entry)) local to (now (work .entry)) (now (work .exit)) r ⌝ }
+    ensures { λ r. ⌜ Listed (now (addresses .entry)) (entryAt (now (insts .entry)) (now (addresses .entry))) local to (now (work .entry)) (now (work .exit)) r ⌝ }
 {
     let mut m = 0;
     let mut next = work[heads + local];
@@ -52,6 +52,33 @@ pub fn of_entries(
         work[to + m] = packed::pack(insts[i + 2], insts[i + 3]);
         m += 1;
         next = work[nexts + a];
+    }
+    m
+}
+
+// The early point of each placed instruction that a local's ends list, from `to` on; how many there are. The ends are chained as the entries are.
+pub fn of_ends(
+    insts: &[u32],
+    ends: &[u32],
+    work: &mut [u64],
+    heads: usize,
+    nexts: usize,
+    local: usize,
+    to: usize,
+) -> usize
+    requires { ⌜ Linked (now insts) (now ends) heads nexts local to (now work) ⌝ }
+    ensures { λ r. ⌜ Listed (now (ends .entry)) (endAt (now (insts .entry)) (now (ends .entry))) local to (now (work .entry)) (now (work .exit)) r ⌝ }
+{
+    let mut m = 0;
+    let mut next = work[heads + local];
+    while next != 0 {
+        let a = next as usize - 1;
+        let i = 9 * ends[2 * a] as usize;
+        next = work[nexts + a];
+        if insts[i] == 1 {
+            work[to + m] = insts[i + 2] as u64;
+            m += 1;
+        }
     }
     m
 }
