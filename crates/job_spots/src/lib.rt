@@ -1,0 +1,50 @@
+// The touches and the ends of one local of a job, each list in one piece of the work space.
+ghost use mathlib.Core.Path.{_≡_};
+ghost use Prim.Native.Nat.{ℕ, _+_, _^_, _≤_, _<_};
+ghost use lib.ListN.{length, getD};
+ghost use Rattle.words.specs.Sort.{Distinct};
+ghost use Rattle.words.specs.Rows.{rowCount};
+ghost use Rattle.words.specs.Regions.{part};
+ghost use Rattle.live.specs.Live.{InOrder};
+ghost use Rattle.touches.specs.Touches.{Linked};
+ghost use Rattle.job_spots.specs.Spots.{TouchesIn, EndsIn};
+use reach::Lay;
+
+// The touches of a local whose `count` carried registers stand in the queue, from `to` on; how many there are. The pieces stand in order from `keys` on.
+pub fn touches(
+    insts: &[u32],
+    addresses: &[u32],
+    pieces: &[u32],
+    work: &mut [u64],
+    lay: Lay,
+    keys: usize,
+    count: usize,
+    local: usize,
+    to: usize,
+) -> usize
+    requires { ⌜ InOrder (now pieces) keys (now work) × (rowCount 3 (now pieces) ≤ 65536) × (keys + rowCount 3 (now pieces) ≤ to) × (lay .queue + count ≤ to) × (to + (rowCount 3 (now pieces) + rowCount 3 (now pieces)) ≤ length (now work)) ⌝ }
+    requires { ⌜ Distinct (part (lay .queue) count (now work)) × ((k : ℕ) → k < count → getD (now work) (lay .queue + k) 0 < 2 ^ 32) ⌝ }
+    requires { ⌜ Linked (now insts) (now addresses) (lay .heads) (lay .nexts) local to (now work) × (to + rowCount 3 (now pieces) + rowCount 2 (now addresses) ≤ length (now work)) ⌝ }
+    ensures { λ r. ⌜ TouchesIn (now (insts .entry)) (now (addresses .entry)) (now (pieces .entry)) (lay .queue) count local to (now (work .entry)) (now (work .exit)) r ⌝ }
+{
+    let n = touches::of_registers(pieces, work, keys, lay.queue, count, to);
+    n + touches::of_entries(insts, addresses, work, lay.heads, lay.nexts, local, to + n)
+}
+
+// The ends of a local in rising order, from `to` on; how many there are.
+pub fn ends(
+    insts: &[u32],
+    ends: &[u32],
+    work: &mut [u64],
+    heads: usize,
+    nexts: usize,
+    local: usize,
+    to: usize,
+) -> usize
+    requires { ⌜ Linked (now insts) (now ends) heads nexts local to (now work) ⌝ }
+    ensures { λ r. ⌜ EndsIn (now (insts .entry)) (now (ends .entry)) local to (now (work .entry)) (now (work .exit)) r ⌝ }
+{
+    let n = touches::of_ends(insts, ends, work, heads, nexts, local, to);
+    sorting::sort_part(work, to, n);
+    n
+}
