@@ -24,6 +24,7 @@ use Rattle.carrying.specs.Insts.{instsOf, instAt, isSet}
 use Rattle.insts.proofs.DealtLaws.{placed-is, early-is, late-is}
 use Rattle.areas.proofs.PermuteLaws.{perm-refl, perm-is, perm-front, perm-append, perm-exchange, perm-turn}
 use Rattle.area_pieces.proofs.HullLaws.{keep-append, gather-append}
+use Rattle.live.proofs.LiveLaws.{keep-one}
 use Rattle.reach.specs.Prepared.{codeOf}
 use Rattle.reach.specs.Steps.{rowLocal}
 use Rattle.touches.specs.Touches.{listedAt, downBy, entryAt, endAt}
@@ -138,10 +139,6 @@ distinct-below (suc n) f = go (f n) (distinct-below n f) (λ m. of-below f n n m
     go false d g = rw (append-nil (below n f)) d
 
 -- ---- the listed instructions
-
-keep-one : {A : Type 0} (f : A → Bool) (a : A) → keep f (a ∷ []) ≡ cond (f a) (a ∷ []) []
-unfolding keep
-keep-one f a = refl
 
 module _ (v : ℕ) (insts operands crossings addresses ends : List ℕ) (l : ℕ) where
   abbrev code : Code
