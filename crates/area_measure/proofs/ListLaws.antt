@@ -3,7 +3,7 @@ use Prim.Native.Nat.{ℕ, _+_, _-_, _≤_, _<_}
 use native.Mathlib.Omega.{arith}
 use native.Mathlib.Numerals.{add-one}
 use mathlib.Core.Path.{_≡_, refl, sym, ap, _∙_}
-use mathlib.Core.Option.{Option, some}
+use mathlib.Core.Option.{Option}
 use mathlib.Core.List.{List, [], _∷_, _++_}
 use lib.ListN.{length, getD}
 use Rattle.words.specs.Rows.{tabulate}
@@ -18,8 +18,7 @@ use Rattle.areas.specs.Job.{rangesIn, rangesOf}
 use Rattle.area_pieces.proofs.AreaLaws.{unpacked-both}
 use Rattle.area_pieces.proofs.HullLaws.{gather-append, gather-one}
 use Rattle.area_measure.specs.declared.Listing.{Listing}
-use Rattle.area_measure.specs.Measure.{itemWord}
-use Rattle.area_measure.specs.Locals.{listed, Listed}
+use Rattle.area_measure.specs.Locals.{listed, presentWord, ListedBy, Listed}
 
 pub ranges-append : (l m : List (Option (List Range))) → rangesOf (l ++ m) ≡ rangesOf l + rangesOf m
 unfolding rangesOf
@@ -41,37 +40,40 @@ gather-more A l =
     ap (λ (n : ℕ). gather listed (tabulate n A)) (add-one l) ∙ ap (gather listed) (tabulate-suc l A) ∙ gather-append listed (tabulate l A) (A l ∷ [])
     ∙ ap (λ (m : List Range). gather listed (tabulate l A) ++ m) (gather-one listed (A l))
 
+module _ (f : ℕ → Option (List Range) → ℕ) (o : Listing) (A : ℕ → Option (List Range)) where
+  pub listed-none : (w : List ℕ) → ListedBy f o A 0 0 w
+  unfolding rangesOf gather tabulate
+  listed-none w = record { total-is = refl; areas = λ _. refl; items = λ i h. absurd (omega arith) }
+
+  module _ {l total : ℕ} {w₀ : List ℕ} (w : List ℕ) (r : ℕ) (D : ListedBy f o A l total w₀) (len : length w ≡ length w₀) (room : o .areas + o .room ≤ o .items) (fit : o .items + l < length w₀)
+      (least : total ≤ r) (same : (i : ℕ) → i < o .areas + total → i < o .items → getD w i 0 ≡ getD w₀ i 0) (kept : (i : ℕ) → i < l → getD w (o .items + i) 0 ≡ getD w₀ (o .items + i) 0)
+      (word : getD w (o .items + l) 0 ≡ f total (A l)) (count : r ≡ total + rangesIn (A l)) (put : r ≤ o .room → listed (A l) ≡ unpacked (part (o .areas + total) (r - total) w)) where
+    before : total ≤ o .room → part (o .areas) total w ≡ part (o .areas) total w₀
+    before h = kept-part-list {w₀ = w₀} {w = w} {at = o .areas} {n = total} (record { same = λ i a b. same i b (omega arith) }) (omega arith) len
+
+    areas-more : r ≤ o .room → unpacked (part (o .areas) r w) ≡ gather listed (tabulate (l + 1) A)
+    areas-more h =
+        let e : r ≡ total + (r - total) = omega arith in
+        ap (λ (n : ℕ). unpacked (part (o .areas) n w)) e ∙ unpacked-both w (o .areas) total (r - total)
+        ∙ ap (λ (m : List ℕ). unpacked m ++ unpacked (part (o .areas + total) (r - total) w)) (before (omega arith))
+        ∙ ap (λ (m : List Range). m ++ unpacked (part (o .areas + total) (r - total) w)) (D .areas (omega arith))
+        ∙ ap (λ (m : List Range). gather listed (tabulate l A) ++ m) (sym (put h))
+        ∙ sym (gather-more A l)
+
+    items-more : (i : ℕ) → i < l + 1 → getD w (o .items + i) 0 ≡ f (rangesOf (tabulate i A)) (A i)
+    items-more i h = cut l i
+        (λ m.
+        let e : i ≡ l = omega arith in
+        ap (λ (n : ℕ). getD w (o .items + n) 0) e ∙ word ∙ ap (λ (n : ℕ). f n (A l)) (D .total-is)
+        ∙ sym (ap (λ (n : ℕ). f (rangesOf (tabulate n A)) (A n)) e))
+        (λ m. kept i m ∙ D .items i m)
+
+    pub listed-more : ListedBy f o A (l + 1) r w
+    listed-more = record {
+      total-is = count ∙ ap (λ (n : ℕ). n + rangesIn (A l)) (D .total-is) ∙ sym (ranges-more A l);
+      areas = areas-more;
+      items = items-more;
+    }
+
 pub listed-start : (o : Listing) (A : ℕ → Option (List Range)) (w : List ℕ) → Listed o A 0 0 w
-unfolding rangesOf gather tabulate
-listed-start o A w = record { total-is = refl; areas = λ _. refl; items = λ i h. absurd (omega arith) }
-
-module _ (o : Listing) (A : ℕ → Option (List Range)) {l total : ℕ} {w₀ : List ℕ} (w : List ℕ) (r : ℕ) (D : Listed o A l total w₀) (len : length w ≡ length w₀) (room : o .areas + o .room ≤ o .items) (fit : o .items + l < length w₀)
-    (least : total ≤ r) (same : (i : ℕ) → i < o .areas + total → i < o .items → getD w i 0 ≡ getD w₀ i 0) (kept : (i : ℕ) → i < l → getD w (o .items + i) 0 ≡ getD w₀ (o .items + i) 0)
-    (word : getD w (o .items + l) 0 ≡ itemWord total (r - total)) (count : r ≡ total + rangesIn (A l)) (put : r ≤ o .room → A l ≡ some (unpacked (part (o .areas + total) (r - total) w))) where
-  before : total ≤ o .room → part (o .areas) total w ≡ part (o .areas) total w₀
-  before h = kept-part-list {w₀ = w₀} {w = w} {at = o .areas} {n = total} (record { same = λ i a b. same i b (omega arith) }) (omega arith) len
-
-  areas-more : r ≤ o .room → unpacked (part (o .areas) r w) ≡ gather listed (tabulate (l + 1) A)
-  areas-more h =
-      let e : r ≡ total + (r - total) = omega arith in
-      ap (λ (n : ℕ). unpacked (part (o .areas) n w)) e ∙ unpacked-both w (o .areas) total (r - total)
-      ∙ ap (λ (m : List ℕ). unpacked m ++ unpacked (part (o .areas + total) (r - total) w)) (before (omega arith))
-      ∙ ap (λ (m : List Range). m ++ unpacked (part (o .areas + total) (r - total) w)) (D .areas (omega arith))
-      ∙ ap (λ (m : List Range). gather listed (tabulate l A) ++ m) (sym (ap listed (put h)))
-      ∙ sym (gather-more A l)
-
-  items-more : (i : ℕ) → i < l + 1 → getD w (o .items + i) 0 ≡ itemWord (rangesOf (tabulate i A)) (rangesIn (A i))
-  items-more i h = cut l i
-      (λ m.
-      let e : i ≡ l = omega arith in
-      let c : r - total ≡ rangesIn (A l) = omega arith in
-      ap (λ (n : ℕ). getD w (o .items + n) 0) e ∙ word ∙ ap (itemWord total) c ∙ ap (λ (n : ℕ). itemWord n (rangesIn (A l))) (D .total-is)
-      ∙ sym (ap (λ (n : ℕ). itemWord (rangesOf (tabulate n A)) (rangesIn (A n))) e))
-      (λ m. kept i m ∙ D .items i m)
-
-  pub listed-more : Listed o A (l + 1) r w
-  listed-more = record {
-    total-is = count ∙ ap (λ (n : ℕ). n + rangesIn (A l)) (D .total-is) ∙ sym (ranges-more A l);
-    areas = areas-more;
-    items = items-more;
-  }
+listed-start o A w = listed-none presentWord o A w

@@ -28,8 +28,8 @@ use Rattle.local_spots.specs.declared.Places.{Places}
 use Rattle.local_spots.specs.Locals.{touchesFor, endsFor, Laid, Chains, Fetched}
 use Rattle.local_spots.proofs.OrderLaws.{arrives-sorted, ending-sorted}
 use Rattle.area_measure.specs.declared.Listing.{Listing}
-use Rattle.area_measure.specs.Measure.{kindBy, RowsFor, Measurable, Listable, Measured}
-use Rattle.area_measure.specs.Locals.{localAt, mostIn, Fits, Ready, RowsOf, areaFor, Spared, Next, ListedFor, MeasuredAll}
+use Rattle.area_measure.specs.Measure.{kindBy, itemWord, RowsFor, Measurable, Listable, Measured}
+use Rattle.area_measure.specs.Locals.{listed, presentWord, localAt, mostIn, Fits, Ready, RowsOf, areaFor, Spared, Next, ListedFor, MeasuredAll}
 use Rattle.area_measure.proofs.ListLaws.{listed-start, listed-more}
 
 -- the order of its ends does not matter
@@ -256,10 +256,10 @@ module _ (blocks kinds touches ends : List ℕ) (p : Places) (g : Grid) (mark : 
           listed = record {
             is = λ es R.
                 let row = rows-kept (G .begun .laid) (G .spared) es l h (R l h) in
-                listed-more o (areaFor (lineOf blocks es) kinds touches ends) w′ r (G .listed .is es R) (N .spared .len) (F .areas-fit) (omega (arith, F .items-fit, L .heads-fit, L .nexts-fit, L .at-fits, L .ends-fit)) (N .least)
+                listed-more presentWord o (areaFor (lineOf blocks es) kinds touches ends) w′ r (G .listed .is es R) (N .spared .len) (F .areas-fit) (omega (arith, F .items-fit, L .heads-fit, L .nexts-fit, L .at-fits, L .ends-fit)) (N .least)
                 (λ i b c. N .same i (inl b) (λ e. absurd (omega arith)) (omega (arith, F .items-fit)))
                 (λ i b. N .same (o .items + i) (inr (omega (arith, F .areas-fit))) (λ e. absurd (omega arith)) (omega (arith, F .items-fit)))
-                (N .word) (N .count es row) (λ q. N .put es row q);
+                (N .word ∙ ap (itemWord total) (omega (arith, N .count es row))) (N .count es row) (λ q. ap listed (N .put es row q));
           };
         }
 

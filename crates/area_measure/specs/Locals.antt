@@ -49,11 +49,23 @@ localAt g n mark l =
 abbrev pub mostIn : List ℕ → List ℕ → ℕ
 mostIn blocks touches = 3 * rowCount 3 touches + blockCount blocks
 
--- the areas of the first l items: their ranges one behind another where they fit, and a word for each
-pub record Listed (o : Listing) (A : ℕ → Option (List Range)) (l total : ℕ) (w : List ℕ) : Type 0 where
+-- the areas of the first l items: their ranges one behind another where they fit, and for each a word, by the first of its ranges and its area
+pub record ListedBy (word : ℕ → Option (List Range) → ℕ) (o : Listing) (A : ℕ → Option (List Range)) (l total : ℕ) (w : List ℕ) : Type 0 where
   pub total-is : total ≡ rangesOf (tabulate l A)
   pub areas : total ≤ o .room → unpacked (part (o .areas) total w) ≡ gather listed (tabulate l A)
-  pub items : (i : ℕ) → i < l → getD w (o .items + i) 0 ≡ itemWord (rangesOf (tabulate i A)) (rangesIn (A i))
+  pub items : (i : ℕ) → i < l → getD w (o .items + i) 0 ≡ word (rangesOf (tabulate i A)) (A i)
+
+-- items that all have an area
+abbrev pub presentWord : ℕ → Option (List Range) → ℕ
+presentWord first a = itemWord first (rangesIn a)
+
+-- an item's word in a job: 0 without an area, else the first of its ranges and one more than how many they are
+abbrev pub wordOf : ℕ → Option (List Range) → ℕ
+wordOf first none = 0
+wordOf first (some rs) = itemWord first (length rs)
+
+abbrev pub Listed : Listing → (ℕ → Option (List Range)) → ℕ → ℕ → List ℕ → Type 0
+Listed o A l total w = ListedBy presentWord o A l total w
 
 -- where it all stands, each part behind the one before
 pub record Fits (blocks kinds touches ends : List ℕ) (p : Places) (g : Grid) (mark : ℕ) (o : Listing) (w : List ℕ) : Type 0 where

@@ -27,8 +27,8 @@ use Rattle.area_pieces.specs.Local.{Appended}
 use Rattle.area_pieces.proofs.PushLaws.{set-other}
 use Rattle.area_measure.specs.declared.Listing.{Listing}
 use Rattle.area_measure.specs.Measure.{itemWord}
-use Rattle.area_measure.specs.Locals.{listed}
-use Rattle.slot_measure.specs.Slots.{SlotIn, wordOf, Placeable, Placed}
+use Rattle.area_measure.specs.Locals.{listed, wordOf}
+use Rattle.slot_measure.specs.Slots.{SlotIn, Placeable, Placed}
 
 -- ---- by the word of the slot
 

@@ -19,8 +19,7 @@ use Rattle.slot_spots.specs.Slots.{heldWord}
 use Rattle.slot_areas.specs.declared.Found.{Found}
 use Rattle.slot_areas.specs.Areas.{Stands}
 use Rattle.area_measure.specs.declared.Listing.{Listing}
-use Rattle.area_measure.specs.Measure.{itemWord}
-use Rattle.area_measure.specs.Locals.{listed}
+use Rattle.area_measure.specs.Locals.{listed, wordOf}
 
 -- the area of a slot, whatever register its word stands for, in the room of two words a move and a word a live piece; nothing else has changed
 pub record SlotIn (points : ℕ) (blocks insts moves pieces : List ℕ) (held slot to : ℕ) (w₀ w : List ℕ) (f : Found) : Type 0 where
@@ -29,11 +28,6 @@ pub record SlotIn (points : ℕ) (blocks insts moves pieces : List ℕ) (held sl
   pub high : f .at + f .plus ≤ to + rowCount 4 moves + rowCount 4 moves + rowCount 3 pieces + 1
   pub stands : (a : Option ℕ) → getD w₀ (held + slot) 0 ≡ heldWord a
       → Stands (slotArea (piecesOf pieces) a (moved points (blocksOf blocks) (instsOf insts []) (movesOf moves) slot)) w f
-
--- an item's word: 0 without an area, else the first of its ranges and one more than how many they are
-abbrev pub wordOf : ℕ → Option (List Range) → ℕ
-wordOf first none = 0
-wordOf first (some rs) = itemWord first (length rs)
 
 -- the areas and the items stand before what areas are made in, and each number fits half a word
 pub record Placeable (o : Listing) (item : ℕ) (f : Found) (total : ℕ) (w : List ℕ) : Type 0 where
