@@ -1,2 +1,3 @@
 pub mod SpotLaws
 pub mod FollowLaws
+pub mod FetchLaws

@@ -8,7 +8,27 @@ ghost use Rattle.words.specs.Regions.{part};
 ghost use Rattle.live.specs.Live.{InOrder};
 ghost use Rattle.touches.specs.Touches.{Linked};
 ghost use Rattle.job_spots.specs.Spots.{TouchesIn, EndsIn};
+use carrying::Kind;
 use reach::Lay;
+use spots::Spots;
+
+pub mod fetch; // fetch.rt: a local followed, and then both lists
+
+// Where one local's touches and ends go, and what they are found by: the pieces stand in order from `keys` on; each local's ends as a chain,
+// from `heads` and `nexts` on; its touches go from `at` on, its ends from `ends` on.
+pub struct Places {
+    pub keys: usize,
+    pub heads: usize,
+    pub nexts: usize,
+    pub at: usize,
+    pub ends: usize,
+}
+
+// A local's kind, and where its touches and ends stand.
+pub struct JobLocal {
+    pub kind: Kind,
+    pub spots: Spots,
+}
 
 // The touches of a local whose `count` carried registers stand in the queue, from `to` on; how many there are. The pieces stand in order from `keys` on.
 pub fn touches(
