@@ -77,20 +77,25 @@ module _ (insts operands crossings addresses ends : List ℕ) (lay : Lay) (z : S
     };
   }
 
--- ---- while only words from the queue on change
+-- ---- while the tables stand
 
-module _ {lay : Lay} {z : Sizes} {hi : ℕ} {w₀ w : List ℕ} (t : Walkable lay z w₀) (k : Within (lay .queue) hi w₀ w) where
-  same-at : (i : ℕ) → i < lay .queue → getD w i 0 ≡ getD w₀ i 0
-  same-at i h = k .below i h
+-- from lo up to hi nothing has changed
+pub record Stays (lo hi : ℕ) (w₀ w : List ℕ) : Type 0 where
+  pub len : length w ≡ length w₀
+  pub same : (i : ℕ) → lo ≤ i → i < hi → getD w i 0 ≡ getD w₀ i 0
+
+module _ {lay : Lay} {z : Sizes} {w₀ w : List ℕ} (t : Walkable lay z w₀) (k : Stays (lay .escapes) (lay .queue) w₀ w) where
+  same-at : (i : ℕ) → lay .escapes ≤ i → i < lay .queue → getD w i 0 ≡ getD w₀ i 0
+  same-at i a h = k .same i a h
 
   edge-at : (x : ℕ) → x < z .edges → getD w (lay .edges + x) 0 ≡ getD w₀ (lay .edges + x) 0
-  edge-at x h = same-at (lay .edges + x) (let l = t .laid in let f = t .few in omega arith)
+  edge-at x h = same-at (lay .edges + x) (let l = t .laid in omega arith) (let l = t .laid in let f = t .few in omega arith)
 
   def-at : (i : ℕ) → i < z .insts → defAt lay w i ≡ defAt lay w₀ i
-  def-at i h = same-at (lay .defs + i) (let l = t .laid in omega arith)
+  def-at i h = same-at (lay .defs + i) (let l = t .laid in omega arith) (let l = t .laid in omega arith)
 
   first-at : (i : ℕ) → i < z .insts → getD w (lay .firsts + i) 0 ≡ getD w₀ (lay .firsts + i) 0
-  first-at i h = same-at (lay .firsts + i) (let l = t .laid in omega arith)
+  first-at i h = same-at (lay .firsts + i) (let l = t .laid in omega arith) (let l = t .laid in omega arith)
 
   tables-kept : Walkable lay z w
   tables-kept = record {
@@ -111,12 +116,12 @@ module _ {lay : Lay} {z : Sizes} {hi : ℕ} {w₀ w : List ℕ} (t : Walkable la
         rw f (splits-same (t .first i q h (sym (def-at i h) ∙ e)) (λ x l. ap (λ (y : ℕ). ltb y (q * 2 ^ 32)) (edge-at x l)));
   }
 
-  pub prepared-kept : (C : Code) → C .numbered ≡ z .v → length (C .insts) ≡ z .insts → lay .nexts + length (C .addresses) ≤ lay .ended
+  pub prepared-stays : (C : Code) → C .numbered ≡ z .v → length (C .insts) ≡ z .insts → lay .nexts + length (C .addresses) ≤ lay .ended
       → Prepared C lay w₀ (z .locals) (z .edges) → Prepared C lay w (z .locals) (z .edges)
-  prepared-kept C ev ei ea p = record {
+  prepared-stays C ev ei ea p = record {
     tables = record {
-      escaping = λ r h. same-bit w₀ w (lay .escapes) (z .v) r (omega arith) (λ x a b. same-at x (let l = t .laid in omega arith)) ∙ p .tables .escaping r h;
-      sticking = λ r h. same-bit w₀ w (lay .dead) (z .v) r (omega arith) (λ x a b. same-at x (let l = t .laid in omega arith)) ∙ p .tables .sticking r h;
+      escaping = λ r h. same-bit w₀ w (lay .escapes) (z .v) r (omega arith) (λ x a b. same-at x (let l = t .laid in omega arith) (let l = t .laid in omega arith)) ∙ p .tables .escaping r h;
+      sticking = λ r h. same-bit w₀ w (lay .dead) (z .v) r (omega arith) (λ x a b. same-at x (let l = t .laid in omega arith) (let l = t .laid in omega arith)) ∙ p .tables .sticking r h;
       defined = λ i h. def-at i (omega arith) ∙ p .tables .defined i h;
     };
     edges = record {
@@ -134,23 +139,35 @@ module _ {lay : Lay} {z : Sizes} {hi : ℕ} {w₀ w : List ℕ} (t : Walkable la
           rw f (splits-same (p .edges .first i q h e) (λ x l. ap (λ (y : ℕ). ltb y (q * 2 ^ 32)) (edge-at x l)));
     };
     chains = record {
-      head = λ m h. same-at (lay .heads + m) (let l = t .laid in omega arith) ∙ p .chains .head m h;
-      next = λ a h g. same-at (lay .nexts + a) (let l = t .laid in omega arith) ∙ p .chains .next a h g;
+      head = λ m h. same-at (lay .heads + m) (let l = t .laid in omega arith) (let l = t .laid in omega arith) ∙ p .chains .head m h;
+      next = λ a h g. same-at (lay .nexts + a) (let l = t .laid in omega arith) (let l = t .laid in omega arith) ∙ p .chains .next a h g;
     };
-    ends = record { ended = λ m h. ap (λ (x : ℕ). eqb x 0) (same-at (lay .ended + m) (let l = t .laid in omega arith)) ∙ p .ends .ended m h };
-    unseen = λ x h. same-at (lay .seen + x) (let l = t .laid in let y : wordsOf (C .numbered) ≡ wordsOf (z .v) = ap wordsOf ev in omega arith) ∙ p .unseen x h;
+    ends = record { ended = λ m h. ap (λ (x : ℕ). eqb x 0) (same-at (lay .ended + m) (let l = t .laid in omega arith) (let l = t .laid in omega arith)) ∙ p .ends .ended m h };
+    unseen = λ x h. same-at (lay .seen + x) (let l = t .laid in omega arith) (let l = t .laid in let y : wordsOf (C .numbered) ≡ wordsOf (z .v) = ap wordsOf ev in omega arith) ∙ p .unseen x h;
   }
 
-pub ready-kept : {lay : Lay} {z : Sizes} {insts addresses : List ℕ} {hi : ℕ} {w₀ w : List ℕ} → Ready lay z insts addresses w₀ → Within (lay .queue) hi w₀ w → Ready lay z insts addresses w
-ready-kept {lay} {z} {insts} {addresses} {hi} {w₀} {w} r k = record {
+pub ready-stays : {lay : Lay} {z : Sizes} {insts addresses : List ℕ} {w₀ w : List ℕ} → Ready lay z insts addresses w₀ → Stays (lay .escapes) (lay .queue) w₀ w → Ready lay z insts addresses w
+ready-stays {lay} {z} {insts} {addresses} {w₀} {w} r k = record {
   tables = tables-kept (r .tables) k;
-  unseen = record { unseen = λ x h. k .below (lay .seen + x) (let l = r .tables .laid in omega arith) ∙ r .unseen .unseen x h };
+  unseen = record { unseen = λ x h. k .same (lay .seen + x) (let l = r .tables .laid in omega arith) (let l = r .tables .laid in omega arith) ∙ r .unseen .unseen x h };
   chain = λ l h. let c = r .chain l h in record {
     rows = c .rows;
     here = c .here;
     fits = c .fits;
     found = c .found;
-    head = k .below (lay .heads + l) (let q = r .tables .laid in omega arith) ∙ c .head;
-    next = λ a g e. k .below (lay .nexts + a) (let q = r .tables .laid in let f = c .fits in omega arith) ∙ c .next a g e;
+    head = k .same (lay .heads + l) (let q = r .tables .laid in omega arith) (let q = r .tables .laid in omega arith) ∙ c .head;
+    next = λ a g e. k .same (lay .nexts + a) (let q = r .tables .laid in omega arith) (let q = r .tables .laid in let f = c .fits in omega arith) ∙ c .next a g e;
   };
 }
+
+-- ---- while only words from the queue on change
+
+within-stays : {lo q hi : ℕ} {w₀ w : List ℕ} → Within q hi w₀ w → Stays lo q w₀ w
+within-stays k = record { len = k .len; same = λ i a h. k .below i h }
+
+pub prepared-kept : {lay : Lay} {z : Sizes} {hi : ℕ} {w₀ w : List ℕ} (t : Walkable lay z w₀) (k : Within (lay .queue) hi w₀ w) (C : Code) → C .numbered ≡ z .v → length (C .insts) ≡ z .insts → lay .nexts + length (C .addresses) ≤ lay .ended
+    → Prepared C lay w₀ (z .locals) (z .edges) → Prepared C lay w (z .locals) (z .edges)
+prepared-kept t k = prepared-stays t (within-stays k)
+
+pub ready-kept : {lay : Lay} {z : Sizes} {insts addresses : List ℕ} {hi : ℕ} {w₀ w : List ℕ} → Ready lay z insts addresses w₀ → Within (lay .queue) hi w₀ w → Ready lay z insts addresses w
+ready-kept r k = ready-stays r (within-stays k)

@@ -45,17 +45,20 @@ is-unfollowed Plain e = absurd (true≢false (sym e))
 is-unfollowed Ending e = absurd (true≢false (sym e))
 
 module _ {insts addresses ends pieces : List ℕ} {lay : Lay} {p : Places} {z : Sizes} {w₀ : List ℕ} (R : Ready insts addresses ends pieces lay p z w₀) where
-  -- ---- while only words from the queue on change
+  -- ---- while the keys, the tables and the chains of the ends stand
 
-  module _ {w : List ℕ} {hi : ℕ} (K : Within (lay .queue) hi w₀ w) where
-    pub prepared-kept : (operands crossings : List ℕ) → Prepared (codeOf (z .v) insts operands crossings addresses ends) lay w₀ (z .locals) (z .edges)
+  module _ {w : List ℕ} (K : follow-laws.Stays (p .keys) (lay .queue) w₀ w) where
+    in-tables : follow-laws.Stays (lay .escapes) (lay .queue) w₀ w
+    in-tables = record { len = K .len; same = λ i a h. K .same i (let b = R .laid .keys-fit in omega arith) h }
+
+    pub prepared-stays : (operands crossings : List ℕ) → Prepared (codeOf (z .v) insts operands crossings addresses ends) lay w₀ (z .locals) (z .edges)
         → Prepared (codeOf (z .v) insts operands crossings addresses ends) lay w (z .locals) (z .edges)
-    prepared-kept operands crossings P =
-        follow-laws.prepared-kept (R .walks .tables) K (codeOf (z .v) insts operands crossings addresses ends) refl (insts-length insts operands ∙ sym (R .laid .insts-are))
+    prepared-stays operands crossings P =
+        follow-laws.prepared-stays (R .walks .tables) in-tables (codeOf (z .v) insts operands crossings addresses ends) refl (insts-length insts operands ∙ sym (R .laid .insts-are))
         (let m = mentions-count addresses in let c = R .laid .entries-fit in omega arith) P
 
     keys-kept : InOrder pieces (p .keys) w
-    keys-kept = record { keys = λ k h. K .below (p .keys + k) (let a = R .laid .keys-fit in let t = R .walks .tables .laid in omega arith) ∙ R .keys .keys k h }
+    keys-kept = record { keys = λ k h. K .same (p .keys + k) (omega arith) (let a = R .laid .keys-fit in let t = R .walks .tables .laid in omega arith) ∙ R .keys .keys k h }
 
     laid-kept : Laid insts addresses ends pieces lay p z w
     laid-kept = record {
@@ -71,19 +74,32 @@ module _ {insts addresses ends pieces : List ℕ} {lay : Lay} {p : Places} {z : 
       ends-found = R .laid .ends-found;
     }
 
-    -- and the chains of the ends stand
-    pub ready-since : ((i : ℕ) → p .heads ≤ i → i < p .at → getD w i 0 ≡ getD w₀ i 0) → Ready insts addresses ends pieces lay p z w
-    ready-since s =
+    pub ready-stays : ((i : ℕ) → p .heads ≤ i → i < p .at → getD w i 0 ≡ getD w₀ i 0) → Ready insts addresses ends pieces lay p z w
+    ready-stays s =
         let a = R .laid .heads-fit in let b = R .laid .nexts-fit in
         record {
           laid = laid-kept;
-          walks = follow-laws.ready-kept (R .walks) K;
+          walks = follow-laws.ready-stays (R .walks) in-tables;
           keys = keys-kept;
           stops = chain-kept (R .stops) (λ i x y. s i (omega arith) (omega arith)) (λ i x y. s i (omega arith) (omega arith));
           operands = R .operands;
           crossings = R .crossings;
-          prepared = prepared-kept (R .operands) (R .crossings) (R .prepared);
+          prepared = prepared-stays (R .operands) (R .crossings) (R .prepared);
         }
+
+  -- ---- while only words from the queue on change
+
+  module _ {w : List ℕ} {hi : ℕ} (K : Within (lay .queue) hi w₀ w) where
+    stays : follow-laws.Stays (p .keys) (lay .queue) w₀ w
+    stays = record { len = K .len; same = λ i a h. K .below i h }
+
+    pub prepared-kept : (operands crossings : List ℕ) → Prepared (codeOf (z .v) insts operands crossings addresses ends) lay w₀ (z .locals) (z .edges)
+        → Prepared (codeOf (z .v) insts operands crossings addresses ends) lay w (z .locals) (z .edges)
+    prepared-kept = prepared-stays stays
+
+    -- and the chains of the ends stand
+    pub ready-since : ((i : ℕ) → p .heads ≤ i → i < p .at → getD w i 0 ≡ getD w₀ i 0) → Ready insts addresses ends pieces lay p z w
+    ready-since = ready-stays stays
 
   -- after a local was fetched the next can be
   pub ready-kept : {l : ℕ} {w : List ℕ} {r : JobLocal} → FetchedAny insts addresses ends pieces lay p z l w₀ w r → Ready insts addresses ends pieces lay p z w
@@ -127,7 +143,7 @@ module _ {insts addresses ends pieces : List ℕ} {lay : Lay} {p : Places} {z : 
     pub pieces-asked : InOrder pieces (p .keys) w₁ × (rowCount 3 pieces ≤ 65536) × (p .keys + rowCount 3 pieces ≤ p .at) × (lay .queue + f .count ≤ p .at) × (p .at + (rowCount 3 pieces + rowCount 3 pieces) ≤ length w₁)
     pieces-asked =
         let a = apart in let b = R .laid .ends-fit in let c = R .laid .at-fits in let d = F .kept .len in let t = R .walks .tables .laid in let k = R .laid .keys-fit in let q = queue-in in
-        (keys-kept (F .kept), R .laid .few-pieces, omega arith, omega arith, omega arith)
+        (keys-kept (stays (F .kept)), R .laid .few-pieces, omega arith, omega arith, omega arith)
 
     pub registers-asked : Distinct (part (lay .queue) (f .count) w₁) × ((k : ℕ) → k < f .count → getD w₁ (lay .queue + k) 0 < 2 ^ 32)
     registers-asked = (
