@@ -106,7 +106,7 @@ perm-keep f (Permuted.swap r s rs) = go (f r) (f s)
     go false false = perm-refl (keep f rs)
 perm-keep f (Permuted.then p q) = Permuted.then (perm-keep f p) (perm-keep f q)
 
-any-perm : (f : Range → Bool) {rs ss : List Range} → Permuted rs ss → any f rs ≡ any f ss
+pub any-perm : (f : Range → Bool) {rs ss : List Range} → Permuted rs ss → any f rs ≡ any f ss
 unfolding any
 any-perm f Permuted.none = refl
 any-perm f (Permuted.keep r p) = ap (λ (t : Bool). f r || t) (any-perm f p)
@@ -154,7 +154,7 @@ module _ (G : Graph) where
         both : {x y z w : List Range} → x ≡ y → z ≡ w → joinEach x z ≡ joinEach y w
         both e f = rw (e, f)
 
-    touched-perm : touched G ts ≡ touched G ss
+    pub touched-perm : touched G ts ≡ touched G ss
     touched-perm = fun-ext (λ k. any-perm (λ t. overlaps t (whole G k)) p)
 
     pub plain-permuted : plainArea G ts ≡ plainArea G ss
@@ -171,7 +171,7 @@ module _ (G : Graph) where
         same = subst (λ (l : List Range). Permuted (linePieces G ts (beforeRow G ts) (afterRow G ts) (length (G .blocks))) l) equal (perm-refl _)
 
     module _ (es : List ℕ) where
-      leaves-perm : leaves G ts es ≡ leaves G ss es
+      pub leaves-perm : leaves G ts es ≡ leaves G ss es
       leaves-perm = fun-ext (λ k. any-perm (λ t. between G k t || bounds G k t && leb (bottom G k) (cover G es k t .end)) p)
 
       end-line-perm : (a : ℕ → Bool) (n : ℕ) → Permuted (endLine G ts es a n) (endLine G ss es a n)
