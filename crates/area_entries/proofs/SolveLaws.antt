@@ -4,33 +4,28 @@ use native.Mathlib.Nat.{mul-le-mul-right}
 use native.Mathlib.Omega.{arith}
 use mathlib.Core.Path.{_≡_, refl, sym, ap, _∙_}
 use mathlib.Core.Logic.{inl, inr}
-use mathlib.Core.Bool.{Bool, true, false, not, _&&_, _||_}
+use mathlib.Core.Bool.{Bool, true, false}
 use mathlib.Core.List.{List, []}
 use lib.ListN.{length, getD}
-use borrow.Author.Tests.{eq-eqb, ne-eqb}
 use Rattle.words.specs.Rows.{rowCount, tabulate}
 use Rattle.words.proofs.RowLaws.{mem-tabulate}
-use Rattle.words.proofs.RegionLaws.{row-before}
 use Rattle.bits.specs.Bits.{bitOf}
 use Rattle.bits.proofs.DigitLaws.{bit-zero}
 use Rattle.graph.specs.Paths.{Edge}
-use Rattle.graph.specs.Line.{blocksOf}
-use Rattle.graph.proofs.Line.{blocks-length}
 use Rattle.components.specs.Entry.{edgesIn}
 use Rattle.carrying.specs.Lists.{any}
 use Rattle.carrying.proofs.ListLaws.{any-false}
-use Rattle.areas.specs.Blocks.{Graph, inverted, touched, leaves, passes}
-use Rattle.areas.specs.Pieces.{beforeRow, afterRow, arrivesRow}
+use Rattle.areas.specs.Blocks.{Graph, inverted}
 use Rattle.spots.specs.Spots.{lineOf}
 use Rattle.area_flow.specs.declared.Grid.{Grid}
-use Rattle.area_flow.specs.Grid.{rowBit, blockBit, AreaRows}
 use Rattle.area_flow.specs.Grid.{Laid as GridLaid}
-use Rattle.area_flow.proofs.BlockRows.{by-line, plain-written, plain-read, plain-blocks, ending-blocks}
 use Rattle.local_spots.specs.declared.Places.{Places}
-use Rattle.local_spots.specs.Locals.{touchesFor, endsFor, Laid, Chained}
-use Rattle.local_marks.specs.Marks.{plain, someInverted, Marks, MarkedAll}
+use Rattle.local_spots.specs.Locals.{kindFor, touchesFor, endsFor, Laid, Chained}
+use Rattle.local_marks.specs.Marks.{someInverted, MarkedAll}
 use Rattle.local_marks.specs.Marks.{Ready as MarkReady}
+use Rattle.local_marks.proofs.RowLaws.{RowsBy, rows-by}
 use Rattle.area_measure.specs.Locals.{areaFor, Fits, Ready, RowsOf, MeasuredAll}
+use Rattle.area_measure.proofs.MeasureLaws.{plain-kind, ending-kind}
 use Rattle.area_measure.proofs.ListLaws.{listed-start}
 use Rattle.area_measure.proofs.LocalLaws.{chains-kept}
 use Rattle.area_entries.specs.declared.layout.Sizes.{Sizes}
@@ -206,75 +201,14 @@ module _ (blocks edges kinds touches ends : List ℕ) (areas : ℕ) (p : Places)
   es = edgesIn blocks edges
 
   module _ {w₁ w₂ : List ℕ} {r : Bool} (M : Marking p g blocks kinds touches ends w₀ w₁ r) (fine : r ≡ false) (R : Rowed es g n (markOf g) w₁ w₂) where
-    A : AreaRows es g (length (blocksOf blocks)) w₁ (R .mid)
-    A = by-line blocks (R .area)
-
-    K : Marks (graphFor blocks edges) kinds touches ends g n w₁
-    K = M .marks es fine
-
-    below : (j : ℕ) → j < length (blocksOf blocks) → j < n
-    below j h = omega (arith, blocks-length blocks)
-
-    row-stays : (from k l : ℕ) → from + n * g .words ≤ markOf g → k < n → l < g .words * 64 → rowBit g from w₂ k l ≡ rowBit g from (R .mid) k l
-    row-stays from k l a h m =
-        let b = row-before k n (g .words) h in
-        ap (λ (y : ℕ). bitOf y (l % 64)) (R .zero .before (from + k * g .words + l / 64) (omega arith))
-
-    block-stays : (l b : ℕ) → l < g .locals → b < g .width * 64 → blockBit g w₂ l b ≡ blockBit g (R .mid) l b
-    block-stays l b h m =
-        let c = row-before l (g .locals) (g .width) h in
-        ap (λ (y : ℕ). bitOf y (b % 64)) (R .zero .before (g .to + l * g .width + b / 64) (omega arith))
-
     module _ (l : ℕ) (h : l < length kinds) where
-      in-grid : l < g .locals
-      in-grid = omega (arith, G .locals-are)
-
-      in-words : l < g .words * 64
-      in-words = omega (arith, G .locals-are, long)
-
-      -- of a plain local
-      module _ (e : getD kinds l 0 ≡ 0) where
-        plain-touched : (j : ℕ) → j < length (blocksOf blocks) → rowBit g (g .touched) w₁ j l ≡ touched (graphFor blocks edges) (touchesFor touches l) j
-        plain-touched j m = K .touched l j in-grid (below j m) ∙ ap (λ (b : Bool). b && touched (graphFor blocks edges) (touchesFor touches l) j) (eq-eqb (getD kinds l 0) 0 e)
-
-        plain-stays : (j : ℕ) → j < length (blocksOf blocks) → rowBit g (g .leaves) w₁ j l ≡ false
-        plain-stays j m = K .leaves l j in-grid (below j m) ∙ ap (λ (b : Bool). not b && leaves (graphFor blocks edges) (touchesFor touches l) (endsFor ends l) j) (eq-eqb (getD kinds l 0) 0 e)
-
-        written-is : (k : ℕ) → k < length (blocksOf blocks) → rowBit g (g .written) w₂ k l ≡ beforeRow (graphFor blocks edges) (touchesFor touches l) k
-        written-is k m =
-            let o = order in
-            row-stays (g .written) k l (omega (arith, o .rows-by, o .read-by, o .wait-by)) (below k m) in-words
-            ∙ plain-written (graphFor blocks edges) g A (touchesFor touches l) (endsFor ends l) l k in-grid in-words m plain-touched
-
-        read-is : (k : ℕ) → k < length (blocksOf blocks) → rowBit g (g .read) w₂ k l ≡ afterRow (graphFor blocks edges) (touchesFor touches l) k
-        read-is k m =
-            let o = order in
-            row-stays (g .read) k l (omega (arith, o .read-by, o .wait-by)) (below k m) in-words
-            ∙ plain-read (graphFor blocks edges) g A (touchesFor touches l) (endsFor ends l) l k in-grid in-words m plain-touched
-
-        both-is : (k : ℕ) → k < length (blocksOf blocks) → blockBit g w₂ l k ≡ (rowBit g (g .written) w₂ k l && rowBit g (g .read) w₂ k l)
-        both-is k m =
-            block-stays l k in-grid (omega (arith, below k m, G .width-is))
-            ∙ plain-blocks (graphFor blocks edges) g A (touchesFor touches l) (endsFor ends l) l k in-grid in-words m plain-touched plain-stays
-            ∙ sym (ap (λ (x : Bool). x && rowBit g (g .read) w₂ k l) (written-is k m) ∙ ap (λ (x : Bool). beforeRow (graphFor blocks edges) (touchesFor touches l) k && x) (read-is k m))
-
-      -- of an ending one
-      module _ (e : 0 < getD kinds l 0) where
-        ends-differ : plain kinds l ≡ false
-        ends-differ = ne-eqb (getD kinds l 0) 0 (λ q. absurd (omega arith))
-
-        arrives-is : (k : ℕ) (m : k < length (blocksOf blocks)) → blockBit g w₂ l k ≡ arrivesRow (graphFor blocks edges) (touchesFor touches l) (endsFor ends l) k
-        arrives-is k m =
-            block-stays l k in-grid (omega (arith, below k m, G .width-is))
-            ∙ ending-blocks (graphFor blocks edges) g A (touchesFor touches l) (endsFor ends l) l k in-grid in-words m
-            (λ j q. K .touched l j in-grid (below j q) ∙ ap (λ (b : Bool). b && touched (graphFor blocks edges) (touchesFor touches l) j) ends-differ)
-            (λ j q. K .leaves l j in-grid (below j q) ∙ ap (λ (b : Bool). not b && leaves (graphFor blocks edges) (touchesFor touches l) (endsFor ends l) j) ends-differ)
-            (λ j q. K .passes l j in-grid (below j q) ∙ ap (λ (b : Bool). b || passes (graphFor blocks edges) (endsFor ends l) j) ends-differ)
+      rows-for : RowsBy (graphFor blocks edges) (kindFor kinds l) (touchesFor touches l) (endsFor ends l) g n l w₂
+      rows-for = rows-by blocks w₂ (grid-laid (M .kept .len)) (M .marks es fine) (R .area) (λ i x. R .zero .before i x) l (omega (arith, G .locals-are))
 
       pub rows-are : RowsOf blocks kinds touches ends g (markOf g) w₂ es l
       rows-are = record {
-        plain = λ e. record { written = written-is e; read = read-is e };
-        ending = λ e. record { arriving = arrives-is e };
+        plain = λ e. record { written = rows-for .written (plain-kind (getD kinds l 0) e); read = rows-for .read (plain-kind (getD kinds l 0) e) };
+        ending = λ e. record { arriving = rows-for .arrives (ending-kind (getD kinds l 0) e) };
       }
 
     -- number 8 was ruled out
@@ -297,8 +231,8 @@ module _ (blocks edges kinds touches ends : List ℕ) (areas : ℕ) (p : Places)
       laid = measure-fits length-is;
       chains = chains-kept touches ends p (places-laid (M .kept .len)) chained (M .chains);
       unmarked = λ c h. ap (λ (y : ℕ). bitOf y (c % 64)) (R .zero .inside (markOf g + c / 64) (c / 64) refl (omega arith)) ∙ bit-zero (c % 64);
-      rest = λ l b h m q. block-stays l b (in-grid l h) q ∙ R .area .rest l b (in-grid l h) m q;
-      both = λ l k h e m. both-is l h e k (omega (arith, blocks-length blocks));
+      rest = λ l b h m q. rows-for l h .rest b m q;
+      both = λ l k h e m. rows-for l h .both (plain-kind (getD kinds l 0) e) k m;
       upright = upright;
     }
 

@@ -16,7 +16,7 @@ use Rattle.area_flow.specs.declared.Grid.{Grid}
 use Rattle.area_flow.specs.Grid.{AreaRows}
 use Rattle.spots.specs.Spots.{lineOf}
 use Rattle.local_spots.specs.declared.Places.{Places}
-use Rattle.local_spots.specs.Locals.{Laid, Chains}
+use Rattle.local_spots.specs.Locals.{kindFor, touchesFor, endsFor, Laid, Chains}
 use Rattle.local_marks.specs.Marks.{someInverted, Marks}
 use Rattle.area_measure.specs.declared.Listing.{Listing}
 use Rattle.area_measure.specs.Locals.{areaFor, Listed}
@@ -75,7 +75,7 @@ pub record Marking (p : Places) (g : Grid) (blocks kinds touches ends w₀ w : L
   pub kept : Within (p .heads) (g .passes + rowCount 3 blocks * g .words) w₀ w
   pub chains : Chains p touches ends w
   pub answer : (es : List Edge) → r ≡ someInverted (lineOf blocks es) touches (p .locals)
-  pub marks : (es : List Edge) → r ≡ false → Marks (lineOf blocks es) kinds touches ends g (rowCount 3 blocks) w
+  pub marks : (es : List Edge) → r ≡ false → Marks (lineOf blocks es) (kindFor kinds) (touchesFor touches) (endsFor ends) g (rowCount 3 blocks) w
 
 -- the rows stand, and behind them no block is marked
 pub record Rowed (es : List Edge) (g : Grid) (n from : ℕ) (w₀ w : List ℕ) : Type 0 where

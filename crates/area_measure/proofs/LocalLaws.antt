@@ -25,10 +25,10 @@ use Rattle.area_pieces.specs.Local.{blockCount}
 use Rattle.area_flow.specs.declared.Grid.{Grid}
 use Rattle.area_flow.specs.Grid.{rowBit, blockBit}
 use Rattle.local_spots.specs.declared.Places.{Places}
-use Rattle.local_spots.specs.Locals.{touchesFor, endsFor, Laid, Chains, Fetched}
+use Rattle.local_spots.specs.Locals.{kindBy, touchesFor, endsFor, Laid, Chains, Fetched}
 use Rattle.local_spots.proofs.OrderLaws.{arrives-sorted, ending-sorted}
 use Rattle.area_measure.specs.declared.Listing.{Listing}
-use Rattle.area_measure.specs.Measure.{kindBy, itemWord, RowsFor, Measurable, Listable, Measured}
+use Rattle.area_measure.specs.Measure.{itemWord, RowsFor, Measurable, Listable, Measured}
 use Rattle.area_measure.specs.Locals.{listed, presentWord, localAt, mostIn, Fits, Ready, RowsOf, areaFor, Spared, Next, ListedFor, MeasuredAll}
 use Rattle.area_measure.proofs.ListLaws.{listed-start, listed-more}
 

@@ -26,8 +26,9 @@ use Rattle.area_pieces.specs.declared.Local.{Local}
 use Rattle.area_pieces.specs.Local.{Appended, PlainIn}
 use Rattle.area_pieces.proofs.PushLaws.{set-other}
 use Rattle.area_ends.specs.Ending.{EndingIn}
+use Rattle.local_spots.specs.Locals.{kindBy}
 use Rattle.area_measure.specs.declared.Listing.{Listing}
-use Rattle.area_measure.specs.Measure.{kindBy, mostOf, itemWord, Measurable, AreaIn, Listable, Measured}
+use Rattle.area_measure.specs.Measure.{mostOf, itemWord, Measurable, AreaIn, Listable, Measured}
 
 pub plain-kind : (k : ℕ) → k ≡ 0 → kindBy k ≡ Plain
 plain-kind k e = ap (λ (b : Bool). cond b Plain Ending) (eq-eqb k 0 e)

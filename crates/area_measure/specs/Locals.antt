@@ -21,9 +21,9 @@ use Rattle.area_pieces.specs.Local.{blockCount, Upright}
 use Rattle.area_flow.specs.declared.Grid.{Grid}
 use Rattle.area_flow.specs.Grid.{rowBit, blockBit}
 use Rattle.local_spots.specs.declared.Places.{Places}
-use Rattle.local_spots.specs.Locals.{touchesFor, endsFor, Laid, Chains}
+use Rattle.local_spots.specs.Locals.{kindFor, touchesFor, endsFor, Laid, Chains}
 use Rattle.area_measure.specs.declared.Listing.{Listing}
-use Rattle.area_measure.specs.Measure.{kindBy, itemWord, RowsFor}
+use Rattle.area_measure.specs.Measure.{itemWord, RowsFor}
 
 -- the ranges of an area, none of an item without one
 abbrev pub listed : Option (List Range) → List Range
@@ -95,7 +95,7 @@ pub record Ready (blocks kinds touches ends : List ℕ) (p : Places) (g : Grid) 
 
 -- the area of local l
 abbrev pub areaFor : Graph → List ℕ → List ℕ → List ℕ → ℕ → Option (List Range)
-areaFor G kinds touches ends l = areaBy G (kindBy (getD kinds l 0)) (touchesFor touches l) (endsFor ends l)
+areaFor G kinds touches ends l = areaBy G (kindFor kinds l) (touchesFor touches l) (endsFor ends l)
 
 -- local l's rows are those of its kind, its touches and its ends
 abbrev pub RowsOf : List ℕ → List ℕ → List ℕ → List ℕ → Grid → ℕ → List ℕ → List Edge → ℕ → Type 0

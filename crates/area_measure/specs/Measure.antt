@@ -2,18 +2,14 @@
 use Prim.Native.Nat.{ℕ, _+_, _-_, _*_, _^_, _≤_, _<_}
 use mathlib.Core.Path.{_≡_}
 use mathlib.Core.Logic.{_⊎_}
-use mathlib.Core.Bool.{cond}
 use mathlib.Core.Option.{some}
 use mathlib.Core.List.{List}
 use lib.ListN.{length, getD}
-use lib.Dec.{eqb}
 use Rattle.words.specs.Regions.{part}
 use Rattle.ranges.specs.declared.Range.{Range}
 use Rattle.ranges.specs.Forms.{unpacked}
 use Rattle.graph.specs.Paths.{Edge}
 use Rattle.graph.specs.Work.{Within}
-use Rattle.carrying.specs.declared.Kind.{Kind}
-use Rattle.carrying.specs.declared.Kind.the-variants.{Plain, Ending}
 use Rattle.areas.specs.Blocks.{Graph}
 use Rattle.areas.specs.Job.{areaBy, rangesIn}
 use Rattle.spots.specs.declared.Spots.{Spots}
@@ -21,11 +17,8 @@ use Rattle.spots.specs.Spots.{lineOf, touchesAt, endsAt, Stand}
 use Rattle.area_pieces.specs.declared.Local.{Local}
 use Rattle.area_pieces.specs.Local.{blockCount, Laid, Flowing, Unmarked, Bounded, Both, Upright, PlainRows}
 use Rattle.area_ends.specs.Ending.{EndRow}
+use Rattle.local_spots.specs.Locals.{kindBy}
 use Rattle.area_measure.specs.declared.Listing.{Listing}
-
--- a local's kind by the number lent: 0 plain, any other ending
-abbrev pub kindBy : ℕ → Kind
-kindBy k = cond (eqb k 0) Plain Ending
 
 -- the most ranges that a local's area is made of
 abbrev pub mostOf : List ℕ → Spots → ℕ

@@ -27,7 +27,8 @@ use Rattle.local_spots.specs.declared.Places.{Places}
 use Rattle.local_spots.specs.Locals.{touchesFor, endsFor, Fetched}
 use Rattle.local_spots.proofs.OrderLaws.{passes-sorted, leaves-sorted}
 use Rattle.local_marks.specs.Marks.{Ready}
-use Rattle.local_marks.specs.Inner.{Bits, Marking, Standing, MarkedOne}
+use Rattle.local_marks.specs.Marking.{Bits, Marking, Standing}
+use Rattle.local_marks.specs.Inner.{MarkedOne}
 
 -- local l in the rows from `from` on
 abbrev pub columnAt : Grid → ℕ → ℕ → ℕ → Column
@@ -59,6 +60,36 @@ bits-then {l = l} m B K = record { column = λ k q. K k l q m ∙ B .column k q;
 bits-since : {g : Grid} {from n l : ℕ} {h : ℕ → Bool} {w₀ w₁ w₂ : List ℕ} → ((k b : ℕ) → k < n → b < g .words * 64 → rowBit g from w₁ k b ≡ rowBit g from w₀ k b) → Bits g from n l h w₁ w₂ → Bits g from n l h w₀ w₂
 bits-since K B = record { column = B .column; others = λ k b q o d. B .others k b q o d ∙ K k b q o }
 
+-- ---- the marks of one local
+
+-- after a change before the rows
+pub marking-since : {g : Grid} {n l lo hi : ℕ} {plain ending : Bool} {t v q : ℕ → Bool} {w₀ w₁ w : List ℕ} → Within lo hi w₀ w₁ → hi ≤ g .touched → g .touched ≤ g .leaves → g .leaves ≤ g .passes → l < g .words * 64
+    → Marking g n l plain ending t v q w₁ w → Marking g n l plain ending t v q w₀ w
+marking-since {g} {n} {l} {lo} {hi} {plain} {ending} {t} {v} {q} {w₀} {w₁} K a b c m N = record {
+  touches-bits = bits-since (same (g .touched) (omega arith)) (bits-as _ (N .touches-bits) (λ k h. ap (λ (x : Bool). plain && t k || x) (same (g .touched) (omega arith) k l h m)));
+  leaves-bits = bits-since (same (g .leaves) (omega arith)) (bits-as _ (N .leaves-bits) (λ k h. ap (λ (x : Bool). ending && v k || x) (same (g .leaves) (omega arith) k l h m)));
+  passes-bits = bits-since (same (g .passes) (omega arith)) (bits-as _ (N .passes-bits) (λ k h. ap (λ (x : Bool). (not ending || q k) && x) (same (g .passes) (omega arith) k l h m)));
+}
+  where
+    same : (from : ℕ) → hi ≤ from → (k b : ℕ) → k < n → b < g .words * 64 → rowBit g from w₁ k b ≡ rowBit g from w₀ k b
+    same from x = row-kept g from n K (inr x)
+
+-- a local that is neither plain nor ending has none
+pub marking-none : {g : Grid} {n l lo hi : ℕ} {t v q : ℕ → Bool} {w₀ w : List ℕ} → Within lo hi w₀ w → hi ≤ g .touched → g .touched ≤ g .leaves → g .leaves ≤ g .passes → l < g .words * 64
+    → Marking g n l false false t v q w₀ w
+marking-none {g} {n} K a b c m = record {
+  touches-bits = bits-kept m (row-kept g (g .touched) n K (inr (omega arith)));
+  leaves-bits = bits-kept m (row-kept g (g .leaves) n K (inr (omega arith)));
+  passes-bits = bits-kept m (row-kept g (g .passes) n K (inr (omega arith)));
+}
+
+-- the order of the ends does not matter
+pub marking-sorted : {g : Grid} {n l : ℕ} {plain ending : Bool} (G : Graph) (ts : List Range) (es : List ℕ) {w₀ w : List ℕ} → Marking g n l plain ending (touched G ts) (leaves G ts (sortOf es)) (passes G (sortOf es)) w₀ w
+    → Marking g n l plain ending (touched G ts) (leaves G ts es) (passes G es) w₀ w
+marking-sorted {g} {n} {l} {plain} {ending} G ts es {w₀} {w} M =
+    subst (λ (f : ℕ → Bool). Marking g n l plain ending (touched G ts) (leaves G ts es) f w₀ w) (passes-sorted G es)
+    (subst (λ (f : ℕ → Bool). Marking g n l plain ending (touched G ts) f (passes G (sortOf es)) w₀ w) (leaves-sorted G es ts) M)
+
 -- ---- one local whose touches and ends stand
 
 module _ (blocks : List ℕ) (s : Spots) (g : Grid) (l : ℕ) {w₀ : List ℕ} (S : Standing blocks s g l w₀) where
@@ -88,7 +119,7 @@ module _ (blocks : List ℕ) (s : Spots) (g : Grid) (l : ℕ) {w₀ : List ℕ} 
         within-wider (g .touched) (g .passes + rowCount 3 blocks * g .words) (omega arith) (omega arith) (T [] .kept)
 
     pub plain-marking : (plain : Bool) → plain ≡ true → (es : List Edge)
-        → Marking g (rowCount 3 blocks) l plain (touched (lineOf blocks es) (touchesAt s w₀)) (leaves (lineOf blocks es) (touchesAt s w₀) (endsAt s w₀)) (passes (lineOf blocks es) (endsAt s w₀)) w₀ w
+        → Marking g (rowCount 3 blocks) l plain (not plain) (touched (lineOf blocks es) (touchesAt s w₀)) (leaves (lineOf blocks es) (touchesAt s w₀) (endsAt s w₀)) (passes (lineOf blocks es) (endsAt s w₀)) w₀ w
     plain-marking plain e es =
         let a = S .touched-fits in let b = S .leaves-fit in
         rw e (record {
@@ -115,7 +146,7 @@ module _ (blocks : List ℕ) (s : Spots) (g : Grid) (l : ℕ) {w₀ : List ℕ} 
         kept-part-list K c (Lv [] .kept .len)
 
     pub ending-marking : (plain : Bool) → plain ≡ false → (es : List Edge)
-        → Marking g (rowCount 3 blocks) l plain (touched (lineOf blocks es) (touchesAt s w₀)) (leaves (lineOf blocks es) (touchesAt s w₀) (endsAt s w₀)) (passes (lineOf blocks es) (endsAt s w₀)) w₀ w
+        → Marking g (rowCount 3 blocks) l plain (not plain) (touched (lineOf blocks es) (touchesAt s w₀)) (leaves (lineOf blocks es) (touchesAt s w₀) (endsAt s w₀)) (passes (lineOf blocks es) (endsAt s w₀)) w₀ w
     ending-marking plain e es =
         let a = S .touched-fits in let b = S .leaves-fit in
         let before : (k j : ℕ) → k < rowCount 3 blocks → j < g .words * 64 → rowBit g (g .passes) w₁ k j ≡ rowBit g (g .passes) w₀ k j = row-kept g (g .passes) (rowCount 3 blocks) (Lv es .kept) (inr (omega arith)) in
@@ -166,32 +197,21 @@ module _ {p : Places} {g : Grid} {blocks touches ends : List ℕ} {l : ℕ} {w�
     one-kept = let a = R .apart in let z = R .laid .at-fits in within-trans fetched-kept (within-wider (p .at) (g .passes + rowCount 3 blocks * g .words) (omega arith) (omega arith) K)
 
     pub marked-one : (plain r : Bool) → r ≡ false → ((es : List Edge) → r ≡ any (inverted (lineOf blocks es)) (touchesAt s w₁))
-        → ((es : List Edge) → Marking g (rowCount 3 blocks) l plain (touched (lineOf blocks es) (touchesAt s w₁)) (leaves (lineOf blocks es) (touchesAt s w₁) (endsAt s w₁)) (passes (lineOf blocks es) (endsAt s w₁)) w₁ w)
+        → ((es : List Edge) → Marking g (rowCount 3 blocks) l plain (not plain) (touched (lineOf blocks es) (touchesAt s w₁)) (leaves (lineOf blocks es) (touchesAt s w₁) (endsAt s w₁)) (passes (lineOf blocks es) (endsAt s w₁)) w₁ w)
         → (es : List Edge) → MarkedOne (lineOf blocks es) plain touches ends g (rowCount 3 blocks) l w₀ w false
-    marked-one plain r f e M es = record { answer = sym f ∙ fetched-answer es r (e es); marks = λ _. since lent }
+    marked-one plain r f e M es = record { answer = sym f ∙ fetched-answer es r (e es); marks = λ _. since }
       where
         G : Graph
         G = lineOf blocks es
 
-        same : (from : ℕ) → g .touched ≤ from → (k b : ℕ) → k < rowCount 3 blocks → b < g .words * 64 → rowBit g from w₁ k b ≡ rowBit g from w₀ k b
-        same from q = row-kept g from (rowCount 3 blocks) (F .kept) (inr (let a = R .apart in omega arith))
-
-        bit-in : l < g .words * 64
-        bit-in = let b = R .long in let c = R .counted in omega arith
-
         -- by the touches and the ends as they are lent
-        lent : Marking g (rowCount 3 blocks) l plain (touched G (touchesFor touches l)) (leaves G (touchesFor touches l) (endsFor ends l)) (passes G (endsFor ends l)) w₁ w
+        lent : Marking g (rowCount 3 blocks) l plain (not plain) (touched G (touchesFor touches l)) (leaves G (touchesFor touches l) (endsFor ends l)) (passes G (endsFor ends l)) w₁ w
         lent =
-            subst (λ (f : ℕ → Bool). Marking g (rowCount 3 blocks) l plain (touched G (touchesFor touches l)) (leaves G (touchesFor touches l) (endsFor ends l)) f w₁ w) (passes-sorted G (endsFor ends l))
-            (subst (λ (f : ℕ → Bool). Marking g (rowCount 3 blocks) l plain (touched G (touchesFor touches l)) f (passes G (sortOf (endsFor ends l))) w₁ w) (leaves-sorted G (endsFor ends l) (touchesFor touches l))
-            (subst (λ (es : List ℕ). Marking g (rowCount 3 blocks) l plain (touched G (touchesFor touches l)) (leaves G (touchesFor touches l) es) (passes G es) w₁ w) (F .ends-are)
-            (subst (λ (ts : List Range). Marking g (rowCount 3 blocks) l plain (touched G ts) (leaves G ts (endsAt s w₁)) (passes G (endsAt s w₁)) w₁ w) (F .touches-are) (M es))))
+            marking-sorted G (touchesFor touches l) (endsFor ends l)
+            (subst (λ (es : List ℕ). Marking g (rowCount 3 blocks) l plain (not plain) (touched G (touchesFor touches l)) (leaves G (touchesFor touches l) es) (passes G es) w₁ w) (F .ends-are)
+            (subst (λ (ts : List Range). Marking g (rowCount 3 blocks) l plain (not plain) (touched G ts) (leaves G ts (endsAt s w₁)) (passes G (endsAt s w₁)) w₁ w) (F .touches-are) (M es)))
 
-        since : {t v q : ℕ → Bool} → Marking g (rowCount 3 blocks) l plain t v q w₁ w → Marking g (rowCount 3 blocks) l plain t v q w₀ w
-        since {t} {v} {q} N =
-            let a = R .touched-fits in let b = R .leaves-fit in
-            record {
-              touches-bits = bits-since (same (g .touched) (omega arith)) (bits-as _ (N .touches-bits) (λ k h. ap (λ (x : Bool). plain && t k || x) (same (g .touched) (omega arith) k l h bit-in)));
-              leaves-bits = bits-since (same (g .leaves) (omega arith)) (bits-as _ (N .leaves-bits) (λ k h. ap (λ (x : Bool). not plain && v k || x) (same (g .leaves) (omega arith) k l h bit-in)));
-              passes-bits = bits-since (same (g .passes) (omega arith)) (bits-as _ (N .passes-bits) (λ k h. ap (λ (x : Bool). (plain || q k) && x) (same (g .passes) (omega arith) k l h bit-in)));
-            }
+        since : Marking g (rowCount 3 blocks) l plain (not plain) (touched G (touchesFor touches l)) (leaves G (touchesFor touches l) (endsFor ends l)) (passes G (endsFor ends l)) w₀ w
+        since =
+            let a = R .touched-fits in let b = R .leaves-fit in let c = R .long in let d = R .counted in
+            marking-since (F .kept) (R .apart) (omega arith) (omega arith) (omega arith) lent

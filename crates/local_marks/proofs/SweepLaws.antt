@@ -1,31 +1,34 @@
--- Laws of the pass over the locals: the first l are marked, and none of their touches is inverted.
+-- Laws of a pass over the locals: the first l are marked; of touches lent by themselves none of these is inverted.
 use Prim.Native.Nat.{ℕ, _+_, _*_, _≤_, _<_}
 use native.Mathlib.Omega.{arith}
 use mathlib.Core.Path.{_≡_, refl, sym, ap, _∙_, subst}
-use mathlib.Core.Bool.{Bool, true, false, not, _&&_, _||_}
+use mathlib.Core.Bool.{Bool, true, false, cond, not, _&&_, _||_}
 use mathlib.Core.List.{List}
-use lib.ListN.{length}
+use lib.ListN.{length, getD}
+use lib.Dec.{eqb}
 use Rattle.words.specs.Rows.{tabulate, rowCount}
 use Rattle.words.proofs.Points.{same}
 use Rattle.words.proofs.RowLaws.{mem-tabulate, mem-of-tabulate}
 use Rattle.bits.specs.Bits.{bit}
+use Rattle.ranges.specs.declared.Range.{Range}
 use Rattle.graph.specs.Paths.{Edge}
-use Rattle.graph.specs.Line.{blocksOf}
 use Rattle.graph.specs.Work.{Within}
-use Rattle.graph.proofs.Line.{blocks-length}
 use Rattle.graph.proofs.Within.{within-refl, within-trans, within-wider}
+use Rattle.carrying.specs.declared.Kind.{Kind}
+use Rattle.carrying.specs.declared.Kind.the-variants.{Plain, Ending}
 use Rattle.carrying.specs.Lists.{any}
 use Rattle.carrying.proofs.ListLaws.{any-true, false-any}
 use Rattle.areas.specs.Blocks.{Graph, inverted, touched, leaves, passes}
 use Rattle.spots.specs.Spots.{lineOf}
 use Rattle.area_rows.proofs.ColumnLaws.{Columns}
 use Rattle.area_flow.specs.declared.Grid.{Grid}
-use Rattle.area_flow.specs.Grid.{rowBit, Unmarked}
+use Rattle.area_flow.specs.Grid.{Unmarked}
 use Rattle.local_spots.specs.declared.Places.{Places}
-use Rattle.local_spots.specs.Locals.{touchesFor, endsFor}
+use Rattle.local_spots.specs.Locals.{kindFor, touchesFor, endsFor}
 use Rattle.local_spots.proofs.ChainLaws.{chains-kept}
-use Rattle.local_marks.specs.Marks.{plain, Ready, Marks, MarkedAll}
-use Rattle.local_marks.specs.Inner.{Bits, MarkedOne}
+use Rattle.local_marks.specs.Marks.{isPlain, isEnding, Ready, Marks, MarkedAll}
+use Rattle.local_marks.specs.Marking.{Bits, Marking}
+use Rattle.local_marks.specs.Inner.{MarkedOne}
 
 -- a change behind the chains
 pub ready-kept : {p : Places} {g : Grid} {blocks touches ends w w' : List ℕ} {hi : ℕ} → Ready p g blocks touches ends w → Within (p .at) hi w w' → Ready p g blocks touches ends w'
@@ -61,17 +64,51 @@ and-all true = refl
 and-all false = refl
 
 -- the marks of the first l locals
-pub record MarkedTo (G : Graph) (kinds touches ends : List ℕ) (g : Grid) (n l : ℕ) (w : List ℕ) : Type 0 where
-  pub none : (m : ℕ) → m < l → any (inverted G) (touchesFor touches m) ≡ false
-  pub touched-columns : Columns n (g .touched) (g .words) false (λ m k. plain kinds m && touched G (touchesFor touches m) k) l w
-  pub leaves-columns : Columns n (g .leaves) (g .words) false (λ m k. not (plain kinds m) && leaves G (touchesFor touches m) (endsFor ends m) k) l w
-  pub passes-columns : Columns n (g .passes) (g .words) true (λ m k. plain kinds m || passes G (endsFor ends m) k) l w
+pub record MarkedTo (G : Graph) (K : ℕ → Kind) (T : ℕ → List Range) (E : ℕ → List ℕ) (g : Grid) (n l : ℕ) (w : List ℕ) : Type 0 where
+  pub touched-columns : Columns n (g .touched) (g .words) false (λ m k. isPlain (K m) && touched G (T m) k) l w
+  pub leaves-columns : Columns n (g .leaves) (g .words) false (λ m k. isEnding (K m) && leaves G (T m) (E m) k) l w
+  pub passes-columns : Columns n (g .passes) (g .words) true (λ m k. not (isEnding (K m)) || passes G (E m) k) l w
+
+module _ {G : Graph} {K : ℕ → Kind} {T : ℕ → List Range} {E : ℕ → List ℕ} {g : Grid} {n : ℕ} where
+  pub marked-start : {w₀ w : List ℕ} → Unmarked g n w₀ w → MarkedTo G K T E g n 0 w
+  marked-start U = record {
+    touched-columns = record { first = λ l k a m q. absurd (omega arith); rest = λ l k a m q. U .touched k l q m };
+    leaves-columns = record { first = λ l k a m q. absurd (omega arith); rest = λ l k a m q. U .leaves k l q m };
+    passes-columns = record { first = λ l k a m q. absurd (omega arith); rest = λ l k a m q. U .passes k l q m };
+  }
+
+  pub marked-next : {l : ℕ} {w w' : List ℕ} → MarkedTo G K T E g n l w → l < g .words * 64
+      → Marking g n l (isPlain (K l)) (isEnding (K l)) (touched G (T l)) (leaves G (T l) (E l)) (passes G (E l)) w w' → MarkedTo G K T E g n (l + 1) w'
+  marked-next {l} D m M = record {
+    touched-columns = columns-next (D .touched-columns) (M .touches-bits) (λ k q. ap (λ (x : Bool). isPlain (K l) && touched G (T l) k || x) (D .touched-columns .rest l k (omega arith) m q) ∙ or-none _);
+    leaves-columns = columns-next (D .leaves-columns) (M .leaves-bits) (λ k q. ap (λ (x : Bool). isEnding (K l) && leaves G (T l) (E l) k || x) (D .leaves-columns .rest l k (omega arith) m q) ∙ or-none _);
+    passes-columns = columns-next (D .passes-columns) (M .passes-bits) (λ k q. ap (λ (x : Bool). (not (isEnding (K l)) || passes G (E l) k) && x) (D .passes-columns .rest l k (omega arith) m q) ∙ and-all _);
+  }
+
+  pub marked-done : {l : ℕ} {w : List ℕ} → MarkedTo G K T E g n l w → l ≡ g .locals → g .locals ≤ g .words * 64 → Marks G K T E g n w
+  marked-done D e a = record {
+    touched = λ m k x y. D .touched-columns .first m k (omega arith) (omega arith) y;
+    leaves = λ m k x y. D .leaves-columns .first m k (omega arith) (omega arith) y;
+    passes = λ m k x y. D .passes-columns .first m k (omega arith) (omega arith) y;
+    quiet = record {
+      touched = λ k m y x z. D .touched-columns .rest m k (omega arith) z y;
+      leaves = λ k m y x z. D .leaves-columns .rest m k (omega arith) z y;
+    };
+  }
+
+-- ---- of touches lent by themselves
+
+lent-marking : (b : Bool) {g : Grid} {n l : ℕ} {t v q : ℕ → Bool} {w w' : List ℕ} → Marking g n l b (not b) t v q w w'
+    → Marking g n l (isPlain (cond b Plain Ending)) (isEnding (cond b Plain Ending)) t v q w w'
+lent-marking true M = M
+lent-marking false M = M
 
 pub record Sweep (p : Places) (g : Grid) (blocks kinds touches ends w₀ w : List ℕ) (l : ℕ) : Type 0 where
   pub ready : Ready p g blocks touches ends w
   pub kept : Within (p .at) (g .passes + rowCount 3 blocks * g .words) w₀ w
   pub l-le : l ≤ p .locals
-  pub so-far : (es : List Edge) → MarkedTo (lineOf blocks es) kinds touches ends g (rowCount 3 blocks) l w
+  pub none : (es : List Edge) (m : ℕ) → m < l → any (inverted (lineOf blocks es)) (touchesFor touches m) ≡ false
+  pub so-far : (es : List Edge) → MarkedTo (lineOf blocks es) (kindFor kinds) (touchesFor touches) (endsFor ends) g (rowCount 3 blocks) l w
 
 pub cleared-kept : {p : Places} {g : Grid} {blocks touches ends w₀ w : List ℕ} → Ready p g blocks touches ends w₀ → Unmarked g (rowCount 3 blocks) w₀ w → Within (p .at) (g .passes + rowCount 3 blocks * g .words) w₀ w
 cleared-kept {p} {g} {blocks} R U = let a = R .apart in let b = R .laid .at-fits in within-wider (p .at) (g .passes + rowCount 3 blocks * g .words) (omega arith) (omega arith) (U .kept)
@@ -81,34 +118,19 @@ sweep-start p g blocks kinds touches ends {w₀} {w} R U = record {
   ready = ready-kept R (cleared-kept R U);
   kept = within-refl _ _ w;
   l-le = omega arith;
-  so-far = λ es. record {
-    none = λ m h. absurd (omega arith);
-    touched-columns = record { first = λ l k a m q. absurd (omega arith); rest = λ l k a m q. U .touched k l q m };
-    leaves-columns = record { first = λ l k a m q. absurd (omega arith); rest = λ l k a m q. U .leaves k l q m };
-    passes-columns = record { first = λ l k a m q. absurd (omega arith); rest = λ l k a m q. U .passes k l q m };
-  };
+  none = λ es m h. absurd (omega arith);
+  so-far = λ es. marked-start U;
 }
 
 module _ {p : Places} {g : Grid} {blocks kinds touches ends w₀ w : List ℕ} {l : ℕ} (d : Sweep p g blocks kinds touches ends w₀ w l) (h : l < p .locals) {w' : List ℕ} {r : Bool}
-    (K : Within (p .at) (g .passes + rowCount 3 blocks * g .words) w w') (O : (es : List Edge) → MarkedOne (lineOf blocks es) (plain kinds l) touches ends g (rowCount 3 blocks) l w w' r) where
+    (K : Within (p .at) (g .passes + rowCount 3 blocks * g .words) w w') (O : (es : List Edge) → MarkedOne (lineOf blocks es) (eqb (getD kinds l 0) 0) touches ends g (rowCount 3 blocks) l w w' r) where
   pub sweep-more : r ≡ false → Sweep p g blocks kinds touches ends w₀ w' (l + 1)
   sweep-more f = record {
     ready = ready-kept (d .ready) K;
     kept = within-trans (d .kept) K;
     l-le = omega arith;
-    so-far = λ es.
-        let M = O es .marks f in
-        let D = d .so-far es in
-        let bit-in : l < g .words * 64 = let a = d .ready .long in let b = d .ready .counted in omega arith in
-        record {
-          none = λ m a. same m l (λ z. rw z (sym (O es .answer) ∙ f)) (λ z. D .none m (omega arith));
-          touched-columns = columns-next (D .touched-columns) (M .touches-bits)
-              (λ k q. ap (λ (x : Bool). plain kinds l && touched (lineOf blocks es) (touchesFor touches l) k || x) (D .touched-columns .rest l k (omega arith) bit-in q) ∙ or-none _);
-          leaves-columns = columns-next (D .leaves-columns) (M .leaves-bits)
-              (λ k q. ap (λ (x : Bool). not (plain kinds l) && leaves (lineOf blocks es) (touchesFor touches l) (endsFor ends l) k || x) (D .leaves-columns .rest l k (omega arith) bit-in q) ∙ or-none _);
-          passes-columns = columns-next (D .passes-columns) (M .passes-bits)
-              (λ k q. ap (λ (x : Bool). (plain kinds l || passes (lineOf blocks es) (endsFor ends l) k) && x) (D .passes-columns .rest l k (omega arith) bit-in q) ∙ and-all _);
-        };
+    none = λ es m a. same m l (λ z. rw z (sym (O es .answer) ∙ f)) (λ z. d .none es m (omega arith));
+    so-far = λ es. marked-next (d .so-far es) (let a = d .ready .long in let b = d .ready .counted in omega arith) (lent-marking (eqb (getD kinds l 0) 0) (O es .marks f));
   }
 
   pub sweep-found : {v : List ℕ} → Within (p .at) (g .passes + rowCount 3 blocks * g .words) v w₀ → r ≡ true → (es : List Edge) → MarkedAll (lineOf blocks es) kinds touches ends p g (rowCount 3 blocks) v w' true
@@ -121,44 +143,10 @@ module _ {p : Places} {g : Grid} {blocks kinds touches ends w₀ w : List ℕ} {
 pub sweep-done : {p : Places} {g : Grid} {blocks kinds touches ends v w₀ w : List ℕ} {l : ℕ} → Sweep p g blocks kinds touches ends w₀ w l → p .locals ≤ l → Within (p .at) (g .passes + rowCount 3 blocks * g .words) v w₀
     → (es : List Edge) → MarkedAll (lineOf blocks es) kinds touches ends p g (rowCount 3 blocks) v w false
 sweep-done {p} {g} {blocks} {touches = touches} d h C es =
-    let D = d .so-far es in
-    let a = d .ready .long in let b = d .ready .counted in let c = d .l-le in
+    let b = d .ready .counted in let c = d .l-le in
     record {
       kept = within-trans C (d .kept);
       answer = sym (false-any (λ m. any (inverted (lineOf blocks es)) (touchesFor touches m)) (tabulate (p .locals) (λ m. m))
-          (λ m q. let (i, z, e) = mem-of-tabulate (p .locals) (λ m. m) q in D .none m (omega arith)));
-      marks = λ _. record {
-        touched = λ m k x y. D .touched-columns .first m k (omega arith) (omega arith) y;
-        leaves = λ m k x y. D .leaves-columns .first m k (omega arith) (omega arith) y;
-        passes = λ m k x y. D .passes-columns .first m k (omega arith) (omega arith) y;
-        quiet = record {
-          touched = λ k m y x z. D .touched-columns .rest m k (omega arith) z y;
-          leaves = λ k m y x z. D .leaves-columns .rest m k (omega arith) z y;
-        };
-      };
+          (λ m q. let (i, z, e) = mem-of-tabulate (p .locals) (λ m. m) q in d .none es m (omega arith)));
+      marks = λ _. marked-done (d .so-far es) (omega arith) (d .ready .long);
     }
-
--- ---- the marks of one local, as the rows of areas want them
-
-module _ (blocks : List ℕ) {kinds touches ends : List ℕ} {es : List Edge} {g : Grid} {w : List ℕ} (M : Marks (lineOf blocks es) kinds touches ends g (rowCount 3 blocks) w) (l : ℕ) (h : l < g .locals) where
-  place : (j : ℕ) → j < length (blocksOf blocks) → j < rowCount 3 blocks
-  place j q = let z = blocks-length blocks in omega arith
-
-  -- of a plain local
-  module _ (e : plain kinds l ≡ true) where
-    pub plain-touched : (j : ℕ) → j < length (blocksOf blocks) → rowBit g (g .touched) w j l ≡ touched (lineOf blocks es) (touchesFor touches l) j
-    plain-touched j q = M .touched l j h (place j q) ∙ ap (λ (x : Bool). x && touched (lineOf blocks es) (touchesFor touches l) j) e
-
-    pub plain-leaves : (j : ℕ) → j < length (blocksOf blocks) → rowBit g (g .leaves) w j l ≡ false
-    plain-leaves j q = M .leaves l j h (place j q) ∙ ap (λ (x : Bool). not x && leaves (lineOf blocks es) (touchesFor touches l) (endsFor ends l) j) e
-
-  -- of an ending local
-  module _ (e : plain kinds l ≡ false) where
-    pub ending-touched : (j : ℕ) → j < length (blocksOf blocks) → rowBit g (g .touched) w j l ≡ false
-    ending-touched j q = M .touched l j h (place j q) ∙ ap (λ (x : Bool). x && touched (lineOf blocks es) (touchesFor touches l) j) e
-
-    pub ending-leaves : (j : ℕ) → j < length (blocksOf blocks) → rowBit g (g .leaves) w j l ≡ leaves (lineOf blocks es) (touchesFor touches l) (endsFor ends l) j
-    ending-leaves j q = M .leaves l j h (place j q) ∙ ap (λ (x : Bool). not x && leaves (lineOf blocks es) (touchesFor touches l) (endsFor ends l) j) e
-
-    pub ending-passes : (j : ℕ) → j < length (blocksOf blocks) → rowBit g (g .passes) w j l ≡ passes (lineOf blocks es) (endsFor ends l) j
-    ending-passes j q = M .passes l j h (place j q) ∙ ap (λ (x : Bool). x || passes (lineOf blocks es) (endsFor ends l) j) e

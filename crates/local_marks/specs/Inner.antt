@@ -1,44 +1,15 @@
 -- What private functions promise each other. No public promise names these.
-use Prim.Native.Nat.{ℕ, _+_, _*_, _≤_, _<_}
+use Prim.Native.Nat.{ℕ}
 use mathlib.Core.Path.{_≡_}
-use mathlib.Core.Logic.{_≢_}
-use mathlib.Core.Bool.{Bool, false, not, _&&_, _||_}
-use mathlib.Core.List.{List, []}
-use lib.ListN.{length}
-use Rattle.words.specs.Rows.{rowCount}
-use Rattle.graph.specs.Line.{blocksOf, Sound}
+use mathlib.Core.Bool.{Bool, false, not}
+use mathlib.Core.List.{List}
 use Rattle.carrying.specs.Lists.{any}
 use Rattle.areas.specs.Blocks.{Graph, inverted, touched, leaves, passes}
-use Rattle.spots.specs.declared.Spots.{Spots}
-use Rattle.spots.specs.Spots.{lineOf, touchesAt, Stand}
 use Rattle.area_flow.specs.declared.Grid.{Grid}
-use Rattle.area_flow.specs.Grid.{rowBit}
 use Rattle.local_spots.specs.Locals.{touchesFor, endsFor}
-
--- bit l of each place's row, in the rows from `from` on, is h's; the rows' other bits are as they were
-pub record Bits (g : Grid) (from n l : ℕ) (h : ℕ → Bool) (w₀ w : List ℕ) : Type 0 where
-  pub column : (k : ℕ) → k < n → rowBit g from w k l ≡ h k
-  pub others : (k b : ℕ) → k < n → b < g .words * 64 → b ≢ l → rowBit g from w k b ≡ rowBit g from w₀ k b
-
--- a local's marks have been added: where it is touched, if it is plain, and else where it leaves; those that it does not pass have been taken away, if it is ending
-pub record Marking (g : Grid) (n l : ℕ) (plain : Bool) (touched leaves passes : ℕ → Bool) (w₀ w : List ℕ) : Type 0 where
-  pub touches-bits : Bits g (g .touched) n l (λ k. plain && touched k || rowBit g (g .touched) w₀ k l) w₀ w
-  pub leaves-bits : Bits g (g .leaves) n l (λ k. not plain && leaves k || rowBit g (g .leaves) w₀ k l) w₀ w
-  pub passes-bits : Bits g (g .passes) n l (λ k. (plain || passes k) && rowBit g (g .passes) w₀ k l) w₀ w
-
--- local l's touches, none inverted, and its ends stand before the rows of the places
-pub record Standing (blocks : List ℕ) (s : Spots) (g : Grid) (l : ℕ) (w : List ℕ) : Type 0 where
-  pub line : Sound (blocksOf blocks)
-  pub stand : Stand s w
-  pub upright : any (inverted (lineOf blocks [])) (touchesAt s w) ≡ false
-  pub bit-in : l < g .words * 64
-  pub touches-apart : s .at + s .count ≤ g .touched
-  pub ends-apart : s .ends + s .stops ≤ g .touched
-  pub touched-fits : g .touched + rowCount 3 blocks * g .words ≤ g .leaves
-  pub leaves-fit : g .leaves + rowCount 3 blocks * g .words ≤ g .passes
-  pub passes-fit : g .passes + rowCount 3 blocks * g .words ≤ length w
+use Rattle.local_marks.specs.Marking.{Marking}
 
 -- r is number 8 of local l, and where it is not the case, the local is marked
 pub record MarkedOne (G : Graph) (plain : Bool) (touches ends : List ℕ) (g : Grid) (n l : ℕ) (w₀ w : List ℕ) (r : Bool) : Type 0 where
   pub answer : r ≡ any (inverted G) (touchesFor touches l)
-  pub marks : r ≡ false → Marking g n l plain (touched G (touchesFor touches l)) (leaves G (touchesFor touches l) (endsFor ends l)) (passes G (endsFor ends l)) w₀ w
+  pub marks : r ≡ false → Marking g n l plain (not plain) (touched G (touchesFor touches l)) (leaves G (touchesFor touches l) (endsFor ends l)) (passes G (endsFor ends l)) w₀ w

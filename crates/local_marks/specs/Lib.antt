@@ -1,3 +1,4 @@
 pub mod Marks
+pub mod Marking
 pub mod Inner
 pub mod Rows

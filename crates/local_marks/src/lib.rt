@@ -1,4 +1,5 @@
 // The first pass over the locals: number 8, and the marks of every local in the rows of the places.
+ghost use mathlib.Core.Bool.{not};
 ghost use mathlib.Core.List.{List};
 ghost use Prim.Native.Nat.{_+_, _*_, _/_, _≤_, _<_};
 ghost use lib.ListN.{length};
@@ -7,17 +8,18 @@ ghost use Rattle.graph.specs.Work.{Within};
 ghost use Rattle.areas.specs.Blocks.{touched, leaves, passes};
 ghost use Rattle.spots.specs.Spots.{lineOf, touchesAt, endsAt};
 ghost use Rattle.local_marks.specs.Marks.{Ready, MarkedAll};
-ghost use Rattle.local_marks.specs.Inner.{Marking, Standing, MarkedOne};
+ghost use Rattle.local_marks.specs.Marking.{Marking, Standing};
+ghost use Rattle.local_marks.specs.Inner.{MarkedOne};
 use area_flow::Grid;
 use area_rows::Column;
 use local_spots::Places;
 use spots::Spots;
 
-// The marks of one local whose touches and ends stand in the work space.
-fn mark_spots(blocks: &[u32], work: &mut [u64], s: Spots, g: Grid, l: usize, plain: bool)
+// The marks of one local, plain or ending, whose touches and ends stand in the work space.
+pub fn mark_spots(blocks: &[u32], work: &mut [u64], s: Spots, g: Grid, l: usize, plain: bool)
     requires { ⌜ Standing (now blocks) s g l (now work) ⌝ }
     ensures { λ _. ⌜ Within (g .touched) (g .passes + length (now (blocks .entry)) / 3 * g .words) (now (work .entry)) (now (work .exit)) ⌝ }
-    ensures { λ _. ⌜ ((es : List Edge) → Marking g (length (now (blocks .entry)) / 3) l plain (touched (lineOf (now (blocks .entry)) es) (touchesAt s (now (work .entry)))) (leaves (lineOf (now (blocks .entry)) es) (touchesAt s (now (work .entry))) (endsAt s (now (work .entry)))) (passes (lineOf (now (blocks .entry)) es) (endsAt s (now (work .entry)))) (now (work .entry)) (now (work .exit))) ⌝ }
+    ensures { λ _. ⌜ ((es : List Edge) → Marking g (length (now (blocks .entry)) / 3) l plain (not plain) (touched (lineOf (now (blocks .entry)) es) (touchesAt s (now (work .entry)))) (leaves (lineOf (now (blocks .entry)) es) (touchesAt s (now (work .entry))) (endsAt s (now (work .entry)))) (passes (lineOf (now (blocks .entry)) es) (endsAt s (now (work .entry)))) (now (work .entry)) (now (work .exit))) ⌝ }
 {
     let n = blocks.len() / 3;
     if plain {

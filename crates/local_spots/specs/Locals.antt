@@ -1,20 +1,29 @@
--- Touches and ends that are lent by themselves: rows `local,start,end` and rows `local,point`, and those of one local in the work space.
+-- Kinds, touches and ends that are lent by themselves: numbers, rows `local,start,end` and rows `local,point`, and those of one local in the work space.
 use Prim.Native.Nat.{ℕ, _+_, _≤_}
 use mathlib.Core.Path.{_≡_}
 use mathlib.Core.Bool.{cond}
 use mathlib.Core.List.{List, [], _∷_}
-use lib.ListN.{length}
+use lib.ListN.{length, getD}
 use lib.Dec.{eqb}
 use Rattle.words.specs.Sort.{sortOf}
 use Rattle.words.specs.Rows.{rowCount, field, records}
 use Rattle.ranges.specs.declared.Range.{Range}
 use Rattle.ranges.specs.Points.{range}
 use Rattle.graph.specs.Work.{Within}
+use Rattle.carrying.specs.declared.Kind.{Kind}
+use Rattle.carrying.specs.declared.Kind.the-variants.{Plain, Ending}
 use Rattle.carrying.specs.Lists.{gather}
 use Rattle.chains.specs.Chains.{Chain}
 use Rattle.spots.specs.declared.Spots.{Spots}
 use Rattle.spots.specs.Spots.{touchesAt, endsAt, Stand}
 use Rattle.local_spots.specs.declared.Places.{Places}
+
+-- a local's kind by the number lent: 0 plain, any other ending
+abbrev pub kindBy : ℕ → Kind
+kindBy k = cond (eqb k 0) Plain Ending
+
+abbrev pub kindFor : List ℕ → ℕ → Kind
+kindFor kinds l = kindBy (getD kinds l 0)
 
 -- the local's touches, in lent order: rows that name another count for others, or for nobody
 abbrev pub touchesFor : List ℕ → ℕ → List Range
