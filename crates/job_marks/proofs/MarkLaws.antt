@@ -1,13 +1,11 @@
 -- One local of a job: its marks by its kind, and by its touches and ends in whatever order they were fetched.
-use Prim.Native.Nat.{ℕ, _+_, _*_, _≤_, _<_}
+use Prim.Native.Nat.{ℕ, _+_, _*_, _<_}
 use native.Mathlib.Omega.{arith}
-use mathlib.Core.Path.{_≡_, refl, sym, ap, _∙_, subst}
+use mathlib.Core.Path.{_≡_, sym, ap, _∙_, subst}
 use mathlib.Core.Logic.{_≢_}
 use mathlib.Core.Bool.{Bool, true≢false}
 use mathlib.Core.List.{List, []}
-use lib.ListN.{length, getD}
 use Rattle.words.specs.Rows.{rowCount}
-use Rattle.words.specs.Sort.{sortOf}
 use Rattle.ranges.specs.declared.Range.{Range}
 use Rattle.ranges.proofs.MergeLaws.{Permuted}
 use Rattle.graph.specs.Paths.{Edge}

@@ -1,23 +1,21 @@
 -- Laws of fetching: a local followed, then its touches, then its ends; and that the next local can be fetched.
-use Prim.Native.Nat.{ℕ, _+_, _*_, _^_, _≤_, _<_}
+use Prim.Native.Nat.{ℕ, _+_, _^_, _≤_, _<_}
 use native.Mathlib.Omega.{arith}
 use mathlib.Core.Path.{_≡_, refl, sym, ap, _∙_}
-use mathlib.Core.Logic.{_≢_, inr}
-use mathlib.Core.Bool.{Bool, true, false, true≢false}
+use mathlib.Core.Logic.{inr}
+use mathlib.Core.Bool.{true, false, true≢false}
 use mathlib.Core.List.{List}
 use lib.ListN.{length, getD}
 use Rattle.words.specs.Rows.{rowCount}
 use Rattle.words.specs.Regions.{part, Kept}
 use Rattle.words.specs.Sort.{Distinct}
 use Rattle.words.proofs.RegionLaws.{kept-part-list}
-use Rattle.ranges.specs.declared.Range.{Range}
 use Rattle.ranges.specs.Forms.{unpacked}
 use Rattle.ranges.proofs.MergeLaws.{Permuted}
 use Rattle.graph.specs.Work.{Within}
 use Rattle.graph.proofs.Within.{within-trans, within-wider}
 use Rattle.carrying.specs.declared.Kind.{Kind}
 use Rattle.carrying.specs.declared.Kind.the-variants.{Unfollowed, Plain, Ending}
-use Rattle.carrying.specs.Carried.{Code, piecesOf}
 use Rattle.carrying.proofs.CarryLaws.{carries-below}
 use Rattle.areas.proofs.PermuteLaws.{perm-is}
 use Rattle.insts.proofs.DealtLaws.{insts-length}
@@ -36,7 +34,7 @@ use Rattle.touches.specs.Touches.{Linked}
 use Rattle.job_spots.specs.declared.Places.{Places}
 use Rattle.job_spots.specs.declared.JobLocal.{JobLocal}
 use Rattle.job_spots.specs.Spots.{TouchesIn, EndsIn}
-use Rattle.job_spots.specs.Fetch.{isUnfollowed, Laid, Ready, FetchedTo, FetchedAny}
+use Rattle.job_spots.specs.Fetch.{isUnfollowed, Laid, Ready, FetchedAny}
 use Rattle.job_spots.proofs.FollowLaws.{once, touches-are, ends-are}
 
 is-unfollowed : (k : Kind) → isUnfollowed k ≡ true → k ≡ Unfollowed

@@ -19,7 +19,6 @@ use Rattle.follow.specs.declared.Sizes.{Sizes}
 use Rattle.follow.specs.Followed as following
 use Rattle.chains.specs.Chains.{Chain}
 use Rattle.live.specs.Live.{InOrder}
-use Rattle.spots.specs.declared.Spots.{Spots}
 use Rattle.spots.specs.Spots.{touchesAt, endsAt, Stand}
 use Rattle.job_spots.specs.declared.Places.{Places}
 use Rattle.job_spots.specs.declared.JobLocal.{JobLocal}
