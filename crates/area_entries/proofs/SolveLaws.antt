@@ -23,7 +23,8 @@ use Rattle.local_spots.specs.declared.Places.{Places}
 use Rattle.local_spots.specs.Locals.{kindFor, touchesFor, endsFor, Laid, Chained}
 use Rattle.local_marks.specs.Marks.{someInverted, MarkedAll}
 use Rattle.local_marks.specs.Marks.{Ready as MarkReady}
-use Rattle.local_marks.proofs.RowLaws.{RowsBy, rows-by}
+use Rattle.local_marks.specs.Rows.{RowsBy}
+use Rattle.local_marks.proofs.RowLaws.{rows-by}
 use Rattle.area_measure.specs.Locals.{areaFor, Fits, Ready, RowsOf, MeasuredAll}
 use Rattle.area_measure.proofs.MeasureLaws.{plain-kind, ending-kind}
 use Rattle.area_measure.proofs.ListLaws.{listed-start}

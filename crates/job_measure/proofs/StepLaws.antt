@@ -31,13 +31,14 @@ use Rattle.reach.specs.Prepared.{codeOf, Prepared}
 use Rattle.follow.specs.declared.Sizes.{Sizes}
 use Rattle.spots.specs.declared.Spots.{Spots}
 use Rattle.spots.specs.Spots.{lineOf, touchesAt, endsAt}
+use Rattle.local_spots.specs.Locals.{kindBy}
 use Rattle.local_spots.proofs.OrderLaws.{arrives-sorted, ending-sorted}
 use Rattle.area_pieces.specs.Local.{blockCount}
 use Rattle.area_pieces.proofs.PushLaws.{set-other}
 use Rattle.area_flow.specs.declared.Grid.{Grid}
 use Rattle.area_flow.specs.Grid.{rowBit, blockBit}
 use Rattle.area_measure.specs.declared.Listing.{Listing}
-use Rattle.area_measure.specs.Measure.{kindBy, itemWord, RowsFor, Measurable, Listable, Measured}
+use Rattle.area_measure.specs.Measure.{itemWord, RowsFor, Measurable, Listable, Measured}
 use Rattle.area_measure.specs.Locals.{listed, wordOf, localAt, ListedBy}
 use Rattle.area_measure.proofs.ListLaws.{listed-more}
 use Rattle.job_spots.specs.declared.Places.{Places}

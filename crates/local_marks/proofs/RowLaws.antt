@@ -21,14 +21,7 @@ use Rattle.area_flow.specs.declared.Grid.{Grid}
 use Rattle.area_flow.specs.Grid.{rowBit, blockBit, Laid, AreaRows}
 use Rattle.area_flow.proofs.BlockRows.{by-line, plain-written, plain-read, plain-blocks, ending-blocks}
 use Rattle.local_marks.specs.Marks.{isPlain, isEnding, Marks}
-
--- local l's rows over n blocks are those of its kind, its touches and its ends
-pub record RowsBy (G : Graph) (kind : Kind) (ts : List Range) (es : List ℕ) (g : Grid) (n l : ℕ) (w : List ℕ) : Type 0 where
-  pub written : kind ≡ Plain → (k : ℕ) → k < length (G .blocks) → rowBit g (g .written) w k l ≡ beforeRow G ts k
-  pub read : kind ≡ Plain → (k : ℕ) → k < length (G .blocks) → rowBit g (g .read) w k l ≡ afterRow G ts k
-  pub both : kind ≡ Plain → (k : ℕ) → k < n → blockBit g w l k ≡ (rowBit g (g .written) w k l && rowBit g (g .read) w k l)
-  pub arrives : kind ≡ Ending → (k : ℕ) → k < length (G .blocks) → blockBit g w l k ≡ arrivesRow G ts es k
-  pub rest : (b : ℕ) → n ≤ b → b < g .width * 64 → blockBit g w l b ≡ false
+use Rattle.local_marks.specs.Rows.{RowsBy}
 
 -- the rows made from the marks w₀ have stood since
 module _ (blocks w : List ℕ) {es : List Edge} {K : ℕ → Kind} {T : ℕ → List Range} {E : ℕ → List ℕ} {g : Grid} {e : ℕ} {w₀ w₁ : List ℕ}
