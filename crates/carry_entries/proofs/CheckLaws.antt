@@ -96,7 +96,7 @@ module _ (v : ℕ) (insts operands crossings addresses ends : List ℕ) where
       → c ≡ endVerdict (instsOf insts []) (mentionsOf ends) → d ≡ first b c → r ≡ first a d → r ≡ strayVerdict v insts [] crossings addresses ends
   stray-chain ea eb ec ed er = cc
 
-  stray-whatever : strayVerdict v insts [] crossings addresses ends ≡ strayVerdict v insts operands crossings addresses ends
+  pub stray-whatever : strayVerdict v insts [] crossings addresses ends ≡ strayVerdict v insts operands crossings addresses ends
   stray-whatever =
       ap (λ (x : Verdict). first (crossingVerdict v crossings) (first x (endVerdict (instsOf insts []) (mentionsOf ends)))) (address-whatever insts operands addresses)
       ∙ ap (λ (x : Verdict). first (crossingVerdict v crossings) (first (addressVerdict (instsOf insts operands) (mentionsOf addresses)) x)) (end-whatever insts operands ends)

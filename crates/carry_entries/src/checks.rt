@@ -15,7 +15,7 @@ fn wide(x: u32) -> usize
 }
 
 // Refusal 1.
-fn counts(
+pub fn counts(
     v: u32,
     blocks: &[u32],
     insts: &[u32],
@@ -33,7 +33,7 @@ fn counts(
 }
 
 // Refusal 4 of the crossings, refusal 5 of the addresses and the ends, whatever the operands.
-fn stray(v: u32, insts: &[u32], crossings: &[u32], addresses: &[u32], ends: &[u32]) -> Verdict
+pub fn stray(v: u32, insts: &[u32], crossings: &[u32], addresses: &[u32], ends: &[u32]) -> Verdict
     requires { ⌜ v ≤ 65535 ⌝ }
     ensures { λ r. ⌜ r ≡ strayVerdict v (now (insts .entry)) [] (now (crossings .entry)) (now (addresses .entry)) (now (ends .entry)) ⌝ }
 {

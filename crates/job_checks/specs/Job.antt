@@ -1,0 +1,130 @@
+-- Document 01: a job as its rows are lent, numbers 1 to 6 of it in their order, and W.
+use Prim.Native.Nat.{ℕ, _+_, _*_, _/_, _≤_, _<_}
+use mathlib.Core.Path.{_≡_}
+use mathlib.Core.List.{List, []}
+use lib.ListN.{length, getD}
+use Rattle.refusals.specs.declared.Verdict.{Verdict}
+use Rattle.refusals.specs.declared.Verdict.the-variants.{Fine}
+use Rattle.refusals.specs.Verdicts.{first, inOrder}
+use Rattle.words.specs.Rows.{rowCount}
+use Rattle.graph.specs.Line.{blocksOf, jumpsOf, lineVerdict, edgeVerdict, Sound}
+use Rattle.carrying.specs.Insts.{instsOf}
+use Rattle.carrying.specs.Carried.{piecesOf}
+use Rattle.carrying.specs.Checks.{instVerdict}
+use Rattle.areas.specs.Slots.{assignedOf, movesOf, moveVerdict, pieceVerdict, assignedVerdict}
+use Rattle.areas.specs.Job.{Job, localsOf, checks, Checked}
+use Rattle.insts.specs.Counts.{rowsVerdict, mostVerdict}
+use Rattle.insts.specs.Rows.{AddsUp}
+use Rattle.reach.specs.Prepared.{wordsOf, codeOf}
+use Rattle.carry_entries.specs.Checks.{carryCounts}
+use Rattle.carry_entries.specs.Checks.{strayVerdict as mentionVerdict}
+use Rattle.job_checks.specs.declared.Sizes.{Sizes}
+
+-- the records of the rows, in the job text's group order
+abbrev pub jobOf : ℕ → ℕ → List ℕ → List ℕ → List ℕ → List ℕ → List ℕ → List ℕ → List ℕ → List ℕ → List ℕ → List ℕ → List ℕ → List ℕ → Job
+jobOf points v blocks edges insts operands crossings locals slots addresses ends pieces assigned moves =
+    record {
+      points = points;
+      blocks = blocksOf blocks;
+      jumps = jumpsOf edges;
+      code = codeOf v insts operands crossings addresses ends;
+      locals = localsOf locals;
+      slots = slots;
+      pieces = piecesOf pieces;
+      assigned = assignedOf assigned;
+      moves = movesOf moves;
+    }
+
+-- "edges 16,384; slots 2,048; live pieces, assignments, moves and the area list 65,536 each", by their lengths in numbers
+unfoldable pub otherCounts : ℕ → ℕ → ℕ → ℕ → ℕ → ℕ → Verdict
+otherCounts edges slots pieces assigned moves areas =
+    first (rowsVerdict 2 16384 edges) (first (mostVerdict 2048 slots) (first (rowsVerdict 3 65536 pieces) (first (rowsVerdict 2 65536 assigned)
+    (first (rowsVerdict 4 65536 moves) (rowsVerdict 2 65536 areas)))))
+
+-- number 1: "a count outside its limits", the area list by its length in numbers; numbers that are no whole records, and operand counts that do not add up, are no count
+unfoldable pub countVerdict : ℕ → List ℕ → List ℕ → List ℕ → List ℕ → List ℕ → List ℕ → List ℕ → List ℕ → List ℕ → List ℕ → List ℕ → List ℕ → ℕ → Verdict
+countVerdict v blocks edges insts operands crossings locals slots addresses ends pieces assigned moves areas =
+    first (carryCounts v blocks insts operands crossings locals addresses ends)
+    (otherCounts (length edges) (length slots) (length pieces) (length assigned) (length moves) areas)
+
+-- numbers 1 to 6: "lowest number wins", and within a number the job text's group order
+unfoldable pub recordsVerdict : ℕ → ℕ → List ℕ → List ℕ → List ℕ → List ℕ → List ℕ → List ℕ → List ℕ → List ℕ → List ℕ → List ℕ → List ℕ → List ℕ → ℕ → Verdict
+recordsVerdict points v blocks edges insts operands crossings locals slots addresses ends pieces assigned moves areas =
+    first (countVerdict v blocks edges insts operands crossings locals slots addresses ends pieces assigned moves areas)
+    (inOrder (checks (jobOf points v blocks edges insts operands crossings locals slots addresses ends pieces assigned moves)))
+
+-- ---- the same by the functions that check them
+
+-- numbers 2, 3 and 4 of the blocks, the edges and the instructions
+abbrev pub placeVerdict : ℕ → ℕ → List ℕ → List ℕ → List ℕ → List ℕ → Verdict
+placeVerdict points v blocks edges insts operands =
+    first (lineVerdict (blocksOf blocks) points) (first (edgeVerdict (blocksOf blocks) (jumpsOf edges)) (instVerdict (blocksOf blocks) v (instsOf insts operands)))
+
+-- number 4 of the crossings, number 5 of the addresses, the ends and the moves
+abbrev pub strayVerdict : ℕ → List ℕ → List ℕ → List ℕ → List ℕ → List ℕ → List ℕ → List ℕ → Verdict
+strayVerdict v blocks insts operands crossings addresses ends moves =
+    first (mentionVerdict v insts operands crossings addresses ends) (moveVerdict (blocksOf blocks) (instsOf insts operands) (movesOf moves))
+
+-- number 6
+abbrev pub liveVerdict : ℕ → List ℕ → List ℕ → List ℕ → Verdict
+liveVerdict v blocks pieces assigned = first (pieceVerdict (blocksOf blocks) v (piecesOf pieces)) (assignedVerdict v (assignedOf assigned))
+
+-- ---- counts
+
+-- how many records are lent, how many ranges the area list holds, and V
+abbrev pub sizesOf : ℕ → List ℕ → List ℕ → List ℕ → List ℕ → List ℕ → List ℕ → List ℕ → List ℕ → List ℕ → List ℕ → List ℕ → List ℕ → ℕ → Sizes
+sizesOf v blocks edges insts operands crossings locals slots addresses ends pieces assigned moves areas =
+    record {
+      v = v;
+      blocks = rowCount 3 blocks;
+      edges = rowCount 2 edges;
+      insts = rowCount 9 insts;
+      operands = rowCount 2 operands;
+      crossings = length crossings;
+      locals = rowCount 2 locals;
+      slots = length slots;
+      addresses = rowCount 2 addresses;
+      ends = rowCount 2 ends;
+      pieces = rowCount 3 pieces;
+      assigned = rowCount 2 assigned;
+      moves = rowCount 4 moves;
+      room = areas / 2;
+    }
+
+-- W = 8 × (all record counts + B × ⌈locals/64⌉ + area list length + ⌈V/64⌉)
+abbrev pub spaceOf : Sizes → ℕ
+spaceOf z =
+    8 * (z .blocks + z .edges + z .insts + z .operands + z .crossings + z .locals + z .slots + z .addresses + z .ends + z .pieces + z .assigned + z .moves
+    + z .blocks * wordsOf (z .locals) + z .room + wordsOf (z .v))
+
+-- within the limits
+pub record Small (z : Sizes) : Type 0 where
+  pub registers : z .v ≤ 65535
+  pub some-block : 0 < z .blocks
+  pub few-blocks : z .blocks ≤ 4096
+  pub few-edges : z .edges ≤ 16384
+  pub few-insts : z .insts ≤ 65536
+  pub few-operands : z .operands ≤ 262144
+  pub few-crossings : z .crossings ≤ 65536
+  pub few-locals : z .locals ≤ 2048
+  pub few-slots : z .slots ≤ 2048
+  pub few-addresses : z .addresses ≤ 65536
+  pub few-ends : z .ends ≤ 65536
+  pub few-pieces : z .pieces ≤ 65536
+  pub few-assigned : z .assigned ≤ 65536
+  pub few-moves : z .moves ≤ 65536
+  pub few-ranges : z .room ≤ 65536
+
+-- what no refusal says of the rows
+pub record Passed (points v : ℕ) (blocks edges insts operands crossings locals slots addresses ends pieces assigned moves : List ℕ) (areas : ℕ) : Type 0 where
+  pub small : Small (sizesOf v blocks edges insts operands crossings locals slots addresses ends pieces assigned moves areas)
+  pub adds : AddsUp insts operands
+  pub checked : Checked (jobOf points v blocks edges insts operands crossings locals slots addresses ends pieces assigned moves)
+  pub sound : Sound (blocksOf blocks)
+  pub edges-fine : edgeVerdict (blocksOf blocks) (jumpsOf edges) ≡ Fine
+  pub insts-fine : instVerdict (blocksOf blocks) v (instsOf insts operands) ≡ Fine
+  pub found : (a : ℕ) → a < rowCount 2 addresses → getD addresses (2 * a) 0 < rowCount 9 insts
+  pub ended : (k : ℕ) → k < rowCount 2 ends → getD ends (2 * k) 0 < rowCount 9 insts
+  pub moves-fine : moveVerdict (blocksOf blocks) (instsOf insts []) (movesOf moves) ≡ Fine
+  pub pieces-fine : pieceVerdict (blocksOf blocks) v (piecesOf pieces) ≡ Fine
+  pub assigned-fine : assignedVerdict v (assignedOf assigned) ≡ Fine

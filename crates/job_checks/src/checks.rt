@@ -1,0 +1,169 @@
+// Refusals 1 to 6 of a job, in linear time and without work space.
+ghost use mathlib.Core.Path.{_≡_};
+ghost use mathlib.Core.List.{[]};
+ghost use Prim.Native.Nat.{_/_, _≤_};
+ghost use lib.ListN.{length};
+ghost use Rattle.insts.specs.Rows.{AddsUp};
+ghost use Rattle.job_checks.specs.Job.{otherCounts, countVerdict, placeVerdict, strayVerdict, liveVerdict, recordsVerdict};
+use refusals::Verdict;
+
+// Refusal 1 of the groups that carrying is not lent, by their lengths.
+fn others(
+    edges: usize,
+    slots: usize,
+    pieces: usize,
+    assigned: usize,
+    moves: usize,
+    areas: usize,
+) -> Verdict
+    ensures { λ r. ⌜ r ≡ otherCounts edges slots pieces assigned moves areas ⌝ }
+{
+    let a = insts::counts::rows(edges, 2, 16384);
+    let b = insts::counts::most(slots, 2048);
+    let c = insts::counts::rows(pieces, 3, 65536);
+    let d = insts::counts::rows(assigned, 2, 65536);
+    let e = insts::counts::rows(moves, 4, 65536);
+    let f = insts::counts::rows(areas, 2, 65536);
+    let f = refusals::earlier(e, f);
+    let f = refusals::earlier(d, f);
+    let f = refusals::earlier(c, f);
+    let f = refusals::earlier(b, f);
+    refusals::earlier(a, f)
+}
+
+// Refusal 1; the area list is given by its length.
+fn counts(
+    v: u32,
+    blocks: &[u32],
+    edges: &[u32],
+    insts: &[u32],
+    operands: &[u32],
+    crossings: &[u32],
+    locals: &[u32],
+    slots: &[u32],
+    addresses: &[u32],
+    ends: &[u32],
+    pieces: &[u32],
+    assigned: &[u32],
+    moves: &[u32],
+    areas: usize,
+) -> Verdict
+    ensures { λ r. ⌜ r ≡ countVerdict v (now (blocks .entry)) (now (edges .entry)) (now (insts .entry)) (now (operands .entry)) (now (crossings .entry)) (now (locals .entry)) (now (slots .entry)) (now (addresses .entry)) (now (ends .entry)) (now (pieces .entry)) (now (assigned .entry)) (now (moves .entry)) areas ⌝ }
+{
+    let a = carry_entries::checks::counts(
+        v,
+        blocks,
+        insts,
+        operands,
+        crossings,
+        locals,
+        addresses,
+        ends,
+    );
+    let b = others(
+        edges.len(),
+        slots.len(),
+        pieces.len(),
+        assigned.len(),
+        moves.len(),
+        areas,
+    );
+    refusals::earlier(a, b)
+}
+
+// Refusals 2, 3 and 4 of the blocks, the edges and the instructions.
+fn located(
+    points: u32,
+    v: u32,
+    blocks: &[u32],
+    edges: &[u32],
+    insts: &[u32],
+    operands: &[u32],
+) -> Verdict
+    requires { ⌜ (1 ≤ length (now blocks) / 3) × (length (now blocks) / 3 ≤ 4096) × AddsUp (now insts) (now operands) × (v ≤ 65535) ⌝ }
+    ensures { λ r. ⌜ r ≡ placeVerdict points v (now (blocks .entry)) (now (edges .entry)) (now (insts .entry)) (now (operands .entry)) ⌝ }
+{
+    let line = graph::checks::line(blocks, points);
+    if let Verdict::Bad(r, block) = line {
+        return Verdict::Bad(r, block);
+    }
+    let a = graph::checks::edge(edges, blocks.len() / 3);
+    let b = insts::checks::inst(blocks, v, insts, operands);
+    refusals::earlier(a, b)
+}
+
+// Refusal 4 of the crossings, refusal 5 of the addresses, the ends and the moves, whatever the operands.
+fn stray(
+    v: u32,
+    blocks: &[u32],
+    insts: &[u32],
+    crossings: &[u32],
+    addresses: &[u32],
+    ends: &[u32],
+    moves: &[u32],
+) -> Verdict
+    requires { ⌜ v ≤ 65535 ⌝ }
+    ensures { λ r. ⌜ r ≡ strayVerdict v (now (blocks .entry)) (now (insts .entry)) [] (now (crossings .entry)) (now (addresses .entry)) (now (ends .entry)) (now (moves .entry)) ⌝ }
+{
+    let a = carry_entries::checks::stray(v, insts, crossings, addresses, ends);
+    let b = spills::checks::moves(blocks, insts, moves);
+    refusals::earlier(a, b)
+}
+
+// Refusal 6 of the live pieces and the assignments.
+fn live(v: u32, blocks: &[u32], pieces: &[u32], assigned: &[u32]) -> Verdict
+    requires { ⌜ 1 ≤ length (now blocks) / 3 ⌝ }
+    ensures { λ r. ⌜ r ≡ liveVerdict v (now (blocks .entry)) (now (pieces .entry)) (now (assigned .entry)) ⌝ }
+{
+    let a = spills::checks::pieces(blocks, v, pieces);
+    let b = spills::checks::assigned(v, assigned);
+    refusals::earlier(a, b)
+}
+
+// The first refusal of a job's records, by number and then in the job text's order, for an area list of `areas` numbers.
+pub fn records(
+    points: u32,
+    v: u32,
+    blocks: &[u32],
+    edges: &[u32],
+    insts: &[u32],
+    operands: &[u32],
+    crossings: &[u32],
+    locals: &[u32],
+    slots: &[u32],
+    addresses: &[u32],
+    ends: &[u32],
+    pieces: &[u32],
+    assigned: &[u32],
+    moves: &[u32],
+    areas: usize,
+) -> Verdict
+    ensures { λ r. ⌜ r ≡ recordsVerdict points v (now (blocks .entry)) (now (edges .entry)) (now (insts .entry)) (now (operands .entry)) (now (crossings .entry)) (now (locals .entry)) (now (slots .entry)) (now (addresses .entry)) (now (ends .entry)) (now (pieces .entry)) (now (assigned .entry)) (now (moves .entry)) areas ⌝ }
+{
+    let number = counts(
+        v,
+        blocks,
+        edges,
+        insts,
+        operands,
+        crossings,
+        locals,
+        slots,
+        addresses,
+        ends,
+        pieces,
+        assigned,
+        moves,
+        areas,
+    );
+    if let Verdict::Bad(r, i) = number {
+        return Verdict::Bad(r, i);
+    }
+    let place = located(points, v, blocks, edges, insts, operands);
+    if let Verdict::Bad(r, i) = place {
+        return Verdict::Bad(r, i);
+    }
+    let astray = stray(v, blocks, insts, crossings, addresses, ends, moves);
+    let dead = live(v, blocks, pieces, assigned);
+    refusals::earlier(astray, dead)
+}
