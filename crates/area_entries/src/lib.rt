@@ -14,7 +14,7 @@ use refusals::Refusal;
 use refusals::Verdict;
 use solve::Found;
 
-mod layout; // layout.rt: where the regions stand in the work space
+pub mod layout; // layout.rt: where the regions stand in the work space
 mod checks; // checks.rt: refusals 1, 2, 3 and 7
 mod solve; // solve.rt: the areas in the work space
 mod tables; // tables.rt: from the work space into the answer lists
