@@ -19,12 +19,12 @@ rows-small {z} S =
 row-sum : (x w b : ℕ) → x ≤ w * (b + 63) → x ≤ b * w + 63 * w
 row-sum x w b h = omega (arith, mul-comm w b)
 
-room-left : (d b m x r w l : ℕ) → x ≤ r + 63 * w → 2 * b ≤ r → 64 * w ≤ l + 63 → 2 ≤ w → d + m ≤ b + 1 → 2 + d + b + m + x ≤ 2 * r + 4 * l
+room-left : (d b m x r w l : ℕ) → x ≤ r + 63 * w → 2 * b ≤ r → 64 * w ≤ l + 63 → 2 ≤ w → d + m ≤ b + 1 → 3 + d + b + m + x ≤ 2 * r + 4 * l
 room-left d b m x r w l h₁ h₂ h₃ h₄ h₅ = omega arith
 
 module _ (b l : ℕ) (some-block : 0 < b) (few-blocks : b ≤ 4096) (some-local : 0 < l) where
   -- up to 64 locals have one word a row
-  one-word : l ≤ 64 → 2 + b / 64 + b + wordsFor b + l * wordsFor b ≤ 2 * (b * wordsFor l) + 4 * l
+  one-word : l ≤ 64 → 3 + b / 64 + b + wordsFor b + l * wordsFor b ≤ 2 * (b * wordsFor l) + 4 * l
   one-word h =
       let e : wordsFor l ≡ 1 = omega arith in
       let r : b * wordsFor l ≡ b * 1 = ap (λ (k : ℕ). b * k) e in
@@ -39,7 +39,7 @@ module _ (b l : ℕ) (some-block : 0 < b) (few-blocks : b ≤ 4096) (some-local 
       (λ q. let x : l * wordsFor b ≡ l * 1 = ap (λ (k : ℕ). l * k) (omega arith) in omega arith))
 
   -- more have two or more
-  more-words : 64 < l → 2 + b / 64 + b + wordsFor b + l * wordsFor b ≤ 2 * (b * wordsFor l) + 4 * l
+  more-words : 64 < l → 3 + b / 64 + b + wordsFor b + l * wordsFor b ≤ 2 * (b * wordsFor l) + 4 * l
   more-words h =
       let x : l * wordsFor b ≤ wordsFor l * 64 * wordsFor b = mul-le-mul-right (wordsFor b) (omega arith) in
       let y : wordsFor l * 64 * wordsFor b ≡ wordsFor l * (64 * wordsFor b) = mul-assoc (wordsFor l) 64 (wordsFor b) in
@@ -47,7 +47,7 @@ module _ (b l : ℕ) (some-block : 0 < b) (few-blocks : b ≤ 4096) (some-local 
       let t : b * 2 ≤ b * wordsFor l = mul-le-mul-left b (omega arith) in
       room-left (b / 64) b (wordsFor b) (l * wordsFor b) (b * wordsFor l) (wordsFor l) l (row-sum _ (wordsFor l) b (omega (arith, x, y, z))) (omega (arith, t)) (omega arith) (omega arith) (omega arith)
 
-  pub rows-fit : 2 + b / 64 + b + wordsFor b + l * wordsFor b ≤ 2 * (b * wordsFor l) + 4 * l
+  pub rows-fit : 3 + b / 64 + b + wordsFor b + l * wordsFor b ≤ 2 * (b * wordsFor l) + 4 * l
   rows-fit = cut 65 l (λ h. more-words (omega arith)) (λ h. one-word (omega arith))
 
 -- the last region, three words a touch and a word a block, ends within W

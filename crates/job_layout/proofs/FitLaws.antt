@@ -73,8 +73,8 @@ mark-is z base g G = let w = rows-are z G in let x = columns-are z G in omega ar
 locals-sum : (z : Sizes) (base mark : ℕ)
     → base ≡ z .room + 4 * z .locals + z .slots + 3 * z .pieces + 3 * wordsOf (z .v) + 3 * z .insts + z .operands + 2 * z .addresses + 2 * z .ends
     → mark ≡ base + 3 * z .edges + 7 * z .blocks + 6 * (z .blocks * wordsFor (z .locals)) + (z .blocks / 64 + 2) + z .locals * wordsFor (z .blocks)
-    → 2 + z .blocks / 64 + z .blocks + wordsFor (z .blocks) + z .locals * wordsFor (z .blocks) ≤ 2 * (z .blocks * wordsFor (z .locals)) + 4 * z .locals
-    → mark + wordsFor (z .blocks) + z .blocks + mostOfLocal z ≤ spaceOf z
+    → 3 + z .blocks / 64 + z .blocks + wordsFor (z .blocks) + z .locals * wordsFor (z .blocks) ≤ 2 * (z .blocks * wordsFor (z .locals)) + 4 * z .locals
+    → mark + wordsFor (z .blocks) + z .blocks + mostOfLocal z < spaceOf z
 locals-sum z base mark e f h = omega arith
 
 slots-sum : (z : Sizes) (free to : ℕ) → free ≡ z .room + z .locals + z .slots + z .pieces → to ≡ free + 3 * z .slots + z .blocks + 2 * z .moves → to + mostOfSlot z ≤ spaceOf z
@@ -89,7 +89,7 @@ free-is z r P = omega arith
 pub layout-fits : (z : Sizes) (r : Regions) (g : Grid) (p : Places) → Small z → Placed z r → Gridded (gridSizes z) (r .base) g → SlotsFrom z (r .free) p → Fits z g p
 layout-fits z r g p S P G Q = record {
   locals-fit = λ h.
-      subst (λ (m : ℕ). markOf g + m + z .blocks + mostOfLocal z ≤ spaceOf z) (sym (G .width-is))
+      subst (λ (m : ℕ). markOf g + m + z .blocks + mostOfLocal z < spaceOf z) (sym (G .width-is))
       (locals-sum z (r .base) (markOf g) (base-is z r P) (mark-is z (r .base) g G) (rows-fit (z .blocks) (z .locals) (S .some-block) (S .few-blocks) h));
   slots-fit = slots-sum z (r .free) (p .to) (free-is z r P) (slots-end z (r .free) p Q);
 }
@@ -101,7 +101,7 @@ oneLocal = record { v = 0; blocks = 1; edges = 0; insts = 0; operands = 0; cross
 one-sum : (base mark : ℕ) → base ≡ 4 → mark ≡ base + 0 + 7 + 6 + 2 + 1 → mark + 1 + 1 + 1 + 1 ≡ 24
 one-sum base mark e f = omega arith
 
--- one block and one local leave one word: of a job the least
+-- one block and one local leave one word, and no job leaves less (`locals-fit`)
 pub one-left : (r : Regions) (g : Grid) → Placed oneLocal r → Gridded (gridSizes oneLocal) (r .base) g → markOf g + g .width + 1 + mostOfLocal oneLocal + 1 ≡ spaceOf oneLocal
 one-left r g P G =
     subst (λ (m : ℕ). markOf g + m + 1 + mostOfLocal oneLocal + 1 ≡ spaceOf oneLocal) (sym (G .width-is))
@@ -196,6 +196,9 @@ module _ {z : Sizes} {r : Regions} {p : Places} (P : Placed z r) (Q : SlotsFrom 
 at-most : {a b c : ℕ} → a ≤ b → b ≤ c → a ≤ c
 at-most h k = omega arith
 
+below-most : {a b c : ℕ} → a < b → b ≤ c → a ≤ c
+below-most h k = omega arith
+
 marked : (m x y t n : ℕ) → m + x + y + t ≤ n → m ≤ n
 marked m x y t n h = omega arith
 
@@ -208,7 +211,7 @@ heads-below o h =
 module _ (z : Sizes) (r : Regions) (g : Grid) (p : Places) (S : Small z) (P : Placed z r) (G : Gridded (gridSizes z) (r .base) g) (Q : SlotsFrom z (r .free) p) (w : List ℕ) (room : spaceOf z ≤ length w) where
   pub locals-laid : {lay : Lay} → LaidFrom z (r .free) lay → 0 < z .locals → LocalsLaid z r lay g w
   locals-laid L some =
-      let f = at-most (layout-fits z r g p S P G Q .locals-fit some) room in
+      let f = below-most (layout-fits z r g p S P G Q .locals-fit some) room in
       let m = marked _ _ _ _ (length w) f in
       let o = in-order P L S G in
       record {

@@ -62,9 +62,9 @@ mostOfLocal z = 3 * mostTouches z + z .blocks
 abbrev pub mostOfSlot : Sizes → ℕ
 mostOfSlot z = z .moves + z .moves + z .pieces
 
--- both phases end within W; the locals' only where there are locals
+-- both phases end within W; the locals', where there are locals, with a word to spare
 pub record Fits (z : Sizes) (g : Grid) (p : Places) : Type 0 where
-  pub locals-fit : 0 < z .locals → markOf g + g .width + z .blocks + mostOfLocal z ≤ spaceOf z
+  pub locals-fit : 0 < z .locals → markOf g + g .width + z .blocks + mostOfLocal z < spaceOf z
   pub slots-fit : p .to + mostOfSlot z ≤ spaceOf z
 
 -- the locals' regions in their order, and how long their rows are
