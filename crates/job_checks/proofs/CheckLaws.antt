@@ -23,7 +23,8 @@ use Rattle.insts.proofs.CheckLaws.{most-few, rows-few}
 use Rattle.carry_entries.specs.Checks.{carryCounts, strayVerdict as mentionVerdict}
 use Rattle.carry_entries.proofs.CheckLaws.{counted, Counted, stray-whatever, addresses-found, ends-found}
 use Rattle.spills.proofs.MovedEntry.{moves-whatever}
-use Rattle.job_checks.specs.Job.{jobOf, otherCounts, countVerdict, recordsVerdict, placeVerdict, strayVerdict, liveVerdict, sizesOf, Small, Passed}
+use Rattle.job_checks.specs.Job.{jobOf, otherCounts, countVerdict, recordsVerdict, sizesOf, Small, Passed}
+use Rattle.job_checks.specs.Inner.{placeVerdict, strayVerdict, liveVerdict}
 
 -- ---- number 1
 

@@ -7,7 +7,7 @@ use Rattle.refusals.specs.declared.Verdict.{Verdict}
 use Rattle.refusals.specs.declared.Verdict.the-variants.{Fine}
 use Rattle.refusals.specs.Verdicts.{first, inOrder}
 use Rattle.words.specs.Rows.{rowCount}
-use Rattle.graph.specs.Line.{blocksOf, jumpsOf, lineVerdict, edgeVerdict, Sound}
+use Rattle.graph.specs.Line.{blocksOf, jumpsOf, edgeVerdict, Sound}
 use Rattle.carrying.specs.Insts.{instsOf}
 use Rattle.carrying.specs.Carried.{piecesOf}
 use Rattle.carrying.specs.Checks.{instVerdict}
@@ -17,7 +17,6 @@ use Rattle.insts.specs.Counts.{rowsVerdict, mostVerdict}
 use Rattle.insts.specs.Rows.{AddsUp}
 use Rattle.reach.specs.Prepared.{wordsOf, codeOf}
 use Rattle.carry_entries.specs.Checks.{carryCounts}
-use Rattle.carry_entries.specs.Checks.{strayVerdict as mentionVerdict}
 use Rattle.job_checks.specs.declared.Sizes.{Sizes}
 
 -- the records of the rows, in the job text's group order
@@ -52,22 +51,6 @@ unfoldable pub recordsVerdict : ℕ → ℕ → List ℕ → List ℕ → List �
 recordsVerdict points v blocks edges insts operands crossings locals slots addresses ends pieces assigned moves areas =
     first (countVerdict v blocks edges insts operands crossings locals slots addresses ends pieces assigned moves areas)
     (inOrder (checks (jobOf points v blocks edges insts operands crossings locals slots addresses ends pieces assigned moves)))
-
--- ---- the same by the functions that check them
-
--- numbers 2, 3 and 4 of the blocks, the edges and the instructions
-abbrev pub placeVerdict : ℕ → ℕ → List ℕ → List ℕ → List ℕ → List ℕ → Verdict
-placeVerdict points v blocks edges insts operands =
-    first (lineVerdict (blocksOf blocks) points) (first (edgeVerdict (blocksOf blocks) (jumpsOf edges)) (instVerdict (blocksOf blocks) v (instsOf insts operands)))
-
--- number 4 of the crossings, number 5 of the addresses, the ends and the moves
-abbrev pub strayVerdict : ℕ → List ℕ → List ℕ → List ℕ → List ℕ → List ℕ → List ℕ → List ℕ → Verdict
-strayVerdict v blocks insts operands crossings addresses ends moves =
-    first (mentionVerdict v insts operands crossings addresses ends) (moveVerdict (blocksOf blocks) (instsOf insts operands) (movesOf moves))
-
--- number 6
-abbrev pub liveVerdict : ℕ → List ℕ → List ℕ → List ℕ → Verdict
-liveVerdict v blocks pieces assigned = first (pieceVerdict (blocksOf blocks) v (piecesOf pieces)) (assignedVerdict v (assignedOf assigned))
 
 -- ---- counts
 

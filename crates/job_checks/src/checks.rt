@@ -4,7 +4,8 @@ ghost use mathlib.Core.List.{[]};
 ghost use Prim.Native.Nat.{_/_, _≤_};
 ghost use lib.ListN.{length};
 ghost use Rattle.insts.specs.Rows.{AddsUp};
-ghost use Rattle.job_checks.specs.Job.{otherCounts, countVerdict, placeVerdict, strayVerdict, liveVerdict, recordsVerdict};
+ghost use Rattle.job_checks.specs.Job.{otherCounts, countVerdict, recordsVerdict};
+ghost use Rattle.job_checks.specs.Inner.{placeVerdict, strayVerdict, liveVerdict};
 use refusals::Verdict;
 
 // Refusal 1 of the groups that carrying is not lent, by their lengths.
@@ -164,6 +165,6 @@ pub fn records(
         return Verdict::Bad(r, i);
     }
     let astray = stray(v, blocks, insts, crossings, addresses, ends, moves);
-    let dead = live(v, blocks, pieces, assigned);
-    refusals::earlier(astray, dead)
+    let outside = live(v, blocks, pieces, assigned);
+    refusals::earlier(astray, outside)
 }
