@@ -86,12 +86,15 @@ slots-end z free p Q = omega arith
 free-is : (z : Sizes) (r : Regions) → Placed z r → r .free ≡ z .room + z .locals + z .slots + z .pieces
 free-is z r P = omega arith
 
+pub slots-within : (z : Sizes) (r : Regions) (p : Places) → Placed z r → SlotsFrom z (r .free) p → p .to + mostOfSlot z ≤ spaceOf z
+slots-within z r p P Q = slots-sum z (r .free) (p .to) (free-is z r P) (slots-end z (r .free) p Q)
+
 pub layout-fits : (z : Sizes) (r : Regions) (g : Grid) (p : Places) → Small z → Placed z r → Gridded (gridSizes z) (r .base) g → SlotsFrom z (r .free) p → Fits z g p
 layout-fits z r g p S P G Q = record {
   locals-fit = λ h.
       subst (λ (m : ℕ). markOf g + m + z .blocks + mostOfLocal z < spaceOf z) (sym (G .width-is))
       (locals-sum z (r .base) (markOf g) (base-is z r P) (mark-is z (r .base) g G) (rows-fit (z .blocks) (z .locals) (S .some-block) (S .few-blocks) h));
-  slots-fit = slots-sum z (r .free) (p .to) (free-is z r P) (slots-end z (r .free) p Q);
+  slots-fit = slots-within z r p P Q;
 }
 
 -- the job of one block and one local

@@ -1,0 +1,4 @@
+pub mod KeptLaws
+pub mod SlotLaws
+pub mod LocalLaws
+pub mod SolveLaws

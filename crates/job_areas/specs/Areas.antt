@@ -1,0 +1,93 @@
+-- The areas of all items of a job in the work space.
+use Prim.Native.Nat.{ℕ, _+_, _*_, _/_, _^_, _≤_, _<_}
+use mathlib.Core.Path.{_≡_}
+use mathlib.Core.Option.{Option}
+use mathlib.Core.List.{List, []}
+use lib.ListN.{length, getD}
+use Rattle.refusals.specs.declared.Verdict.the-variants.{Fine}
+use Rattle.words.specs.Rows.{rowCount}
+use Rattle.ranges.specs.declared.Range.{Range}
+use Rattle.graph.specs.Line.{blocksOf, Sound}
+use Rattle.graph.specs.Work.{Within}
+use Rattle.carrying.specs.Insts.{instsOf}
+use Rattle.areas.specs.Slots.{assignedOf, spilled, movesOf, moveVerdict}
+use Rattle.areas.specs.Job.{Job, itemCount, itemArea, localArea}
+use Rattle.live.specs.Live.{InOrder}
+use Rattle.slot_spots.specs.declared.Places.{Places}
+use Rattle.slot_spots.specs.Slots.{heldWord, Laid}
+use Rattle.area_measure.specs.declared.Listing.{Listing}
+use Rattle.area_measure.specs.Locals.{wordOf, ListedBy}
+use Rattle.slot_measure.specs.All.{mostFor, AreasBy}
+use Rattle.job_checks.specs.declared.Sizes.{Sizes}
+use Rattle.job_checks.specs.Job.{jobOf, sizesOf, spaceOf, Small, Passed}
+use Rattle.job_layout.specs.declared.Regions.{Regions}
+use Rattle.job_layout.specs.Layout.{Placed, mostOfLocal}
+
+-- ---- the slots' phase
+
+pub record SlotsAsked (blocks insts moves pieces assigned : List ℕ) (p : Places) (keys held : ℕ) (o : Listing) (first total : ℕ) (w : List ℕ) : Type 0 where
+  pub sound : Sound (blocksOf blocks)
+  pub fine : moveVerdict (blocksOf blocks) (instsOf insts []) (movesOf moves) ≡ Fine
+  pub registers : (s : ℕ) → heldWord (spilled (assignedOf assigned) s) ≤ 4294967296
+  pub order : InOrder pieces keys w
+  pub few-pieces : rowCount 3 pieces ≤ 65536
+  pub few-moves : rowCount 4 moves ≤ 65536
+  pub areas-fit : o .areas + o .room ≤ o .items
+  pub items-fit : o .items + first + p .slots ≤ keys
+  pub keys-fit : keys + rowCount 3 pieces ≤ held
+  pub held-fits : held + p .slots ≤ p .table
+  pub laid : Laid p (rowCount 3 blocks) (rowCount 4 moves) w
+  pub fits : p .to + rowCount 4 moves + rowCount 4 moves + rowCount 3 pieces ≤ length w
+  pub few : total + p .slots * mostFor moves pieces < 2 ^ 32
+
+-- the slots' areas stand behind those before them; nothing has changed below the areas, nor past the words that the slots' are made in
+pub record SlotsIn (points : ℕ) (blocks insts moves pieces assigned : List ℕ) (p : Places) (keys held : ℕ) (o : Listing) (first total : ℕ) (w₀ w : List ℕ) (r : ℕ) : Type 0 where
+  pub kept : Within (o .areas) (p .to + rowCount 4 moves + rowCount 4 moves + rowCount 3 pieces) w₀ w
+  pub listed : (A : ℕ → Option (List Range)) → AreasBy points blocks insts moves pieces first (p .slots) A (spilled (assignedOf assigned))
+      → ListedBy wordOf o A first total w₀ → ListedBy wordOf o A (first + p .slots) r w
+
+-- ---- all items
+
+-- what no refusal before measuring says: numbers 1 to 6 of the records, and of number 7 the work space
+pub record Lent (points v : ℕ) (blocks edges insts operands crossings locals slots addresses ends pieces assigned moves : List ℕ) (areas : ℕ) (w : List ℕ) : Type 0 where
+  pub passed : Passed points v blocks edges insts operands crossings locals slots addresses ends pieces assigned moves areas
+  pub space : spaceOf (sizesOf v blocks edges insts operands crossings locals slots addresses ends pieces assigned moves areas) ≤ length w
+
+-- the areas stand from 0 on, the items' words from `items` on
+abbrev pub listing : ℕ → ℕ → Listing
+listing room items = record { areas = 0; room = room; items = items }
+
+-- the areas of the locals; the live pieces stand as they did, and nothing past W has changed
+pub record LocalsDone (points v : ℕ) (blocks edges insts operands crossings locals slots addresses ends pieces assigned moves : List ℕ) (areas : ℕ) (r : Regions) (w₀ w : List ℕ) (n : ℕ) : Type 0 where
+  pub len : length w ≡ length w₀
+  pub keys : (i : ℕ) → r .keys ≤ i → i < r .free → getD w i 0 ≡ getD w₀ i 0
+  pub past : (i : ℕ) → spaceOf (sizesOf v blocks edges insts operands crossings locals slots addresses ends pieces assigned moves areas) ≤ i → getD w i 0 ≡ getD w₀ i 0
+  pub most : n ≤ rowCount 2 locals * mostOfLocal (sizesOf v blocks edges insts operands crossings locals slots addresses ends pieces assigned moves areas)
+  pub listed : (A : ℕ → Option (List Range))
+      → ((i : ℕ) → i < rowCount 2 locals → A i ≡ localArea (jobOf points v blocks edges insts operands crossings locals slots addresses ends pieces assigned moves) i)
+      → ListedBy wordOf (listing (areas / 2) (r .items)) A (rowCount 2 locals) n w
+
+-- what the slots' phase goes by
+pub record SlotsDue (points : ℕ) (blocks insts pieces assigned moves : List ℕ) (z : Sizes) (r : Regions) (total : ℕ) (w : List ℕ) : Type 0 where
+  pub small : Small z
+  pub placed : Placed z r
+  pub blocks-are : z .blocks ≡ rowCount 3 blocks
+  pub pieces-are : z .pieces ≡ rowCount 3 pieces
+  pub moves-are : z .moves ≡ rowCount 4 moves
+  pub sound : Sound (blocksOf blocks)
+  pub fine : moveVerdict (blocksOf blocks) (instsOf insts []) (movesOf moves) ≡ Fine
+  pub registers : (s : ℕ) → heldWord (spilled (assignedOf assigned) s) ≤ 4294967296
+  pub order : InOrder pieces (r .keys) w
+  pub space : spaceOf z ≤ length w
+  pub most : total ≤ z .locals * mostOfLocal z
+
+pub record SlotsDone (points : ℕ) (blocks insts pieces assigned moves : List ℕ) (z : Sizes) (r : Regions) (total : ℕ) (w₀ w : List ℕ) (n : ℕ) : Type 0 where
+  pub kept : Within 0 (spaceOf z) w₀ w
+  pub listed : (A : ℕ → Option (List Range)) → AreasBy points blocks insts moves pieces (z .locals) (z .slots) A (spilled (assignedOf assigned))
+      → ListedBy wordOf (listing (z .room) (r .items)) A (z .locals) total w₀ → ListedBy wordOf (listing (z .room) (r .items)) A (z .locals + z .slots) n w
+
+-- the areas of all items of the job, and their words behind the room of the area list; nothing past W has changed
+pub record Solved (points v : ℕ) (blocks edges insts operands crossings locals slots addresses ends pieces assigned moves : List ℕ) (areas : ℕ) (w₀ w : List ℕ) (n : ℕ) : Type 0 where
+  pub kept : Within 0 (spaceOf (sizesOf v blocks edges insts operands crossings locals slots addresses ends pieces assigned moves areas)) w₀ w
+  pub listed : ListedBy wordOf (listing (areas / 2) (areas / 2)) (itemArea (jobOf points v blocks edges insts operands crossings locals slots addresses ends pieces assigned moves))
+      (itemCount (jobOf points v blocks edges insts operands crossings locals slots addresses ends pieces assigned moves)) n w
