@@ -18,7 +18,7 @@ use Rattle.ranges.specs.Merged.{union, clashes}
 use Rattle.ranges.specs.Forms.{unpacked}
 use Rattle.ranges.proofs.PointLaws.{apart-upright, upright-append}
 use Rattle.ranges.proofs.MergeLaws.{merged-apart}
-use Rattle.packed.specs.Work.{UnitedIn}
+use Rattle.packed_pairs.specs.Pairs.{UnitedIn}
 use Rattle.fitting.specs.Plan.{joinable, Plan}
 use Rattle.fitting.proofs.CellLaws.{union-clashes}
 use Rattle.order.specs.Keys.{sizeOf, alignOf}

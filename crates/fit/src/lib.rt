@@ -48,7 +48,7 @@ fn free(w: &[u64], at: usize, top: usize, x: u64, from: usize, count: usize) -> 
     let first = at + ((x - 1) / HALF) as usize;
     let end = first + ((x - 1) % HALF) as usize;
     let to = from + count;
-    !packed::clash(&w[first..end], &w[from..to])
+    !packed_pairs::clash(&w[first..end], &w[from..to])
 }
 
 // Whether every list that a link leads to is there and does not clash.
@@ -180,7 +180,7 @@ fn unite_top(
     let two = at + ((z - 1) / HALF) as usize;
     let ones = ((y - 1) % HALF) as usize;
     let twos = ((z - 1) % HALF) as usize;
-    let r = packed::unite(w, one, ones, two, twos, top);
+    let r = packed_pairs::unite(w, one, ones, two, twos, top);
     w[items + 7 * n + k] = (top - at) as u64 * HALF + r as u64 + 1;
     w[items + 4 * n + k] = next;
     top + r

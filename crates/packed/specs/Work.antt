@@ -5,7 +5,7 @@ use mathlib.Core.Logic.{_⊎_}
 use mathlib.Core.List.{List}
 use lib.ListN.{getD, drop}
 use Rattle.words.specs.Regions.{part}
-use Rattle.ranges.specs.Merged.{merged, union}
+use Rattle.ranges.specs.Merged.{merged}
 use Rattle.ranges.specs.Forms.{unpack, unpacked}
 use Rattle.ranges.specs.Inner.{TakenUp}
 
@@ -25,10 +25,3 @@ pub record MergedIn (w₀ w : List ℕ) (at n r : ℕ) : Type 0 where
 -- the n words from a on and the m words from b on have none in common
 abbrev pub Clear : ℕ → ℕ → ℕ → ℕ → Type 0
 Clear a n b m = (a + n ≤ b) ⊎ (b + m ≤ a)
-
--- two lists' ranges have been united at `at`; nothing else changes
-pub record UnitedIn (w₀ w : List ℕ) (one n two m at r : ℕ) : Type 0 where
-  pub within : r ≤ n + m
-  pub is : unpacked (part at r w) ≡ union (unpacked (part one n w₀)) (unpacked (part two m w₀))
-  pub before : (i : ℕ) → i < at → getD w i 0 ≡ getD w₀ i 0
-  pub after : (i : ℕ) → at + r ≤ i → getD w i 0 ≡ getD w₀ i 0

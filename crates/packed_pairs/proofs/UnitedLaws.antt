@@ -13,7 +13,8 @@ use Rattle.ranges.specs.Points.{range, Apart}
 use Rattle.ranges.specs.Merged.{union}
 use Rattle.ranges.specs.Forms.{unpack, unpacked}
 use Rattle.ranges.specs.Inner.{Listing, oneFirst}
-use Rattle.packed.specs.Work.{TakenIn, UnitedIn, Clear}
+use Rattle.packed.specs.Work.{TakenIn, Clear}
+use Rattle.packed_pairs.specs.Pairs.{UnitedIn}
 use Rattle.ranges.proofs.FormLaws.{View, part-view, unpacked-length, map-take}
 use Rattle.ranges.proofs.UnionLaws.{Uniting, unite-start, read-one-in, read-two-in, read-room, read-one, read-two, read-done}
 

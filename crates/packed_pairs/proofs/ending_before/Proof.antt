@@ -8,8 +8,8 @@ use lib.Dec.{ltb}
 use borrow.Author.Tests.{lt-ltb, le-ltb}
 use Rattle.words.proofs.SearchLaws.{Between, between-up, between-down, between-done}
 use Rattle.ranges.proofs.GallopLaws.{gallop-search}
-use Rattle.packed.proofs.ending_before.Statement.{statement}
-use Rattle.packed.proofs.ending_before.Tie as tie
+use Rattle.packed_pairs.proofs.ending_before.Statement.{statement}
+use Rattle.packed_pairs.proofs.ending_before.Tie as tie
 
 abbrev Inv-loop : tie.InvT-loop
 Inv-loop w from point n bound low₀ high₀ low high = (n ≡ length w - from) × Between (λ i. ltb (getD w (from + i) 0 % 2 ^ 32) point) (length w - from) low high

@@ -9,8 +9,8 @@ use Rattle.ranges.specs.Forms.{unpacked}
 use Rattle.ranges.proofs.FormLaws.{word-view}
 use Rattle.ranges.proofs.SkipLaws.{Searching, search-start}
 use Rattle.ranges.proofs.SearchLaws.{ends-first, ends-last, ends-rising, splits-some, one-upright, two-upright, hit, skip-to-one, skip-to-two, over-one, over-two}
-use Rattle.packed.proofs.clash.Statement.{statement}
-use Rattle.packed.proofs.clash.Tie as tie
+use Rattle.packed_pairs.proofs.clash.Statement.{statement}
+use Rattle.packed_pairs.proofs.clash.Tie as tie
 
 abbrev Inv-loop : tie.InvT-loop
 Inv-loop one two i₀ j₀ i j = (i ≤ length one) × (j ≤ length two) × Searching (unpacked one) (unpacked two) i j

@@ -2,11 +2,10 @@
 use mathlib.Core.Path.{refl}
 use native.Mathlib.Omega.{arith}
 use denote.Ref.{now}
-use borrow.Author.Needs.{needs}
 use Rattle.ranges.proofs.FormLaws.{part-view}
 use Rattle.ranges.proofs.UnionLaws.{first-over, first-ended, first-word}
-use Rattle.packed.proofs.one_first.Statement.{statement}
-use Rattle.packed.proofs.one_first.Tie as tie
+use Rattle.packed_pairs.proofs.one_first.Statement.{statement}
+use Rattle.packed_pairs.proofs.one_first.Tie as tie
 
 returns : tie.Need-returns
 returns c =
@@ -19,22 +18,22 @@ returns-2 c =
     first-ended (part-view (now (a .w)) (a .one) (a .n) ((c .before .before .pre) .0)) (part-view (now (a .w)) (a .two) (a .m) ((c .before .before .pre) .1)) (a .i) (a .j) (omega arith) (omega arith)
 
 add-result : tie.Need-add-result
-add-result c = search needs
+add-result c = omega arith
 
 mul-result : tie.Need-mul-result
-mul-result c = search needs
+mul-result c = omega arith
 
 shared-slice-read-result : tie.Need-shared-slice-read-result
-shared-slice-read-result c = search needs
+shared-slice-read-result c = omega arith
 
 add-result-2 : tie.Need-add-result-2
-add-result-2 c = search needs
+add-result-2 c = omega arith
 
 mul-result-2 : tie.Need-mul-result-2
-mul-result-2 c = search needs
+mul-result-2 c = omega arith
 
 shared-slice-read-result-2 : tie.Need-shared-slice-read-result-2
-shared-slice-read-result-2 c = search needs
+shared-slice-read-result-2 c = omega arith
 
 returns-3 : tie.Need-returns-3
 returns-3 c =

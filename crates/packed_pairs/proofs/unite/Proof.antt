@@ -2,9 +2,9 @@
 use Prim.Native.Nat.{_+_, _-_}
 use mathlib.Core.Path.{_≡_, refl, sym, _∙_}
 use native.Mathlib.Omega.{arith}
-use Rattle.packed.proofs.UnitedLaws.{UnitingIn, united-start, counts, next-is, united-one-in, united-two-in, united-room, united-one, united-two, united-done}
-use Rattle.packed.proofs.unite.Statement.{statement}
-use Rattle.packed.proofs.unite.Tie as tie
+use Rattle.packed_pairs.proofs.UnitedLaws.{UnitingIn, united-start, counts, next-is, united-one-in, united-two-in, united-room, united-one, united-two, united-done}
+use Rattle.packed_pairs.proofs.unite.Statement.{statement}
+use Rattle.packed_pairs.proofs.unite.Tie as tie
 
 abbrev Inv-loop : tie.InvT-loop
 Inv-loop w₀ one n two m to total i₀ j₀ k₀ w i j k = (total ≡ n + m) × UnitingIn w₀ one n two m to w i j k

@@ -3,8 +3,8 @@ use Prim.Native.Nat.{_+_, _-_, _%_, _^_}
 use native.Mathlib.Omega.{arith}
 use lib.ListN.{getD}
 use Rattle.ranges.proofs.GallopLaws.{Galloping, gallop-start, gallop-more, gallop-stop, gallop-end}
-use Rattle.packed.proofs.gallop.Statement.{statement}
-use Rattle.packed.proofs.gallop.Tie as tie
+use Rattle.packed_pairs.proofs.gallop.Statement.{statement}
+use Rattle.packed_pairs.proofs.gallop.Tie as tie
 
 abbrev Inv-loop : tie.InvT-loop
 Inv-loop w from n point bound₀ bound = Galloping (λ i. getD w (from + i) 0 % 2 ^ 32) n point bound
