@@ -1,32 +1,32 @@
 -- `bits::set` meets its contract: the stored word has one bit more.
+use lib.ListN.{length-set}
 use Rattle.bits.proofs.BitLaws.{put-bit, set-word}
 use native.Mathlib.Omega.{arith}
 use mathlib.Core.Path.{refl}
 use lib.ListN.{set}
-use borrow.Author.Needs.{needs}
 use Rattle.bits.proofs.set.Statement.{statement}
 use Rattle.bits.proofs.set.Tie as tie
 
 add-i : tie.Need-add-i
-add-i c = search needs
+add-i c = omega arith
 
 mul-w : tie.Need-mul-w
-mul-w c = search needs
+mul-w c = omega arith
 
 slice-read-w : tie.Need-slice-read-w
-slice-read-w c = search needs
+slice-read-w c = omega arith
 
 shl-w : tie.Need-shl-w
-shl-w c = search needs
+shl-w c = omega arith
 
 mul-w-2 : tie.Need-mul-w-2
-mul-w-2 c = search needs
+mul-w-2 c = omega arith
 
 slice-write-w : tie.Need-slice-write-w
-slice-write-w c = search needs
+slice-write-w c = omega arith
 
 same-length : tie.Need-same-length
-same-length c = search needs
+same-length c = simp length-set
 
 returns : tie.Need-returns
 returns c = let a = c .before .args in put-bit (a .w .now) (a .base) (a .b) _ _ _ refl (omega arith) (set-word _ _ (omega arith))

@@ -2,14 +2,13 @@
 use Prim.Native.Nat.{_+_, _-_}
 use mathlib.Core.Path.{_≡_, sym, _∙_}
 use native.Mathlib.Omega.{arith}
-use borrow.Author.Needs.{needs}
 use borrow.Author.Tests.{ne-eqb, le-ltb}
 use Rattle.columns.proofs.TestLaws.{eqb-iff}
 use Rattle.columns.proofs.follows.Statement.{statement}
 use Rattle.columns.proofs.follows.Tie as tie
 
 sub-result : tie.Need-sub-result
-sub-result c = search needs
+sub-result c = omega arith
 
 returns : tie.Need-returns
 returns c = let a = c .before .args in eqb-iff (a .start - a .end) 1 (a .start) (a .end + 1) (λ e. omega arith) (λ e. omega arith)

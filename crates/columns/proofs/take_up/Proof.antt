@@ -1,32 +1,32 @@
 -- `take_up` meets its contract: the last range is widened, kept, or followed by the new one.
+use lib.ListN.{length-set}
 use denote.Ref.{now}
 use native.Mathlib.Omega.{arith}
 use mathlib.Core.Logic.{⊎-elim}
-use borrow.Author.Needs.{needs}
 use Rattle.columns.proofs.ColumnLaws.{take-first, take-next, take-wider, take-kept}
 use Rattle.columns.proofs.take_up.Statement.{statement}
 use Rattle.columns.proofs.take_up.Tie as tie
 
 sub-last : tie.Need-sub-last
-sub-last c = search needs
+sub-last c = omega arith
 
 mul-last : tie.Need-mul-last
-mul-last c = search needs
+mul-last c = omega arith
 
 slice-read-last : tie.Need-slice-read-last
-slice-read-last c = search needs
+slice-read-last c = omega arith
 
 sub-out-end : tie.Need-sub-out-end
-sub-out-end c = search needs
+sub-out-end c = omega arith
 
 mul-out-end : tie.Need-mul-out-end
-mul-out-end c = search needs
+mul-out-end c = omega arith
 
 slice-write-out-end : tie.Need-slice-write-out-end
-slice-write-out-end c = search needs
+slice-write-out-end c = omega arith
 
 same-length : tie.Need-same-length
-same-length c = search needs
+same-length c = simp length-set
 
 returns : tie.Need-returns
 returns c = let a = (c .before .before .before .before .args) in take-wider (now (a .out-start)) (now (a .out-end)) ((c .before .before .before .before .pre) .0) (a .k) (omega arith) (a .s) (a .e) (omega arith) (omega arith) (omega arith)
@@ -35,25 +35,25 @@ returns-2 : tie.Need-returns-2
 returns-2 c = let a = (c .before .before .before .before .args) in take-kept (now (a .out-start)) (now (a .out-end)) ((c .before .before .before .before .pre) .0) (a .k) (omega arith) (a .s) (a .e) (omega arith) (omega arith) (omega arith)
 
 mul-out-start : tie.Need-mul-out-start
-mul-out-start c = search needs
+mul-out-start c = omega arith
 
 slice-write-out-start : tie.Need-slice-write-out-start
-slice-write-out-start c = search needs
+slice-write-out-start c = omega arith
 
 mul-out-end-2 : tie.Need-mul-out-end-2
-mul-out-end-2 c = search needs
+mul-out-end-2 c = omega arith
 
 slice-write-out-end-2 : tie.Need-slice-write-out-end-2
-slice-write-out-end-2 c = search needs
+slice-write-out-end-2 c = omega arith
 
 add-result : tie.Need-add-result
-add-result c = search needs
+add-result c = omega arith
 
 same-length-2 : tie.Need-same-length-2
-same-length-2 c = search needs
+same-length-2 c = simp length-set
 
 same-length-3 : tie.Need-same-length-3
-same-length-3 c = search needs
+same-length-3 c = simp length-set
 
 returns-3 : tie.Need-returns-3
 returns-3 c =

@@ -50,7 +50,7 @@ returns-4 c =
     pair-first _ _ (range (a .s) (a .e) ∷ []) _ _ (sym (counted-from-none _) ∙ sym ((c .before .before .before .list) .ensures) ∙ (c .before .v) .given .1) ∙ entry-lists _ _ _ (or-false (badList (now (a .start)) (now (a .end))) (uneven (a .n) (a .m)) (sym ((c .before .before .before .before .before .before .before .bad-list) .ensures) ∙ (c .before .before .before .before .before .before .if1) .left) (uneven-false (a .n) (a .m) ((c .before .before .before .before .before .if2) .left))) (le-ltb (a .n) (length (now (a .start)) + 1) (omega arith))
 
 enum-told : tie.Need-enum-told
-enum-told c = search needs
+enum-told c = omega arith
 
 returns-5 : tie.Need-returns-5
 returns-5 c =

@@ -23,7 +23,7 @@ returns : tie.Need-returns
 returns c = pair-first _ _ _ _ _ (sym (counted-from-none _) ∙ sym ((c .before .before .before .list) .ensures) ∙ (c .before .v) .given .1)
 
 enum-told : tie.Need-enum-told
-enum-told c = search needs
+enum-told c = omega arith
 
 list-requires-2 : tie.Need-list-requires-2
 list-requires-2 c κs = omega arith

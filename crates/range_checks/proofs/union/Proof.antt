@@ -3,7 +3,6 @@ use mathlib.Core.Path.{_≡_, refl, sym, _∙_, ap}
 use native.Mathlib.Omega.{arith}
 use lib.ListN.{length}
 use denote.Ref.{now}
-use borrow.Author.Needs.{needs}
 use borrow.Author.Tests.{lt-ltb, le-ltb}
 use mathlib.Core.Bool.{_||_}
 use mathlib.Core.List.{[], _∷_}
@@ -39,7 +38,7 @@ returns-3 c =
     entry-count _ _ _ (or-true (badList (now (a .start)) (now (a .end))) (badList (now (a .other-start)) (now (a .other-end)) || uneven (a .n) (a .m)) (or-true (badList (now (a .other-start)) (now (a .other-end))) (uneven (a .n) (a .m)) (uneven-true (a .n) (a .m) ((c .if3) .taken))))
 
 add-if4 : tie.Need-add-if4
-add-if4 c = search needs
+add-if4 c = omega arith
 
 returns-4 : tie.Need-returns-4
 returns-4 c =

@@ -1,22 +1,22 @@
 -- `wrong` meets its contract: one law for each way out.
+use native.Mathlib.Omega.{arith}
 use denote.Ref.{now}
-use borrow.Author.Needs.{needs}
 use borrow.Author.Tests.{not-true, not-false}
 use Rattle.range_checks.proofs.CheckLaws.{wrong-reversed, wrong-loose, wrong-front, wrong-close}
 use Rattle.range_checks.proofs.wrong.Statement.{statement}
 use Rattle.range_checks.proofs.wrong.Tie as tie
 
 mul-if1 : tie.Need-mul-if1
-mul-if1 c = search needs
+mul-if1 c = omega arith
 
 shared-slice-read-if1 : tie.Need-shared-slice-read-if1
-shared-slice-read-if1 c = search needs
+shared-slice-read-if1 c = omega arith
 
 mul-if1-2 : tie.Need-mul-if1-2
-mul-if1-2 c = search needs
+mul-if1-2 c = omega arith
 
 shared-slice-read-if1-2 : tie.Need-shared-slice-read-if1-2
-shared-slice-read-if1-2 c = search needs
+shared-slice-read-if1-2 c = omega arith
 
 returns : tie.Need-returns
 returns c =
@@ -34,19 +34,19 @@ returns-3 c =
     wrong-front (now (a .start)) (now (a .end)) (c .before .before .before .before .before .pre .0) (a .i) (a .ordered) (c .before .before .if1 .left) (not-false _ (c .before .if2 .left)) (c .if3 .taken)
 
 mul-result : tie.Need-mul-result
-mul-result c = search needs
+mul-result c = omega arith
 
 shared-slice-read-result : tie.Need-shared-slice-read-result
-shared-slice-read-result c = search needs
+shared-slice-read-result c = omega arith
 
 sub-result : tie.Need-sub-result
-sub-result c = search needs
+sub-result c = omega arith
 
 mul-result-2 : tie.Need-mul-result-2
-mul-result-2 c = search needs
+mul-result-2 c = omega arith
 
 shared-slice-read-result-2 : tie.Need-shared-slice-read-result-2
-shared-slice-read-result-2 c = search needs
+shared-slice-read-result-2 c = omega arith
 
 returns-4 : tie.Need-returns-4
 returns-4 c =

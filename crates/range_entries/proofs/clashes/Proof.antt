@@ -19,7 +19,7 @@ returns : tie.Need-returns
 returns c = clash-refused _ _ _ _ (sym ((c .before .before .before .clashes) .ensures) ∙ (c .before .v) .given .1)
 
 enum-told : tie.Need-enum-told
-enum-told c = search needs
+enum-told c = omega arith
 
 clash-requires : tie.Need-clash-requires
 clash-requires c κs =

@@ -20,7 +20,7 @@ returns : tie.Need-returns
 returns c = unlisted _ _ _ _ _ _ (sym ((c .before .before .before .joined) .ensures) ∙ (c .before .v) .given .1)
 
 enum-told : tie.Need-enum-told
-enum-told c = search needs
+enum-told c = omega arith
 
 join-on-requires : tie.Need-join-on-requires
 join-on-requires c κs =
@@ -29,10 +29,10 @@ join-on-requires c κs =
     (f .even, f .answer, f .room)
 
 same-length : tie.Need-same-length
-same-length c = search needs
+same-length c = omega arith
 
 same-length-2 : tie.Need-same-length-2
-same-length-2 c = search needs
+same-length-2 c = omega arith
 
 returns-2 : tie.Need-returns-2
 returns-2 c =

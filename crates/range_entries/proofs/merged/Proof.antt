@@ -19,7 +19,7 @@ returns : tie.Need-returns
 returns c = unlisted _ _ _ _ _ _ (sym ((c .before .before .before .merged) .ensures) ∙ (c .before .v) .given .1)
 
 enum-told : tie.Need-enum-told
-enum-told c = search needs
+enum-told c = omega arith
 
 merge-requires : tie.Need-merge-requires
 merge-requires c κs =

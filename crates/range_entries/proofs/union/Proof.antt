@@ -19,7 +19,7 @@ returns : tie.Need-returns
 returns c = unlisted _ _ _ _ _ _ (sym ((c .before .before .before .union) .ensures) ∙ (c .before .v) .given .1)
 
 enum-told : tie.Need-enum-told
-enum-told c = search needs
+enum-told c = omega arith
 
 unite-requires : tie.Need-unite-requires
 unite-requires c κs =
@@ -28,10 +28,10 @@ unite-requires c κs =
     (f .1 .even, f .1 .even-two, f .0 .answer, f .0 .room, f .1 .one, f .1 .two)
 
 same-length : tie.Need-same-length
-same-length c = search needs
+same-length c = omega arith
 
 same-length-2 : tie.Need-same-length-2
-same-length-2 c = search needs
+same-length-2 c = omega arith
 
 returns-2 : tie.Need-returns-2
 returns-2 c =
