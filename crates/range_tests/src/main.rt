@@ -1,6 +1,11 @@
-// Runs the range entries on document 01's examples and on corner cases, and prints what they answer and leave: held to the file `stdout`.
-// Every answer list has 7s at first, so that an entry that is written past the answer, or by a refusal, shows. A case is a line of text: four columns
-// of numbers, the starts and the ends of one list and of another, a comma after each number and a bar after each column.
+// Runs the range entries on the cases of standard input and prints what they answer and leave: held to the file `stdout`. Every answer list has 7s at
+// first, so that an entry that is written past the answer, or by a refusal, shows. A case is a line: the name of an entry, a blank, and four columns of
+// numbers, a comma after each number and a bar after each column: the starts and the ends of one list and of another. Of `merged` the second list is the
+// lengths of the answer's two columns, of `joined` and `overlaps` one range.
+// The cases of `merged`: document 01's second example; nothing; one point; the largest point; touching ranges stay apart, nested and equal ones are
+// joined; columns of different lengths; a reversed range; answer columns of different lengths, too little room; the count comes before the room, the room
+// before the range; a list that is too long for the small array. Those of `clashes`: document 01's third and fourth example; a long list against a short
+// one, where ranges are skipped; refusals.
 ghost use Prim.Native.Nat.{ℕ, _≤_};
 ghost use lib.ListN.{length};
 use range_entries::Clash;
@@ -12,18 +17,20 @@ fn text(s: &[u8]) {
     io::write_all(1, s);
 }
 
+// A number, with what stands before it.
+fn put(before: &[u8], n: u64) {
+    text(before);
+    io::print_decimal(1, n);
+}
+
 fn refused(r: Refusal, i: usize) {
-    text(b"refused ");
-    io::print_decimal(1, number(r) as u64);
-    text(b" at ");
-    io::print_decimal(1, i as u64);
+    put(b"refused ", number(r) as u64);
+    put(b" at ", i as u64);
 }
 
 fn show_one(start: u32, end: u32) {
-    text(b" ");
-    io::print_decimal(1, start as u64);
-    text(b"-");
-    io::print_decimal(1, end as u64);
+    put(b" ", start as u64);
+    put(b"-", end as u64);
 }
 
 // The first six ranges of two columns.
@@ -62,17 +69,17 @@ fn merged_into(start: &[u32], end: &[u32], s: &mut [u32], e: &mut [u32]) {
     answered(c, s, e);
 }
 
-// With answer columns of 5 numbers, less x for the starts and y for the ends.
+// With answer columns of x and y numbers.
 fn merged(start: &[u32], end: &[u32], x: usize, y: usize) {
-    if x > 5 {
+    if x > 300 {
         return;
     }
-    if y > 5 {
+    if y > 300 {
         return;
     }
-    let mut s = [7u32; 5];
-    let mut e = [7u32; 5];
-    merged_into(start, end, &mut s[x..5], &mut e[y..5]);
+    let mut s = [7u32; 300];
+    let mut e = [7u32; 300];
+    merged_into(start, end, &mut s[0..x], &mut e[0..y]);
 }
 
 fn joined(start: &[u32], end: &[u32], s: u32, e: u32) {
@@ -105,10 +112,14 @@ fn clashes(start: &[u32], end: &[u32], other_start: &[u32], other_end: &[u32]) {
     }
 }
 
-fn overlaps(a: u32, b: u32, c: u32, d: u32) {
-    text(b"overlaps ");
-    yes_or_no(ranges::overlaps(a, b, c, d));
-    text(b"\n");
+fn overlaps(start: &[u32], end: &[u32], s: u32, e: u32) {
+    if start.len() == 0 {
+        return;
+    }
+    if end.len() == 0 {
+        return;
+    }
+    yes_or_no(ranges::overlaps(start[0], end[0], s, e));
 }
 
 // The numbers of a case, and where each column ends; what is past the room is left out.
@@ -139,24 +150,32 @@ fn read(case: &[u8], numbers: &mut [u32], ends: &mut [usize]) {
     }
 }
 
-// Runs an entry on four columns; the second list is for `merged` what its answer columns have less, and for `joined` one range.
-fn run(entry: u32, start: &[u32], end: &[u32], other_start: &[u32], other_end: &[u32]) {
+// Runs an entry, by the first letter of its name, on one list and two numbers.
+fn run_one(entry: u8, start: &[u32], end: &[u32], s: u32, e: u32) {
     match entry {
-        0 => merged(start, end, other_start.len(), other_end.len()),
-        1 => {
+        b'm' => merged(start, end, s as usize, e as usize),
+        b'j' => joined(start, end, s, e),
+        _ => overlaps(start, end, s, e),
+    }
+}
+
+// Runs it on four columns.
+fn run(entry: u8, start: &[u32], end: &[u32], other_start: &[u32], other_end: &[u32]) {
+    match entry {
+        b'u' => union(start, end, other_start, other_end),
+        b'c' => clashes(start, end, other_start, other_end),
+        _ => {
             if other_start.len() > 0 {
                 if other_end.len() > 0 {
-                    joined(start, end, other_start[0], other_end[0]);
+                    run_one(entry, start, end, other_start[0], other_end[0]);
                 }
             }
         }
-        2 => union(start, end, other_start, other_end),
-        _ => clashes(start, end, other_start, other_end),
     }
 }
 
 // Runs it on the columns that end at a, b, c and d.
-fn split(entry: u32, n: &[u32], a: usize, b: usize, c: usize, d: usize) {
+fn split(entry: u8, n: &[u32], a: usize, b: usize, c: usize, d: usize) {
     if a > b {
         return;
     }
@@ -172,8 +191,8 @@ fn split(entry: u32, n: &[u32], a: usize, b: usize, c: usize, d: usize) {
     run(entry, &n[0..a], &n[a..b], &n[b..c], &n[c..d]);
 }
 
-fn case(entry: u32, line: &[u8]) {
-    let mut n = [0u32; 32];
+fn case(entry: u8, line: &[u8]) {
+    let mut n = [0u32; 640];
     let mut e = [0usize; 4];
     read(line, &mut n, &mut e);
     let a = e[0];
@@ -183,14 +202,14 @@ fn case(entry: u32, line: &[u8]) {
     split(entry, &n, a, b, c, d);
 }
 
-// Where the line that begins at `from` ends.
-fn line_end(text: &[u8], from: usize) -> usize
+// Where the next such byte stands, or the end.
+fn find(text: &[u8], from: usize, byte: u8) -> usize
     requires { ⌜ from ≤ length (now text) ⌝ }
     ensures { λ r. ⌜ (from ≤ r) × (r ≤ length (now (text .entry))) ⌝ }
 {
     let mut i = from;
     while i < text.len() {
-        if text[i] == b'\n' {
+        if text[i] == byte {
             return i;
         }
         i += 1;
@@ -198,107 +217,27 @@ fn line_end(text: &[u8], from: usize) -> usize
     i
 }
 
-// Runs an entry, by its number and its name, on the cases of a text, one a line.
-fn cases(entry: u32, name: &[u8], lines: &[u8]) {
-    let mut i = 0;
-    while i < lines.len() {
-        let end = line_end(lines, i);
-        text(name);
-        case(entry, &lines[i..end]);
+// Runs the case of a line, behind the name of its entry.
+fn line(s: &[u8]) {
+    let at = find(s, 0, b' ');
+    if at < s.len() {
+        text(&s[0..at + 1]);
+        case(s[0], &s[at + 1..s.len()]);
         text(b"\n");
+    }
+}
+
+fn lines(text: &[u8]) {
+    let mut i = 0;
+    while i < text.len() {
+        let end = find(text, i, b'\n');
+        line(&text[i..end]);
         i = end + 1;
     }
 }
 
-// Document 01's second example; nothing; one point; the largest point; touching ranges stay apart, nested and equal ones are joined;
-// columns of different lengths; a reversed range; answer columns of different lengths, too little room; the count comes before the room, the room before the range.
-fn merging() {
-    cases(
-        0,
-        b"merged ",
-        b"5,1,10,|9,5,12,|||
-||||
-3,|3,|||
-4294967295,0,|4294967295,4294967294,|||
-1,5,|4,9,|||
-1,2,1,1,|9,3,9,2,|||
-7,5,3,1,|7,5,3,1,|||
-1,2,|3,|||
-1,9,8,|3,8,7,|||
-1,|3,|0,0,0,|0,0,0,0,|
-1,5,|3,6,|0,0,0,0,|0,0,0,0,|
-2,3,|1,|0,0,0,0,|0,0,0,0,|
-2,3,|1,4,|0,0,0,0,|0,0,0,0,|
-",
-    );
-}
-
-// A list that is too long for the small array.
-fn merging_many() {
-    text(b"merged ");
-    merged_into(&[5; 300], &[6; 300], &mut [7; 300], &mut [7; 300]);
-    text(b"\n");
-}
-
-fn joining() {
-    cases(
-        1,
-        b"joined ",
-        b"||3,|5,|
-1,|4,|5,|9,|
-1,|4,|6,|9,|
-1,|4,|4,|9,|
-1,8,|4,9,|10,|10,|
-0,|4294967295,|0,|1,|
-1,5,|0,4,|2,|1,|
-1,5,|2,6,|2,|1,|
-1,2,3,4,|1,2,3,4,|6,|6,|
-",
-    );
-}
-
-fn uniting() {
-    cases(
-        2,
-        b"union ",
-        b"1,10,|4,12,|4,20,|6,21,|
-||2,|3,|
-2,|3,|||
-||||
-1,|4,|5,|6,|
-3,|5,|3,|4,|
-1,5,|2,6,|3,7,0,|3,8,1,|
-1,5,4,|2,6,4,|0,7,|0,8,|
-1,3,5,7,|1,3,5,7,|9,11,13,|9,11,13,|
-",
-    );
-}
-
-// Document 01's third and fourth example; a long list against a short one, where ranges are skipped; refusals.
-fn clashing() {
-    cases(
-        3,
-        b"clashes ",
-        b"1,|4,|4,|6,|
-1,|4,|5,|6,|
-||5,|6,|
-1,3,5,7,9,11,13,15,17,19,|1,3,5,7,9,11,13,15,17,19,|2,19,|2,30,|
-1,3,5,7,9,11,13,15,17,19,|1,3,5,7,9,11,13,15,17,19,|2,18,20,|2,18,30,|
-4294967295,|4294967295,|0,|4294967295,|
-1,2,|1,|0,|4,|
-1,3,|2,4,|5,6,6,|5,6,6,|
-1,3,|2,2,|5,|4,|
-",
-    );
-}
-
 fn main() {
-    overlaps(1, 4, 4, 6);
-    overlaps(1, 4, 5, 6);
-    overlaps(4, 1, 0, 9);
-    merging();
-    merging_many();
-    joining();
-    uniting();
-    clashing();
+    let mut text = [0u8; 4096];
+    let n = io::read_full(0, &mut text);
+    lines(&text[0..n]);
 }

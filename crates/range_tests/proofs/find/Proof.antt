@@ -1,15 +1,15 @@
--- `line_end` ends between its start and the length: it counts up.
+-- `find` ends between its start and the length: it counts up.
 use Prim.Native.Nat.{_-_, _≤_}
 use native.Mathlib.Omega.{arith}
 use lib.ListN.{length}
-use Rattle.range_tests.proofs.line_end.Statement.{statement}
-use Rattle.range_tests.proofs.line_end.Tie as tie
+use Rattle.range_tests.proofs.find.Statement.{statement}
+use Rattle.range_tests.proofs.find.Tie as tie
 
 abbrev Inv-loop : tie.InvT-loop
-Inv-loop text from i₀ i = (from ≤ i) × (i ≤ length text)
+Inv-loop text from byte i₀ i = (from ≤ i) × (i ≤ length text)
 
 abbrev μ-loop : tie.MeasureT-loop
-μ-loop text from i₀ i = length text - i
+μ-loop text from byte i₀ i = length text - i
 
 loop-holds : tie.Need-loop-holds Inv-loop μ-loop
 loop-holds c = (omega arith, omega arith)
@@ -32,8 +32,8 @@ loop-again c = (omega arith, omega arith)
 returns-2 : tie.Need-returns-2 Inv-loop μ-loop
 returns-2 c = (omega arith, omega arith)
 
-pub line-end-spec : {M : Type 1} → statement M
-line-end-spec =
+pub find-spec : {M : Type 1} → statement M
+find-spec =
     tie.close
     (tie.spec
     Inv-loop
