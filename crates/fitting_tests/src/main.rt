@@ -280,7 +280,7 @@ fn apart(locals: &[u32], slots: &[u32]) {
     let mut cells = [7u32; 6];
     let mut items = [7u32; 12];
     text(b"apart");
-    verdict(queries::apart(locals, slots, &mut cells, &mut items));
+    verdict(apart::apart(locals, slots, &mut cells, &mut items));
     show(&cells);
     text(b" |");
     show(&items);
@@ -290,7 +290,7 @@ fn apart(locals: &[u32], slots: &[u32]) {
 fn cap(count: u32, most: u32) {
     let mut cells = [4u32, 16, 8, 8, 32, 32];
     text(b"cap");
-    verdict(queries::cap(&mut cells, count, most));
+    verdict(capping::cap(&mut cells, count, most));
     show(&cells);
     text(b"\n");
 }

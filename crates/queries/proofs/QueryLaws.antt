@@ -3,10 +3,10 @@ use Prim.Native.Nat.{ℕ, zero, suc, _+_, _-_, _*_, _≤_, _<_}
 use native.Mathlib.Omega.{arith}
 use native.Mathlib.Nat.{add-zero}
 use mathlib.Core.Path.{_≡_, refl, ap, sym, _∙_}
-use mathlib.Core.Bool.{Bool, true, false, cond, not, _||_}
+use mathlib.Core.Bool.{Bool, true, false, cond, not}
 use mathlib.Core.Option.{Option, some, none}
-use mathlib.Core.List.{List, [], _∷_, _++_}
-use lib.ListN.{length, getD, getElem?, drop}
+use mathlib.Core.List.{List, [], _∷_}
+use lib.ListN.{length, getD, getElem?}
 use lib.Dec.{leb, ltb}
 use borrow.Author.Tests.{ltb-false, leb-false, lt-ltb, le-ltb, le-leb, lt-leb}
 use Rattle.refusals.specs.declared.Verdict.{Verdict}
@@ -14,17 +14,15 @@ use Rattle.refusals.specs.declared.Verdict.the-variants.{Fine, Bad}
 use Rattle.refusals.specs.declared.Refusal.{Refusal}
 use Rattle.refusals.specs.declared.Refusal.the-variants.{Count, Want}
 use Rattle.refusals.specs.Verdicts.{inOrder, first, check}
-use Rattle.refusals.specs.Outcomes.{refused, unless, after}
+use Rattle.refusals.specs.Outcomes.{unless}
 use Rattle.refusals.proofs.Laws.{check-bad, check-fine, check-last, first-fine, first-bad, first-left, first-right, scan-fine}
 use Rattle.words.specs.Rows.{rowCount, wholeRows, field, tabulate}
 use Rattle.words.proofs.RowLaws.{length-tabulate, take-tabulate, drop-tabulate}
 use Rattle.ranges.proofs.PointLaws.{or-none}
-use Rattle.fitting.specs.Queries.{Item, slotsOf, areasOf, partOf, cellIn, local, slot, saved, cap}
+use Rattle.fitting.specs.Queries.{Item, slotsOf, areasOf, partOf, cellIn, local, slot, saved}
 use Rattle.queries.specs.declared.Place.the-variants.{At, Absent, Refused as PlaceRefused}
 use Rattle.queries.specs.declared.Saving.the-variants.{Cells, Refused as SavedRefused}
-use Rattle.queries.specs.Entry.{placeOf, savedOf, badCount, noCell, itemsVerdict, surplus, planVerdict, roomRow, capRows, CappedBy}
-use Rattle.words.proofs.PasteLaws.{Filling, fill-above}
-use Rattle.words.proofs.FlatLaws.{flat-length}
+use Rattle.queries.specs.Entry.{placeOf, savedOf, badCount, noCell, itemsVerdict, surplus, planVerdict}
 
 -- ---- the checks
 
@@ -188,28 +186,3 @@ names-none cells items i h = ap (λ (k : ℕ). leb (rowCount 2 cells) (getD item
 
 pub names-one : (cells items : List ℕ) (i : ℕ) → getD items (4 * i) 0 < rowCount 2 cells → noCell cells items i ≡ false
 names-one cells items i h = ap (λ (k : ℕ). leb (rowCount 2 cells) (getD items k 0)) (add-zero (4 * i)) ∙ lt-leb (rowCount 2 cells) (getD items (4 * i) 0) h
-
--- ---- `cap`
-
-abbrev pub capRow : List ℕ → ℕ → ℕ → List ℕ
-capRow cells most i = roomRow (cap most (record { size = field 2 cells i 0; align = field 2 cells i 1 }))
-
--- what stands from the next row on is as it was
-pub row-was : {d s m : List ℕ} (n i : ℕ) → Filling d 0 m (2 * n) s (2 * i) → (getD s (2 * i) 0 ≡ field 2 d i 0) × (getD s (2 * i + 1) 0 ≡ field 2 d i 1)
-row-was {d} {s} {m} n i f =
-    (fill-above f (2 * i) (omega arith) ∙ ap (λ (k : ℕ). getD d k 0) (sym (add-zero (2 * i))), fill-above f (2 * i + 1) (omega arith))
-
-pub capped-refused : (cells : List ℕ) (count most : ℕ) → not (wholeRows 2 cells) || (ltb (rowCount 2 cells) count || ltb 4096 count) ≡ true → CappedBy cells count most (Bad Count 0) cells
-capped-refused cells count most e = record {
-  answer = sym (ap (λ (t : Bool). check Count t) e);
-  in-cells = sym (ap (λ (t : Bool). after (unless (check Count t) (capRows cells count most)) (λ l. l) cells) e);
-}
-
-pub capped-told : (cells cells′ : List ℕ) (count most : ℕ) → not (wholeRows 2 cells) || (ltb (rowCount 2 cells) count || ltb 4096 count) ≡ false
-    → cells′ ≡ capRows cells count most ++ drop (2 * count) cells → CappedBy cells count most Fine cells′
-capped-told cells cells′ count most e f =
-    record {
-      answer = sym (ap (λ (t : Bool). check Count t) e);
-      in-cells = f ∙ ap (λ (k : ℕ). capRows cells count most ++ drop k cells) (sym (flat-length 2 count (capRow cells most) (λ i h. refl)))
-          ∙ sym (ap (λ (t : Bool). after (unless (check Count t) (capRows cells count most)) (λ l. l) cells) e);
-    }

@@ -1,31 +1,28 @@
 -- `shared`, `crowded` and `apart`: the checks' ways out, and what each answer is.
-use Prim.Native.Nat.{ℕ, _+_, _-_, _*_, _/_, _%_, _≤_, _<_}
+use Prim.Native.Nat.{ℕ, _+_, _-_, _*_, _≤_, _<_}
 use native.Mathlib.Omega.{arith}
 use mathlib.Core.Path.{_≡_, refl, ap, sym, _∙_}
-use mathlib.Core.Bool.{Bool, true, false, cond, not, _||_}
+use mathlib.Core.Bool.{Bool, true, false, cond, _||_}
 use mathlib.Core.Option.{Option, some, none}
-use mathlib.Core.List.{List, [], _∷_, _++_, map}
+use mathlib.Core.List.{List, _++_}
 use lib.ListN.{length, getD, getElem?, take, drop}
-use lib.Dec.{ltb, eqb}
+use lib.Dec.{ltb}
 use borrow.Author.Tests.{ltb-true, ltb-false, lt-ltb, le-ltb, eq-eqb, ne-eqb}
 use Rattle.refusals.specs.declared.Verdict.the-variants.{Fine, Bad}
 use Rattle.refusals.specs.declared.Refusal.{Refusal}
 use Rattle.refusals.specs.declared.Refusal.the-variants.{Count, Space, Want as WantRefused}
-use Rattle.refusals.specs.Verdicts.{first, check}
-use Rattle.refusals.specs.Outcomes.{given, refused, after}
-use Rattle.refusals.proofs.Laws.{three-first, three-second, three-third, check-bad, check-fine, check-last, scan-fine}
-use Rattle.words.specs.Rows.{rowCount, wholeRows, field, tabulate, flat}
-use Rattle.words.proofs.RowLaws.{length-tabulate, tabulate-eq, tabulate-add, tabulate-getD, map-tabulate}
-use Rattle.words.proofs.FlatLaws.{flat-length}
+use Rattle.refusals.specs.Verdicts.{first}
+use Rattle.refusals.specs.Outcomes.{given}
+use Rattle.refusals.proofs.Laws.{three-first, three-second, three-third, scan-fine}
+use Rattle.words.specs.Rows.{rowCount, field}
 use Rattle.ranges.proofs.PointLaws.{or-none, or-right}
 use Rattle.ranges.specs.declared.Range.{Range}
-use Rattle.fitting.specs.Wants.{Want}
-use Rattle.fitting.specs.Queries.{Item, Room, slotsOf, areasOf, partOf, sharedBy, shared, crowded, apart, roomOf}
+use Rattle.fitting.specs.Queries.{Item, slotsOf, areasOf, partOf, sharedBy, shared}
 use Rattle.queries.specs.declared.Share.the-variants.{Part, Absent, Refused as ShareRefused}
 use Rattle.queries.specs.declared.Crowd.the-variants.{Slots as SlotsGiven, Refused as CrowdRefused}
-use Rattle.queries.specs.Entry.{badCount, noCell, surplus, planVerdict, roomRow}
-use Rattle.queries.specs.Shares.{badAreas, outside, badItem, partsVerdict, sharedVerdict, SharedBy, crowdedVerdict, crowdedOf, CrowdedBy, localsOf, widthsOf, apartCount, apartSpace, apartVerdict, loneRow, roomRows, loneRows, apartOf, ApartBy}
-use Rattle.queries.specs.Inner.{membersIn, crowdedSlots, Picked, ownCell, ownCells, ownItems}
+use Rattle.queries.specs.Entry.{badCount, noCell, surplus, planVerdict}
+use Rattle.queries.specs.Shares.{badAreas, outside, badItem, partsVerdict, sharedVerdict, SharedBy, crowdedVerdict, crowdedOf, CrowdedBy}
+use Rattle.members.specs.Members.{membersIn, crowdedSlots, Picked}
 use Rattle.queries.proofs.QueryLaws.{checks-count, checks-item, checks-surplus, checks-fine, checks-passed, Sound, sound-of, sound, there, not-there, itemAt, locals-are, cell-at, names-none, names-one}
 use Rattle.queries.proofs.MemberLaws.{crowd-is, crowded-is}
 
@@ -171,137 +168,3 @@ module _ (cells items : List ℕ) (locals room : ℕ) where
         answer = ap (λ (k : ℕ). given k) (p .count ∙ ap length (sym q)) ∙ rw e;
         in-out = p .list ∙ ap (λ (l : List ℕ). l ++ drop (length l) out) (sym q) ∙ rw e;
       }
-
--- ---- `apart`
-
-module _ (locals slots : List ℕ) (cells items : ℕ) where
-  pub apart-count : apartCount locals slots cells items ≡ true → Bad Count 0 ≡ apartVerdict locals slots cells items
-  unfolding apartVerdict
-  apart-count e = sym (check-bad Count (apartCount locals slots cells items) (check Space (apartSpace (rowCount 2 locals + length slots) cells items) ∷ []) e)
-
-  module _ (e : apartCount locals slots cells items ≡ false) where
-    rest : apartVerdict locals slots cells items ≡ check Space (apartSpace (rowCount 2 locals + length slots) cells items)
-    unfolding apartVerdict
-    rest = check-fine Count (apartCount locals slots cells items) (check Space (apartSpace (rowCount 2 locals + length slots) cells items) ∷ []) e
-        ∙ check-last (check Space (apartSpace (rowCount 2 locals + length slots) cells items))
-
-    pub apart-space : apartSpace (rowCount 2 locals + length slots) cells items ≡ true → Bad Space 0 ≡ apartVerdict locals slots cells items
-    apart-space f = sym (rest ∙ ap (check Space) f)
-
-    pub apart-fine : apartSpace (rowCount 2 locals + length slots) cells items ≡ false → Fine ≡ apartVerdict locals slots cells items
-    apart-fine f = sym (rest ∙ ap (check Space) f)
-
-  -- what holds where nothing is refused
-  pub record Spare : Type 0 where
-    pub few : rowCount 2 locals + length slots ≤ 4096
-    pub in-cells : 2 * (rowCount 2 locals + length slots) ≤ cells
-    pub in-items : 4 * (rowCount 2 locals + length slots) ≤ items
-
-  pub apart-passed : apartVerdict locals slots cells items ≡ Fine → Spare
-  apart-passed e = go (apartCount locals slots cells items) refl (apartSpace (rowCount 2 locals + length slots) cells items) refl
-    where
-      go : (b : Bool) → apartCount locals slots cells items ≡ b → (s : Bool) → apartSpace (rowCount 2 locals + length slots) cells items ≡ s → Spare
-      go true f s g = let q = apart-count f in let z : _≡_ {A = ℕ} 0 1 = cc in absurd (omega arith)
-      go false f true g = let q = apart-space f g in let z : _≡_ {A = ℕ} 0 1 = cc in absurd (omega arith)
-      go false f false g =
-          let (a, b) = or-none (not (wholeRows 2 locals)) _ f in
-          let (c, d) = or-none (not (eqb (cells % 2) 0)) _ b in
-          let (h, k) = or-none (not (eqb (items % 4) 0)) _ d in
-          let (l, m) = or-none (ltb 2048 (rowCount 2 locals)) (ltb 2048 (length slots)) k in
-          let (s, t) = or-none (ltb (cells / 2) (rowCount 2 locals + length slots)) _ g in
-          let u = ltb-false 2048 (rowCount 2 locals) l in
-          let v = ltb-false 2048 (length slots) m in
-          let w = ltb-false (cells / 2) (rowCount 2 locals + length slots) s in
-          let x = ltb-false (items / 4) (rowCount 2 locals + length slots) t in
-          record { few = omega arith; in-cells = omega arith; in-items = omega arith }
-
--- two tables one after the other
-tables : {A : Type 0} (l m : ℕ) (a b c : ℕ → A) → ((i : ℕ) → i < l → a i ≡ c i) → ((i : ℕ) → i < m → b i ≡ c (l + i)) → tabulate l a ++ tabulate m b ≡ tabulate (l + m) c
-tables {A} l m a b c f g =
-    ap (λ (k : List A). k ++ tabulate m b) (tabulate-eq l a c f) ∙ ap (λ (k : List A). tabulate l c ++ k) (tabulate-eq m b (λ i. c (l + i)) g) ∙ sym (tabulate-add l m c)
-
-module _ (locals slots : List ℕ) where
-  abbrev localAt : ℕ → Want
-  localAt i = record { size = field 2 locals i 0; align = field 2 locals i 1; area = none }
-
-  abbrev slotAt : ℕ → Want
-  slotAt i = record { size = getD slots i 0; align = getD slots i 0; area = none }
-
-  widths-are : widthsOf slots ≡ tabulate (length slots) slotAt
-  widths-are = ap widthsOf (sym (tabulate-getD slots 0)) ∙ map-tabulate _ (length slots) (λ i. getD slots i 0)
-
-  abbrev roomAt : ℕ → Room
-  roomAt i = cond (ltb i (rowCount 2 locals)) (roomOf (localAt i)) (roomOf (slotAt (i - rowCount 2 locals)))
-
-  rooms-are : apart (localsOf locals) (widthsOf slots) .cells ≡ tabulate (rowCount 2 locals + length slots) roomAt
-  rooms-are =
-      ap (λ (l : List Room). l ++ map roomOf (widthsOf slots)) (map-tabulate roomOf (rowCount 2 locals) localAt)
-      ∙ ap (λ (l : List Want). tabulate (rowCount 2 locals) (λ i. roomOf (localAt i)) ++ map roomOf l) widths-are
-      ∙ ap (λ (l : List Room). tabulate (rowCount 2 locals) (λ i. roomOf (localAt i)) ++ l) (map-tabulate roomOf (length slots) slotAt)
-      ∙ tables (rowCount 2 locals) (length slots) (λ i. roomOf (localAt i)) (λ i. roomOf (slotAt i)) roomAt
-      (λ i h. sym (ap (λ (t : Bool). cond t (roomOf (localAt i)) (roomOf (slotAt (i - rowCount 2 locals)))) (lt-ltb i (rowCount 2 locals) h)))
-      (λ i h. let e : rowCount 2 locals + i - rowCount 2 locals ≡ i = omega arith in
-      sym (ap (λ (t : Bool). cond t (roomOf (localAt (rowCount 2 locals + i))) (roomOf (slotAt (rowCount 2 locals + i - rowCount 2 locals)))) (le-ltb (rowCount 2 locals + i) (rowCount 2 locals) (omega arith))
-      ∙ ap (λ (k : ℕ). roomOf (slotAt k)) e))
-
-  row-is : (i : ℕ) → roomRow (roomAt i) ≡ ownCell locals slots i
-  row-is i = go (ltb i (rowCount 2 locals))
-    where
-      go : (t : Bool) → roomRow (cond t (roomOf (localAt i)) (roomOf (slotAt (i - rowCount 2 locals))))
-          ≡ cond t (field 2 locals i 0 ∷ field 2 locals i 1 ∷ []) (getD slots (i - rowCount 2 locals) 0 ∷ getD slots (i - rowCount 2 locals) 0 ∷ [])
-      go true = refl
-      go false = refl
-
-  cells-are : roomRows (apart (localsOf locals) (widthsOf slots)) ≡ ownCells locals slots
-  cells-are =
-      ap flat (ap (map roomRow) rooms-are ∙ map-tabulate roomRow (rowCount 2 locals + length slots) roomAt
-      ∙ tabulate-eq (rowCount 2 locals + length slots) _ (ownCell locals slots) (λ i h. row-is i))
-
-  abbrev lone : ℕ → List ℕ
-  lone i = i ∷ 0 ∷ 0 ∷ 0 ∷ []
-
-  items-are : loneRows (apart (localsOf locals) (widthsOf slots)) ≡ ownItems (rowCount 2 locals + length slots)
-  items-are =
-      let a : length (localsOf locals) ≡ rowCount 2 locals = length-tabulate (rowCount 2 locals) localAt in
-      let b : length (widthsOf slots) ≡ length slots = ap length widths-are ∙ length-tabulate (length slots) slotAt in
-      ap flat
-      (ap (λ (l : List (List ℕ)). l ++ map loneRow (tabulate (length (widthsOf slots)) (λ i. record { cell = length (localsOf locals) + i; area = none })))
-      (map-tabulate loneRow (length (localsOf locals)) (λ i. record { cell = i; area = none }))
-      ∙ ap (λ (l : List (List ℕ)). tabulate (length (localsOf locals)) lone ++ l)
-      (map-tabulate loneRow (length (widthsOf slots)) (λ i. record { cell = length (localsOf locals) + i; area = none }))
-      ∙ tables (length (localsOf locals)) (length (widthsOf slots)) lone (λ i. lone (length (localsOf locals) + i)) lone (λ i h. refl) (λ i h. refl)
-      ∙ ap (λ (k : ℕ). tabulate k lone) (omega (arith, a, b)))
-
-  own-wide : (i : ℕ) → length (ownCell locals slots i) ≡ 2
-  own-wide i = go (ltb i (rowCount 2 locals))
-    where
-      go : (t : Bool) → length (cond t (field 2 locals i 0 ∷ field 2 locals i 1 ∷ []) (getD slots (i - rowCount 2 locals) 0 ∷ getD slots (i - rowCount 2 locals) 0 ∷ [])) ≡ 2
-      go true = refl
-      go false = refl
-
-  pub cell-wide : (i : ℕ) → i < rowCount 2 locals + length slots → length (ownCell locals slots i) ≡ 2
-  cell-wide i h = own-wide i
-
-  -- an item's cell, by its index
-  pub own-local : (i : ℕ) → i < rowCount 2 locals → ownCell locals slots i ≡ field 2 locals i 0 ∷ field 2 locals i 1 ∷ []
-  own-local i h = ap (λ (t : Bool). cond t (field 2 locals i 0 ∷ field 2 locals i 1 ∷ []) (getD slots (i - rowCount 2 locals) 0 ∷ getD slots (i - rowCount 2 locals) 0 ∷ [])) (lt-ltb i (rowCount 2 locals) h)
-
-  pub own-slot : (i : ℕ) → rowCount 2 locals ≤ i → ownCell locals slots i ≡ getD slots (i - rowCount 2 locals) 0 ∷ getD slots (i - rowCount 2 locals) 0 ∷ []
-  own-slot i h = ap (λ (t : Bool). cond t (field 2 locals i 0 ∷ field 2 locals i 1 ∷ []) (getD slots (i - rowCount 2 locals) 0 ∷ getD slots (i - rowCount 2 locals) 0 ∷ [])) (le-ltb i (rowCount 2 locals) h)
-
-  module _ (cells items : List ℕ) where
-    pub apart-refused : (r : Refusal) (k : ℕ) → apartVerdict locals slots (length cells) (length items) ≡ Bad r k
-        → ApartBy (apartVerdict locals slots (length cells) (length items)) (apartOf locals slots (length cells) (length items)) cells items (Bad r k) cells items
-    apart-refused r k e = record { answer = sym e; in-cells = rw e; in-items = rw e }
-
-    pub apart-told : (cells′ items′ : List ℕ) → apartVerdict locals slots (length cells) (length items) ≡ Fine
-        → cells′ ≡ ownCells locals slots ++ drop (2 * (rowCount 2 locals + length slots)) cells
-        → items′ ≡ ownItems (rowCount 2 locals + length slots) ++ drop (4 * (rowCount 2 locals + length slots)) items
-        → ApartBy (apartVerdict locals slots (length cells) (length items)) (apartOf locals slots (length cells) (length items)) cells items Fine cells′ items′
-    apart-told cells′ items′ e f g = record {
-      answer = sym e;
-      in-cells = f ∙ ap (λ (k : ℕ). ownCells locals slots ++ drop k cells) (sym (flat-length 2 (rowCount 2 locals + length slots) (ownCell locals slots) cell-wide))
-          ∙ ap (λ (l : List ℕ). l ++ drop (length l) cells) (sym cells-are) ∙ rw e;
-      in-items = g ∙ ap (λ (k : ℕ). ownItems (rowCount 2 locals + length slots) ++ drop k items) (sym (flat-length 4 (rowCount 2 locals + length slots) lone (λ i h. refl)))
-          ∙ ap (λ (l : List ℕ). l ++ drop (length l) items) (sym items-are) ∙ rw e;
-    }

@@ -1,18 +1,16 @@
 -- What the queries of a lent plan answer and refuse: document 01, numbers 1, 7 and 10.
-use Prim.Native.Nat.{ℕ, _+_, _-_, _*_, _%_}
-use mathlib.Core.Path.{_≡_}
-use mathlib.Core.Bool.{Bool, cond, not, _&&_, _||_}
+use Prim.Native.Nat.{ℕ, _-_}
+use mathlib.Core.Bool.{Bool, cond, not, _||_}
 use mathlib.Core.Option.{Option, some, none}
 use mathlib.Core.List.{List, [], _∷_}
-use lib.ListN.{length, getD, take, drop}
-use lib.Dec.{leb, ltb, eqb}
+use lib.Dec.{leb, ltb}
 use Rattle.refusals.specs.declared.Verdict.{Verdict}
 use Rattle.refusals.specs.declared.Verdict.the-variants.{Fine, Bad}
-use Rattle.refusals.specs.declared.Refusal.the-variants.{Count, Space, Want}
-use Rattle.refusals.specs.Verdicts.{numberOf, inOrder, first, scan, check}
-use Rattle.refusals.specs.Outcomes.{Outcome, given, refused, unless, after}
-use Rattle.words.specs.Rows.{rowCount, wholeRows, field, records, tabulate, flat}
-use Rattle.fitting.specs.Queries.{Room, Slots, slotsOf, local, slot, saved, cap, roomsOf}
+use Rattle.refusals.specs.declared.Refusal.the-variants.{Count, Want}
+use Rattle.refusals.specs.Verdicts.{numberOf, inOrder, scan, check}
+use Rattle.refusals.specs.Outcomes.{Outcome, given, refused, unless}
+use Rattle.words.specs.Rows.{rowCount, wholeRows, field}
+use Rattle.fitting.specs.Queries.{slotsOf, local, slot, saved}
 use Rattle.queries.specs.declared.Place.{Place}
 use Rattle.queries.specs.declared.Place.the-variants.{At, Absent, Refused as PlaceRefused}
 use Rattle.queries.specs.declared.Saving.{Saving}
@@ -57,20 +55,3 @@ slotOf cells items locals i = unless (planVerdict cells items locals) (slot (slo
 
 abbrev pub savedBy : List ℕ → List ℕ → ℕ → Outcome ℕ
 savedBy cells items locals = unless (planVerdict cells items locals) (saved (slotsOf locals cells items []))
-
--- a cell's row: size, align
-abbrev pub roomRow : Room → List ℕ
-roomRow c = c .size ∷ c .align ∷ []
-
--- `cap`: number 1, a list that is no whole rows or has fewer than the cells counted, or more cells than a plan can have
-abbrev pub capVerdict : List ℕ → ℕ → Verdict
-capVerdict cells count = check Count (not (wholeRows 2 cells) || (ltb (rowCount 2 cells) count || ltb 4096 count))
-
--- the first `count` cells, each with its alignment lowered
-abbrev pub capRows : List ℕ → ℕ → ℕ → List ℕ
-capRows cells count most = flat (tabulate count (λ i. roomRow (cap most (record { size = field 2 cells i 0; align = field 2 cells i 1 }))))
-
--- "sizes and entries past the count unchanged": a refusal changes nothing
-pub record CappedBy (cells : List ℕ) (count most : ℕ) (r : Verdict) (cells′ : List ℕ) : Type 0 where
-  pub answer : r ≡ capVerdict cells count
-  pub in-cells : cells′ ≡ after (unless (capVerdict cells count) (capRows cells count most)) (λ l. l) cells

@@ -1,10 +1,8 @@
 // The refusals of the queries: numbers 1, 7 and 10, in this order.
 ghost use mathlib.Core.Path.{_≡_};
-ghost use Prim.Native.Nat.{_+_, _≤_};
-ghost use lib.ListN.{length};
-ghost use Rattle.words.specs.Rows.{rowCount};
-ghost use Rattle.queries.specs.Entry.{badCount, itemsVerdict, surplus, planVerdict};
-ghost use Rattle.queries.specs.Shares.{badAreas, outside, partsVerdict, sharedVerdict, crowdedVerdict, apartCount, apartSpace, apartVerdict};
+ghost use Prim.Native.Nat.{_+_};
+ghost use Rattle.queries.specs.Entry.{badCount, itemsVerdict, planVerdict};
+ghost use Rattle.queries.specs.Shares.{badAreas, outside, partsVerdict, sharedVerdict, crowdedVerdict};
 use refusals::Refusal;
 use refusals::Verdict;
 
@@ -138,44 +136,4 @@ pub fn crowd(cells: &[u32], items: &[u32], locals: u32, room: usize) -> Verdict
         return Verdict::Bad(Refusal::Space, 0);
     }
     plan(cells, items, locals)
-}
-
-fn apart_count(locals: &[u32], slots: &[u32], cells: usize, items: usize) -> bool
-    ensures { λ r. ⌜ r ≡ apartCount (now (locals .entry)) (now (slots .entry)) cells items ⌝ }
-{
-    if locals.len() % 2 != 0 {
-        return true;
-    }
-    if cells % 2 != 0 {
-        return true;
-    }
-    if items % 4 != 0 {
-        return true;
-    }
-    if MOST < locals.len() / 2 {
-        return true;
-    }
-    MOST < slots.len()
-}
-
-fn apart_space(n: usize, cells: usize, items: usize) -> bool
-    ensures { λ r. ⌜ r ≡ apartSpace n cells items ⌝ }
-{
-    if cells / 2 < n {
-        return true;
-    }
-    items / 4 < n
-}
-
-// Of `apart`, by the lengths of its answer lists.
-pub fn apart(locals: &[u32], slots: &[u32], cells: usize, items: usize) -> Verdict
-    ensures { λ r. ⌜ r ≡ apartVerdict (now (locals .entry)) (now (slots .entry)) cells items ⌝ }
-{
-    if apart_count(locals, slots, cells, items) {
-        return Verdict::Bad(Refusal::Count, 0);
-    }
-    if apart_space(locals.len() / 2 + slots.len(), cells, items) {
-        return Verdict::Bad(Refusal::Space, 0);
-    }
-    Verdict::Fine
 }

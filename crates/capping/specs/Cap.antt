@@ -1,0 +1,29 @@
+-- What `cap` answers and refuses: document 01, number 1.
+use Prim.Native.Nat.{ℕ}
+use mathlib.Core.Path.{_≡_}
+use mathlib.Core.Bool.{not, _||_}
+use mathlib.Core.List.{List, [], _∷_}
+use lib.Dec.{ltb}
+use Rattle.refusals.specs.declared.Verdict.{Verdict}
+use Rattle.refusals.specs.declared.Refusal.the-variants.{Count}
+use Rattle.refusals.specs.Verdicts.{check}
+use Rattle.refusals.specs.Outcomes.{unless, after}
+use Rattle.words.specs.Rows.{rowCount, wholeRows, field, tabulate, flat}
+use Rattle.fitting.specs.Queries.{Room, cap}
+
+-- a cell's row: size, align
+abbrev pub roomRow : Room → List ℕ
+roomRow c = c .size ∷ c .align ∷ []
+
+-- `cap`: number 1, a list that is no whole rows or has fewer than the cells counted, or more cells than a plan can have
+abbrev pub capVerdict : List ℕ → ℕ → Verdict
+capVerdict cells count = check Count (not (wholeRows 2 cells) || (ltb (rowCount 2 cells) count || ltb 4096 count))
+
+-- the first `count` cells, each with its alignment lowered
+abbrev pub capRows : List ℕ → ℕ → ℕ → List ℕ
+capRows cells count most = flat (tabulate count (λ i. roomRow (cap most (record { size = field 2 cells i 0; align = field 2 cells i 1 }))))
+
+-- "sizes and entries past the count unchanged": a refusal changes nothing
+pub record CappedBy (cells : List ℕ) (count most : ℕ) (r : Verdict) (cells′ : List ℕ) : Type 0 where
+  pub answer : r ≡ capVerdict cells count
+  pub in-cells : cells′ ≡ after (unless (capVerdict cells count) (capRows cells count most)) (λ l. l) cells

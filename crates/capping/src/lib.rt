@@ -1,0 +1,63 @@
+// `cap`: the alignments of a plan's cells lowered to a maximum, in cells as rows of size and alignment.
+ghost use mathlib.Core.Path.{_≡_};
+ghost use Prim.Native.Nat.{_*_, _≤_, min};
+ghost use mathlib.Core.List.{_++_};
+ghost use lib.ListN.{length, drop};
+ghost use Rattle.capping.specs.Cap.{CappedBy, capRows};
+use refusals::Refusal;
+use refusals::Verdict;
+
+// A cell of a plan, by value.
+pub struct Cell {
+    pub size: u32,
+    pub align: u32,
+}
+
+// One cell with its alignment lowered to a maximum, handed back.
+pub fn lowered(c: Cell, most: u32) -> Cell
+    ensures { λ r. ⌜ (r .size ≡ c .size) × (r .align ≡ min (c .align) most) ⌝ }
+{
+    if most < c.align {
+        return Cell {
+            size: c.size,
+            align: most,
+        };
+    }
+    c
+}
+
+// Lowers the alignment of the first `count` cells to a maximum. Refuses a list that is no whole rows or is shorter than the count (1).
+pub fn cap(cells: &mut [u32], count: u32, most: u32) -> Verdict
+    ensures { λ r. ⌜ CappedBy (now (cells .entry)) count most r (now (cells .exit)) ⌝ }
+{
+    if cells.len() % 2 != 0 {
+        return Verdict::Bad(Refusal::Count, 0);
+    }
+    if cells.len() / 2 < count as usize {
+        return Verdict::Bad(Refusal::Count, 0);
+    }
+    if 4096 < count {
+        return Verdict::Bad(Refusal::Count, 0);
+    }
+    lower(cells, count as usize, most);
+    Verdict::Fine
+}
+
+fn lower(cells: &mut [u32], count: usize, most: u32)
+    requires { ⌜ 2 * count ≤ length (now cells) ⌝ }
+    ensures { λ _. ⌜ now (cells .exit) ≡ capRows (now (cells .entry)) count most ++ drop (2 * count) (now (cells .entry)) ⌝ }
+{
+    let mut i = 0;
+    while i < count {
+        let c = lowered(
+            Cell {
+                size: cells[2 * i],
+                align: cells[2 * i + 1],
+            },
+            most,
+        );
+        cells[2 * i] = c.size;
+        cells[2 * i + 1] = c.align;
+        i += 1;
+    }
+}
