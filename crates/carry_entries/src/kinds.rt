@@ -87,7 +87,7 @@ fn measure(
     let i = insts.len() / 9;
     let l = locals.len() / 2;
     let lay = layout(v, i, operands.len() / 2, l, addresses.len() / 2);
-    let n = reach::prepare::prepare(insts, operands, crossings, l, addresses, ends, v, work, lay);
+    let n = preparing::prepare(insts, operands, crossings, l, addresses, ends, v, work, lay);
     kinds(
         insts,
         addresses,

@@ -41,7 +41,7 @@ fn list(
     let i = insts.len() / 9;
     let l = locals.len() / 2;
     let lay = kinds::layout(v, i, operands.len() / 2, l, addresses.len() / 2);
-    let e = reach::prepare::prepare(insts, operands, crossings, l, addresses, ends, v, work, lay);
+    let e = preparing::prepare(insts, operands, crossings, l, addresses, ends, v, work, lay);
     let z = Sizes {
         v: v,
         insts: i,

@@ -27,7 +27,7 @@ use Rattle.carrying.proofs.ListLaws.{any-true, any-entry, any-false, false-any,
 use Rattle.carrying.proofs.CarryLaws.{def-below, carries-below, carried-least}
 use Rattle.insts.proofs.DealtLaws.{insts-length, lea-is}
 use Rattle.reach.specs.declared.Lay.{Lay}
-use Rattle.reach.specs.Numbers.{defNumber}
+use Rattle.operands.specs.Numbers.{defNumber}
 use Rattle.reach.specs.Prepared.{Laid, wordsOf, key, latest, leaReader, Hands, codeOf, Prepared}
 use Rattle.reach.specs.Steps.{rowLocal}
 use Rattle.reach.proofs.UseLaws.{bool-ext, by-bool, not-false, Some, some-at, some-index}

@@ -14,7 +14,7 @@ use Rattle.carrying.specs.Insts.{instsOf, instAt, defOf}
 use Rattle.carrying.specs.Carried.{Code, isNone, mentionsOf, endsOf, empty}
 use Rattle.insts.proofs.DealtLaws.{insts-length}
 use Rattle.reach.specs.declared.Lay.{Lay}
-use Rattle.reach.specs.Numbers.{defNumber}
+use Rattle.operands.specs.Numbers.{defNumber}
 use Rattle.reach.specs.Prepared.{Laid, wordsOf, key, latest, localOf, codeOf, Prepared, Readied}
 use Rattle.reach.specs.Steps.{rowLocal}
 use Rattle.reach.proofs.ScanLaws.{same-bit}

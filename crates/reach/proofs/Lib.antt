@@ -1,4 +1,3 @@
-pub mod OperandLaws
 pub mod UseLaws
 pub mod MarkLaws
 pub mod LeafLaws

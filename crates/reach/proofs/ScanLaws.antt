@@ -24,7 +24,7 @@ use Rattle.insts.specs.Counts.{offset}
 use Rattle.insts.specs.Rows.{operandsFrom, AddsUp}
 use Rattle.insts.proofs.DealtLaws.{any-none, any-next, sum-next, sum-start, inst-at, insts-length, operands-within}
 use Rattle.reach.specs.declared.Lay.{Lay}
-use Rattle.reach.specs.Numbers.{defNumber, addressing}
+use Rattle.operands.specs.Numbers.{defNumber, addressing}
 use Rattle.reach.specs.Prepared.{wordsOf, key, leaReader, Hands}
 use Rattle.reach.specs.Scan.{Marked, Linked, escapesIn, handsIn, rowOf, strayReader, Handing, Added, Scanning, Blank}
 

@@ -15,7 +15,7 @@ use Rattle.words.proofs.RowLaws.{length-tabulate, getD-tabulate, mem-tabulate, 
 use Rattle.carrying.specs.Lists.{any}
 use Rattle.carrying.specs.Insts.{Operand, Inst, isSet, isUse, addressPosition, eachAddress}
 use Rattle.carrying.proofs.ListLaws.{any-true, any-entry, any-false, false-any}
-use Rattle.reach.specs.Numbers.{addressing}
+use Rattle.operands.specs.Numbers.{addressing}
 use Rattle.reach.specs.Scan.{escapesIn, handsIn}
 
 pub bool-ext : (a b : Bool) → (a ≡ true → b ≡ true) → (b ≡ true → a ≡ true) → a ≡ b

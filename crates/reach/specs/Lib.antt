@@ -1,4 +1,3 @@
-pub mod Numbers
 pub mod Prepared
 pub mod Scan
 pub mod Steps

@@ -14,7 +14,7 @@ use Rattle.carrying.specs.Insts.{Inst, instsOf, instAt, defOf, isSet, reads, ad
 use Rattle.carrying.specs.Carried.{Code, Mention, mentionsOf, isNone, stuck, escapes, endsOf, empty}
 use Rattle.carrying.specs.Checks.{mentionAt}
 use Rattle.reach.specs.declared.Lay.{Lay}
-use Rattle.reach.specs.Numbers.{defNumber}
+use Rattle.operands.specs.Numbers.{defNumber}
 
 -- what `reach` is lent, as records
 abbrev pub codeOf : ℕ → List ℕ → List ℕ → List ℕ → List ℕ → List ℕ → Code

@@ -14,7 +14,7 @@ use Rattle.carrying.specs.Carried.{isNone}
 use Rattle.insts.specs.Counts.{offset}
 use Rattle.insts.specs.Rows.{operandsFrom}
 use Rattle.reach.specs.declared.Lay.{Lay}
-use Rattle.reach.specs.Numbers.{defNumber, addressing}
+use Rattle.operands.specs.Numbers.{defNumber, addressing}
 use Rattle.reach.specs.Prepared.{wordsOf, key, leaReader, Hands}
 
 -- bits of v registers: those that pass f are set too, and nothing else has changed

@@ -1,7 +1,5 @@
-// Which registers carry a local's address, and what becomes of the local: one pass over the code, after which each local's registers are followed.
-pub mod operands; // operands.rt: what an instruction does with a register
+// One pass over the code: which registers escape or are dead, and which hand an address on to which.
 pub mod scan; // scan.rt: one pass over the instructions
-pub mod prepare; // prepare.rt: all that the walks read
 
 // Where carrying keeps things in the work space, each region past the one before: rows of bits over the registers (those that escape, those that are dead, those
 // seen), the one def and the first edge of each instruction, the edges, the first address entry of each local, the next of each entry, whether a local

@@ -7,11 +7,10 @@ ghost use lib.Dec.{ltb};
 ghost use Rattle.words.specs.Rows.{field};
 ghost use Rattle.carrying.specs.Insts.{instsOf, isSet, addressPosition, eachAddress, defOf};
 ghost use Rattle.insts.specs.Rows.{operandAt, operandsFrom, AddsUp};
-ghost use Rattle.reach.specs.Numbers.{defNumber, addressing};
+ghost use Rattle.operands.specs.Numbers.{defNumber, addressing};
 ghost use Rattle.reach.specs.Prepared.{wordsOf};
 ghost use Rattle.reach.specs.Scan.{Marked, Linked, escapesIn, handsIn, rowOf, strayReader, Handing, Added, Blank, Scanning};
 use crate::Lay;
-use crate::operands;
 
 fn wide(x: u32) -> usize
     ensures { λ r. ⌜ r ≡ x ⌝ }

@@ -3,7 +3,6 @@ use native.Mathlib.Omega.{arith}
 use Prim.Native.Nat.{ℕ, suc, _+_, _-_, _*_, _≤_, _<_}
 use mathlib.Core.Path.{_≡_, refl, sym, ap, _∙_}
 use lib.ListN.{length, take, drop, getD, set, length-set}
-use borrow.Author.Needs.{needs}
 use Rattle.words.specs.Rows.{field}
 use Rattle.insts.specs.Rows.{operandsFrom}
 use Rattle.carrying.specs.Insts.{defOf}
@@ -14,55 +13,55 @@ use Rattle.reach.proofs.scan.escapes.Statement.{statement}
 use Rattle.reach.proofs.scan.escapes.Tie as tie
 
 mul-at : tie.Need-mul-at
-mul-at c = search needs
+mul-at c = omega arith
 
 mul-if1 : tie.Need-mul-if1
-mul-if1 c = search needs
+mul-if1 c = omega arith
 
 shared-slice-read-if1 : tie.Need-shared-slice-read-if1
-shared-slice-read-if1 c = search needs
+shared-slice-read-if1 c = omega arith
 
 returns : tie.Need-returns
 returns c = marked-none _ _ _ _ (unplaced-stray ((c .before .before .before .before .before .args) .insts .now) ((c .before .before .before .before .before .args) .operands .now) ((c .before .before .before .before .before .args) .i) ((c .before .before .before .before .before .args) .from) (c .if1 .taken))
 
 add-wide : tie.Need-add-wide
-add-wide c = search needs
+add-wide c = omega arith
 
 mul-wide : tie.Need-mul-wide
-mul-wide c = search needs
+mul-wide c = omega arith
 
 shared-slice-read-wide : tie.Need-shared-slice-read-wide
-shared-slice-read-wide c = search needs
+shared-slice-read-wide c = omega arith
 
 wide-requires : tie.Need-wide-requires
-wide-requires c κs = search needs
+wide-requires c κs = tt
 
 add-escape : tie.Need-add-escape
-add-escape c = search needs
+add-escape c = omega arith
 
 mul-escape : tie.Need-mul-escape
-mul-escape c = search needs
+mul-escape c = omega arith
 
 shared-slice-read-escape : tie.Need-shared-slice-read-escape
-shared-slice-read-escape c = search needs
+shared-slice-read-escape c = omega arith
 
 add-escape-2 : tie.Need-add-escape-2
-add-escape-2 c = search needs
+add-escape-2 c = omega arith
 
 mul-escape-2 : tie.Need-mul-escape-2
-mul-escape-2 c = search needs
+mul-escape-2 c = omega arith
 
 shared-slice-read-escape-2 : tie.Need-shared-slice-read-escape-2
-shared-slice-read-escape-2 c = search needs
+shared-slice-read-escape-2 c = omega arith
 
 add-escape-3 : tie.Need-add-escape-3
-add-escape-3 c = search needs
+add-escape-3 c = omega arith
 
 mul-escape-3 : tie.Need-mul-escape-3
-mul-escape-3 c = search needs
+mul-escape-3 c = omega arith
 
 shared-slice-read-escape-3 : tie.Need-shared-slice-read-escape-3
-shared-slice-read-escape-3 c = search needs
+shared-slice-read-escape-3 c = omega arith
 
 escape-requires : tie.Need-escape-requires
 escape-requires c κs = omega (arith, (c .before .before .before .before .wide) .ensures)

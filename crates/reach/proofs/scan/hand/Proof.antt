@@ -3,7 +3,6 @@ use native.Mathlib.Omega.{arith}
 use Prim.Native.Nat.{ℕ, suc, _+_, _-_, _*_, _≤_, _<_}
 use mathlib.Core.Path.{_≡_, refl, sym, ap, _∙_}
 use lib.ListN.{length, take, drop, getD, set, length-set}
-use borrow.Author.Needs.{needs}
 use Rattle.words.specs.Rows.{field}
 use Rattle.insts.specs.Rows.{operandsFrom}
 use Rattle.carrying.specs.Insts.{defOf}
@@ -14,70 +13,70 @@ use Rattle.reach.proofs.scan.hand.Statement.{statement}
 use Rattle.reach.proofs.scan.hand.Tie as tie
 
 mul-at : tie.Need-mul-at
-mul-at c = search needs
+mul-at c = omega arith
 
 mul-if1 : tie.Need-mul-if1
-mul-if1 c = search needs
+mul-if1 c = omega arith
 
 shared-slice-read-if1 : tie.Need-shared-slice-read-if1
-shared-slice-read-if1 c = search needs
+shared-slice-read-if1 c = omega arith
 
 returns : tie.Need-returns
 returns c = hand-none ((c .before .before .before .before .before .args) .lay) ((c .before .before .before .before .before .args) .v) _ ((c .before .before .before .before .before .args) .i) _ _ _ (unplaced-lea ((c .before .before .before .before .before .args) .insts .now) ((c .before .before .before .before .before .args) .operands .now) ((c .before .before .before .before .before .args) .i) ((c .before .before .before .before .before .args) .from) (c .if1 .taken))
 
 add-if2 : tie.Need-add-if2
-add-if2 c = search needs
+add-if2 c = omega arith
 
 mul-if2 : tie.Need-mul-if2
-mul-if2 c = search needs
+mul-if2 c = omega arith
 
 shared-slice-read-if2 : tie.Need-shared-slice-read-if2
-shared-slice-read-if2 c = search needs
+shared-slice-read-if2 c = omega arith
 
 returns-2 : tie.Need-returns-2
 returns-2 c = hand-none ((c .before .before .before .before .before .before .before .args) .lay) ((c .before .before .before .before .before .before .before .args) .v) _ ((c .before .before .before .before .before .before .before .args) .i) _ _ _ (other-lea ((c .before .before .before .before .before .before .before .args) .insts .now) ((c .before .before .before .before .before .before .before .args) .operands .now) ((c .before .before .before .before .before .before .before .args) .i) ((c .before .before .before .before .before .before .before .args) .from) (c .if2 .taken))
 
 add-if3 : tie.Need-add-if3
-add-if3 c = search needs
+add-if3 c = omega arith
 
 mul-if3 : tie.Need-mul-if3
-mul-if3 c = search needs
+mul-if3 c = omega arith
 
 shared-slice-read-if3 : tie.Need-shared-slice-read-if3
-shared-slice-read-if3 c = search needs
+shared-slice-read-if3 c = omega arith
 
 returns-3 : tie.Need-returns-3
 returns-3 c = hand-none ((c .before .before .before .before .before .before .before .before .before .args) .lay) ((c .before .before .before .before .before .before .before .before .before .args) .v) _ ((c .before .before .before .before .before .before .before .before .before .args) .i) _ _ _ (no-memory ((c .before .before .before .before .before .before .before .before .before .args) .insts .now) ((c .before .before .before .before .before .before .before .before .before .args) .operands .now) ((c .before .before .before .before .before .before .before .before .before .args) .i) ((c .before .before .before .before .before .before .before .before .before .args) .from) (c .if3 .taken))
 
 add-wide : tie.Need-add-wide
-add-wide c = search needs
+add-wide c = omega arith
 
 mul-wide : tie.Need-mul-wide
-mul-wide c = search needs
+mul-wide c = omega arith
 
 shared-slice-read-wide : tie.Need-shared-slice-read-wide
-shared-slice-read-wide c = search needs
+shared-slice-read-wide c = omega arith
 
 wide-requires : tie.Need-wide-requires
-wide-requires c κs = search needs
+wide-requires c κs = tt
 
 add-stick : tie.Need-add-stick
-add-stick c = search needs
+add-stick c = omega arith
 
 mul-stick : tie.Need-mul-stick
-mul-stick c = search needs
+mul-stick c = omega arith
 
 shared-slice-read-stick : tie.Need-shared-slice-read-stick
-shared-slice-read-stick c = search needs
+shared-slice-read-stick c = omega arith
 
 add-stick-2 : tie.Need-add-stick-2
-add-stick-2 c = search needs
+add-stick-2 c = omega arith
 
 mul-stick-2 : tie.Need-mul-stick-2
-mul-stick-2 c = search needs
+mul-stick-2 c = omega arith
 
 shared-slice-read-stick-2 : tie.Need-shared-slice-read-stick-2
-shared-slice-read-stick-2 c = search needs
+shared-slice-read-stick-2 c = omega arith
 
 stick-requires : tie.Need-stick-requires
 stick-requires c κs = omega (arith, (c .before .before .before .before .wide) .ensures)
@@ -89,22 +88,22 @@ returns-4 : tie.Need-returns-4
 returns-4 c = hand-stuck ((c .before .before .before .before .before .before .before .before .before .before .before .before .before .before .before .before .before .before .args) .lay) ((c .before .before .before .before .before .before .before .before .before .before .before .before .before .before .before .before .before .before .args) .v) _ ((c .before .before .before .before .before .before .before .before .before .before .before .before .before .before .before .before .before .before .args) .i) _ ((c .before .before .stick) .ensures) _ (λ r. ap (λ (k : ℕ). handsIn (field 9 ((c .before .before .before .before .before .before .before .before .before .before .before .before .before .before .before .before .before .before .args) .insts .now) ((c .before .before .before .before .before .before .before .before .before .before .before .before .before .before .before .before .before .before .args) .i) 6) (field 9 ((c .before .before .before .before .before .before .before .before .before .before .before .before .before .before .before .before .before .before .args) .insts .now) ((c .before .before .before .before .before .before .before .before .before .before .before .before .before .before .before .before .before .before .args) .i) 7) (operandsFrom ((c .before .before .before .before .before .before .before .before .before .before .before .before .before .before .before .before .before .before .args) .operands .now) ((c .before .before .before .before .before .before .before .before .before .before .before .before .before .before .before .before .before .before .args) .from) k) r) ((c .before .before .before .before .before .before .before .wide) .ensures) ∙ placed-lea ((c .before .before .before .before .before .before .before .before .before .before .before .before .before .before .before .before .before .before .args) .insts .now) ((c .before .before .before .before .before .before .before .before .before .before .before .before .before .before .before .before .before .before .args) .operands .now) ((c .before .before .before .before .before .before .before .before .before .before .before .before .before .before .before .before .before .before .args) .i) ((c .before .before .before .before .before .before .before .before .before .before .before .before .before .before .before .before .before .before .args) .from) (omega arith) (omega arith) (omega arith) r) (none-number (defOf ((c .before .before .before .before .before .before .before .before .before .before .before .before .before .before .before .before .before .before .args) .v) (rowOf ((c .before .before .before .before .before .before .before .before .before .before .before .before .before .before .before .before .before .before .args) .insts .now) ((c .before .before .before .before .before .before .before .before .before .before .before .before .before .before .before .before .before .before .args) .operands .now) ((c .before .before .before .before .before .before .before .before .before .before .before .before .before .before .before .before .before .before .args) .i) ((c .before .before .before .before .before .before .before .before .before .before .before .before .before .before .before .before .before .before .args) .from))) (sym ((c .before .before .before .before .before .before .before .before .before .before .before .before .before .before .before .before .before .before .pre) .1 .1) ∙ (c .before .before .before .before .before .before .if4) .taken))
 
 add-link : tie.Need-add-link
-add-link c = search needs
+add-link c = omega arith
 
 mul-link : tie.Need-mul-link
-mul-link c = search needs
+mul-link c = omega arith
 
 shared-slice-read-link : tie.Need-shared-slice-read-link
-shared-slice-read-link c = search needs
+shared-slice-read-link c = omega arith
 
 add-link-2 : tie.Need-add-link-2
-add-link-2 c = search needs
+add-link-2 c = omega arith
 
 mul-link-2 : tie.Need-mul-link-2
-mul-link-2 c = search needs
+mul-link-2 c = omega arith
 
 shared-slice-read-link-2 : tie.Need-shared-slice-read-link-2
-shared-slice-read-link-2 c = search needs
+shared-slice-read-link-2 c = omega arith
 
 link-requires : tie.Need-link-requires
 link-requires c κs = omega (arith, (c .before .before .before .before .wide) .ensures)

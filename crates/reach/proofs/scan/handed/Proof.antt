@@ -3,50 +3,49 @@ use native.Mathlib.Omega.{arith}
 use Prim.Native.Nat.{ℕ, suc, _+_, _-_, _*_, _≤_, _<_}
 use mathlib.Core.Path.{_≡_, refl, sym, ap, _∙_}
 use lib.ListN.{length, take, drop, getD, set, length-set}
-use borrow.Author.Needs.{needs}
 use mathlib.Core.Bool.{not, _&&_}
 use Rattle.carrying.specs.Insts.{isSet, addressPosition, eachAddress}
 use Rattle.insts.specs.Rows.{operandAt, operandsFrom}
-use Rattle.reach.specs.Numbers.{addressing}
+use Rattle.operands.specs.Numbers.{addressing}
 use Rattle.reach.proofs.LeafLaws.{test-def, test-physical, test-use, both-of, neither-of}
 use Rattle.reach.proofs.scan.handed.Statement.{statement}
 use Rattle.reach.proofs.scan.handed.Tie as tie
 
 add-i : tie.Need-add-i
-add-i c = search needs
+add-i c = omega arith
 
 mul-if1 : tie.Need-mul-if1
-mul-if1 c = search needs
+mul-if1 c = omega arith
 
 mul-if1-2 : tie.Need-mul-if1-2
-mul-if1-2 c = search needs
+mul-if1-2 c = omega arith
 
 shared-slice-read-if1 : tie.Need-shared-slice-read-if1
-shared-slice-read-if1 c = search needs
+shared-slice-read-if1 c = omega arith
 
 returns : tie.Need-returns
 returns c = test-def ((c .before .before .before .args) .operands .now) ((c .before .before .before .args) .from + (c .before .before .before .args) .p) ((c .before .before .before .args) .v) _ (c .if1 .taken)
 
 mul-r : tie.Need-mul-r
-mul-r c = search needs
+mul-r c = omega arith
 
 add-r : tie.Need-add-r
-add-r c = search needs
+add-r c = omega arith
 
 mul-r-2 : tie.Need-mul-r-2
-mul-r-2 c = search needs
+mul-r-2 c = omega arith
 
 shared-slice-read-r : tie.Need-shared-slice-read-r
-shared-slice-read-r c = search needs
+shared-slice-read-r c = omega arith
 
 returns-2 : tie.Need-returns-2
 returns-2 c = test-physical ((c .before .before .before .before .before .args) .operands .now) ((c .before .before .before .before .before .args) .from + (c .before .before .before .before .before .args) .p) ((c .before .before .before .before .before .args) .v) ((addressPosition (addressing ((c .before .before .before .before .before .args) .base) ((c .before .before .before .before .before .args) .index)) ((c .before .before .before .before .before .args) .p)) && (eachAddress (addressing ((c .before .before .before .before .before .args) .base) ((c .before .before .before .before .before .args) .index)) (operandAt ((c .before .before .before .before .before .args) .operands .now) ((c .before .before .before .before .before .args) .from + (c .before .before .before .before .before .args) .p) .register) 0 (operandsFrom ((c .before .before .before .before .before .args) .operands .now) ((c .before .before .before .before .before .args) .from) ((c .before .before .before .before .before .args) .n)))) ((c .before .before .if1) .left) (omega arith)
 
 part-requires : tie.Need-part-requires
-part-requires c κs = search needs
+part-requires c κs = tt
 
 addressed-requires : tie.Need-addressed-requires
-addressed-requires c κs = search needs
+addressed-requires c κs = omega arith
 
 returns-3 : tie.Need-returns-3
 returns-3 c = test-use ((c .before .before .before .before .before .before .before .before .args) .operands .now) ((c .before .before .before .before .before .before .before .before .args) .from + (c .before .before .before .before .before .before .before .before .args) .p) ((c .before .before .before .before .before .before .before .before .args) .v) ((addressPosition (addressing ((c .before .before .before .before .before .before .before .before .args) .base) ((c .before .before .before .before .before .before .before .before .args) .index)) ((c .before .before .before .before .before .before .before .before .args) .p)) && (eachAddress (addressing ((c .before .before .before .before .before .before .before .before .args) .base) ((c .before .before .before .before .before .before .before .before .args) .index)) (operandAt ((c .before .before .before .before .before .before .before .before .args) .operands .now) ((c .before .before .before .before .before .before .before .before .args) .from + (c .before .before .before .before .before .before .before .before .args) .p) .register) 0 (operandsFrom ((c .before .before .before .before .before .before .before .before .args) .operands .now) ((c .before .before .before .before .before .before .before .before .args) .from) ((c .before .before .before .before .before .before .before .before .args) .n)))) _ ((c .before .before .before .before .before .if1) .left) (omega arith) (c .addressed .ensures ∙ both-of (addressPosition (addressing ((c .before .before .before .before .before .before .before .before .args) .base) ((c .before .before .before .before .before .before .before .before .args) .index)) ((c .before .before .before .before .before .before .before .before .args) .p)) (eachAddress (addressing ((c .before .before .before .before .before .before .before .before .args) .base) ((c .before .before .before .before .before .before .before .before .args) .index)) (operandAt ((c .before .before .before .before .before .before .before .before .args) .operands .now) ((c .before .before .before .before .before .before .before .before .args) .from + (c .before .before .before .before .before .before .before .before .args) .p) .register) 0 (operandsFrom ((c .before .before .before .before .before .before .before .before .args) .operands .now) ((c .before .before .before .before .before .before .before .before .args) .from) ((c .before .before .before .before .before .before .before .before .args) .n))) (sym ((c .before .before .part) .ensures) ∙ (c .before .if3) .taken))

@@ -3,7 +3,6 @@ use native.Mathlib.Omega.{arith}
 use Prim.Native.Nat.{ℕ, suc, _+_, _-_, _*_, _≤_, _<_}
 use mathlib.Core.Path.{_≡_, refl, sym, ap, _∙_}
 use lib.ListN.{length, take, drop, getD, set, length-set}
-use borrow.Author.Needs.{needs}
 use Rattle.words.specs.Rows.{field}
 use Rattle.insts.specs.Rows.{operandsFrom}
 use Rattle.carrying.specs.Insts.{defOf}
@@ -14,34 +13,34 @@ use Rattle.reach.proofs.scan.one.Statement.{statement}
 use Rattle.reach.proofs.scan.one.Tie as tie
 
 mul-wide : tie.Need-mul-wide
-mul-wide c = search needs
+mul-wide c = omega arith
 
 add-wide : tie.Need-add-wide
-add-wide c = search needs
+add-wide c = omega arith
 
 mul-wide-2 : tie.Need-mul-wide-2
-mul-wide-2 c = search needs
+mul-wide-2 c = omega arith
 
 shared-slice-read-wide : tie.Need-shared-slice-read-wide
-shared-slice-read-wide c = search needs
+shared-slice-read-wide c = omega arith
 
 wide-requires : tie.Need-wide-requires
-wide-requires c κs = search needs
+wide-requires c κs = tt
 
 def-requires : tie.Need-def-requires
 def-requires c κs = omega (arith, (c .wide) .ensures)
 
 cast-work : tie.Need-cast-work
-cast-work c = search needs
+cast-work c = omega arith
 
 add-work : tie.Need-add-work
-add-work c = search needs
+add-work c = omega arith
 
 mul-work : tie.Need-mul-work
-mul-work c = search needs
+mul-work c = omega arith
 
 slice-write-work : tie.Need-slice-write-work
-slice-write-work c = search needs
+slice-write-work c = omega arith
 
 escapes-requires : tie.Need-escapes-requires
 escapes-requires c κs = simp length-set (omega arith)

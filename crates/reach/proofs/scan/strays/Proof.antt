@@ -3,37 +3,36 @@ use native.Mathlib.Omega.{arith}
 use Prim.Native.Nat.{ℕ, suc, _+_, _-_, _*_, _≤_, _<_}
 use mathlib.Core.Path.{_≡_, refl, sym, ap, _∙_}
 use lib.ListN.{length, take, drop, getD, set, length-set}
-use borrow.Author.Needs.{needs}
 use mathlib.Core.Bool.{not, _&&_}
 use Rattle.carrying.specs.Insts.{isSet, addressPosition}
-use Rattle.reach.specs.Numbers.{addressing}
+use Rattle.operands.specs.Numbers.{addressing}
 use Rattle.reach.proofs.LeafLaws.{test-def, test-physical, test-use, not-memory, in-memory}
 use Rattle.reach.proofs.scan.strays.Statement.{statement}
 use Rattle.reach.proofs.scan.strays.Tie as tie
 
 mul-if1 : tie.Need-mul-if1
-mul-if1 c = search needs
+mul-if1 c = omega arith
 
 mul-if1-2 : tie.Need-mul-if1-2
-mul-if1-2 c = search needs
+mul-if1-2 c = omega arith
 
 shared-slice-read-if1 : tie.Need-shared-slice-read-if1
-shared-slice-read-if1 c = search needs
+shared-slice-read-if1 c = omega arith
 
 returns : tie.Need-returns
 returns c = test-def ((c .before .before .before .args) .operands .now) ((c .before .before .before .args) .i) ((c .before .before .before .args) .v) _ (c .if1 .taken)
 
 mul-if2 : tie.Need-mul-if2
-mul-if2 c = search needs
+mul-if2 c = omega arith
 
 add-if2 : tie.Need-add-if2
-add-if2 c = search needs
+add-if2 c = omega arith
 
 mul-if2-2 : tie.Need-mul-if2-2
-mul-if2-2 c = search needs
+mul-if2-2 c = omega arith
 
 shared-slice-read-if2 : tie.Need-shared-slice-read-if2
-shared-slice-read-if2 c = search needs
+shared-slice-read-if2 c = omega arith
 
 returns-2 : tie.Need-returns-2
 returns-2 c = test-physical ((c .before .before .before .before .before .args) .operands .now) ((c .before .before .before .before .before .args) .i) ((c .before .before .before .before .before .args) .v) (not (isSet ((c .before .before .before .before .before .args) .mem) && addressPosition (addressing ((c .before .before .before .before .before .args) .base) ((c .before .before .before .before .before .args) .index)) ((c .before .before .before .before .before .args) .p))) ((c .before .before .if1) .left) (omega arith)
@@ -42,7 +41,7 @@ returns-3 : tie.Need-returns-3
 returns-3 c = test-use ((c .before .before .before .before .before .before .args) .operands .now) ((c .before .before .before .before .before .before .args) .i) ((c .before .before .before .before .before .before .args) .v) (not (isSet ((c .before .before .before .before .before .before .args) .mem) && addressPosition (addressing ((c .before .before .before .before .before .before .args) .base) ((c .before .before .before .before .before .before .args) .index)) ((c .before .before .before .before .before .before .args) .p))) _ ((c .before .before .before .if1) .left) (omega arith) (not-memory ((c .before .before .before .before .before .before .args) .mem) (addressPosition (addressing ((c .before .before .before .before .before .before .args) .base) ((c .before .before .before .before .before .before .args) .index)) ((c .before .before .before .before .before .before .args) .p)) (c .if3 .taken))
 
 part-requires : tie.Need-part-requires
-part-requires c κs = search needs
+part-requires c κs = tt
 
 returns-4 : tie.Need-returns-4
 returns-4 c = test-use ((c .before .before .before .before .before .before .before .args) .operands .now) ((c .before .before .before .before .before .before .before .args) .i) ((c .before .before .before .before .before .before .before .args) .v) (not (isSet ((c .before .before .before .before .before .before .before .args) .mem) && addressPosition (addressing ((c .before .before .before .before .before .before .before .args) .base) ((c .before .before .before .before .before .before .before .args) .index)) ((c .before .before .before .before .before .before .before .args) .p))) _ ((c .before .before .before .before .if1) .left) (omega arith) (in-memory ((c .before .before .before .before .before .before .before .args) .mem) (addressPosition (addressing ((c .before .before .before .before .before .before .before .args) .base) ((c .before .before .before .before .before .before .before .args) .index)) ((c .before .before .before .before .before .before .before .args) .p)) _ (omega arith) (ap not (c .part .ensures)))

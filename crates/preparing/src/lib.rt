@@ -1,0 +1,199 @@
+// The preparation: the pass over the code, and what each local's walk reads, in the work space.
+ghost use mathlib.Core.Path.{_≡_};
+ghost use Prim.Native.Nat.{ℕ, _+_, _*_, _/_, _≤_, _<_};
+ghost use mathlib.Core.List.{[]};
+ghost use lib.Dec.{eqb};
+ghost use lib.ListN.{length, getD};
+ghost use Rattle.words.specs.Sort.{Rising};
+ghost use Rattle.carrying.specs.Lists.{any};
+ghost use Rattle.insts.specs.Rows.{AddsUp};
+ghost use Rattle.reach.specs.Prepared.{codeOf, wordsOf, Laid, Registered, Readied};
+ghost use Rattle.reach.specs.Scan.{Marked};
+ghost use Rattle.preparing.specs.Steps.{Firsts, Indexed, Ends, Cleared, Emptied, ByLocal};
+use reach::Lay;
+use reach::scan;
+
+fn wide(x: u32) -> usize
+    ensures { λ r. ⌜ r ≡ x ⌝ }
+{
+    x as usize
+}
+
+// Sets the bit of each numbered register that crosses.
+fn cross(crossings: &[u32], v: u32, work: &mut [u64], row: usize)
+    requires { ⌜ row + wordsOf v ≤ length (now work) ⌝ }
+    ensures { λ _. ⌜ Marked (now (work .entry)) (now (work .exit)) row v (λ r. any (eqb r) (now (crossings .entry))) ⌝ }
+{
+    let n = crossings.len();
+    let mut k = 0;
+    while k < n {
+        let r = crossings[k];
+        if r < v {
+            bits::set(work, row, wide(r));
+            k += 1;
+        } else {
+            k += 1;
+        }
+    }
+}
+
+// At each of `m` instructions with a def the first of the `n` edges of its def.
+fn firsts(work: &mut [u64], lay: Lay, m: usize, n: usize)
+    requires { ⌜ (lay .defs + m ≤ lay .firsts) × (lay .firsts + m ≤ lay .edges) × (lay .edges + n ≤ length (now work)) ⌝ }
+    requires { ⌜ Rising (λ k. getD (now work) (lay .edges + k) 0) n × ((i : ℕ) → i < m → getD (now work) (lay .defs + i) 0 ≤ 65536) ⌝ }
+    ensures { λ _. ⌜ Firsts lay m n (now (work .entry)) (now (work .exit)) ⌝ }
+{
+    let defs = lay.defs;
+    let first = lay.firsts;
+    let edges = lay.edges;
+    let mut i = 0;
+    while i < m {
+        let d = work[defs + i];
+        if d == 0 {
+            i += 1;
+        } else {
+            let f = words::below(work, edges, n, (d - 1) * 4294967296);
+            work[first + i] = f as u64;
+            i += 1;
+        }
+    }
+}
+
+// Puts the `n` edges in order, and finds the first of each def.
+fn index(work: &mut [u64], lay: Lay, m: usize, n: usize)
+    requires { ⌜ (lay .defs + m ≤ lay .firsts) × (lay .firsts + m ≤ lay .edges) × (lay .edges + n ≤ length (now work)) ⌝ }
+    requires { ⌜ ((i : ℕ) → i < m → getD (now work) (lay .defs + i) 0 ≤ 65536) ⌝ }
+    ensures { λ _. ⌜ Indexed lay m n (now (work .entry)) (now (work .exit)) ⌝ }
+{
+    let edges = lay.edges;
+    sorting::sort_part(work, edges, n);
+    firsts(work, lay, m, n);
+}
+
+// Marks each local that has a placed end.
+fn ends(insts: &[u32], ends: &[u32], locals: usize, work: &mut [u64], lay: Lay)
+    requires { ⌜ (lay .ended + locals ≤ length (now work)) × ((k : ℕ) → k < length (now ends) / 2 → getD (now ends) (2 * k) 0 < length (now insts) / 9) ⌝ }
+    requires { ⌜ ((m : ℕ) → m < locals → getD (now work) (lay .ended + m) 0 ≡ 0) ⌝ }
+    ensures { λ _. ⌜ Ends lay (now (insts .entry)) (now (ends .entry)) locals (length (now (ends .entry)) / 2) (now (work .entry)) (now (work .exit)) ⌝ }
+{
+    let n = ends.len() / 2;
+    let ended = lay.ended;
+    let mut k = 0;
+    while k < n {
+        let i = wide(ends[2 * k]);
+        let l = wide(ends[2 * k + 1]);
+        if insts[9 * i] != 1 {
+            k += 1;
+        } else if l < locals {
+            work[ended + l] = 1;
+            k += 1;
+        } else {
+            k += 1;
+        }
+    }
+}
+
+// The two rows that the pass sets bits in.
+fn clear(work: &mut [u64], lay: Lay, words: usize)
+    requires { ⌜ (lay .escapes + words ≤ lay .dead) × (lay .dead + words ≤ length (now work)) ⌝ }
+    ensures { λ _. ⌜ Cleared lay words (now (work .entry)) (now (work .exit)) ⌝ }
+{
+    let escapes = lay.escapes;
+    let dead = lay.dead;
+    words::fill(work, escapes, words, 0);
+    words::fill(work, dead, words, 0);
+}
+
+// No register is seen, no local has an entry or an end.
+fn empty(work: &mut [u64], lay: Lay, words: usize, locals: usize)
+    requires { ⌜ (lay .seen + words ≤ lay .heads) × (lay .heads + locals ≤ lay .ended) × (lay .ended + locals ≤ length (now work)) ⌝ }
+    ensures { λ _. ⌜ Emptied lay words locals (now (work .entry)) (now (work .exit)) ⌝ }
+{
+    let seen = lay.seen;
+    let heads = lay.heads;
+    let ended = lay.ended;
+    words::fill(work, seen, words, 0);
+    words::fill(work, heads, locals, 0);
+    words::fill(work, ended, locals, 0);
+}
+
+// What the walks read of the registers; how many edges there are.
+fn registers(
+    insts: &[u32],
+    operands: &[u32],
+    crossings: &[u32],
+    v: u32,
+    work: &mut [u64],
+    lay: Lay,
+) -> usize
+    requires { ⌜ AddsUp (now insts) (now operands) × (length (now insts) / 9 ≤ 65536) × (v ≤ 65535) ⌝ }
+    requires { ⌜ (lay .escapes + wordsOf v ≤ lay .dead) × (lay .dead + wordsOf v ≤ lay .defs) × (lay .defs + length (now insts) / 9 ≤ lay .firsts) × (lay .firsts + length (now insts) / 9 ≤ lay .edges) × (lay .edges + length (now operands) / 2 ≤ lay .heads) × (lay .heads ≤ length (now work)) ⌝ }
+    ensures { λ r. ⌜ Registered (codeOf v (now (insts .entry)) (now (operands .entry)) (now (crossings .entry)) [] []) lay (length (now (operands .entry)) / 2) r (now (work .entry)) (now (work .exit)) ⌝ }
+{
+    let row = lay.escapes;
+    clear(work, lay, (wide(v) + 63) / 64);
+    let n = scan::scan(insts, operands, v, work, lay);
+    cross(crossings, v, work, row);
+    index(work, lay, insts.len() / 9, n);
+    n
+}
+
+// What the walks read of the locals.
+fn by_local(
+    insts: &[u32],
+    addresses: &[u32],
+    ends: &[u32],
+    locals: usize,
+    work: &mut [u64],
+    lay: Lay,
+    words: usize,
+)
+    requires { ⌜ (lay .seen + words ≤ lay .heads) × (lay .heads + locals ≤ lay .nexts) × (lay .nexts + length (now addresses) / 2 ≤ lay .ended) × (lay .ended + locals ≤ length (now work)) ⌝ }
+    requires { ⌜ ((k : ℕ) → k < length (now ends) / 2 → getD (now ends) (2 * k) 0 < length (now insts) / 9) ⌝ }
+    ensures { λ _. ⌜ ByLocal lay words (now (insts .entry)) (now (addresses .entry)) (now (ends .entry)) locals (now (work .entry)) (now (work .exit)) ⌝ }
+{
+    let heads = lay.heads;
+    let nexts = lay.nexts;
+    empty(work, lay, words, locals);
+    chains::chain(
+        addresses,
+        2,
+        1,
+        addresses.len() / 2,
+        locals,
+        work,
+        heads,
+        nexts,
+    );
+    self::ends(insts, ends, locals, work, lay);
+}
+
+// The preparation for all walks, once a code, in O(records log records); how many edges there are.
+pub fn prepare(
+    insts: &[u32],
+    operands: &[u32],
+    crossings: &[u32],
+    locals: usize,
+    addresses: &[u32],
+    ends: &[u32],
+    v: u32,
+    work: &mut [u64],
+    lay: Lay,
+) -> usize
+    requires { ⌜ AddsUp (now insts) (now operands) × (length (now insts) / 9 ≤ 65536) × (v ≤ 65535) ⌝ }
+    requires { ⌜ Laid lay v (length (now insts) / 9) (length (now operands) / 2) locals (length (now addresses) / 2) (length (now work)) ⌝ }
+    requires { ⌜ ((k : ℕ) → k < length (now ends) / 2 → getD (now ends) (2 * k) 0 < length (now insts) / 9) ⌝ }
+    ensures { λ r. ⌜ Readied (codeOf v (now (insts .entry)) (now (operands .entry)) (now (crossings .entry)) (now (addresses .entry)) (now (ends .entry))) lay (length (now (operands .entry)) / 2) locals r (now (work .entry)) (now (work .exit)) ⌝ }
+{
+    let n = registers(insts, operands, crossings, v, work, lay);
+    by_local(
+        insts,
+        addresses,
+        ends,
+        locals,
+        work,
+        lay,
+        (wide(v) + 63) / 64,
+    );
+    n
+}
