@@ -21,17 +21,17 @@ use Rattle.ranges.proofs.ClashLaws.{common-clashes}
 use Rattle.fitting.specs.Wants.{Want, wantAt}
 use Rattle.fitting.specs.Plan.{cellAt, joinable, Plan, put}
 use Rattle.order.specs.Keys.{sizeOf, alignOf}
-use Rattle.fit.specs.declared.Own.{Own}
-use Rattle.fit.specs.declared.Progress.{Progress}
-use Rattle.fit.specs.Tables.{rangesAt, areaIn, wantsIn, Lent, Proper}
-use Rattle.fit.specs.Inner.{chain, allow, orderAt, headAt, nextAt, listAt, areaAt, Listed, Linked, opens, itemAt, cellIn, Sure, Gridded, Marks, Drawn, Joined, Holds, InOrder, Ready, Stepped, Each}
-use Rattle.fit.proofs.ChainLaws.{chain-kept, allow-kept}
-use Rattle.fit.proofs.TableLaws.{area-none, area-some, want-at, want-neat, area-kept, lent-kept, ranges-kept}
-use Rattle.fit.proofs.ListLaws.{Same, list-kept, area-same}
-use Rattle.fit.proofs.MarkLaws.{some-bit, rows-apart, row-inside}
+use Rattle.cell_tables.specs.declared.Own.{Own}
+use Rattle.cell_tables.specs.declared.Progress.{Progress}
+use Rattle.cell_tables.specs.Tables.{rangesAt, areaIn, wantsIn, Lent, Proper}
+use Rattle.cell_tables.specs.Inner.{chain, allow, orderAt, headAt, nextAt, listAt, areaAt, Listed, Linked, opens, itemAt, cellIn, Sure, Gridded, Marks, Drawn, Joined, Holds, InOrder, Ready, Stepped, Each}
+use Rattle.cell_tables.proofs.ChainLaws.{chain-kept, allow-kept}
+use Rattle.cell_tables.proofs.TableLaws.{area-none, area-some, want-at, want-neat, area-kept, lent-kept, ranges-kept}
+use Rattle.cell_tables.proofs.ListLaws.{Same, list-kept, area-same}
+use Rattle.samples.proofs.MarkLaws.{some-bit, rows-apart, row-inside}
 use Rattle.fit.proofs.PlanLaws.{Grew, grew}
-use Rattle.fit.proofs.StepLaws.{linked, order-kept}
-use Rattle.fit.proofs.RunLaws.{planTo, order-known, plan-next, run-start, run-ready, run-more, run-done}
+use Rattle.putting.proofs.StepLaws.{linked, order-kept}
+use Rattle.putting.proofs.RunLaws.{planTo, order-known, plan-next, run-start, run-ready, run-more, run-done}
 
 -- ---- words from `rows` on may change
 

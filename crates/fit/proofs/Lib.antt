@@ -1,13 +1,2 @@
-pub mod ChainLaws
-pub mod EnterLaws
-pub mod ListLaws
-pub mod TableLaws
-pub mod LinkLaws
-pub mod FoldLaws
-pub mod StepLaws
-pub mod PutLaws
 pub mod PlanLaws
-pub mod CodeLaws
-pub mod MarkLaws
-pub mod RunLaws
 pub mod EachLaws

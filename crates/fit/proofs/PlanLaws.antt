@@ -18,7 +18,7 @@ use Rattle.fitting.specs.Wants.{Want, wantAt}
 use Rattle.fitting.specs.Plan.{Cell, cellAt, joinable, lowest, Plan, cellOf, opened, widened, entered, put}
 use Rattle.fitting.proofs.SearchLaws.{lowest-found}
 use Rattle.fitting.proofs.CellLaws.{Neat}
-use Rattle.fit.proofs.PutLaws.{put-none, put-miss, put-hit, join-area}
+use Rattle.putting.proofs.PutLaws.{put-none, put-miss, put-hit, join-area}
 
 -- q is p with the item i put, into cell m
 pub record Grew (x : Want) (i : ℕ) (p q : Plan) (m : ℕ) : Type 0 where

@@ -29,8 +29,8 @@ use Rattle.fitting.specs.Queries.{areasOf}
 use Rattle.fitting.proofs.OrderLaws.{order-names}
 use Rattle.fitting.proofs.PlanLaws.{facts}
 use Rattle.order.specs.Keys.{sizeOf, alignOf}
-use Rattle.fit.specs.declared.Counts.{Counts}
-use Rattle.fit.specs.Tables.{wantIn, wantsIn, planIn, Shown, Fitted}
+use Rattle.cell_tables.specs.declared.Counts.{Counts}
+use Rattle.cell_tables.specs.Tables.{wantIn, wantsIn, planIn, Shown, Fitted}
 use Rattle.wants.specs.declared.Fitted.the-variants.{Plan as Planned, Refused}
 use Rattle.wants.specs.Entry.{wantsOf, badPart, badWant, wantsVerdict, overLimit, badCount, badSpace, spaceOf, planFor, verdict, outcome, tallied, tallyOf, answerOf, cellRow, cellRows, itemRow, itemRows, zeroed, FittedAlone}
 use Rattle.wants.specs.Inner.{Loaded, cellRowsIn, itemRowsIn, Granted, Answered}

@@ -23,8 +23,8 @@ use Rattle.ranges.proofs.FormLaws.{unpacked-length, unpacked-at, unpack-pack}
 use Rattle.fitting.specs.Wants.{Want}
 use Rattle.fitting.specs.Queries.{areasOf, partOf}
 use Rattle.order.specs.Keys.{sizeOf, alignOf}
-use Rattle.fit.specs.Tables.{firstOf, countOf, rangesAt, areaIn, wantIn, wantsIn, Proper, Lent}
-use Rattle.fit.proofs.TableLaws.{area-none, area-some}
+use Rattle.cell_tables.specs.Tables.{firstOf, countOf, rangesAt, areaIn, wantIn, wantsIn, Proper, Lent}
+use Rattle.cell_tables.proofs.TableLaws.{area-none, area-some}
 use Rattle.wants.specs.Entry.{wantsOf, badPart, badWant}
 use Rattle.wants.specs.Inner.{itemWord, areaWordAt, itemWordAt, wantWordAt, Loaded}
 use Rattle.wants.proofs.PartLaws.{part-length, part-at, part-fine, areas-length}

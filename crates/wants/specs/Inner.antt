@@ -9,7 +9,7 @@ use Rattle.refusals.specs.Outcomes.{given, after}
 use Rattle.words.specs.Rows.{field, rowCount, tabulate, flat}
 use Rattle.fitting.specs.Plan.{Plan}
 use Rattle.fitting.specs.Queries.{areasOf}
-use Rattle.fit.specs.declared.Counts.{Counts}
+use Rattle.cell_tables.specs.declared.Counts.{Counts}
 use Rattle.order.specs.Keys.{sizeOf, alignOf}
 use Rattle.wants.specs.Entry.{itemRow, badWant, tallied, cellRows, itemRows, zeroed, spaceOf}
 

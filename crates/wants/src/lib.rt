@@ -57,7 +57,7 @@ fn answer(
     cells: &mut [u32],
     items: &mut [u32],
     work: &mut [u64],
-) -> fit::Counts
+) -> cell_tables::Counts
     requires { ⌜ Granted (now wants) (now areas) (length (now cells)) (length (now items)) (length (now work)) ⌝ }
     ensures { λ r. ⌜ Answered (now (wants .entry)) (now (areas .entry)) (planFor (now (wants .entry)) (now (areas .entry)) budget)
         (now (cells .entry)) (now (items .entry)) (now (work .entry)) r (now (cells .exit)) (now (items .exit)) (now (work .exit)) ⌝ }

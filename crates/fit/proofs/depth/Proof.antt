@@ -1,5 +1,5 @@
 -- `depth` meets its contract: the sum so far is that of the first cells.
-use Rattle.fit.proofs.CodeLaws.{Summing, summing-start, summing-more, summing-done, sum-fits}
+use Rattle.cell_tables.proofs.CodeLaws.{Summing, summing-start, summing-more, summing-done, sum-fits}
 use native.Mathlib.Omega.{arith}
 use Prim.Native.Nat.{_+_, _-_}
 use Rattle.fit.proofs.depth.Statement.{statement}

@@ -1,5 +1,5 @@
 -- `fit` meets its contract: the items are ordered, then placed.
-use Rattle.fit.proofs.RunLaws.{in-order, zeros, fitted, cells-few}
+use Rattle.putting.proofs.RunLaws.{in-order, zeros, fitted, cells-few}
 use native.Mathlib.Omega.{arith}
 use Prim.Native.Nat.{_-_}
 use borrow.Author.Needs.{needs}

@@ -1,0 +1,4 @@
+pub mod ChainLaws
+pub mod ListLaws
+pub mod TableLaws
+pub mod CodeLaws

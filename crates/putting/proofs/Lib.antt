@@ -1,0 +1,5 @@
+pub mod EnterLaws
+pub mod LinkLaws
+pub mod StepLaws
+pub mod PutLaws
+pub mod RunLaws

@@ -1,0 +1,181 @@
+-- `put` meets its contract, by its three ways out.
+use denote.Ref.{now}
+use Rattle.putting.proofs.RunLaws.{stepped-none, stepped-miss, stepped-hit}
+use Rattle.putting.proofs.LinkLaws.{entered-topped}
+use Rattle.samples.proofs.MarkLaws.{sure-less}
+use native.Mathlib.Omega.{arith}
+use Prim.Native.Nat.{_+_, _-_, _*_}
+use mathlib.Core.Path.{refl}
+use lib.ListN.{getD}
+use borrow.Author.Needs.{needs}
+use Rattle.putting.proofs.put.Statement.{statement}
+use Rattle.putting.proofs.put.Tie as tie
+
+mul-i : tie.Need-mul-i
+mul-i c = omega (arith, ((c .before .pre) .0) .known ((c .before .args) .k) (((c .before .pre) .0) .k-lt), ((c .before .pre) .0) .linked .low, ((c .before .pre) .0) .linked .top-le, ((c .before .pre) .0) .k-lt)
+
+add-i : tie.Need-add-i
+add-i c = omega (arith, ((c .before .pre) .0) .known ((c .before .args) .k) (((c .before .pre) .0) .k-lt), ((c .before .pre) .0) .linked .low, ((c .before .pre) .0) .linked .top-le, ((c .before .pre) .0) .k-lt)
+
+add-i-2 : tie.Need-add-i-2
+add-i-2 c = omega (arith, ((c .before .pre) .0) .known ((c .before .args) .k) (((c .before .pre) .0) .k-lt), ((c .before .pre) .0) .linked .low, ((c .before .pre) .0) .linked .top-le, ((c .before .pre) .0) .k-lt)
+
+mul-i-2 : tie.Need-mul-i-2
+mul-i-2 c = omega (arith, ((c .before .pre) .0) .known ((c .before .args) .k) (((c .before .pre) .0) .k-lt), ((c .before .pre) .0) .linked .low, ((c .before .pre) .0) .linked .top-le, ((c .before .pre) .0) .k-lt)
+
+slice-read-i : tie.Need-slice-read-i
+slice-read-i c = omega (arith, ((c .before .before .pre) .0) .known ((c .before .before .args) .k) (((c .before .before .pre) .0) .k-lt), ((c .before .before .pre) .0) .linked .low, ((c .before .before .pre) .0) .linked .top-le, ((c .before .before .pre) .0) .k-lt)
+
+add-x : tie.Need-add-x
+add-x c = omega (arith, ((c .before .before .pre) .0) .known ((c .before .before .args) .k) (((c .before .before .pre) .0) .k-lt), ((c .before .before .pre) .0) .linked .low, ((c .before .before .pre) .0) .linked .top-le, ((c .before .before .pre) .0) .k-lt)
+
+mul-x : tie.Need-mul-x
+mul-x c = omega (arith, ((c .before .before .pre) .0) .known ((c .before .before .args) .k) (((c .before .before .pre) .0) .k-lt), ((c .before .before .pre) .0) .linked .low, ((c .before .before .pre) .0) .linked .top-le, ((c .before .before .pre) .0) .k-lt)
+
+slice-read-x : tie.Need-slice-read-x
+slice-read-x c = omega (arith, ((c .before .before .before .pre) .0) .known ((c .before .before .before .args) .k) (((c .before .before .before .pre) .0) .k-lt), ((c .before .before .before .pre) .0) .linked .low, ((c .before .before .before .pre) .0) .linked .top-le, ((c .before .before .before .pre) .0) .k-lt)
+
+add-word : tie.Need-add-word
+add-word c = omega (arith, ((c .before .before .before .pre) .0) .known ((c .before .before .before .args) .k) (((c .before .before .before .pre) .0) .k-lt), ((c .before .before .before .pre) .0) .linked .low, ((c .before .before .before .pre) .0) .linked .top-le, ((c .before .before .before .pre) .0) .k-lt)
+
+add-word-2 : tie.Need-add-word-2
+add-word-2 c = omega (arith, ((c .before .before .before .pre) .0) .known ((c .before .before .before .args) .k) (((c .before .before .before .pre) .0) .k-lt), ((c .before .before .before .pre) .0) .linked .low, ((c .before .before .before .pre) .0) .linked .top-le, ((c .before .before .before .pre) .0) .k-lt)
+
+mul-word : tie.Need-mul-word
+mul-word c = omega (arith, ((c .before .before .before .pre) .0) .known ((c .before .before .before .args) .k) (((c .before .before .before .pre) .0) .k-lt), ((c .before .before .before .pre) .0) .linked .low, ((c .before .before .before .pre) .0) .linked .top-le, ((c .before .before .before .pre) .0) .k-lt)
+
+slice-read-word : tie.Need-slice-read-word
+slice-read-word c = omega (arith, ((c .before .before .before .before .pre) .0) .known ((c .before .before .before .before .args) .k) (((c .before .before .before .before .pre) .0) .k-lt), ((c .before .before .before .before .pre) .0) .linked .low, ((c .before .before .before .before .pre) .0) .linked .top-le, ((c .before .before .before .before .pre) .0) .k-lt)
+
+enter-requires : tie.Need-enter-requires
+enter-requires c κs = omega (arith, ((c .before .before .before .before .before .before .pre) .0) .known ((c .before .before .before .before .before .before .args) .k) (((c .before .before .before .before .before .before .pre) .0) .k-lt), ((c .before .before .before .before .before .before .pre) .0) .linked .low, ((c .before .before .before .before .before .before .pre) .0) .linked .top-le, ((c .before .before .before .before .before .before .pre) .0) .k-lt, ((c .before .before .before .before .before .before .pre) .0) .cells-le)
+
+add-t35 : tie.Need-add-t35
+add-t35 c = omega (arith, ((c .before .before .before .before .before .before .before .before .before .pre) .0) .cells-le, ((c .before .before .before .before .before .before .before .before .before .pre) .0) .k-lt)
+
+same-length : tie.Need-same-length
+same-length c = search needs
+
+returns : tie.Need-returns
+returns c = stepped-none ((c .before .before .before .before .before .before .before .before .before .args) .left) ((c .before .before .before .before .before .before .before .before .before .pre) .0) (getD (now ((c .before .before .before .before .before .before .before .before .before .args) .w)) ((c .before .before .before .before .before .before .before .before .before .args) .items + 2 * (c .before .before .before .before .before .before .before .before .before .args) .n + (c .before .before .before .before .before .before .before .before .before .args) .k) 0) refl (omega arith) ((c .before .before .enter) .ensures)
+
+least-requires : tie.Need-least-requires
+least-requires c κs = tt
+
+add-from : tie.Need-add-from
+add-from c = omega (arith, (((c .before .before .before .before .before .before .pre) .0) .linked .lent .proper (getD (now ((c .before .before .before .before .before .before .args) .w)) ((c .before .before .before .before .before .before .args) .items + 2 * (c .before .before .before .before .before .before .args) .n + (c .before .before .before .before .before .before .args) .k) 0) (((c .before .before .before .before .before .before .pre) .0) .known ((c .before .before .before .before .before .before .args) .k) (((c .before .before .before .before .before .before .pre) .0) .k-lt)) (omega arith)) .inside, ((c .before .before .before .before .before .before .pre) .0) .linked .low, ((c .before .before .before .before .before .before .pre) .0) .linked .top-le)
+
+probe-requires : tie.Need-probe-requires
+probe-requires c κs = (((c .before .before .before .before .before .before .before .pre) .0) .linked, omega (arith, (c .before .least) .ensures, ((c .before .before .before .before .before .before .before .pre) .0) .cells-le), (λ b h. ((c .before .before .before .before .before .before .before .pre) .0) .heads b (omega (arith, (c .before .least) .ensures))), omega (arith, (((c .before .before .before .before .before .before .before .pre) .0) .linked .lent .proper (getD (now ((c .before .before .before .before .before .before .before .args) .w)) ((c .before .before .before .before .before .before .before .args) .items + 2 * (c .before .before .before .before .before .before .before .args) .n + (c .before .before .before .before .before .before .before .args) .k) 0) (((c .before .before .before .before .before .before .before .pre) .0) .known ((c .before .before .before .before .before .before .before .args) .k) (((c .before .before .before .before .before .before .before .pre) .0) .k-lt)) (omega arith)) .inside, ((c .before .before .before .before .before .before .before .pre) .0) .linked .low, ((c .before .before .before .before .before .before .before .pre) .0) .linked .top-le), (((c .before .before .before .before .before .before .before .pre) .0) .linked .lent .proper (getD (now ((c .before .before .before .before .before .before .before .args) .w)) ((c .before .before .before .before .before .before .before .args) .items + 2 * (c .before .before .before .before .before .before .before .args) .n + (c .before .before .before .before .before .before .before .args) .k) 0) (((c .before .before .before .before .before .before .before .pre) .0) .known ((c .before .before .before .before .before .before .before .args) .k) (((c .before .before .before .before .before .before .before .pre) .0) .k-lt)) (omega arith)) .neat, sure-less ((c .before .before .before .before .before .before .before .pre) .1) (omega (arith, (c .before .least) .ensures)))
+
+mul-link : tie.Need-mul-link
+mul-link c = omega (arith, ((c .before .before .before .before .before .before .before .before .before .pre) .0) .known ((c .before .before .before .before .before .before .before .before .before .args) .k) (((c .before .before .before .before .before .before .before .before .before .pre) .0) .k-lt), ((c .before .before .before .before .before .before .before .before .before .pre) .0) .linked .low, ((c .before .before .before .before .before .before .before .before .before .pre) .0) .linked .top-le, ((c .before .before .before .before .before .before .before .before .before .pre) .0) .k-lt, ((c .before .before .before .before .before .before .before .before .before .pre) .0) .cells-le, (c .before .before .before .least) .ensures)
+
+add-link : tie.Need-add-link
+add-link c = omega (arith, ((c .before .before .before .before .before .before .before .before .before .pre) .0) .known ((c .before .before .before .before .before .before .before .before .before .args) .k) (((c .before .before .before .before .before .before .before .before .before .pre) .0) .k-lt), ((c .before .before .before .before .before .before .before .before .before .pre) .0) .linked .low, ((c .before .before .before .before .before .before .before .before .before .pre) .0) .linked .top-le, ((c .before .before .before .before .before .before .before .before .before .pre) .0) .k-lt, ((c .before .before .before .before .before .before .before .before .before .pre) .0) .cells-le, (c .before .before .before .least) .ensures)
+
+add-link-2 : tie.Need-add-link-2
+add-link-2 c = omega (arith, ((c .before .before .before .before .before .before .before .before .before .pre) .0) .known ((c .before .before .before .before .before .before .before .before .before .args) .k) (((c .before .before .before .before .before .before .before .before .before .pre) .0) .k-lt), ((c .before .before .before .before .before .before .before .before .before .pre) .0) .linked .low, ((c .before .before .before .before .before .before .before .before .before .pre) .0) .linked .top-le, ((c .before .before .before .before .before .before .before .before .before .pre) .0) .k-lt, ((c .before .before .before .before .before .before .before .before .before .pre) .0) .cells-le, (c .before .before .before .least) .ensures)
+
+mul-link-2 : tie.Need-mul-link-2
+mul-link-2 c = omega (arith, ((c .before .before .before .before .before .before .before .before .before .pre) .0) .known ((c .before .before .before .before .before .before .before .before .before .args) .k) (((c .before .before .before .before .before .before .before .before .before .pre) .0) .k-lt), ((c .before .before .before .before .before .before .before .before .before .pre) .0) .linked .low, ((c .before .before .before .before .before .before .before .before .before .pre) .0) .linked .top-le, ((c .before .before .before .before .before .before .before .before .before .pre) .0) .k-lt, ((c .before .before .before .before .before .before .before .before .before .pre) .0) .cells-le, (c .before .before .before .least) .ensures)
+
+slice-read-link : tie.Need-slice-read-link
+slice-read-link c = omega (arith, ((c .before .before .before .before .before .before .before .before .before .before .pre) .0) .known ((c .before .before .before .before .before .before .before .before .before .before .args) .k) (((c .before .before .before .before .before .before .before .before .before .before .pre) .0) .k-lt), ((c .before .before .before .before .before .before .before .before .before .before .pre) .0) .linked .low, ((c .before .before .before .before .before .before .before .before .before .before .pre) .0) .linked .top-le, ((c .before .before .before .before .before .before .before .before .before .before .pre) .0) .k-lt, ((c .before .before .before .before .before .before .before .before .before .before .pre) .0) .cells-le, (c .before .before .before .before .least) .ensures)
+
+mul-wider : tie.Need-mul-wider
+mul-wider c = omega (arith, ((c .before .before .before .before .before .before .before .before .before .before .pre) .0) .known ((c .before .before .before .before .before .before .before .before .before .before .args) .k) (((c .before .before .before .before .before .before .before .before .before .before .pre) .0) .k-lt), ((c .before .before .before .before .before .before .before .before .before .before .pre) .0) .linked .low, ((c .before .before .before .before .before .before .before .before .before .before .pre) .0) .linked .top-le, ((c .before .before .before .before .before .before .before .before .before .before .pre) .0) .k-lt, ((c .before .before .before .before .before .before .before .before .before .before .pre) .0) .cells-le, (c .before .before .before .before .least) .ensures)
+
+add-wider : tie.Need-add-wider
+add-wider c = omega (arith, ((c .before .before .before .before .before .before .before .before .before .before .pre) .0) .known ((c .before .before .before .before .before .before .before .before .before .before .args) .k) (((c .before .before .before .before .before .before .before .before .before .before .pre) .0) .k-lt), ((c .before .before .before .before .before .before .before .before .before .before .pre) .0) .linked .low, ((c .before .before .before .before .before .before .before .before .before .before .pre) .0) .linked .top-le, ((c .before .before .before .before .before .before .before .before .before .before .pre) .0) .k-lt, ((c .before .before .before .before .before .before .before .before .before .before .pre) .0) .cells-le, (c .before .before .before .before .least) .ensures)
+
+add-wider-2 : tie.Need-add-wider-2
+add-wider-2 c = omega (arith, ((c .before .before .before .before .before .before .before .before .before .before .pre) .0) .known ((c .before .before .before .before .before .before .before .before .before .before .args) .k) (((c .before .before .before .before .before .before .before .before .before .before .pre) .0) .k-lt), ((c .before .before .before .before .before .before .before .before .before .before .pre) .0) .linked .low, ((c .before .before .before .before .before .before .before .before .before .before .pre) .0) .linked .top-le, ((c .before .before .before .before .before .before .before .before .before .before .pre) .0) .k-lt, ((c .before .before .before .before .before .before .before .before .before .before .pre) .0) .cells-le, (c .before .before .before .before .least) .ensures)
+
+mul-wider-2 : tie.Need-mul-wider-2
+mul-wider-2 c = omega (arith, ((c .before .before .before .before .before .before .before .before .before .before .pre) .0) .known ((c .before .before .before .before .before .before .before .before .before .before .args) .k) (((c .before .before .before .before .before .before .before .before .before .before .pre) .0) .k-lt), ((c .before .before .before .before .before .before .before .before .before .before .pre) .0) .linked .low, ((c .before .before .before .before .before .before .before .before .before .before .pre) .0) .linked .top-le, ((c .before .before .before .before .before .before .before .before .before .before .pre) .0) .k-lt, ((c .before .before .before .before .before .before .before .before .before .before .pre) .0) .cells-le, (c .before .before .before .before .least) .ensures)
+
+slice-read-wider : tie.Need-slice-read-wider
+slice-read-wider c = omega (arith, ((c .before .before .before .before .before .before .before .before .before .before .before .pre) .0) .known ((c .before .before .before .before .before .before .before .before .before .before .before .args) .k) (((c .before .before .before .before .before .before .before .before .before .before .before .pre) .0) .k-lt), ((c .before .before .before .before .before .before .before .before .before .before .before .pre) .0) .linked .low, ((c .before .before .before .before .before .before .before .before .before .before .before .pre) .0) .linked .top-le, ((c .before .before .before .before .before .before .before .before .before .before .before .pre) .0) .k-lt, ((c .before .before .before .before .before .before .before .before .before .before .before .pre) .0) .cells-le, (c .before .before .before .before .before .least) .ensures)
+
+wider-requires : tie.Need-wider-requires
+wider-requires c κs = tt
+
+enter-requires-2 : tie.Need-enter-requires-2
+enter-requires-2 c κs = omega (arith, ((c .before .before .before .before .before .before .before .before .before .before .before .before .before .pre) .0) .known ((c .before .before .before .before .before .before .before .before .before .before .before .before .before .args) .k) (((c .before .before .before .before .before .before .before .before .before .before .before .before .before .pre) .0) .k-lt), ((c .before .before .before .before .before .before .before .before .before .before .before .before .before .pre) .0) .linked .low, ((c .before .before .before .before .before .before .before .before .before .before .before .before .before .pre) .0) .linked .top-le, ((c .before .before .before .before .before .before .before .before .before .before .before .before .before .pre) .0) .k-lt, ((c .before .before .before .before .before .before .before .before .before .before .before .before .before .pre) .0) .cells-le, (c .before .before .before .before .before .before .before .least) .ensures)
+
+fold-requires : tie.Need-fold-requires
+fold-requires c κs = entered-topped ((c .before .before .before .before .before .before .before .before .before .before .before .before .before .before .before .before .before .pre) .0) (getD (now ((c .before .before .before .before .before .before .before .before .before .before .before .before .before .before .before .before .before .args) .w)) ((c .before .before .before .before .before .before .before .before .before .before .before .before .before .before .before .before .before .args) .items + 2 * (c .before .before .before .before .before .before .before .before .before .before .before .before .before .before .before .before .before .args) .n + (c .before .before .before .before .before .before .before .before .before .before .before .before .before .before .before .before .before .args) .k) 0) _ _ _ (((c .before .before .before .before .before .before .before .before .before .before .before .before .before .before .before .before .before .pre) .0) .known ((c .before .before .before .before .before .before .before .before .before .before .before .before .before .before .before .before .before .args) .k) (((c .before .before .before .before .before .before .before .before .before .before .before .before .before .before .before .before .before .pre) .0) .k-lt)) (omega (arith, ((c .before .before .before .before .before .before .before .before .before .before .before .before .before .before .before .before .before .pre) .0) .known ((c .before .before .before .before .before .before .before .before .before .before .before .before .before .before .before .before .before .args) .k) (((c .before .before .before .before .before .before .before .before .before .before .before .before .before .before .before .before .before .pre) .0) .k-lt), ((c .before .before .before .before .before .before .before .before .before .before .before .before .before .before .before .before .before .pre) .0) .linked .low, ((c .before .before .before .before .before .before .before .before .before .before .before .before .before .before .before .before .before .pre) .0) .linked .top-le, ((c .before .before .before .before .before .before .before .before .before .before .before .before .before .before .before .before .before .pre) .0) .k-lt, ((c .before .before .before .before .before .before .before .before .before .before .before .before .before .before .before .before .before .pre) .0) .cells-le, (c .before .before .before .before .before .before .before .before .before .before .before .least) .ensures)) (((c .before .before .before .before .before .before .before .before .before .before .before .before .before .before .before .before .before .pre) .0) .heads _ (omega (arith, (c .before .before .before .before .before .before .before .before .before .before .before .least) .ensures))) ((c .before .before .before .enter2) .ensures)
+
+add-t51 : tie.Need-add-t51
+add-t51 c = omega (arith, ((c .before .before .before .before .before .before .before .before .before .before .before .before .before .before .before .before .before .before .before .before .pre) .0) .known ((c .before .before .before .before .before .before .before .before .before .before .before .before .before .before .before .before .before .before .before .before .args) .k) (((c .before .before .before .before .before .before .before .before .before .before .before .before .before .before .before .before .before .before .before .before .pre) .0) .k-lt), ((c .before .before .before .before .before .before .before .before .before .before .before .before .before .before .before .before .before .before .before .before .pre) .0) .linked .low, ((c .before .before .before .before .before .before .before .before .before .before .before .before .before .before .before .before .before .before .before .before .pre) .0) .linked .top-le, ((c .before .before .before .before .before .before .before .before .before .before .before .before .before .before .before .before .before .before .before .before .pre) .0) .k-lt, ((c .before .before .before .before .before .before .before .before .before .before .before .before .before .before .before .before .before .before .before .before .pre) .0) .cells-le, (c .before .before .before .before .before .before .before .before .before .before .before .before .before .before .least) .ensures)
+
+sub-t52 : tie.Need-sub-t52
+sub-t52 c = omega (arith, (c .before .before .before .before .before .before .before .before .before .before .before .before .before .before .least) .ensures)
+
+same-length-2 : tie.Need-same-length-2
+same-length-2 c = search needs
+
+returns-2 : tie.Need-returns-2
+returns-2 c = stepped-hit ((c .before .before .before .before .before .before .before .before .before .before .before .before .before .before .before .before .before .before .before .before .args) .left) ((c .before .before .before .before .before .before .before .before .before .before .before .before .before .before .before .before .before .before .before .before .pre) .0) (getD (now ((c .before .before .before .before .before .before .before .before .before .before .before .before .before .before .before .before .before .before .before .before .args) .w)) ((c .before .before .before .before .before .before .before .before .before .before .before .before .before .before .before .before .before .before .before .before .args) .items + 2 * (c .before .before .before .before .before .before .before .before .before .before .before .before .before .before .before .before .before .before .before .before .args) .n + (c .before .before .before .before .before .before .before .before .before .before .before .before .before .before .before .before .before .before .before .before .args) .k) 0) refl _ _ ((c .before .before .before .before .before .before .before .before .before .before .before .before .before .before .least) .ensures) (omega arith) ((c .before .before .before .before .before .before .before .before .before .before .before .before .probe) .ensures) (omega arith) _ ((c .before .before .before .before .before .before .before .before .wider) .ensures) ((c .before .before .before .before .before .before .enter2) .ensures) ((c .before .before .fold) .ensures)
+
+enter-requires-3 : tie.Need-enter-requires-3
+enter-requires-3 c κs = omega (arith, ((c .before .before .before .before .before .before .before .before .before .before .pre) .0) .known ((c .before .before .before .before .before .before .before .before .before .before .args) .k) (((c .before .before .before .before .before .before .before .before .before .before .pre) .0) .k-lt), ((c .before .before .before .before .before .before .before .before .before .before .pre) .0) .linked .low, ((c .before .before .before .before .before .before .before .before .before .before .pre) .0) .linked .top-le, ((c .before .before .before .before .before .before .before .before .before .before .pre) .0) .k-lt, ((c .before .before .before .before .before .before .before .before .before .before .pre) .0) .cells-le)
+
+add-t25 : tie.Need-add-t25
+add-t25 c = omega (arith, ((c .before .before .before .before .before .before .before .before .before .before .before .before .before .pre) .0) .cells-le, ((c .before .before .before .before .before .before .before .before .before .before .before .before .before .pre) .0) .k-lt)
+
+sub-t28 : tie.Need-sub-t28
+sub-t28 c = omega (arith, (c .before .before .before .before .before .before .before .least) .ensures)
+
+same-length-3 : tie.Need-same-length-3
+same-length-3 c = search needs
+
+returns-3 : tie.Need-returns-3
+returns-3 c = stepped-miss ((c .before .before .before .before .before .before .before .before .before .before .before .before .before .args) .left) ((c .before .before .before .before .before .before .before .before .before .before .before .before .before .pre) .0) (getD (now ((c .before .before .before .before .before .before .before .before .before .before .before .before .before .args) .w)) ((c .before .before .before .before .before .before .before .before .before .before .before .before .before .args) .items + 2 * (c .before .before .before .before .before .before .before .before .before .before .before .before .before .args) .n + (c .before .before .before .before .before .before .before .before .before .before .before .before .before .args) .k) 0) refl _ _ ((c .before .before .before .before .before .before .before .least) .ensures) (omega arith) ((c .before .before .before .before .before .probe) .ensures) (omega arith) ((c .before .before .enter3) .ensures)
+
+pub put-spec : {M : Type 1} → statement M
+put-spec =
+    tie.close
+    (tie.spec
+    mul-i
+    add-i
+    add-i-2
+    mul-i-2
+    slice-read-i
+    add-x
+    mul-x
+    slice-read-x
+    add-word
+    add-word-2
+    mul-word
+    slice-read-word
+    enter-requires
+    add-t35
+    same-length
+    returns
+    least-requires
+    add-from
+    probe-requires
+    mul-link
+    add-link
+    add-link-2
+    mul-link-2
+    slice-read-link
+    mul-wider
+    add-wider
+    add-wider-2
+    mul-wider-2
+    slice-read-wider
+    wider-requires
+    enter-requires-2
+    fold-requires
+    add-t51
+    sub-t52
+    same-length-2
+    returns-2
+    enter-requires-3
+    add-t25
+    sub-t28
+    same-length-3
+    returns-3)

@@ -1,0 +1,62 @@
+-- `mark` meets its contract.
+use Rattle.samples.proofs.MarkLaws.{marked-bit, marked-word}
+use native.Mathlib.Omega.{arith}
+use Prim.Native.Nat.{ℕ, suc, _+_, _-_, _*_, _≤_, _<_}
+use mathlib.Core.Path.{_≡_, refl, sym, ap, _∙_}
+use lib.ListN.{length, take, drop, getD, set, length-set}
+use borrow.Author.Needs.{needs}
+use Rattle.samples.proofs.mark.Statement.{statement}
+use Rattle.samples.proofs.mark.Tie as tie
+
+mul-if2 : tie.Need-mul-if2
+mul-if2 c = search needs
+
+add-if2 : tie.Need-add-if2
+add-if2 c = search needs
+
+add-w : tie.Need-add-w
+add-w c = search needs
+
+mul-w : tie.Need-mul-w
+mul-w c = search needs
+
+slice-write-w : tie.Need-slice-write-w
+slice-write-w c = search needs
+
+add-result : tie.Need-add-result
+add-result c = search needs
+
+same-length : tie.Need-same-length
+same-length c = search needs
+
+returns : tie.Need-returns
+returns c = marked-word _ ((c .before .before .before .pre) .0) (omega arith) (omega (arith, (c .before .before .before .pre) .1))
+
+set-requires : tie.Need-set-requires
+set-requires c κs = search needs
+
+add-result-2 : tie.Need-add-result-2
+add-result-2 c = search needs
+
+same-length-2 : tie.Need-same-length-2
+same-length-2 c = search needs
+
+returns-2 : tie.Need-returns-2
+returns-2 c = marked-bit ((c .before .before .set) .ensures) (omega (arith, (c .before .before .before .before .before .before .pre) .1, (c .before .before .before .before .before .before .pre) .2))
+
+pub mark-spec : {M : Type 1} → statement M
+mark-spec =
+    tie.close
+    (tie.spec
+    mul-if2
+    add-if2
+    add-w
+    mul-w
+    slice-write-w
+    add-result
+    same-length
+    returns
+    set-requires
+    add-result-2
+    same-length-2
+    returns-2)
