@@ -7,7 +7,6 @@ use denote.Ref.{now}
 use native.Mathlib.Omega.{arith}
 use Prim.Native.Nat.{_+_}
 use mathlib.Core.Path.{refl}
-use borrow.Author.Needs.{needs}
 use Rattle.putting.proofs.free.Statement.{statement}
 use Rattle.putting.proofs.free.Tie as tie
 
@@ -21,31 +20,31 @@ add-end : tie.Need-add-end
 add-end c = omega (arith, ((c .before .before .pre) .0 (omega arith)) .inside)
 
 add-to : tie.Need-add-to
-add-to c = search needs
+add-to c = omega arith
 
 mul-clash : tie.Need-mul-clash
 mul-clash c = omega (arith, ((c .before .before .pre) .0 (omega arith)) .inside)
 
 sub-clash : tie.Need-sub-clash
-sub-clash c = search needs
+sub-clash c = omega arith
 
 part-clash-start : tie.Need-part-clash-start
-part-clash-start c = search needs
+part-clash-start c = omega arith
 
 part-clash-end : tie.Need-part-clash-end
 part-clash-end c = omega (arith, ((c .before .before .pre) .0 (omega arith)) .inside)
 
 mul-clash-2 : tie.Need-mul-clash-2
-mul-clash-2 c = search needs
+mul-clash-2 c = omega arith
 
 sub-clash-2 : tie.Need-sub-clash-2
-sub-clash-2 c = search needs
+sub-clash-2 c = omega arith
 
 part-clash-start-2 : tie.Need-part-clash-start-2
-part-clash-start-2 c = search needs
+part-clash-start-2 c = omega arith
 
 part-clash-end-2 : tie.Need-part-clash-end-2
-part-clash-end-2 c = search needs
+part-clash-end-2 c = omega arith
 
 clash-requires : tie.Need-clash-requires
 clash-requires c κs =

@@ -7,7 +7,6 @@ use native.Mathlib.Omega.{arith}
 use Prim.Native.Nat.{_+_, _-_, _*_}
 use mathlib.Core.Path.{refl}
 use lib.ListN.{getD}
-use borrow.Author.Needs.{needs}
 use Rattle.putting.proofs.put.Statement.{statement}
 use Rattle.putting.proofs.put.Tie as tie
 
@@ -54,7 +53,7 @@ add-t35 : tie.Need-add-t35
 add-t35 c = omega (arith, ((c .before .before .before .before .before .before .before .before .before .pre) .0) .cells-le, ((c .before .before .before .before .before .before .before .before .before .pre) .0) .k-lt)
 
 same-length : tie.Need-same-length
-same-length c = search needs
+same-length c = omega arith
 
 returns : tie.Need-returns
 returns c = stepped-none ((c .before .before .before .before .before .before .before .before .before .args) .left) ((c .before .before .before .before .before .before .before .before .before .pre) .0) (getD (now ((c .before .before .before .before .before .before .before .before .before .args) .w)) ((c .before .before .before .before .before .before .before .before .before .args) .items + 2 * (c .before .before .before .before .before .before .before .before .before .args) .n + (c .before .before .before .before .before .before .before .before .before .args) .k) 0) refl (omega arith) ((c .before .before .enter) .ensures)
@@ -114,7 +113,7 @@ sub-t52 : tie.Need-sub-t52
 sub-t52 c = omega (arith, (c .before .before .before .before .before .before .before .before .before .before .before .before .before .before .least) .ensures)
 
 same-length-2 : tie.Need-same-length-2
-same-length-2 c = search needs
+same-length-2 c = omega arith
 
 returns-2 : tie.Need-returns-2
 returns-2 c = stepped-hit ((c .before .before .before .before .before .before .before .before .before .before .before .before .before .before .before .before .before .before .before .before .args) .left) ((c .before .before .before .before .before .before .before .before .before .before .before .before .before .before .before .before .before .before .before .before .pre) .0) (getD (now ((c .before .before .before .before .before .before .before .before .before .before .before .before .before .before .before .before .before .before .before .before .args) .w)) ((c .before .before .before .before .before .before .before .before .before .before .before .before .before .before .before .before .before .before .before .before .args) .items + 2 * (c .before .before .before .before .before .before .before .before .before .before .before .before .before .before .before .before .before .before .before .before .args) .n + (c .before .before .before .before .before .before .before .before .before .before .before .before .before .before .before .before .before .before .before .before .args) .k) 0) refl _ _ ((c .before .before .before .before .before .before .before .before .before .before .before .before .before .before .least) .ensures) (omega arith) ((c .before .before .before .before .before .before .before .before .before .before .before .before .probe) .ensures) (omega arith) _ ((c .before .before .before .before .before .before .before .before .wider) .ensures) ((c .before .before .before .before .before .before .enter2) .ensures) ((c .before .before .fold) .ensures)
@@ -129,7 +128,7 @@ sub-t28 : tie.Need-sub-t28
 sub-t28 c = omega (arith, (c .before .before .before .before .before .before .before .least) .ensures)
 
 same-length-3 : tie.Need-same-length-3
-same-length-3 c = search needs
+same-length-3 c = omega arith
 
 returns-3 : tie.Need-returns-3
 returns-3 c = stepped-miss ((c .before .before .before .before .before .before .before .before .before .before .before .before .before .args) .left) ((c .before .before .before .before .before .before .before .before .before .before .before .before .before .pre) .0) (getD (now ((c .before .before .before .before .before .before .before .before .before .before .before .before .before .args) .w)) ((c .before .before .before .before .before .before .before .before .before .before .before .before .before .args) .items + 2 * (c .before .before .before .before .before .before .before .before .before .before .before .before .before .args) .n + (c .before .before .before .before .before .before .before .before .before .before .before .before .before .args) .k) 0) refl _ _ ((c .before .before .before .before .before .before .before .least) .ensures) (omega arith) ((c .before .before .before .before .before .probe) .ensures) (omega arith) ((c .before .before .enter3) .ensures)

@@ -12,7 +12,7 @@ use Rattle.queries.proofs.local.Statement.{statement}
 use Rattle.queries.proofs.local.Tie as tie
 
 plan-requires : tie.Need-plan-requires
-plan-requires c κs = search needs
+plan-requires c κs = tt
 
 enum-known-v : tie.Need-enum-known-v
 enum-known-v c = search needs
@@ -21,13 +21,13 @@ returns : tie.Need-returns
 returns c = let a = (c .before .before .before .before .before .before .args) in place-refused (planVerdict (now (a .cells)) (now (a .items)) (a .locals)) (local (slotsOf (a .locals) (now (a .cells)) (now (a .items)) []) (a .i)) _ _ (sym ((c .before .before .before .plan) .ensures) ∙ (c .before .v) .given .1)
 
 enum-told : tie.Need-enum-told
-enum-told c = search needs
+enum-told c = omega arith
 
 mul-t10 : tie.Need-mul-t10
-mul-t10 c = search needs
+mul-t10 c = omega arith
 
 mul-t11 : tie.Need-mul-t11
-mul-t11 c = search needs
+mul-t11 c = omega arith
 
 shared-slice-read-t13 : tie.Need-shared-slice-read-t13
 shared-slice-read-t13 c = let a = (c .before .before .before .before .before .before .before .args) in omega (arith, (sound (now (a .cells)) (now (a .items)) (a .locals) (sym ((c .before .before .before .before .plan) .ensures) ∙ (c .before .before .enum-told) .given .1)) .whole)

@@ -11,7 +11,7 @@ use Rattle.queries.proofs.saved.Statement.{statement}
 use Rattle.queries.proofs.saved.Tie as tie
 
 plan-requires : tie.Need-plan-requires
-plan-requires c κs = search needs
+plan-requires c κs = tt
 
 enum-known-v : tie.Need-enum-known-v
 enum-known-v c = search needs
@@ -20,7 +20,7 @@ returns : tie.Need-returns
 returns c = let a = (c .before .before .before .before .before .before .args) in saved-refused (planVerdict (now (a .cells)) (now (a .items)) (a .locals)) (saved (slotsOf (a .locals) (now (a .cells)) (now (a .items)) [])) _ _ (sym ((c .before .before .before .plan) .ensures) ∙ (c .before .v) .given .1)
 
 enum-told : tie.Need-enum-told
-enum-told c = search needs
+enum-told c = omega arith
 
 sub-t11 : tie.Need-sub-t11
 sub-t11 c = let a = (c .before .before .before .before .before .args) in omega (arith, (sound (now (a .cells)) (now (a .items)) (a .locals) (sym ((c .before .before .plan) .ensures) ∙ (c .enum-told) .given .1)) .enough)

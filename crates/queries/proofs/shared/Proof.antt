@@ -9,7 +9,7 @@ use Rattle.queries.proofs.shared.Statement.{statement}
 use Rattle.queries.proofs.shared.Tie as tie
 
 parts-requires : tie.Need-parts-requires
-parts-requires c κs = search needs
+parts-requires c κs = tt
 
 enum-known-v : tie.Need-enum-known-v
 enum-known-v c = search needs
@@ -18,19 +18,19 @@ returns : tie.Need-returns
 returns c = let a = (c .before .before .before .before .before .before .before .args) in share-refused (now (a .cells)) (now (a .items)) (now (a .areas)) (a .locals) (a .i) _ _ (sym ((c .before .before .before .parts) .ensures) ∙ (c .before .v) .given .1)
 
 enum-told : tie.Need-enum-told
-enum-told c = search needs
+enum-told c = omega arith
 
 returns-2 : tie.Need-returns-2
 returns-2 c = let a = (c .before .before .before .before .before .before .before .args) in share-none (now (a .cells)) (now (a .items)) (now (a .areas)) (a .locals) (a .i) (sym ((c .before .before .before .parts) .ensures) ∙ (c .before .enum-told) .given .1) (shared-past (now (a .cells)) (now (a .items)) (now (a .areas)) (a .locals) (shared-sound (now (a .cells)) (now (a .items)) (now (a .areas)) (a .locals) (sym ((c .before .before .before .parts) .ensures) ∙ (c .before .enum-told) .given .1)) (a .i) (omega arith))
 
 mul-at : tie.Need-mul-at
-mul-at c = search needs
+mul-at c = omega arith
 
 add-if2 : tie.Need-add-if2
-add-if2 c = search needs
+add-if2 c = omega arith
 
 mul-if2 : tie.Need-mul-if2
-mul-if2 c = search needs
+mul-if2 c = omega arith
 
 shared-slice-read-if2 : tie.Need-shared-slice-read-if2
 shared-slice-read-if2 c = let a = (c .before .before .before .before .before .before .before .before .args) in omega (arith, (shared-sound (now (a .cells)) (now (a .items)) (now (a .areas)) (a .locals) (sym ((c .before .before .before .before .parts) .ensures) ∙ (c .before .before .enum-told) .given .1)) .whole)
@@ -39,22 +39,22 @@ returns-3 : tie.Need-returns-3
 returns-3 c = let a = (c .before .before .before .before .before .before .before .before .before .args) in share-none (now (a .cells)) (now (a .items)) (now (a .areas)) (a .locals) (a .i) (sym ((c .before .before .before .before .before .parts) .ensures) ∙ (c .before .before .before .enum-told) .given .1) (shared-absent (now (a .cells)) (now (a .items)) (now (a .areas)) (a .locals) (shared-sound (now (a .cells)) (now (a .items)) (now (a .areas)) (a .locals) (sym ((c .before .before .before .before .before .parts) .ensures) ∙ (c .before .before .before .enum-told) .given .1)) (a .i) (omega arith) ((c .if2) .taken))
 
 mul-members : tie.Need-mul-members
-mul-members c = search needs
+mul-members c = omega arith
 
 shared-slice-read-members : tie.Need-shared-slice-read-members
 shared-slice-read-members c = let a = (c .before .before .before .before .before .before .before .before .before .before .args) in omega (arith, (shared-sound (now (a .cells)) (now (a .items)) (now (a .areas)) (a .locals) (sym ((c .before .before .before .before .before .before .parts) .ensures) ∙ (c .before .before .before .before .enum-told) .given .1)) .whole)
 
 members-requires : tie.Need-members-requires
-members-requires c κs = search needs
+members-requires c κs = tt
 
 returns-4 : tie.Need-returns-4
 returns-4 c = let a = (c .before .before .before .before .before .before .before .before .before .before .before .before .args) in share-none (now (a .cells)) (now (a .items)) (now (a .areas)) (a .locals) (a .i) (sym ((c .before .before .before .before .before .before .before .before .parts) .ensures) ∙ (c .before .before .before .before .before .before .enum-told) .given .1) (shared-lone (now (a .cells)) (now (a .items)) (now (a .areas)) (a .locals) (shared-sound (now (a .cells)) (now (a .items)) (now (a .areas)) (a .locals) (sym ((c .before .before .before .before .before .before .before .before .parts) .ensures) ∙ (c .before .before .before .before .before .before .enum-told) .given .1)) (a .i) (omega arith) (omega (arith, (c .before .members) .ensures)))
 
 add-t11 : tie.Need-add-t11
-add-t11 c = search needs
+add-t11 c = omega arith
 
 mul-t12 : tie.Need-mul-t12
-mul-t12 c = search needs
+mul-t12 c = omega arith
 
 shared-slice-read-t14 : tie.Need-shared-slice-read-t14
 shared-slice-read-t14 c = let a = (c .before .before .before .before .before .before .before .before .before .before .before .before .before .args) in omega (arith, (shared-sound (now (a .cells)) (now (a .items)) (now (a .areas)) (a .locals) (sym ((c .before .before .before .before .before .before .before .before .before .parts) .ensures) ∙ (c .before .before .before .before .before .before .before .enum-told) .given .1)) .whole)
@@ -63,10 +63,10 @@ cast-t17 : tie.Need-cast-t17
 cast-t17 c = omega (arith, (c .shared-slice-known6) .given (4 * (c .before .before .before .before .before .before .before .before .before .before .before .before .before .args) .i + 2))
 
 add-t18 : tie.Need-add-t18
-add-t18 c = search needs
+add-t18 c = omega arith
 
 mul-t19 : tie.Need-mul-t19
-mul-t19 c = search needs
+mul-t19 c = omega arith
 
 shared-slice-read-t21 : tie.Need-shared-slice-read-t21
 shared-slice-read-t21 c = let a = (c .before .before .before .before .before .before .before .before .before .before .before .before .before .before .args) in omega (arith, (shared-sound (now (a .cells)) (now (a .items)) (now (a .areas)) (a .locals) (sym ((c .before .before .before .before .before .before .before .before .before .before .parts) .ensures) ∙ (c .before .before .before .before .before .before .before .before .enum-told) .given .1)) .whole)

@@ -12,7 +12,7 @@ use Rattle.queries.proofs.slot.Statement.{statement}
 use Rattle.queries.proofs.slot.Tie as tie
 
 plan-requires : tie.Need-plan-requires
-plan-requires c κs = search needs
+plan-requires c κs = tt
 
 enum-known-v : tie.Need-enum-known-v
 enum-known-v c = search needs
@@ -21,19 +21,19 @@ returns : tie.Need-returns
 returns c = let a = (c .before .before .before .before .before .before .args) in place-refused (planVerdict (now (a .cells)) (now (a .items)) (a .locals)) (slot (slotsOf (a .locals) (now (a .cells)) (now (a .items)) []) (a .i)) _ _ (sym ((c .before .before .before .plan) .ensures) ∙ (c .before .v) .given .1)
 
 enum-told : tie.Need-enum-told
-enum-told c = search needs
+enum-told c = omega arith
 
 add-at : tie.Need-add-at
-add-at c = search needs
+add-at c = omega arith
 
 mul-t12 : tie.Need-mul-t12
-mul-t12 c = search needs
+mul-t12 c = omega arith
 
 mul-t13 : tie.Need-mul-t13
-mul-t13 c = search needs
+mul-t13 c = omega arith
 
 shared-slice-read-t15 : tie.Need-shared-slice-read-t15
-shared-slice-read-t15 c = search needs
+shared-slice-read-t15 c = omega arith
 
 cast-t16 : tie.Need-cast-t16
 cast-t16 c = omega (arith, (c .shared-slice-known3) .given (4 * ((c .before .before .before .before .before .before .before .args) .locals + (c .before .before .before .before .before .before .before .args) .i)))

@@ -7,39 +7,38 @@ use native.Mathlib.Omega.{arith}
 use Prim.Native.Nat.{ℕ, suc, _+_, _-_, _*_, _≤_, _<_}
 use mathlib.Core.Path.{_≡_, refl, sym, ap, _∙_}
 use lib.ListN.{length, take, drop, getD, set, length-set}
-use borrow.Author.Needs.{needs}
 use Rattle.samples.proofs.join_row.Statement.{statement}
 use Rattle.samples.proofs.join_row.Tie as tie
 
 mul-i : tie.Need-mul-i
-mul-i c = search needs
+mul-i c = omega arith
 
 add-i : tie.Need-add-i
-add-i c = search needs
+add-i c = omega arith
 
 add-i-2 : tie.Need-add-i-2
-add-i-2 c = search needs
+add-i-2 c = omega arith
 
 mul-i-2 : tie.Need-mul-i-2
-mul-i-2 c = search needs
+mul-i-2 c = omega arith
 
 slice-read-i : tie.Need-slice-read-i
-slice-read-i c = search needs
+slice-read-i c = omega arith
 
 mul-c : tie.Need-mul-c
-mul-c c = search needs
+mul-c c = omega arith
 
 add-c : tie.Need-add-c
-add-c c = search needs
+add-c c = omega arith
 
 add-c-2 : tie.Need-add-c-2
-add-c-2 c = search needs
+add-c-2 c = omega arith
 
 mul-c-2 : tie.Need-mul-c-2
-mul-c-2 c = search needs
+mul-c-2 c = omega arith
 
 slice-read-c : tie.Need-slice-read-c
-slice-read-c c = search needs
+slice-read-c c = omega arith
 
 mul-row-or : tie.Need-mul-row-or
 mul-row-or c = omega (arith, row-inside ((c .before .before .before .before .args) .rows) ((c .before .before .before .before .args) .width) (cellIn (now ((c .before .before .before .before .args) .w)) ((c .before .before .before .before .args) .items) ((c .before .before .before .before .args) .n) ((c .before .before .before .before .args) .k)) ((c .before .before .before .before .args) .n) _ ((c .before .before .before .before .pre) .5) ((c .before .before .before .before .pre) .1))
@@ -57,7 +56,7 @@ row-or-requires : tie.Need-row-or-requires
 row-or-requires c κs = (row-inside ((c .before .before .before .before .args) .rows) ((c .before .before .before .before .args) .width) (cellIn (now ((c .before .before .before .before .args) .w)) ((c .before .before .before .before .args) .items) ((c .before .before .before .before .args) .n) ((c .before .before .before .before .args) .k)) ((c .before .before .before .before .args) .n) _ ((c .before .before .before .before .pre) .5) ((c .before .before .before .before .pre) .1), row-inside ((c .before .before .before .before .args) .rows) ((c .before .before .before .before .args) .width) ((c .before .before .before .before .args) .cells) ((c .before .before .before .before .args) .n) _ ((c .before .before .before .before .pre) .3) ((c .before .before .before .before .pre) .1), aligned-rows ((c .before .before .before .before .args) .rows) (cellIn (now ((c .before .before .before .before .args) .w)) ((c .before .before .before .before .args) .items) ((c .before .before .before .before .args) .n) ((c .before .before .before .before .args) .k)) ((c .before .before .before .before .args) .cells) ((c .before .before .before .before .args) .width))
 
 same-length : tie.Need-same-length
-same-length c = search needs
+same-length c = omega arith
 
 returns : tie.Need-returns
 returns c = record { row = (c .before .before .row-or) .ensures }

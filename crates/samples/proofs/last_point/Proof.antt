@@ -20,7 +20,7 @@ add-result-2 : tie.Need-add-result-2
 add-result-2 c = omega (arith, ((c .before .before .pre) .0 (omega arith)) .inside, (c .before .before .pre) .1)
 
 sub-result : tie.Need-sub-result
-sub-result c = search needs
+sub-result c = omega arith
 
 mul-result : tie.Need-mul-result
 mul-result c = omega (arith, ((c .before .before .pre) .0 (omega arith)) .inside, (c .before .before .pre) .1)

@@ -4,42 +4,41 @@ use native.Mathlib.Omega.{arith}
 use Prim.Native.Nat.{ℕ, suc, _+_, _-_, _*_, _≤_, _<_}
 use mathlib.Core.Path.{_≡_, refl, sym, ap, _∙_}
 use lib.ListN.{length, take, drop, getD, set, length-set}
-use borrow.Author.Needs.{needs}
 use Rattle.samples.proofs.mark.Statement.{statement}
 use Rattle.samples.proofs.mark.Tie as tie
 
 mul-if2 : tie.Need-mul-if2
-mul-if2 c = search needs
+mul-if2 c = omega arith
 
 add-if2 : tie.Need-add-if2
-add-if2 c = search needs
+add-if2 c = omega arith
 
 add-w : tie.Need-add-w
-add-w c = search needs
+add-w c = omega arith
 
 mul-w : tie.Need-mul-w
-mul-w c = search needs
+mul-w c = omega arith
 
 slice-write-w : tie.Need-slice-write-w
-slice-write-w c = search needs
+slice-write-w c = omega arith
 
 add-result : tie.Need-add-result
-add-result c = search needs
+add-result c = omega arith
 
 same-length : tie.Need-same-length
-same-length c = search needs
+same-length c = simp length-set
 
 returns : tie.Need-returns
 returns c = marked-word _ ((c .before .before .before .pre) .0) (omega arith) (omega (arith, (c .before .before .before .pre) .1))
 
 set-requires : tie.Need-set-requires
-set-requires c κs = search needs
+set-requires c κs = omega arith
 
 add-result-2 : tie.Need-add-result-2
-add-result-2 c = search needs
+add-result-2 c = omega arith
 
 same-length-2 : tie.Need-same-length-2
-same-length-2 c = search needs
+same-length-2 c = omega arith
 
 returns-2 : tie.Need-returns-2
 returns-2 c = marked-bit ((c .before .before .set) .ensures) (omega (arith, (c .before .before .before .before .before .before .pre) .1, (c .before .before .before .before .before .before .pre) .2))

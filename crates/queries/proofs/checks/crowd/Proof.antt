@@ -5,12 +5,11 @@ use denote.Ref.{now}
 use native.Mathlib.Omega.{arith}
 use Prim.Native.Nat.{_-_}
 use mathlib.Core.Path.{sym, _∙_}
-use borrow.Author.Needs.{needs}
 use Rattle.queries.proofs.checks.crowd.Statement.{statement}
 use Rattle.queries.proofs.checks.crowd.Tie as tie
 
 bad-count-requires : tie.Need-bad-count-requires
-bad-count-requires c κs = search needs
+bad-count-requires c κs = tt
 
 returns : tie.Need-returns
 returns c = let a = (c .before .before .before .before .args) in crowd-count (now (a .cells)) (now (a .items)) (a .locals) (a .room) (sym ((c .before .bad-count) .ensures) ∙ (c .if1) .taken)
@@ -22,7 +21,7 @@ returns-2 : tie.Need-returns-2
 returns-2 c = let a = (c .before .before .before .before .before .args) in crowd-space (now (a .cells)) (now (a .items)) (a .locals) (a .room) (sym ((c .before .before .bad-count) .ensures) ∙ (c .before .if1) .left) ((c .if2) .taken)
 
 plan-requires : tie.Need-plan-requires
-plan-requires c κs = search needs
+plan-requires c κs = tt
 
 returns-3 : tie.Need-returns-3
 returns-3 c = let a = (c .before .before .before .before .before .before .args) in (c .plan) .ensures ∙ crowd-plan (now (a .cells)) (now (a .items)) (a .locals) (a .room) (sym ((c .before .before .before .bad-count) .ensures) ∙ (c .before .before .if1) .left) ((c .before .if2) .left)

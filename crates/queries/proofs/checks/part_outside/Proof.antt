@@ -1,7 +1,7 @@
 -- `part_outside` meets its contract: an absent part is not read.
+use native.Mathlib.Omega.{arith}
 use Rattle.queries.proofs.ShareLaws.{out-absent, out-present}
 use Prim.Native.Nat.{_-_}
-use borrow.Author.Needs.{needs}
 use Rattle.queries.proofs.checks.part_outside.Statement.{statement}
 use Rattle.queries.proofs.checks.part_outside.Tie as tie
 
@@ -9,7 +9,7 @@ returns : tie.Need-returns
 returns c = let a = (c .before .args) in out-absent (a .ranges) (a .present) (a .first) (a .count) ((c .if1) .taken)
 
 add-result : tie.Need-add-result
-add-result c = search needs
+add-result c = omega arith
 
 returns-2 : tie.Need-returns-2
 returns-2 c = let a = (c .before .args) in out-present (a .ranges) (a .present) (a .first) (a .count) ((c .if1) .left)

@@ -9,19 +9,19 @@ use Rattle.queries.proofs.checks.parts.Statement.{statement}
 use Rattle.queries.proofs.checks.parts.Tie as tie
 
 bad-count-requires : tie.Need-bad-count-requires
-bad-count-requires c κs = search needs
+bad-count-requires c κs = tt
 
 returns : tie.Need-returns
 returns c = let a = (c .before .before .before .before .before .args) in parts-count (now (a .cells)) (now (a .items)) (now (a .areas)) (a .locals) (sym ((c .before .bad-count) .ensures) ∙ (c .if1) .taken)
 
 bad-areas-requires : tie.Need-bad-areas-requires
-bad-areas-requires c κs = search needs
+bad-areas-requires c κs = tt
 
 returns-2 : tie.Need-returns-2
 returns-2 c = let a = (c .before .before .before .before .before .before .before .args) in parts-areas (now (a .cells)) (now (a .items)) (now (a .areas)) (a .locals) (sym ((c .before .bad-areas) .ensures) ∙ (c .if2) .taken)
 
 items-within-requires : tie.Need-items-within-requires
-items-within-requires c κs = search needs
+items-within-requires c κs = tt
 
 enum-known-v : tie.Need-enum-known-v
 enum-known-v c = search needs
@@ -30,7 +30,7 @@ returns-3 : tie.Need-returns-3
 returns-3 c = let a = (c .before .before .before .before .before .before .before .before .before .before .before .args) in parts-item (now (a .cells)) (now (a .items)) (now (a .areas)) (a .locals) (sym ((c .before .before .before .before .before .before .before .bad-count) .ensures) ∙ (c .before .before .before .before .before .before .if1) .left) (sym ((c .before .before .before .before .before .bad-areas) .ensures) ∙ (c .before .before .before .before .if2) .left) _ _ (sym ((c .before .before .before .items-within) .ensures) ∙ (c .before .v) .given .1)
 
 enum-told : tie.Need-enum-told
-enum-told c = search needs
+enum-told c = omega arith
 
 returns-4 : tie.Need-returns-4
 returns-4 c = let a = (c .before .before .before .before .before .before .before .before .before .before .before .args) in parts-surplus (now (a .cells)) (now (a .items)) (now (a .areas)) (a .locals) (sym ((c .before .before .before .before .before .before .before .bad-count) .ensures) ∙ (c .before .before .before .before .before .before .if1) .left) (sym ((c .before .before .before .before .before .bad-areas) .ensures) ∙ (c .before .before .before .before .if2) .left) (sym ((c .before .before .before .items-within) .ensures) ∙ (c .before .enum-told) .given .1) (omega arith)
