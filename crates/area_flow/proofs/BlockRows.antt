@@ -24,8 +24,8 @@ use Rattle.spread.proofs.Turns.{arrives-as}
 use Rattle.ranges.specs.declared.Range.{Range}
 use Rattle.areas.specs.Blocks.{Graph, touched, leaves, passes}
 use Rattle.areas.specs.Pieces.{beforeRow, afterRow, arrivesRow}
-use Rattle.area_rows.specs.declared.Turn.{Turn}
-use Rattle.area_rows.specs.Turns.{Turnable, Turned}
+use Rattle.row_turns.specs.declared.Turn.{Turn}
+use Rattle.row_turns.specs.Turns.{Turnable, Turned}
 use Rattle.area_flow.specs.declared.Grid.{Grid}
 use Rattle.area_flow.specs.Grid.{rowBit, arriving, blockBit, Laid, Quiet, AreaRows}
 use Rattle.area_flow.specs.Inner.{Flowing, Still, Blocked}

@@ -9,9 +9,9 @@ ghost use Rattle.components.specs.Entry.{edgesIn};
 ghost use Rattle.flow.specs.Entry.{wayOf};
 ghost use Rattle.area_flow.specs.Grid.{Laid, Unmarked, Quiet, AreaRows};
 ghost use Rattle.area_flow.specs.Inner.{Linked, FlowedOver, ArrivedAt, Flowing, Still, Blocked};
-use area_rows::Turn;
 use flow::Flow;
 use flow::Over;
+use row_turns::Turn;
 use spread::Layout;
 
 // Where the rows of n places stand in the work space: edge columns and edge rows from `base` on, Tarjan's arrays from `tarjan` on; rows of `words` words, a bit a local,
@@ -120,7 +120,7 @@ fn turn_rows(work: &mut [u64], g: Grid, n: usize)
 {
     let arriving = g.wait + (n / 64 + 1);
     words::fill(work, g.to, g.locals * g.width, 0);
-    area_rows::locals::by_local(
+    row_turns::by_local(
         work,
         Turn {
             n: n,
@@ -132,7 +132,7 @@ fn turn_rows(work: &mut [u64], g: Grid, n: usize)
             to: g.to,
         },
     );
-    area_rows::locals::by_local(
+    row_turns::by_local(
         work,
         Turn {
             n: n,

@@ -1,4 +1,3 @@
 pub mod PutLaws
 pub mod MarkLaws
-pub mod TurnLaws
 pub mod ColumnLaws

@@ -1,4 +1,4 @@
--- What private functions promise each other, and `mark`, which is public for this crate's other module.
+-- What the functions promise that the marks and the turned rows are made by.
 use Prim.Native.Nat.{ℕ, _+_, _*_, _/_, _<_}
 use mathlib.Core.Path.{_≡_}
 use mathlib.Core.Logic.{_≢_, _⊎_}

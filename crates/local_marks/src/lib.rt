@@ -36,7 +36,7 @@ pub fn mark_spots(blocks: &[u32], work: &mut [u64], s: Spots, g: Grid, l: usize,
         );
         return;
     }
-    area_rows::marks::mark_leaving(
+    leaving_marks::mark_leaving(
         blocks,
         work,
         s,
@@ -47,7 +47,7 @@ pub fn mark_spots(blocks: &[u32], work: &mut [u64], s: Spots, g: Grid, l: usize,
             bit: l,
         },
     );
-    area_rows::marks::mark_passing(
+    passing_marks::mark_passing(
         blocks,
         work,
         s,

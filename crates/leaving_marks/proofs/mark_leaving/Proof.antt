@@ -1,0 +1,73 @@
+use Rattle.ranges.specs.Points.{range}
+-- `area_rows::marks::mark_leaving` meets its contract: the touches before i are marked.
+use Rattle.area_rows.specs.Inner.{leavesBy}
+use Rattle.spots.specs.Spots.{lineOf, endsAt}
+use mathlib.Core.List.{[]}
+use Rattle.area_rows.proofs.MarkLaws.{Sweeping, sweep-start, sweep-more, sweep-done}
+use Rattle.leaving_marks.proofs.LeaveLaws.{still-stand, leave-as, leaves-done}
+use native.Mathlib.Omega.{arith}
+use Prim.Native.Nat.{_-_}
+use mathlib.Core.Path.{_≡_}
+use Rattle.leaving_marks.proofs.mark_leaving.Statement.{statement}
+use Rattle.leaving_marks.proofs.mark_leaving.Tie as tie
+
+abbrev Inv-loop : tie.InvT-loop
+Inv-loop blocks work₀ s c at i₀ work i = Sweeping (λ t k. leavesBy (lineOf blocks []) (endsAt s work₀) k t) s c work₀ work i × (at ≡ s .at)
+
+abbrev μ-loop : tie.MeasureT-loop
+μ-loop blocks work₀ s c at i₀ work i = s .count - i
+
+loop-holds : tie.Need-loop-holds Inv-loop μ-loop
+loop-holds c = (sweep-start (λ t k. leavesBy (lineOf ((c .before .before .args) .blocks .now) []) (endsAt ((c .before .before .args) .s) ((c .before .before .args) .work .now)) k t) ((c .before .before .pre) .0), omega arith)
+
+add-x : tie.Need-add-x Inv-loop μ-loop
+add-x c = omega (arith, (c .before .before .loop) .inv .0 .stand, (c .before .before .loop) .inv .0 .put .kept .len)
+
+mul-x : tie.Need-mul-x Inv-loop μ-loop
+mul-x c = omega (arith, (c .before .before .loop) .inv .0 .stand, (c .before .before .loop) .inv .0 .put .kept .len)
+
+slice-read-x : tie.Need-slice-read-x Inv-loop μ-loop
+slice-read-x c = omega (arith, (c .before .before .before .loop) .inv .0 .stand, (c .before .before .before .loop) .inv .0 .put .kept .len)
+
+start-of-requires : tie.Need-start-of-requires Inv-loop μ-loop
+start-of-requires c κs = omega arith
+
+end-of-requires : tie.Need-end-of-requires Inv-loop μ-loop
+end-of-requires c κs = omega arith
+
+mark-leave-requires : tie.Need-mark-leave-requires Inv-loop μ-loop
+mark-leave-requires c κs = ((c .before .before .before .before .before .before .before .before .before .pre) .0 .line, (c .before .before .before .before .before .before .before .before .before .pre) .0 .places, (c .before .before .before .before .before .before .loop) .inv .0 .fits, still-stand ((c .before .before .before .before .before .before .before .before .before .pre) .0) ((c .before .before .before .before .before .before .before .before .before .pre) .1) ((c .before .before .before .before .before .before .loop) .inv .0 .put .kept) ((c .before .before .before .before .before .before .before .before .before .pre) .2))
+
+add-i : tie.Need-add-i Inv-loop μ-loop
+add-i c = omega arith
+
+loop-less : tie.Need-loop-less Inv-loop μ-loop
+loop-less c = omega arith
+
+loop-again : tie.Need-loop-again Inv-loop μ-loop
+loop-again c = (sweep-more ((c .before .before .before .before .before .before .before .before .before .loop) .inv .0) _ _ (omega arith) ((c .before .before .before .before .start-of) .ensures) ((c .before .before .before .end-of) .ensures) (leave-as ((c .before .before .before .before .before .before .before .before .before .before .before .before .pre) .0) ((c .before .before .before .before .before .before .before .before .before .before .before .before .pre) .1) ((c .before .before .before .before .before .before .before .before .before .loop) .inv .0 .put .kept) (range ((c .before .before .before .before .start-of) .result) ((c .before .before .before .end-of) .result)) ((c .before .before .mark-leave) .ensures)), omega arith)
+
+same-length : tie.Need-same-length Inv-loop μ-loop
+same-length c = (c .before .before .loop) .inv .0 .put .kept .len
+
+returns : tie.Need-returns Inv-loop μ-loop
+returns c = leaves-done ((c .before .before .before .before .before .args) .blocks .now) ((c .before .before .before .before .before .args) .s) (sweep-done ((c .before .before .loop) .inv .0) (omega arith))
+
+pub mark-leaving-spec : {M : Type 1} → statement M
+mark-leaving-spec =
+    tie.close
+    (tie.spec
+    Inv-loop
+    μ-loop
+    loop-holds
+    add-x
+    mul-x
+    slice-read-x
+    start-of-requires
+    end-of-requires
+    mark-leave-requires
+    add-i
+    loop-less
+    loop-again
+    same-length
+    returns)
