@@ -24,7 +24,7 @@ fn tables(
     requires { ⌜ TablesAsked (now insts) (now operands) (now addresses) (now ends) v locals lay p (now work) ⌝ }
     ensures { λ r. ⌜ TablesIn (now (insts .entry)) (now (operands .entry)) (now (crossings .entry)) (now (addresses .entry)) (now (ends .entry)) v locals lay p (now (work .entry)) (now (work .exit)) r ⌝ }
 {
-    let n = reach::prepare::prepare(
+    let n = preparing::prepare(
         insts,
         operands,
         crossings,
