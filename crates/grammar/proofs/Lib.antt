@@ -1,0 +1,4 @@
+pub mod TableLaws
+pub mod NumeralLaws
+pub mod PartLaws
+pub mod Stars

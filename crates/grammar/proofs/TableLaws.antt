@@ -1,0 +1,106 @@
+-- The table of groups: its columns, and rules that are computed over the whole of it.
+use mathlib.Core.Path.{_≡_, refl, ap, sym, subst, _∙_}
+use mathlib.Core.Logic.{_≢_}
+use mathlib.Core.Bool.{Bool, true, false, cond, _&&_}
+use mathlib.Core.List.{List, [], _∷_, map}
+use Prim.Native.Nat.{ℕ, zero, suc, _+_, _-_, _*_, _/_, _%_, _≤_, _<_}
+use native.Mathlib.Omega.{arith}
+use native.Mathlib.Nat.{add-zero, zero-add, add-suc, suc-add, le-of-suc-le-suc, not-suc-le-zero}
+use native.Mathlib.Numerals.{add-one}
+use lib.Dec.{T, eqb, leb, ltb, eqb→eq, leb→le, ltb→lt}
+use lib.ListN.{length, getD, drop, drop-of-length-le, List·getD-map}
+use lib.Seq.{drop-cons}
+use borrow.Author.Tests.{eq-eqb, ne-eqb}
+use Rattle.grammar.specs.Numerals.{dash}
+use Rattle.grammar.specs.Groups.{Group, groups, groupAt, noGroup, none, letters, indexOf}
+
+-- ---- a test that holds at each number below n, computed
+
+abbrev both : Bool → Bool → Bool
+both true b = b
+both false b = false
+
+both-left : (a b : Bool) → T (both a b) → T a
+both-left true b t = tt
+both-left false b t = t
+
+both-right : (a b : Bool) → T (both a b) → T b
+both-right true b t = t
+both-right false b t = absurd t
+
+abbrev pub every : ℕ → (ℕ → Bool) → Bool
+every zero f = true
+every (suc n) f = both (f 0) (every n (λ i. f (suc i)))
+
+pub at : (n : ℕ) (f : ℕ → Bool) → T (every n f) → (k : ℕ) → k < n → T (f k)
+at zero f t k h = absurd (not-suc-le-zero h)
+at (suc n) f t zero h = both-left (f 0) (every n (λ i. f (suc i))) t
+at (suc n) f t (suc k) h = at n (λ i. f (suc i)) (both-right (f 0) (every n (λ i. f (suc i))) t) k (le-of-suc-le-suc h)
+
+-- ---- columns
+
+pub column : (f : Group → ℕ) (k : ℕ) → getD (map f groups) k (f noGroup) ≡ f (groupAt k)
+column f k = List·getD-map f groups k noGroup
+
+unfoldable pub dashTable : List ℕ
+dashTable = 4294967296 ∷ 4294967296 ∷ 4294967296 ∷ 4294967296 ∷ 4294967296 ∷ 4294967296 ∷ 4294967296 ∷ 4294967296 ∷ 4294967296 ∷ 4294967296 ∷ 4294967296 ∷ 4294967296 ∷ 4294967296 ∷ 4294967296 ∷ 4294967296 ∷ 4294967296 ∷ 4294967296 ∷ 4294967296 ∷ 4294967296 ∷ 4294967296 ∷ 4294967296 ∷ 0 ∷ 4294967296 ∷ 4294967296 ∷ 4294967296 ∷ 4294967296 ∷ 256 ∷ 256 ∷ 4294967296 ∷ 4294967296 ∷ 4294967296 ∷ 4294967296 ∷ 4294967296 ∷ 4294967296 ∷ 4294967296 ∷ 4294967296 ∷ 4294967296 ∷ 4294967296 ∷ 4294967296 ∷ 4294967296 ∷ 4294967296 ∷ 4294967296 ∷ 4294967296 ∷ 4294967296 ∷ 4294967296 ∷ 4294967296 ∷ 4294967296 ∷ 4294967296 ∷ 4294967296 ∷ 4294967296 ∷ 4294967296 ∷ 4294967296 ∷ 4294967296 ∷ 4294967296 ∷ 4294967296 ∷ 4294967296 ∷ 4294967296 ∷ 4294967296 ∷ 4294967296 ∷ 4294967296 ∷ 4294967296 ∷ 4294967296 ∷ 4294967296 ∷ 4294967296 ∷ 4294967296 ∷ 4294967296 ∷ 4294967296 ∷ 4294967296 ∷ 4294967296 ∷ 4294967296 ∷ 4294967296 ∷ 4294967296 ∷ 4294967296 ∷ 4294967296 ∷ 4294967296 ∷ 4294967296 ∷ 4294967296 ∷ 4294967296 ∷ 4294967295 ∷ 4294967296 ∷ 4294967296 ∷ 4294967296 ∷ 4294967296 ∷ 4294967296 ∷ 4294967296 ∷ 4294967296 ∷ 4294967295 ∷ 4294967295 ∷ 4294967296 ∷ 4294967296 ∷ 4294967296 ∷ []
+
+dash-entry : ℕ → Bool
+dash-entry i = eqb (getD dashTable i 0) (getD (groupAt (i / 7) .dashes) (i % 7) dash)
+
+narrow-entry : ℕ → Bool
+narrow-entry k = leb (length (groupAt k .dashes)) 7
+
+getD-any : (l : List ℕ) (i a b : ℕ) → i < length l → getD l i a ≡ getD l i b
+getD-any [] i a b h = absurd (not-suc-le-zero h)
+getD-any (x ∷ l) zero a b h = refl
+getD-any (x ∷ l) (suc i) a b h = getD-any l i a b (le-of-suc-le-suc h)
+
+pub fields-most : (k : ℕ) → k < none → length (groupAt k .dashes) ≤ 7
+unfolding narrow-entry
+fields-most k h = leb→le (length (groupAt k .dashes)) 7 (at none narrow-entry tt k h)
+
+pub dash-is : (k j : ℕ) → k < none → j < length (groupAt k .dashes) → getD dashTable (7 * k + j) 0 ≡ getD (groupAt k .dashes) j 0
+unfolding dash-entry dashTable
+dash-is k j h l =
+    let m : length (groupAt k .dashes) ≤ 7 = fields-most k h in
+    let q : (7 * k + j) / 7 ≡ k = omega arith in
+    let r : (7 * k + j) % 7 ≡ j = omega arith in
+    eqb→eq _ _ (at 91 dash-entry tt (7 * k + j) (omega arith))
+    ∙ ap (λ (x : ℕ). getD (groupAt x .dashes) ((7 * k + j) % 7) dash) q
+    ∙ ap (λ (x : ℕ). getD (groupAt k .dashes) x dash) r
+    ∙ getD-any (groupAt k .dashes) j dash 0 l
+
+-- ---- the place of an element
+
+pub record Seeking (x : ℕ) (l : List ℕ) (k : ℕ) : Type 0 where
+  pub k-le : k ≤ length l
+  pub from : indexOf x l ≡ k + indexOf x (drop k l)
+
+pub seek-start : (x : ℕ) (l : List ℕ) → Seeking x l 0
+seek-start x l = record { k-le = omega arith; from = sym (zero-add (indexOf x l)) }
+
+here-at : (x y : ℕ) (l : List ℕ) → y ≡ x → indexOf x (y ∷ l) ≡ 0
+unfolding indexOf
+here-at x y l e = rw (eq-eqb y x e)
+
+past-at : (x y : ℕ) (l : List ℕ) → (y ≡ x → ⊥) → indexOf x (y ∷ l) ≡ suc (indexOf x l)
+unfolding indexOf
+past-at x y l d = rw (ne-eqb y x d)
+
+none-left : (x : ℕ) → indexOf x [] ≡ 0
+unfolding indexOf
+none-left x = refl
+
+module _ {x : ℕ} {l : List ℕ} {k : ℕ} (s : Seeking x l k) where
+  pub seek-here : k < length l → getD l k 0 ≡ x → k ≡ indexOf x l
+  seek-here h e = omega (arith, s .from, ap (indexOf x) (drop-cons l k 0 h) ∙ here-at x (getD l k 0) (drop (suc k) l) e)
+
+  pub seek-past : k < length l → (getD l k 0 ≡ x → ⊥) → Seeking x l (k + 1)
+  seek-past h d = record {
+    k-le = omega arith;
+    from = omega (arith, s .from, ap (indexOf x) (drop-cons l k 0 h) ∙ past-at x (getD l k 0) (drop (suc k) l) d, ap (λ (n : ℕ). indexOf x (drop n l)) (add-one k));
+  }
+
+  pub seek-end : length l ≤ k → k ≡ indexOf x l
+  seek-end h = omega (arith, s .from, ap (indexOf x) (drop-of-length-le l h) ∙ none-left x)

@@ -1,0 +1,5 @@
+pub mod Numerals
+pub mod Groups
+pub mod Lines
+pub mod Text
+pub mod Table

@@ -1,0 +1,77 @@
+-- `body` meets its contract: each way out is a case of the grammar.
+use native.Mathlib.Omega.{arith}
+use denote.Ref.{now}
+use Prim.Native.Nat.{ℕ, _-_, _≤_, _<_}
+use mathlib.Core.Path.{_≡_, refl, sym, ap, _∙_}
+use lib.ListN.{length, drop, length-drop}
+use lib.Seq.{take-all}
+use Rattle.words.proofs.Points.{cut}
+use Rattle.lines.proofs.BodyLaws.{group-within, group-not, group-is, fields-none, fields-are, body-without, body-alone, body-refused, body-read}
+use Rattle.grammar.proofs.PartLaws.{index-within}
+use Rattle.lines.specs.Read.{fieldsIn}
+use Rattle.lines.proofs.body.Statement.{statement}
+use Rattle.lines.proofs.body.Tie as tie
+
+longer : (n : ℕ) → 1 ≤ n → (n ≡ 1 → ⊥) → 1 < n
+longer n h d = cut n 1 (λ a. absurd (d (omega arith))) (λ a. a)
+
+find-requires : tie.Need-find-requires
+find-requires c κs = tt
+
+returns : tie.Need-returns
+returns c = body-without (now ((c .before .before .before .before .args) .b)) (now ((c .before .before .before .before .args) .out)) _ refl (group-not (now ((c .before .before .before .before .args) .b)) (λ e. ((c .if1) .taken) (((c .before .find) .ensures) ∙ e)))
+
+shared-slice-read-group-of : tie.Need-shared-slice-read-group-of
+shared-slice-read-group-of c = let i = index-within 44 (now ((c .before .before .before .before .before .args) .b)) in let o = (sym ((c .before .before .find) .ensures) ∙ ((c .before .if1) .left)) in omega arith
+
+group-of-requires : tie.Need-group-of-requires
+group-of-requires c κs = tt
+
+returns-2 : tie.Need-returns-2
+returns-2 c = body-without (now ((c .before .before .before .before .before .before .before .args) .b)) (now ((c .before .before .before .before .before .before .before .args) .out)) _ refl (sym (((c .before .group-of) .ensures) ∙ sym (group-is (now ((c .before .before .before .before .before .before .before .args) .b)) (sym ((c .before .before .before .before .find) .ensures) ∙ ((c .before .before .before .if1) .left)))) ∙ ((c .if2) .taken))
+
+returns-3 : tie.Need-returns-3
+returns-3 c = body-alone (now ((c .before .before .before .before .before .before .before .before .args) .b)) (now ((c .before .before .before .before .before .before .before .before .args) .out)) _ refl _ (((c .before .before .group-of) .ensures) ∙ sym (group-is (now ((c .before .before .before .before .before .before .before .before .args) .b)) (sym ((c .before .before .before .before .before .find) .ensures) ∙ ((c .before .before .before .before .if1) .left)))) (group-within _ _ ((c .before .before .group-of) .ensures) ((c .before .if2) .left)) (fields-none (now ((c .before .before .before .before .before .before .before .before .args) .b)) (sym ((c .before .before .before .before .before .find) .ensures) ∙ ((c .before .before .before .before .if1) .left)) ((c .if3) .taken))
+
+sub-fields : tie.Need-sub-fields
+sub-fields c = let h = (let i = index-within 44 (now ((c .before .before .before .before .before .before .before .before .args) .b)) in let o = (sym ((c .before .before .before .before .before .find) .ensures) ∙ ((c .before .before .before .before .if1) .left)) in longer _ (omega arith) ((c .if3) .left)) in omega arith
+
+part-fields-start : tie.Need-part-fields-start
+part-fields-start c = let h = (let i = index-within 44 (now ((c .before .before .before .before .before .before .before .before .args) .b)) in let o = (sym ((c .before .before .before .before .before .find) .ensures) ∙ ((c .before .before .before .before .if1) .left)) in longer _ (omega arith) ((c .if3) .left)) in omega arith
+
+part-fields-end : tie.Need-part-fields-end
+part-fields-end c = let h = (let i = index-within 44 (now ((c .before .before .before .before .before .before .before .before .args) .b)) in let o = (sym ((c .before .before .before .before .before .find) .ensures) ∙ ((c .before .before .before .before .if1) .left)) in longer _ (omega arith) ((c .if3) .left)) in omega arith
+
+fields-requires : tie.Need-fields-requires
+fields-requires c κs = ((group-within _ _ ((c .before .before .before .before .group-of) .ensures) ((c .before .before .before .if2) .left)), (c .before .before .before .before .before .before .before .before .before .before .pre))
+
+same-length : tie.Need-same-length
+same-length c = (c .before .before .before .fields) .ensures .kept
+
+returns-4 : tie.Need-returns-4
+returns-4 c = body-read (now ((c .before .before .before .before .before .before .before .before .before .before .before .before .before .before .args) .b)) (now ((c .before .before .before .before .before .before .before .before .before .before .before .before .before .before .args) .out)) _ ((c .before .before .before .fields) .ensures .kept) _ (((c .before .before .before .before .before .before .before .before .group-of) .ensures) ∙ sym (group-is (now ((c .before .before .before .before .before .before .before .before .before .before .before .before .before .before .args) .b)) (sym ((c .before .before .before .before .before .before .before .before .before .before .before .find) .ensures) ∙ ((c .before .before .before .before .before .before .before .before .before .before .if1) .left)))) (group-within _ _ ((c .before .before .before .before .before .before .before .before .group-of) .ensures) ((c .before .before .before .before .before .before .before .if2) .left)) _ _ (fields-are (now ((c .before .before .before .before .before .before .before .before .before .before .before .before .before .before .args) .b)) (sym ((c .before .before .before .before .before .before .before .before .before .before .before .find) .ensures) ∙ ((c .before .before .before .before .before .before .before .before .before .before .if1) .left)) (let i = index-within 44 (now ((c .before .before .before .before .before .before .before .before .before .before .before .before .before .before .args) .b)) in let o = (sym ((c .before .before .before .before .before .before .before .before .before .before .before .find) .ensures) ∙ ((c .before .before .before .before .before .before .before .before .before .before .if1) .left)) in longer _ (omega arith) ((c .before .before .before .before .before .before .if3) .left)) ∙ sym (ap fieldsIn (take-all (length (now ((c .before .before .before .before .before .before .before .before .before .before .before .before .before .before .args) .b)) - 2) (drop 2 (now ((c .before .before .before .before .before .before .before .before .before .before .before .before .before .before .args) .b))) (let l = length-drop 2 (now ((c .before .before .before .before .before .before .before .before .before .before .before .before .before .before .args) .b)) in omega arith)))) ((c .before .before .before .fields) .ensures) ((c .if4) .taken)
+
+same-length-2 : tie.Need-same-length-2
+same-length-2 c = (c .before .before .before .fields) .ensures .kept
+
+returns-5 : tie.Need-returns-5
+returns-5 c = body-refused (now ((c .before .before .before .before .before .before .before .before .before .before .before .before .before .before .args) .b)) (now ((c .before .before .before .before .before .before .before .before .before .before .before .before .before .before .args) .out)) _ ((c .before .before .before .fields) .ensures .kept) _ (((c .before .before .before .before .before .before .before .before .group-of) .ensures) ∙ sym (group-is (now ((c .before .before .before .before .before .before .before .before .before .before .before .before .before .before .args) .b)) (sym ((c .before .before .before .before .before .before .before .before .before .before .before .find) .ensures) ∙ ((c .before .before .before .before .before .before .before .before .before .before .if1) .left)))) (group-within _ _ ((c .before .before .before .before .before .before .before .before .group-of) .ensures) ((c .before .before .before .before .before .before .before .if2) .left)) _ _ (fields-are (now ((c .before .before .before .before .before .before .before .before .before .before .before .before .before .before .args) .b)) (sym ((c .before .before .before .before .before .before .before .before .before .before .before .find) .ensures) ∙ ((c .before .before .before .before .before .before .before .before .before .before .if1) .left)) (let i = index-within 44 (now ((c .before .before .before .before .before .before .before .before .before .before .before .before .before .before .args) .b)) in let o = (sym ((c .before .before .before .before .before .before .before .before .before .before .before .find) .ensures) ∙ ((c .before .before .before .before .before .before .before .before .before .before .if1) .left)) in longer _ (omega arith) ((c .before .before .before .before .before .before .if3) .left)) ∙ sym (ap fieldsIn (take-all (length (now ((c .before .before .before .before .before .before .before .before .before .before .before .before .before .before .args) .b)) - 2) (drop 2 (now ((c .before .before .before .before .before .before .before .before .before .before .before .before .before .before .args) .b))) (let l = length-drop 2 (now ((c .before .before .before .before .before .before .before .before .before .before .before .before .before .before .args) .b)) in omega arith)))) ((c .before .before .before .fields) .ensures) ((c .if4) .left)
+
+pub body-spec : {M : Type 1} → statement M
+body-spec =
+    tie.close
+    (tie.spec
+    find-requires
+    returns
+    shared-slice-read-group-of
+    group-of-requires
+    returns-2
+    returns-3
+    sub-fields
+    part-fields-start
+    part-fields-end
+    fields-requires
+    same-length
+    returns-4
+    same-length-2
+    returns-5)

@@ -1,0 +1,127 @@
+-- `fields` meets its contract: a field more is read each turn.
+use native.Mathlib.Omega.{arith}
+use denote.Ref.{now}
+use Prim.Native.Nat.{ℕ, _+_, _-_}
+use mathlib.Core.Path.{_≡_, refl, sym, ap, _∙_}
+use lib.ListN.{take, drop, length-set, length-drop}
+use borrow.Author.Tests.{not-true, not-false}
+use Rattle.grammar.specs.Numerals.{fieldOf}
+use Rattle.lines.proofs.FieldLaws.{Taking, taking-start, taking-all, taking-not, taking-last, taking-more, part-found, refused}
+use Rattle.grammar.specs.Groups.{groupAt}
+use Rattle.grammar.proofs.TableLaws.{fields-most}
+use Rattle.grammar.proofs.PartLaws.{index-within}
+use Rattle.lines.proofs.fields.Statement.{statement}
+use Rattle.lines.proofs.fields.Tie as tie
+
+abbrev Inv-loop : tie.InvT-loop
+Inv-loop s k out₀ n at₀ j₀ out at j = Taking s (groupAt k .dashes) out₀ out at j
+
+abbrev μ-loop : tie.MeasureT-loop
+μ-loop s k out₀ n at₀ j₀ out at j = n - j
+
+entry-of-requires : tie.Need-entry-of-requires Inv-loop μ-loop
+entry-of-requires c κs = (c .before .before .pre) .0
+
+loop-holds : tie.Need-loop-holds Inv-loop μ-loop
+loop-holds c = taking-start _ _ _ (let g = fields-most ((c .before .before .before .args) .k) ((c .before .before .before .pre) .0) in omega arith)
+
+sub-find : tie.Need-sub-find Inv-loop μ-loop
+sub-find c = omega (arith, (c .before .loop) .inv .at-le)
+
+part-find-start : tie.Need-part-find-start Inv-loop μ-loop
+part-find-start c = omega (arith, (c .before .loop) .inv .at-le)
+
+part-find-end : tie.Need-part-find-end Inv-loop μ-loop
+part-find-end c = omega (arith, (c .before .loop) .inv .at-le)
+
+find-requires : tie.Need-find-requires Inv-loop μ-loop
+find-requires c κs = tt
+
+add-e : tie.Need-add-e Inv-loop μ-loop
+add-e c = let q = (part-found (now ((c .before .before .before .before .before .before .before .args) .s)) ((c .before .before .before .loop) .at) ((c .find) .result) _ refl ((c .find) .ensures)) in let i = index-within 44 (drop ((c .before .before .before .loop) .at) (now ((c .before .before .before .before .before .before .before .args) .s))) in let l = length-drop ((c .before .before .before .loop) .at) (now ((c .before .before .before .before .before .before .before .args) .s)) in omega (arith, (c .before .before .before .loop) .inv .at-le)
+
+sub-field : tie.Need-sub-field Inv-loop μ-loop
+sub-field c = let q = (part-found (now ((c .before .before .before .before .before .before .before .args) .s)) ((c .before .before .before .loop) .at) ((c .find) .result) _ refl ((c .find) .ensures)) in let i = index-within 44 (drop ((c .before .before .before .loop) .at) (now ((c .before .before .before .before .before .before .before .args) .s))) in let l = length-drop ((c .before .before .before .loop) .at) (now ((c .before .before .before .before .before .before .before .args) .s)) in omega (arith, (c .before .before .before .loop) .inv .at-le)
+
+part-field-start : tie.Need-part-field-start Inv-loop μ-loop
+part-field-start c = let q = (part-found (now ((c .before .before .before .before .before .before .before .args) .s)) ((c .before .before .before .loop) .at) ((c .find) .result) _ refl ((c .find) .ensures)) in let i = index-within 44 (drop ((c .before .before .before .loop) .at) (now ((c .before .before .before .before .before .before .before .args) .s))) in let l = length-drop ((c .before .before .before .loop) .at) (now ((c .before .before .before .before .before .before .before .args) .s)) in omega (arith, (c .before .before .before .loop) .inv .at-le)
+
+part-field-end : tie.Need-part-field-end Inv-loop μ-loop
+part-field-end c = let q = (part-found (now ((c .before .before .before .before .before .before .before .args) .s)) ((c .before .before .before .loop) .at) ((c .find) .result) _ refl ((c .find) .ensures)) in let i = index-within 44 (drop ((c .before .before .before .loop) .at) (now ((c .before .before .before .before .before .before .before .args) .s))) in let l = length-drop ((c .before .before .before .loop) .at) (now ((c .before .before .before .before .before .before .before .args) .s)) in omega (arith, (c .before .before .before .loop) .inv .at-le)
+
+field-requires : tie.Need-field-requires Inv-loop μ-loop
+field-requires c κs = tt
+
+dash-at-requires : tie.Need-dash-at-requires Inv-loop μ-loop
+dash-at-requires c κs = ((c .before .before .before .before .before .before .before .before .before .pre) .0, (let g = (c .before .before .before .before .before .before .entry-of) .ensures .fields in omega arith))
+
+allowed-requires : tie.Need-allowed-requires Inv-loop μ-loop
+allowed-requires c κs = tt
+
+same-length : tie.Need-same-length Inv-loop μ-loop
+same-length c = (c .before .before .before .before .before .before .before .before .loop) .inv .len
+
+returns : tie.Need-returns Inv-loop μ-loop
+returns c = refused ((c .before .before .before .before .before .before .before .before .loop) .inv .len) (taking-not ((c .before .before .before .before .before .before .before .before .loop) .inv) ((c .before .before .before .before .before .find) .result) ((c .before .before .before .field) .result) ((c .before .before .dash-at) .result) (let g = (c .before .before .before .before .before .before .before .before .before .entry-of) .ensures .fields in omega arith) (part-found (now ((c .before .before .before .before .before .before .before .before .before .before .before .before .args) .s)) ((c .before .before .before .before .before .before .before .before .loop) .at) ((c .before .before .before .before .before .find) .result) _ refl ((c .before .before .before .before .before .find) .ensures)) (((c .before .before .before .field) .ensures) ∙ (let g : (c .before .before .before .before .before .before .before .before .loop) .at + (c .before .before .before .before .before .find) .result - (c .before .before .before .before .before .before .before .before .loop) .at ≡ (c .before .before .before .before .before .find) .result = omega arith in ap (λ (x : ℕ). fieldOf (take x (drop ((c .before .before .before .before .before .before .before .before .loop) .at) (now ((c .before .before .before .before .before .before .before .before .before .before .before .before .args) .s))))) g)) ((c .before .before .dash-at) .ensures) (sym ((c .before .allowed) .ensures) ∙ not-true _ ((c .if1) .taken)))
+
+mul-out : tie.Need-mul-out Inv-loop μ-loop
+mul-out c = let g = (c .before .before .before .before .before .before .before .before .before .entry-of) .ensures .fields in let r = (c .before .before .before .before .before .before .before .before .loop) .inv .room in let l = (c .before .before .before .before .before .before .before .before .loop) .inv .len in omega arith
+
+slice-write-out : tie.Need-slice-write-out Inv-loop μ-loop
+slice-write-out c = let g = (c .before .before .before .before .before .before .before .before .before .entry-of) .ensures .fields in let r = (c .before .before .before .before .before .before .before .before .loop) .inv .room in let l = (c .before .before .before .before .before .before .before .before .loop) .inv .len in omega arith
+
+add-j : tie.Need-add-j Inv-loop μ-loop
+add-j c = omega arith
+
+same-length-2 : tie.Need-same-length-2 Inv-loop μ-loop
+same-length-2 c = simp length-set ((c .before .before .before .before .before .before .before .before .before .loop) .inv .len)
+
+returns-2 : tie.Need-returns-2 Inv-loop μ-loop
+returns-2 c = taking-last ((c .before .before .before .before .before .before .before .before .before .loop) .inv) ((c .before .before .before .before .before .before .find) .result) ((c .before .before .before .before .field) .result) ((c .before .before .before .dash-at) .result) (let g = (c .before .before .before .before .before .before .before .before .before .before .entry-of) .ensures .fields in omega arith) (part-found (now ((c .before .before .before .before .before .before .before .before .before .before .before .before .before .args) .s)) ((c .before .before .before .before .before .before .before .before .before .loop) .at) ((c .before .before .before .before .before .before .find) .result) _ refl ((c .before .before .before .before .before .before .find) .ensures)) (((c .before .before .before .before .field) .ensures) ∙ (let g : (c .before .before .before .before .before .before .before .before .before .loop) .at + (c .before .before .before .before .before .before .find) .result - (c .before .before .before .before .before .before .before .before .before .loop) .at ≡ (c .before .before .before .before .before .before .find) .result = omega arith in ap (λ (x : ℕ). fieldOf (take x (drop ((c .before .before .before .before .before .before .before .before .before .loop) .at) (now ((c .before .before .before .before .before .before .before .before .before .before .before .before .before .args) .s))))) g)) ((c .before .before .before .dash-at) .ensures) (sym ((c .before .before .allowed) .ensures) ∙ not-false _ ((c .before .if1) .left)) ((c .if2) .taken) ((c .before .before .before .before .before .before .before .before .before .before .before .before .before .args) .k) _ refl ((c .before .before .before .before .before .before .before .before .before .before .entry-of) .ensures .fields)
+
+add-at : tie.Need-add-at Inv-loop μ-loop
+add-at c = let q = (part-found (now ((c .before .before .before .before .before .before .before .before .before .before .before .before .before .args) .s)) ((c .before .before .before .before .before .before .before .before .before .loop) .at) ((c .before .before .before .before .before .before .find) .result) _ refl ((c .before .before .before .before .before .before .find) .ensures)) in let i = index-within 44 (drop ((c .before .before .before .before .before .before .before .before .before .loop) .at) (now ((c .before .before .before .before .before .before .before .before .before .before .before .before .before .args) .s))) in let l = length-drop ((c .before .before .before .before .before .before .before .before .before .loop) .at) (now ((c .before .before .before .before .before .before .before .before .before .before .before .before .before .args) .s)) in omega (arith, (c .before .before .before .before .before .before .before .before .before .loop) .inv .at-le, (c .if2) .left)
+
+loop-less : tie.Need-loop-less Inv-loop μ-loop
+loop-less c = omega arith
+
+loop-again : tie.Need-loop-again Inv-loop μ-loop
+loop-again c = taking-more ((c .before .before .before .before .before .before .before .before .before .loop) .inv) ((c .before .before .before .before .before .before .find) .result) ((c .before .before .before .before .field) .result) ((c .before .before .before .dash-at) .result) (let g = (c .before .before .before .before .before .before .before .before .before .before .entry-of) .ensures .fields in omega arith) (part-found (now ((c .before .before .before .before .before .before .before .before .before .before .before .before .before .args) .s)) ((c .before .before .before .before .before .before .before .before .before .loop) .at) ((c .before .before .before .before .before .before .find) .result) _ refl ((c .before .before .before .before .before .before .find) .ensures)) (((c .before .before .before .before .field) .ensures) ∙ (let g : (c .before .before .before .before .before .before .before .before .before .loop) .at + (c .before .before .before .before .before .before .find) .result - (c .before .before .before .before .before .before .before .before .before .loop) .at ≡ (c .before .before .before .before .before .before .find) .result = omega arith in ap (λ (x : ℕ). fieldOf (take x (drop ((c .before .before .before .before .before .before .before .before .before .loop) .at) (now ((c .before .before .before .before .before .before .before .before .before .before .before .before .before .args) .s))))) g)) ((c .before .before .before .dash-at) .ensures) (sym ((c .before .before .allowed) .ensures) ∙ not-false _ ((c .before .if1) .left)) ((c .if2) .left)
+
+same-length-3 : tie.Need-same-length-3 Inv-loop μ-loop
+same-length-3 c = (c .before .loop) .inv .len
+
+returns-3 : tie.Need-returns-3 Inv-loop μ-loop
+returns-3 c = refused ((c .before .loop) .inv .len) (taking-all ((c .before .loop) .inv) (let g = (c .before .before .entry-of) .ensures .fields in omega arith))
+
+pub fields-spec : {M : Type 1} → statement M
+fields-spec =
+    tie.close
+    (tie.spec
+    Inv-loop
+    μ-loop
+    entry-of-requires
+    loop-holds
+    sub-find
+    part-find-start
+    part-find-end
+    find-requires
+    add-e
+    sub-field
+    part-field-start
+    part-field-end
+    field-requires
+    dash-at-requires
+    allowed-requires
+    same-length
+    returns
+    mul-out
+    slice-write-out
+    add-j
+    same-length-2
+    returns-2
+    add-at
+    loop-less
+    loop-again
+    same-length-3
+    returns-3)

@@ -1,0 +1,142 @@
+// One line of a job text: its group and its fields.
+ghost use mathlib.Core.Path.{_≡_};
+ghost use Prim.Native.Nat.{_≤_, _<_};
+ghost use lib.ListN.{length};
+ghost use lib.Dec.{ltb};
+ghost use Rattle.grammar.specs.Numerals.{fieldOf, numberFrom, limit};
+ghost use Rattle.grammar.specs.Groups.{none};
+ghost use Rattle.grammar.specs.Lines.{meant};
+ghost use Rattle.lines.specs.Read.{FieldsRead, BodyRead, LineRead};
+use grammar::dash_at;
+use grammar::entry_of;
+use grammar::find;
+use grammar::group_of;
+
+// One more than a field's largest number; what `-` reads as; what reads as no field.
+const LIMIT: u64 = 4294967296;
+
+const DASH: u64 = 4294967296;
+
+const NO_FIELD: u64 = 4294967297;
+
+// No group.
+const NONE: usize = 13;
+
+// The longest line, with its newline.
+const LONGEST: usize = 128;
+
+// The number that digits make.
+fn value(s: &[u8]) -> u64
+    ensures { λ r. ⌜ r ≡ numberFrom 0 (now (s .entry)) ⌝ }
+{
+    let mut v: u64 = 0;
+    let mut i = 0;
+    while i < s.len() {
+        let b = s[i];
+        if b < 48 {
+            return NO_FIELD;
+        }
+        if 57 < b {
+            return NO_FIELD;
+        }
+        v = 10 * v + (b - 48) as u64;
+        if LIMIT <= v {
+            return NO_FIELD;
+        }
+        i += 1;
+    }
+    v
+}
+
+// What a field reads as.
+fn field(s: &[u8]) -> u64
+    ensures { λ r. ⌜ r ≡ fieldOf (now (s .entry)) ⌝ }
+{
+    if s.len() == 0 {
+        return NO_FIELD;
+    }
+    if s.len() == 1 {
+        if s[0] == 45 {
+            return DASH;
+        }
+        return value(s);
+    }
+    if s[0] == 48 {
+        return NO_FIELD;
+    }
+    value(s)
+}
+
+// Whether a field is a number, or `-` where that stands for `d`, a number.
+fn allowed(f: u64, d: u64) -> bool
+    ensures { λ r. ⌜ r ≡ ltb (meant d f) limit ⌝ }
+{
+    if f == DASH {
+        return d < LIMIT;
+    }
+    f < LIMIT
+}
+
+// The fields of a group's line, which stand behind the letter and its comma.
+fn fields(s: &[u8], k: usize, out: &mut [u64]) -> bool
+    requires { ⌜ (k < none) × (7 ≤ length (now out)) ⌝ }
+    ensures { λ r. ⌜ FieldsRead k (now (s .entry)) (now (out .entry)) r (now (out .exit)) ⌝ }
+{
+    let n = entry_of(k).fields;
+    let mut at = 0;
+    let mut j = 0;
+    while j < n {
+        let e = at + find(&s[at..], b',');
+        let f = field(&s[at..e]);
+        if !allowed(f, dash_at(k, j)) {
+            return false;
+        }
+        out[j] = f;
+        j += 1;
+        if e == s.len() {
+            return j == n;
+        }
+        at = e + 1;
+    }
+    false
+}
+
+// The group of what stands before a line's newline, or 13, and its fields.
+fn body(b: &[u8], out: &mut [u64]) -> usize
+    requires { ⌜ 7 ≤ length (now out) ⌝ }
+    ensures { λ r. ⌜ BodyRead (now (b .entry)) (now (out .entry)) r (now (out .exit)) ⌝ }
+{
+    let e = find(b, b',');
+    if e != 1 {
+        return NONE;
+    }
+    let k = group_of(b[0]);
+    if k == NONE {
+        return NONE;
+    }
+    if b.len() == 1 {
+        return NONE;
+    }
+    if fields(&b[2..], k, out) {
+        return k;
+    }
+    NONE
+}
+
+// The group of a line with its newline, or 13 where it is malformed, and its fields in the first numbers of `out`.
+pub fn read_line(line: &[u8], out: &mut [u64]) -> usize
+    requires { ⌜ 7 ≤ length (now out) ⌝ }
+    ensures { λ r. ⌜ LineRead (now (line .entry)) (now (out .entry)) r (now (out .exit)) ⌝ }
+{
+    let n = line.len();
+    if LONGEST < n {
+        return NONE;
+    }
+    if n == 0 {
+        return NONE;
+    }
+    if line[n - 1] != b'\n' {
+        return NONE;
+    }
+    body(&line[0..n - 1], out)
+}
