@@ -1,18 +1,18 @@
 -- The table of groups: its columns, and rules that are computed over the whole of it.
 use mathlib.Core.Path.{_≡_, refl, ap, sym, subst, _∙_}
-use mathlib.Core.Logic.{_≢_}
-use mathlib.Core.Bool.{Bool, true, false, cond, _&&_}
+use mathlib.Core.Logic.{_≢_, _⊎_, inl, inr}
+use mathlib.Core.Bool.{Bool, true, false, cond, not, _&&_, _||_}
 use mathlib.Core.List.{List, [], _∷_, map}
 use Prim.Native.Nat.{ℕ, zero, suc, _+_, _-_, _*_, _/_, _%_, _≤_, _<_}
 use native.Mathlib.Omega.{arith}
-use native.Mathlib.Nat.{add-zero, zero-add, add-suc, suc-add, le-of-suc-le-suc, not-suc-le-zero}
+use native.Mathlib.Nat.{add-zero, zero-add, add-suc, suc-add, le-of-suc-le-suc, not-suc-le-zero, mul-suc, mul-le-mul-left}
 use native.Mathlib.Numerals.{add-one}
 use lib.Dec.{T, eqb, leb, ltb, eqb→eq, leb→le, ltb→lt}
 use lib.ListN.{length, getD, drop, drop-of-length-le, List·getD-map}
 use lib.Seq.{drop-cons}
-use borrow.Author.Tests.{eq-eqb, ne-eqb}
+use borrow.Author.Tests.{eq-eqb, ne-eqb, eqb-true, leb-true}
 use Rattle.grammar.specs.Numerals.{dash}
-use Rattle.grammar.specs.Groups.{Group, groups, groupAt, noGroup, none, letters, indexOf}
+use Rattle.grammar.specs.Groups.{Group, groups, groupAt, noGroup, none, rowNumbers, instGroup, operandGroup, letters, indexOf}
 
 -- ---- a test that holds at each number below n, computed
 
@@ -104,3 +104,59 @@ module _ {x : ℕ} {l : List ℕ} {k : ℕ} (s : Seeking x l k) where
 
   pub seek-end : length l ≤ k → k ≡ indexOf x l
   seek-end h = omega (arith, s .from, ap (indexOf x) (drop-of-length-le l h) ∙ none-left x)
+
+-- ---- the groups' regions in the reader's list
+
+abbrev pub regionEnd : ℕ → ℕ
+regionEnd k = groupAt k .base + groupAt k .width * groupAt k .room
+
+end-entry : ℕ → Bool
+end-entry k = leb (regionEnd k) rowNumbers
+
+pub end-within : (k : ℕ) → k < none → regionEnd k ≤ rowNumbers
+unfolding end-entry
+end-within k h = leb→le (regionEnd k) rowNumbers (at none end-entry tt k h)
+
+apart-entry : ℕ → ℕ → Bool
+apart-entry j k = eqb j k || (leb (regionEnd j) (groupAt k .base) || leb (regionEnd k) (groupAt j .base))
+
+apart-row : ℕ → Bool
+apart-row j = every none (apart-entry j)
+
+-- no two groups' regions have a number in common
+pub regions-apart : (j k : ℕ) → j < none → k < none → j ≢ k → (regionEnd j ≤ groupAt k .base) ⊎ (regionEnd k ≤ groupAt j .base)
+unfolding apart-entry apart-row
+regions-apart j k h l d =
+    go (eqb j k) (leb (regionEnd j) (groupAt k .base)) (leb (regionEnd k) (groupAt j .base)) refl refl refl (at none (apart-entry j) (at none apart-row tt j h) k l)
+  where
+    go : (s t u : Bool) → eqb j k ≡ s → leb (regionEnd j) (groupAt k .base) ≡ t → leb (regionEnd k) (groupAt j .base) ≡ u → T (s || (t || u))
+        → (regionEnd j ≤ groupAt k .base) ⊎ (regionEnd k ≤ groupAt j .base)
+    go true t u p q r x = absurd (d (eqb-true j k p))
+    go false true u p q r x = inl (leb-true (regionEnd j) (groupAt k .base) q)
+    go false false true p q r x = inr (leb-true (regionEnd k) (groupAt j .base) r)
+    go false false false p q r x = absurd x
+
+-- a row that there is room for
+pub row-within : (k n : ℕ) → k < none → n < groupAt k .room → groupAt k .base + groupAt k .width * n + groupAt k .width ≤ regionEnd k
+row-within k n h l =
+    let e : groupAt k .width * n + groupAt k .width ≤ groupAt k .width * groupAt k .room = rw (← mul-suc (groupAt k .width) n) (mul-le-mul-left (groupAt k .width) l) in omega arith
+
+open-entry : ℕ → Bool
+open-entry k = not (eqb (groupAt k .place) 4) || (eqb k instGroup || eqb k operandGroup)
+
+-- an instruction's place is an operand's too, and no other group's
+pub open-place : (k : ℕ) → k < none → groupAt k .place ≡ 4 → (k ≡ instGroup) ⊎ (k ≡ operandGroup)
+unfolding open-entry
+open-place k h e = go (eqb k instGroup) (eqb k operandGroup) refl refl (rw (eq-eqb (groupAt k .place) 4 e) at (at none open-entry tt k h))
+  where
+    go : (s t : Bool) → eqb k instGroup ≡ s → eqb k operandGroup ≡ t → T (s || t) → (k ≡ instGroup) ⊎ (k ≡ operandGroup)
+    go true t p q x = inl (eqb-true k instGroup p)
+    go false true p q x = inr (eqb-true k operandGroup q)
+    go false false p q x = absurd x
+
+room-entry : ℕ → Bool
+room-entry k = leb (groupAt k .room) 64
+
+pub room-most : (k : ℕ) → k < none → groupAt k .room ≤ 64
+unfolding room-entry
+room-most k h = leb→le (groupAt k .room) 64 (at none room-entry tt k h)

@@ -1,0 +1,135 @@
+-- The rows that lines decode to, and one line more.
+use Prim.Native.Nat.{ℕ, zero, suc, _+_, _-_, _*_, _≤_, _<_}
+use native.Mathlib.Omega.{arith}
+use native.Mathlib.Nat.{mul-suc, mul-zero}
+use mathlib.Core.Path.{_≡_, refl, ap, sym, subst, _∙_}
+use mathlib.Core.Bool.{Bool, true, false, cond, _&&_}
+use mathlib.Core.List.{List, [], _∷_, _++_, append-assoc}
+use lib.ListN.{length, getD, length-append}
+use lib.Dec.{eqb, leb, ltb, eqb→eq}
+use borrow.Author.Tests.{eq-eqb, ne-eqb, eqb-true, eqb-false, ltb-true}
+use Rattle.words.specs.Rows.{flat}
+use Rattle.words.proofs.Points.{same}
+use Rattle.grammar.specs.Groups.{groupAt, none, instGroup, operandGroup}
+use Rattle.grammar.specs.Lines.{meant, fits, groupOf, formed, wellFormed, body, ended, lineGroup, lineFields}
+use Rattle.grammar.specs.Text.{numbers, placed, rowWith, operandsAfter, rowsIn, countOf}
+use Rattle.grammar.proofs.TableLaws.{at}
+
+-- ---- a line that has a group is well formed, and its row has the group's width
+
+pub never : {A : Type 0} → _≡_ {A = Bool} false true → A
+never e = absurd (let z : _≡_ {A = ℕ} 0 1 = ap (λ (b : Bool). cond b 1 0) e in omega arith)
+
+and-right : (a b : Bool) → (a && b) ≡ true → b ≡ true
+and-right true b e = e
+and-right false b e = never e
+
+and-left : (a b : Bool) → (a && b) ≡ true → a ≡ true
+and-left true b e = refl
+and-left false b e = never e
+
+has-group : (l : List ℕ) → lineGroup l < none → (wellFormed l ≡ true) × (lineGroup l ≡ groupOf (body l))
+unfolding lineGroup
+has-group l h = go (wellFormed l) refl h
+  where
+    go : (t : Bool) → wellFormed l ≡ t → cond t (groupOf (body l)) none < none → (wellFormed l ≡ true) × (cond (wellFormed l) (groupOf (body l)) none ≡ groupOf (body l))
+    go true e g = (e, ap (λ (t : Bool). cond t (groupOf (body l)) none) e)
+    go false e g = absurd (omega arith)
+
+pub group-fits : (l : List ℕ) → lineGroup l < none → fits (groupAt (lineGroup l) .dashes) (lineFields l) ≡ true
+unfolding wellFormed formed
+group-fits l h =
+    ap (λ (k : ℕ). fits (groupAt k .dashes) (lineFields l)) (has-group l h .1)
+    ∙ and-right (ltb (groupOf (body l)) none) _ (and-right (ended l) _ (and-right (leb (length l) 128) _ (has-group l h .0)))
+
+pub length-numbers : (ds fs : List ℕ) → fits ds fs ≡ true → (length (numbers ds fs) ≡ length ds) × (length fs ≡ length ds)
+unfolding fits numbers
+length-numbers [] [] e = (refl, refl)
+length-numbers [] (f ∷ fs) e = never e
+length-numbers (d ∷ ds) [] e = never e
+length-numbers (d ∷ ds) (f ∷ fs) e =
+    let r = length-numbers ds fs (and-right (ltb (meant d f) 4294967296) (fits ds fs) e) in (ap suc (r .0), ap suc (r .1))
+
+wide-entry : ℕ → Bool
+wide-entry k = eqb (groupAt k .width) (cond (eqb k instGroup) (suc (length (groupAt k .dashes) + 1)) (length (groupAt k .dashes)))
+
+pub length-row : (k : ℕ) (fs : List ℕ) (n : ℕ) → k < none → fits (groupAt k .dashes) fs ≡ true → length (rowWith k fs n) ≡ groupAt k .width
+unfolding wide-entry
+length-row k fs n h e =
+    go (eqb k instGroup) (length-numbers (groupAt k .dashes) fs e .0) ∙ sym (eqb→eq (groupAt k .width) _ (at none wide-entry tt k h))
+  where
+    go : (t : Bool) → length (numbers (groupAt k .dashes) fs) ≡ length (groupAt k .dashes)
+        → length (cond t (placed fs ∷ (numbers (groupAt k .dashes) fs ++ (n ∷ []))) (numbers (groupAt k .dashes) fs))
+        ≡ cond t (suc (length (groupAt k .dashes) + 1)) (length (groupAt k .dashes))
+    go true q = ap suc (length-append (numbers (groupAt k .dashes) fs) (n ∷ []) ∙ ap (λ (m : ℕ). m + 1) q)
+    go false q = q
+
+pub length-rows : (k : ℕ) → k < none → (ls : List (List ℕ)) → length (flat (rowsIn k ls)) ≡ groupAt k .width * countOf k ls
+unfolding rowsIn flat
+length-rows k h [] = sym (mul-zero (groupAt k .width))
+length-rows k h (l ∷ ls) = go (eqb (lineGroup l) k) refl (length-rows k h ls)
+  where
+    go : (t : Bool) → eqb (lineGroup l) k ≡ t → length (flat (rowsIn k ls)) ≡ groupAt k .width * countOf k ls
+        → length (flat (cond t (rowWith k (lineFields l) (operandsAfter ls) ∷ rowsIn k ls) (rowsIn k ls)))
+        ≡ groupAt k .width * length (cond t (rowWith k (lineFields l) (operandsAfter ls) ∷ rowsIn k ls) (rowsIn k ls))
+    go true e q =
+        let g : lineGroup l ≡ k = eqb-true (lineGroup l) k e in
+        length-append (rowWith k (lineFields l) (operandsAfter ls)) (flat (rowsIn k ls))
+        ∙ omega (arith, length-row k (lineFields l) (operandsAfter ls) h (rw g at (group-fits l (rw g h))), mul-suc (groupAt k .width) (countOf k ls))
+    go false e q = q
+
+-- ---- one line more
+
+module _ (l : List ℕ) where
+  operands-kept : (lineGroup l ≡ operandGroup → ⊥) → (ls : List (List ℕ)) → operandsAfter (ls ++ (l ∷ [])) ≡ operandsAfter ls
+  unfolding operandsAfter
+  operands-kept d [] = ap (λ (t : Bool). cond t 1 0) (ne-eqb (lineGroup l) operandGroup d)
+  operands-kept d (m ∷ ls) = ap (λ (n : ℕ). cond (eqb (lineGroup m) operandGroup) (suc n) 0) (operands-kept d ls)
+
+  pub count-more : (k : ℕ) (ls : List (List ℕ)) → countOf k (ls ++ (l ∷ [])) ≡ countOf k ls + cond (eqb (lineGroup l) k) 1 0
+  unfolding rowsIn
+  count-more k [] = go (eqb (lineGroup l) k)
+    where
+      go : (t : Bool) → length (cond t (rowWith k (lineFields l) (operandsAfter []) ∷ []) []) ≡ 0 + cond t 1 0
+      go true = refl
+      go false = refl
+  count-more k (m ∷ ls) = go (eqb (lineGroup m) k) (count-more k ls)
+    where
+      x : ℕ
+      x = cond (eqb (lineGroup l) k) 1 0
+
+      go : (t : Bool) → countOf k (ls ++ (l ∷ [])) ≡ countOf k ls + cond (eqb (lineGroup l) k) 1 0
+          → length (cond t (rowWith k (lineFields m) (operandsAfter (ls ++ (l ∷ []))) ∷ rowsIn k (ls ++ (l ∷ []))) (rowsIn k (ls ++ (l ∷ []))))
+          ≡ length (cond t (rowWith k (lineFields m) (operandsAfter ls) ∷ rowsIn k ls) (rowsIn k ls)) + cond (eqb (lineGroup l) k) 1 0
+      go true e = omega arith
+      go false e = e
+
+  -- the row does not depend on what follows, or what follows is no operand
+  free : (k : ℕ) (fs : List ℕ) (a b : ℕ) → (k ≡ instGroup → a ≡ b) → rowWith k fs a ≡ rowWith k fs b
+  free k fs a b h = same k instGroup (λ e. ap (rowWith k fs) (h e)) (λ d. go (eqb k instGroup) (ne-eqb k instGroup d))
+    where
+      go : (t : Bool) → t ≡ false → cond t (placed fs ∷ (numbers (groupAt k .dashes) fs ++ (a ∷ []))) (numbers (groupAt k .dashes) fs)
+          ≡ cond t (placed fs ∷ (numbers (groupAt k .dashes) fs ++ (b ∷ []))) (numbers (groupAt k .dashes) fs)
+      go true e = never (sym e)
+      go false e = refl
+
+  -- the rows of group k grow by those of the line
+  pub rows-more : (k : ℕ) → (k ≡ instGroup → lineGroup l ≡ operandGroup → ⊥) → (ls : List (List ℕ)) → rowsIn k (ls ++ (l ∷ [])) ≡ rowsIn k ls ++ rowsIn k (l ∷ [])
+  unfolding rowsIn
+  rows-more k d [] = refl
+  rows-more k d (m ∷ ls) = go (eqb (lineGroup m) k) (free k (lineFields m) (operandsAfter (ls ++ (l ∷ []))) (operandsAfter ls) (λ e. operands-kept (d e) ls)) (rows-more k d ls)
+    where
+      go : (t : Bool) → rowWith k (lineFields m) (operandsAfter (ls ++ (l ∷ []))) ≡ rowWith k (lineFields m) (operandsAfter ls)
+          → rowsIn k (ls ++ (l ∷ [])) ≡ rowsIn k ls ++ rowsIn k (l ∷ [])
+          → cond t (rowWith k (lineFields m) (operandsAfter (ls ++ (l ∷ []))) ∷ rowsIn k (ls ++ (l ∷ []))) (rowsIn k (ls ++ (l ∷ [])))
+          ≡ cond t (rowWith k (lineFields m) (operandsAfter ls) ∷ rowsIn k ls) (rowsIn k ls) ++ rowsIn k (l ∷ [])
+      go true p q = cc
+      go false p q = q
+
+  pub row-of : (k : ℕ) → lineGroup l ≡ k → rowsIn k (l ∷ []) ≡ rowWith k (lineFields l) 0 ∷ []
+  unfolding rowsIn operandsAfter
+  row-of k e = ap (λ (t : Bool). cond t (rowWith k (lineFields l) 0 ∷ []) []) (eq-eqb (lineGroup l) k e)
+
+  pub row-none : (k : ℕ) → (lineGroup l ≡ k → ⊥) → rowsIn k (l ∷ []) ≡ []
+  unfolding rowsIn
+  row-none k d = ap (λ (t : Bool). cond t (rowWith k (lineFields l) (operandsAfter []) ∷ []) []) (ne-eqb (lineGroup l) k d)

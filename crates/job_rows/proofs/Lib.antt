@@ -1,0 +1,4 @@
+pub mod PutLaws
+pub mod StoreLaws
+pub mod TakeLaws
+pub mod ReaderLaws

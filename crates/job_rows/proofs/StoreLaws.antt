@@ -1,0 +1,65 @@
+-- The store of one line: where its row stands, and the instruction that an operand belongs to.
+use Prim.Native.Nat.{ℕ, zero, suc, _+_, _-_, _*_, _≤_, _<_}
+use native.Mathlib.Omega.{arith}
+use native.Mathlib.Numerals.{add-one}
+use mathlib.Core.Path.{_≡_, refl, ap, sym, subst, _∙_}
+use mathlib.Core.Bool.{Bool, true, false, cond, _&&_}
+use mathlib.Core.List.{List, [], _∷_}
+use lib.ListN.{length, getD, set}
+use lib.Dec.{leb, ltb}
+use borrow.Author.Tests.{lt-ltb, le-ltb, le-leb, lt-leb}
+use Rattle.words.specs.Regions.{Region}
+use Rattle.grammar.specs.Groups.{groupAt, none, rowNumbers, mayFollow, instGroup, operandGroup}
+use Rattle.grammar.specs.Text.{rowWith}
+use Rattle.grammar.proofs.TableLaws.{row-within, end-within, room-most}
+use Rattle.job_rows.specs.Put.{Meant, Storable, Put, countAt}
+
+-- ---- whether a line may follow
+
+pub follow-none : (k p : ℕ) → none ≤ k → false ≡ (ltb k none && mayFollow p k)
+follow-none k p h = rw (le-ltb k none h)
+
+module _ (k p least : ℕ) (h : k < none) (e : least ≡ groupAt k .least) where
+  pub follow-early : p < least → false ≡ (ltb k none && mayFollow p k)
+  follow-early l = sym (ap (λ (t : Bool). t && mayFollow p k) (lt-ltb k none h) ∙ ap (λ (t : Bool). t && leb p (groupAt k .most)) (lt-leb (groupAt k .least) p (omega arith)))
+
+  pub follow-rest : (most : ℕ) → most ≡ groupAt k .most → least ≤ p → leb p most ≡ (ltb k none && mayFollow p k)
+  follow-rest most q l =
+      ap (leb p) q
+      ∙ sym (ap (λ (t : Bool). t && mayFollow p k) (lt-ltb k none h) ∙ ap (λ (t : Bool). t && leb p (groupAt k .most)) (le-leb (groupAt k .least) p (omega arith)))
+
+-- ---- where the row stands
+
+module _ {k : ℕ} {fields rows counts : List ℕ} (s : Storable k fields rows counts) where
+  pub row-room : groupAt k .base + groupAt k .width * getD counts k 0 + groupAt k .width ≤ rowNumbers
+  row-room = let a = row-within k (getD counts k 0) (s .meant .group) (s .room) in let b = end-within k (s .meant .group) in omega arith
+
+  pub few : getD counts k 0 < 64
+  few = let a = room-most k (s .meant .group) in let b = s .room in omega arith
+
+  module _ (e : k ≡ operandGroup) (middle : List ℕ) (g : Region rows middle (groupAt k .base + groupAt k .width * getD counts k 0) (groupAt k .width) (λ j. getD (rowWith k fields 0) j 0)) (i : ℕ) (ie : i ≡ getD counts 3 0) where
+    pub last-fine : (i ≤ 64) × (length middle ≡ rowNumbers) × (getD middle (countAt i) 0 ≤ 64)
+    last-fine =
+        let l = s .last e .0 in
+        let m = s .last e .1 in
+        let b : groupAt k .base ≡ 899 = ap (λ (n : ℕ). groupAt n .base) e in
+        let w : getD middle (countAt i) 0 ≡ getD rows (countAt i) 0 = g .before (countAt i) (omega arith) in
+        let z : getD rows (countAt i) 0 ≡ getD rows (countAt (getD counts 3 0)) 0 = ap (λ (n : ℕ). getD rows (countAt n) 0) ie in
+        (omega arith, g .len ∙ s .rows-length, omega arith)
+
+    pub put-operand : {rows′ counts′ : List ℕ} → rows′ ≡ set middle (countAt i) (suc (getD middle (countAt i) 0)) → counts′ ≡ set counts k (getD counts k 0 + 1) → Put k fields rows counts rows′ counts′
+    put-operand re ce = record {
+      middle = middle;
+      row = g;
+      plain = λ d. absurd (d e);
+      raised = λ _. re ∙ ap (λ (n : ℕ). set middle (countAt n) (suc (getD middle (countAt n) 0))) ie;
+      in-counts = ce;
+    }
+
+  pub put-plain : (k ≡ operandGroup → ⊥) → (middle : List ℕ) → Region rows middle (groupAt k .base + groupAt k .width * getD counts k 0) (groupAt k .width) (λ j. getD (rowWith k fields 0) j 0)
+      → {counts′ : List ℕ} → counts′ ≡ set counts k (getD counts k 0 + 1) → Put k fields rows counts middle counts′
+  put-plain d middle g ce = record { middle = middle; row = g; plain = λ _. refl; raised = λ e. absurd (d e); in-counts = ce }
+
+-- the code's base and width
+pub placed-at : (k n b w x : ℕ) {rows r : List ℕ} {f : ℕ → ℕ} → b ≡ groupAt k .base → w ≡ groupAt k .width → x ≡ b + w * n → Region rows r x (groupAt k .width) f → Region rows r (groupAt k .base + groupAt k .width * n) (groupAt k .width) f
+placed-at k n b w x {rows} {r} {f} be we xe g = subst (λ (y : ℕ). Region rows r y (groupAt k .width) f) (xe ∙ ap (λ (y : ℕ). y + w * n) be ∙ ap (λ (y : ℕ). groupAt k .base + y * n) we) g

@@ -1,0 +1,21 @@
+-- `follows` meets its contract, by the table.
+use native.Mathlib.Omega.{arith}
+use borrow.Author.Needs.{needs}
+use Rattle.job_rows.proofs.StoreLaws.{follow-none, follow-early, follow-rest}
+use Rattle.job_rows.proofs.follows.Statement.{statement}
+use Rattle.job_rows.proofs.follows.Tie as tie
+
+returns : tie.Need-returns
+returns c = follow-none ((c .before .args) .k) ((c .before .args) .place) ((c .if1) .taken)
+
+entry-of-requires : tie.Need-entry-of-requires
+entry-of-requires c κs = search needs
+
+returns-2 : tie.Need-returns-2
+returns-2 c = follow-early ((c .before .before .before .before .args) .k) ((c .before .before .before .before .args) .place) _ (omega arith) ((c .before .before .entry-of) .ensures .least) ((c .if2) .taken)
+
+returns-3 : tie.Need-returns-3
+returns-3 c = follow-rest ((c .before .before .before .before .before .args) .k) ((c .before .before .before .before .before .args) .place) _ (omega arith) ((c .before .before .before .entry-of) .ensures .least) _ ((c .before .before .before .entry-of) .ensures .most) ((c .before .if2) .left)
+
+pub follows-spec : {M : Type 1} → statement M
+follows-spec = tie.close (tie.spec returns entry-of-requires returns-2 returns-3)
