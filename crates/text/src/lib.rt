@@ -1,0 +1,138 @@
+// A job text, read byte by byte through a line buffer: nothing is cut off, and no line is kept but the one that is read.
+ghost use mathlib.Core.Path.{_≡_};
+ghost use mathlib.Core.List.{List, _∷_, [], _++_};
+ghost use Prim.Native.Nat.{ℕ, _+_, _-_, _≤_, _<_, _^_};
+ghost use lib.ListN.{length, getD};
+ghost use Rattle.grammar.specs.Groups.{none, rowNumbers};
+ghost use Rattle.job_rows.specs.Taken.{Reads, Takes};
+ghost use Rattle.text.specs.Read.{Reading, Ready, Feeds, Finishes, TextRead};
+use job_rows::Reader;
+use job_rows::malformed;
+use job_rows::take_line;
+use refusals::Refusal;
+use refusals::Verdict;
+
+// The longest line, with its newline.
+const LONGEST: usize = 128;
+
+// What is known of the lines so far, and how many bytes of the next one stand in the line buffer.
+pub struct State {
+    pub reader: Reader,
+    pub len: usize,
+}
+
+// Nothing is read yet.
+pub fn start(line: &mut [u8], rows: &mut [u32], counts: &mut [u32]) -> State
+    requires { ⌜ (length (now line) ≡ 128) × (length (now rows) ≡ rowNumbers) × (length (now counts) ≡ none) ⌝ }
+    ensures { λ s. ⌜ Reading [] (s .reader) (s .len) (now (line .exit)) (now (rows .exit)) (now (counts .exit)) ⌝ }
+{
+    let mut k = 0;
+    while k < 13 {
+        counts[k] = 0;
+        k += 1;
+    }
+    State {
+        reader: Reader {
+            lines: 0,
+            place: 0,
+            bad: false,
+            at: 0,
+            full: false,
+        },
+        len: 0,
+    }
+}
+
+// One byte more.
+fn take_byte(
+    s: State,
+    b: u8,
+    line: &mut [u8],
+    fields: &mut [u64],
+    rows: &mut [u32],
+    counts: &mut [u32],
+) -> State
+    requires { ⌜ (7 ≤ length (now fields)) × Ready (s .reader) (s .len) (now line) (now rows) (now counts) 1 ⌝ }
+    ensures { λ q. ⌜ Feeds (b ∷ []) (s .reader) (s .len) (now (line .entry)) (now (fields .entry)) (now (rows .entry)) (now (counts .entry))
+        (q .reader) (q .len) (now (line .exit)) (now (fields .exit)) (now (rows .exit)) (now (counts .exit)) ⌝ }
+{
+    let n = s.len;
+    let r = s.reader;
+    if LONGEST <= n {
+        if b == b'\n' {
+            return State {
+                reader: malformed(r),
+                len: 0,
+            };
+        }
+        return s;
+    }
+    line[n] = b;
+    if b != b'\n' {
+        return State {
+            reader: r,
+            len: n + 1,
+        };
+    }
+    let q = take_line(r, &line[0..n + 1], fields, rows, counts);
+    State { reader: q, len: 0 }
+}
+
+// A piece of the text more: as many bytes as the caller has.
+pub fn feed(
+    s: State,
+    piece: &[u8],
+    line: &mut [u8],
+    fields: &mut [u64],
+    rows: &mut [u32],
+    counts: &mut [u32],
+) -> State
+    requires { ⌜ (7 ≤ length (now fields)) × Ready (s .reader) (s .len) (now line) (now rows) (now counts) (length (now piece)) ⌝ }
+    ensures { λ q. ⌜ Feeds (now (piece .entry)) (s .reader) (s .len) (now (line .entry)) (now (fields .entry)) (now (rows .entry)) (now (counts .entry))
+        (q .reader) (q .len) (now (line .exit)) (now (fields .exit)) (now (rows .exit)) (now (counts .exit)) ⌝ }
+{
+    let mut q = s;
+    let mut i = 0;
+    while i < piece.len() {
+        q = take_byte(q, piece[i], line, fields, rows, counts);
+        i += 1;
+    }
+    q
+}
+
+// The text ends here: 11 before 1.
+pub fn finish(s: State, rows: &[u32]) -> Verdict
+    requires { ⌜ length (now rows) ≡ rowNumbers ⌝ }
+    ensures { λ v. ⌜ Finishes (s .reader) (s .len) (now (rows .entry)) v ⌝ }
+{
+    let r = s.reader;
+    if r.bad {
+        return Verdict::Bad(Refusal::Text, r.at);
+    }
+    if 0 < s.len {
+        return Verdict::Bad(Refusal::Text, r.lines);
+    }
+    if r.lines == 0 {
+        return Verdict::Bad(Refusal::Text, 0);
+    }
+    if r.full {
+        return Verdict::Bad(Refusal::Count, 0);
+    }
+    if 64 < rows[1] {
+        return Verdict::Bad(Refusal::Count, 0);
+    }
+    Verdict::Fine
+}
+
+// Reads a whole text into rows and counts. Refuses the first malformed line (11), and more records than there are rows or more than 64
+// numbered registers (1).
+pub fn read_text(text: &[u8], rows: &mut [u32], counts: &mut [u32]) -> Verdict
+    requires { ⌜ (length (now rows) ≡ rowNumbers) × (length (now counts) ≡ none) ⌝ }
+    ensures { λ v. ⌜ TextRead (now (text .entry)) v (now (rows .entry)) (now (counts .entry)) (now (rows .exit)) (now (counts .exit)) ⌝ }
+{
+    let mut line = [0; 128];
+    let mut fields = [0; 7];
+    let s = start(&mut line, rows, counts);
+    let q = feed(s, text, &mut line, &mut fields, rows, counts);
+    finish(q, rows)
+}
