@@ -1,179 +1,164 @@
-// Runs `spilled` and `moved` on small cases and prints what they answer and leave: held to the file `stdout`.
+// Runs `spilled` and `moved` on the cases of standard input and prints what they answer and leave: held to the file `stdout`.
 // Answer lists and work space have 7s at first, so that what is written past an answer, or by a refusal, shows.
-use refusals::number;
+// A case's name is that of its entry. The columns of `spilled`: V, slots, the length of the answer list; assignments. Of `moved`: points, V, the slot, the
+// lengths of the answer list and of the work space; blocks, instructions, operands, moves.
 use spills::Answer;
 
-fn text(s: &[u8]) {
-    io::write_all(1, s);
+struct Head {
+    points: u32,
+    v: u32,
+    slot: u32,
+    answer: usize,
+    work: usize,
 }
 
-fn show(list: &[u32]) {
-    let mut i = 0;
-    while i < list.len() {
-        text(b" ");
-        io::print_decimal(1, list[i] as u64);
-        i += 1;
-    }
-}
-
-fn answer(a: Answer) {
+fn given(a: Answer) {
     match a {
-        Answer::Given(n) => {
-            io::print_decimal(1, n as u64);
-        }
-        Answer::Refused(r, i) => {
-            text(b"refused ");
-            io::print_decimal(1, number(r) as u64);
-            text(b" at ");
-            io::print_decimal(1, i as u64);
-        }
+        Answer::Given(n) => cases::put(b" ", n as u64),
+        Answer::Refused(r, i) => cases::refused(r, i),
     }
-    text(b":");
+    cases::text(b":");
 }
 
-fn spilled(v: u32, slots: usize, assigned: &[u32]) {
-    let mut list = [7u32; 4];
-    text(b"spilled ");
-    answer(spills::spilled::spilled(v, slots, assigned, &mut list));
-    show(&list);
-    text(b"\n");
+fn spilled_into(v: u32, slots: usize, assigned: &[u32], answer: &mut [u32]) {
+    let a = spills::spilled::spilled(v, slots, assigned, answer);
+    given(a);
+    cases::show(answer);
+    cases::text(b"\n");
 }
 
-// The first word, the last of W for one block, one instruction and five moves, and the one past it.
-fn words(work: &[u64; 60]) {
-    text(b" |");
-    let first = work[0];
-    let last = work[55];
-    let past = work[56];
-    text(b" ");
-    io::print_decimal(1, first);
-    text(b" ");
-    io::print_decimal(1, last);
-    text(b" ");
-    io::print_decimal(1, past);
-    text(b"\n");
+fn spilled(v: u32, slots: usize, most: usize, assigned: &[u32]) {
+    let mut answer = [7u32; 16];
+    if most > 16 {
+        return;
+    }
+    spilled_into(v, slots, assigned, &mut answer[0..most]);
 }
 
-fn moved(points: u32, blocks: &[u32], insts: &[u32], moves: &[u32], slot: u32) {
-    let mut list = [7u32; 20];
-    let mut work = [7u64; 60];
-    text(b"moved ");
-    answer(spills::moved::moved(
-        points,
-        4,
+fn moved_into(
+    h: Head,
+    blocks: &[u32],
+    insts: &[u32],
+    operands: &[u32],
+    moves: &[u32],
+    answer: &mut [u32],
+    work: &mut [u64],
+) {
+    let a = spills::moved::moved(
+        h.points,
+        h.v,
         blocks,
         insts,
-        &[],
+        operands,
         moves,
-        slot,
-        &mut list,
-        &mut work,
-    ));
-    show(&list);
-    words(&work);
+        h.slot,
+        answer,
+        work,
+    );
+    given(a);
+    cases::show(answer);
+    cases::space(work);
+}
+
+fn moved(h: Head, blocks: &[u32], insts: &[u32], operands: &[u32], moves: &[u32]) {
+    let mut answer = [7u32; 64];
+    let mut work = [7u64; 512];
+    let most = h.answer;
+    let words = h.work;
+    if most > 64 {
+        return;
+    }
+    if words > 512 {
+        return;
+    }
+    moved_into(
+        h,
+        blocks,
+        insts,
+        operands,
+        moves,
+        &mut answer[0..most],
+        &mut work[0..words],
+    );
+}
+
+// Runs `spilled` on the columns that end there.
+fn assigned(n: &[u32], a: usize, b: usize) {
+    if a < 3 {
+        return;
+    }
+    if a > b {
+        return;
+    }
+    if b > n.len() {
+        return;
+    }
+    spilled(n[0], n[1] as usize, n[2] as usize, &n[a..b]);
+}
+
+// Runs `moved` on the columns that end there.
+fn moves(n: &[u32], a: usize, b: usize, c: usize, d: usize, e: usize) {
+    if a < 5 {
+        return;
+    }
+    if a > b {
+        return;
+    }
+    if b > c {
+        return;
+    }
+    if c > d {
+        return;
+    }
+    if d > e {
+        return;
+    }
+    if e > n.len() {
+        return;
+    }
+    let head = Head {
+        points: n[0],
+        v: n[1],
+        slot: n[2],
+        answer: n[3] as usize,
+        work: n[4] as usize,
+    };
+    moved(head, &n[a..b], &n[b..c], &n[c..d], &n[d..e]);
+}
+
+fn case(entry: u8, line: &[u8]) {
+    let mut n = [0u32; 256];
+    let mut e = [0usize; 5];
+    cases::read(line, &mut n, &mut e);
+    let a = e[0];
+    let b = e[1];
+    if entry == b's' {
+        assigned(&n, a, b);
+        return;
+    }
+    moves(&n, a, b, e[2], e[3], e[4]);
+}
+
+// Runs the case of a line, behind its name.
+fn line(s: &[u8]) {
+    let at = cases::find(s, 0, b' ');
+    if at < s.len() {
+        cases::text(&s[0..at]);
+        case(s[0], &s[at + 1..s.len()]);
+    }
+}
+
+fn lines(text: &[u8]) {
+    let mut i = 0;
+    while i < text.len() {
+        let end = cases::find(text, i, b'\n');
+        line(&text[i..end]);
+        i = end + 1;
+    }
 }
 
 fn main() {
-    // the last assignment that names a slot, and none
-    spilled(4, 3, &[1, 0, 2, 0, 3, 1, 0, 9]);
-    spilled(4, 3, &[2, 0, 1, 0, 2, 2]);
-    spilled(4, 0, &[1, 0]);
-    // refusals: a row cut short, a register that is not numbered, an answer too short, too many slots
-    spilled(4, 3, &[1, 0, 2]);
-    spilled(4, 3, &[1, 0, 4, 1, 9, 9]);
-    spilled(4, 5, &[1, 0]);
-    spilled(4, 5, &[4, 0]);
-    spilled(4, 2049, &[4, 0]);
-    // the four kinds; a move that goes to the slot and comes from it counts twice
-    moved(
-        20,
-        &[0, 3, 9],
-        &[1, 0, 5, 6, 0, 0, 256, 256, 0],
-        &[2, 0, 0, 9, 3, 0, 9, 0, 0, 0, 0, 0, 1, 0, 0, 8, 0, 0, 1, 1],
-        0,
-    );
-    // at the first point and at the last of all points
-    moved(
-        9,
-        &[0, 0, 9],
-        &[1, 0, 0, 9, 0, 0, 256, 256, 0],
-        &[0, 0, 3, 4, 1, 0, 3, 4, 2, 0, 4, 3, 3, 0, 4, 4, 0, 0, 4, 4],
-        3,
-    );
-    // refusals: blocks out of line, an instruction outside its block, a stray move, a kind over 3, an unplaced instruction
-    moved(
-        8,
-        &[0, 3, 9],
-        &[1, 0, 5, 6, 0, 0, 256, 256, 0],
-        &[2, 0, 0, 9],
-        0,
-    );
-    moved(
-        20,
-        &[0, 3, 9],
-        &[1, 0, 5, 10, 0, 0, 256, 256, 0],
-        &[2, 0, 0, 9],
-        0,
-    );
-    moved(
-        20,
-        &[0, 3, 9],
-        &[1, 0, 5, 6, 0, 0, 256, 256, 0],
-        &[2, 0, 0, 9, 2, 1, 0, 9],
-        0,
-    );
-    moved(
-        20,
-        &[0, 3, 9],
-        &[1, 0, 5, 6, 0, 0, 256, 256, 0],
-        &[2, 0, 0, 9, 4, 0, 0, 9],
-        0,
-    );
-    moved(
-        20,
-        &[0, 3, 9],
-        &[0, 0, 5, 6, 0, 0, 256, 256, 0],
-        &[2, 0, 0, 9, 0, 0, 0, 9],
-        0,
-    );
-    // operand counts that do not add up, an answer too short for six moves
-    moved(
-        20,
-        &[0, 3, 9],
-        &[1, 0, 5, 6, 0, 0, 256, 256, 1],
-        &[2, 0, 0, 9],
-        0,
-    );
-    moved(
-        20,
-        &[0, 3, 9],
-        &[1, 0, 5, 6, 0, 0, 256, 256, 0],
-        &[
-            2,
-            0,
-            0,
-            9,
-            2,
-            0,
-            0,
-            9,
-            2,
-            0,
-            0,
-            9,
-            2,
-            0,
-            0,
-            9,
-            2,
-            0,
-            0,
-            9,
-            2,
-            0,
-            0,
-            9,
-        ],
-        0,
-    );
+    let mut text = [0u8; 65536];
+    let n = io::read_full(0, &mut text);
+    lines(&text[0..n]);
 }
