@@ -22,6 +22,17 @@ pub mod probe {
         }).collect();
         super::fit(wants, locals, slots, budget)
     }
+    /// Of each local that is followed whether it escapes, and the registers that hold its address.
+    pub fn followed(reach: &Reach) -> Vec<Option<(bool, Vec<Reg>)>> {
+        reach.through.iter().map(|held| held.as_ref().map(|held| (held.escapes, held.regs.clone()))).collect()
+    }
+    /// The areas of locals that are all followed: whether each escapes, the registers whose live pieces are its touches, its ends.
+    pub fn areas(func: &Func, locals: Vec<(bool, Vec<Reg>, Vec<Inst>)>, live: &Live, order: &Order) -> Vec<Option<Vec<Range>>> {
+        let through = locals.into_iter().map(|(escapes, regs, ends)| Some(Carried { regs, at: Vec::new(), ends, escapes })).collect();
+        super::areas(func, &Reach { through }, live, order)
+    }
+    pub fn spilled(allocation: &Allocation, slots: usize) -> Vec<Option<Reg>> { super::spilled(allocation, slots) }
+    pub fn moved(allocation: &Allocation, slots: usize) -> Vec<Vec<Range>> { super::moved(allocation, slots) }
 }
 "#;
 

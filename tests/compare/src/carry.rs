@@ -1,0 +1,88 @@
+//! `carry_tests`: the kinds of all locals, then the registers that carry the address of each.
+use crate::cases::{list, Case, Random, Records};
+use reference::slots::{probe, reach};
+use rucc_base::Interner;
+use rucc_mir::Inst;
+use rucc_target::FrameInsts;
+
+/// One line for the kinds, one for each local and one for the local past the end.
+pub fn count(case: &Case) -> usize {
+    2 + case.columns[5].len() / 2
+}
+
+fn mentions(rows: &[u32]) -> Vec<(Inst, usize)> {
+    rows.chunks(2).map(|m| (Inst(m[0]), m[1] as usize)).collect()
+}
+
+fn space(v: u32, columns: &[Vec<u32>]) -> usize {
+    let records: usize = columns[1..].iter().zip([3, 9, 2, 1, 2, 2, 2]).map(|(column, width)| column.len() / width).sum();
+    8 * (records + v.div_ceil(64) as usize)
+}
+
+pub fn lines(case: &Case) -> Vec<Option<String>> {
+    let c = &case.columns;
+    let (v, room) = (c[0][1], c[0][2] as usize);
+    let records = Records { v, points: c[0][0], blocks: &c[1], edges: &[], insts: &c[2], operands: &c[3], crossings: &c[4] };
+    let locals = c[5].len() / 2;
+    let reached = reach(&records.func(), &mentions(&c[6]), &mentions(&c[7]), locals, &FrameInsts::default(), &mut Interner);
+    let followed = probe::followed(&reached);
+    let words = space(v, c);
+
+    let kinds: Vec<u32> = followed.iter().map(|held| held.as_ref().map_or(0, |held| 1 + u32::from(held.0))).collect();
+    let mut lines = vec![(locals <= room).then(|| format!("{} reach {locals}:{} | {words}", case.name, list(&kinds, room)))];
+    for (local, held) in followed.iter().enumerate() {
+        // of a local that is not followed slots.rs keeps no registers
+        lines.push(held.as_ref().map(|(_, registers)| {
+            let mut numbers: Vec<u32> = registers.iter().map(|r| r.number().unwrap()).collect();
+            numbers.sort_unstable();
+            numbers.dedup();
+            format!(" carried({local}) {}:{} | {words}", numbers.len(), list(&numbers, room))
+        }));
+    }
+    lines.push(Some(format!(" carried({locals}) absent:{} | {words}", list(&[], room))));
+    lines
+}
+
+/// An instruction: two in five a `lea` with its one def, one in five a load, the others anything.
+fn inst(r: &mut Random, v: u32, blocks: &[u32], insts: &mut Vec<u32>, operands: &mut Vec<u32>) {
+    let register = |r: &mut Random| if r.one_in(12) { v + r.below(256) } else { v - 1 - r.below(v.min(5)) };
+    let position = |r: &mut Random| if r.one_in(4) { 256 } else { r.below(4) };
+    let (own, [lea, mem, base, index]) = match r.below(5) {
+        0 | 1 => (vec![1, register(r), 0, register(r)], [1, 1, 1, 256]),
+        2 => (vec![0, register(r)], [0, 1, 0, 256]),
+        _ => {
+            let own = (0..r.below(4)).flat_map(|_| [u32::from(r.one_in(3)), register(r)]).collect();
+            (own, [r.below(2), u32::from(!r.one_in(4)), position(r), position(r)])
+        }
+    };
+    let placed = u32::from(!r.one_in(6));
+    let (block, early, late) = r.spot(blocks);
+    insts.extend([placed, block, early, late, lea, mem, base, index, own.len() as u32 / 2]);
+    operands.extend(own);
+}
+
+/// Up to 5 locals in up to 11 instructions: small enough that every rule is met often.
+pub fn random(r: &mut Random) -> String {
+    let v = if r.one_in(8) { 60 + r.below(10) } else { 1 + r.below(5) };
+    let (blocks, points) = r.line(3);
+    let (mut insts, mut operands) = (Vec::new(), Vec::new());
+    for _ in 0..r.below(12) {
+        inst(r, v, &blocks, &mut insts, &mut operands);
+    }
+    let crossings = (0..r.below(6).saturating_sub(3)).map(|_| r.below(v + 2)).collect();
+    let locals = r.below(6);
+    let rows: Vec<u32> = (0..insts.len() as u32 / 9).collect();
+    let field = |i: &u32, k: usize| insts[9 * *i as usize + k];
+    let placed: Vec<u32> = rows.iter().copied().filter(|i| field(i, 0) == 1).collect();
+    let leas: Vec<u32> = placed.iter().copied().filter(|i| field(i, 4) == 1).collect();
+    let some = |r: &mut Random, among: &[u32], most: u32| -> Vec<u32> {
+        let count = if among.is_empty() { 0 } else { r.below(most) };
+        (0..count).flat_map(|_| [among[r.below(among.len() as u32) as usize], r.below(locals + 1)]).collect()
+    };
+    let among = if r.one_in(3) { &placed } else { &leas };
+    let addresses = some(r, among, 8);
+    let ends = some(r, &rows, 8);
+    let mut columns = vec![Vec::new(), blocks, insts, operands, crossings, vec![8; 2 * locals as usize], addresses, ends];
+    columns[0] = vec![points, v, 12, space(v, &columns) as u32 + 1];
+    Case::write("random", &columns)
+}
