@@ -107,7 +107,7 @@ pub fn join_on(
 }
 
 // Whether a point is the next after an end; after the largest point there is none.
-fn follows(end: u32, start: u32) -> bool
+pub fn follows(end: u32, start: u32) -> bool
     ensures { λ r. ⌜ r ≡ eqb start (end + 1) ⌝ }
 {
     end < start && start - end == 1
