@@ -93,6 +93,31 @@ fn time_spread(name: &str, g: &Graph, leaves: &[u64], passes: &[u64]) {
     row("  with the edges' lists lent", &mut || timed(|| probe::spread(&g.behind, &one, &two, WORDS)), &mut component);
 }
 
+/// All that an area asks of the graph in one run: `flowed` both ways and `spread`, from the records.
+fn time_all(name: &str, g: &Graph, touched: &[u64], passes: &[u64]) {
+    let (one, two) = (parted(touched), parted(passes));
+    let mut out = vec![0u64; BLOCKS * WORDS];
+    let mut work = vec![0u64; 8 * (BLOCKS + g.edges.len() / 2 + 2 * BLOCKS * WORDS)];
+    let points = 2 * BLOCKS as u32;
+    row(
+        &format!("flowed both ways, spread, {name}"),
+        &mut || {
+            timed(|| {
+                let (behind, ahead) = (listed(&g.blocks, &g.edges, 0), listed(&g.blocks, &g.edges, 1));
+                (probe::flowed(&behind, &one, WORDS), probe::flowed(&ahead, &one, WORDS), probe::spread(&behind, &one, &two, WORDS))
+            })
+        },
+        &mut || {
+            timed(|| {
+                let a = entries::flowed(0, &g.blocks, &g.edges, points, touched, WORDS, &mut out, &mut work);
+                let b = entries::flowed(1, &g.blocks, &g.edges, points, touched, WORDS, &mut out, &mut work);
+                let c = entries::spread(&g.blocks, &g.edges, points, touched, passes, WORDS, &mut out, &mut work);
+                (a, b, c)
+            })
+        },
+    );
+}
+
 pub fn run() {
     let mut r = Random(0x9e37_79b9_7f4a_7c15);
     let any = |r: &mut Random| (0..EDGES).map(|_| (r.below(BLOCKS as u64) as usize, r.below(BLOCKS as u64) as usize)).collect::<Vec<_>>();
@@ -112,6 +137,7 @@ pub fn run() {
         let g = graph(edges);
         let touched = rows(&mut r, 2048);
         let passes = rows(&mut r, 2).iter().zip(rows(&mut r, 8)).map(|(a, b)| a | b).collect::<Vec<_>>();
+        time_all(name, &g, &touched, &passes);
         time_flowed(name, &g, &touched);
         time_spread(name, &g, &touched, &passes);
         let open = vec![!0u64; BLOCKS * WORDS];

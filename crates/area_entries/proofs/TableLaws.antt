@@ -17,9 +17,10 @@ use Rattle.words.proofs.RegionLaws.{length-part, getD-part}
 use Rattle.words.proofs.FlatLaws.{flat-length}
 use Rattle.ranges.specs.declared.Range.{Range}
 use Rattle.ranges.specs.Forms.{unpack, unpacked}
+use Rattle.carrying.specs.Lists.{gather}
 use Rattle.areas.specs.Job.{rangesIn, rangesOf}
 use Rattle.area_measure.specs.Measure.{itemWord}
-use Rattle.area_measure.specs.Locals.{Listed}
+use Rattle.area_measure.specs.Locals.{listed, Listed}
 use Rattle.area_measure.proofs.ListLaws.{ranges-append, ranges-more}
 use Rattle.area_entries.specs.declared.Answer.the-variants.{Given, Refused}
 use Rattle.area_entries.specs.Entry.{listVerdict, areaRows, itemRows, AnsweredBy}
@@ -38,8 +39,15 @@ packed-rows w n h =
     ∙ ap flat (tabulate-eq n (λ i. rangeRow (unpack (getD (part 0 n w) i 0))) (λ i. halves (getD w (0 + i) 0 - 0))
     (λ i q. let e : getD w (0 + i) 0 - 0 ≡ getD w (0 + i) 0 = omega arith in ap halves (getD-part 0 n w i q ∙ sym e)))
 
+-- all areas, one behind another from 0 on, as rows
+pub rows-areas : (n : ℕ) (A : ℕ → Option (List Range)) (w : List ℕ) (total : ℕ) → total ≤ length w → unpacked (part 0 total w) ≡ gather listed (tabulate n A) → rowsIn w 0 total 0 ≡ areaRows n A
+rows-areas n A w total h e = sym (packed-rows w total h) ∙ ap (λ (m : List Range). flat (map rangeRow m)) e
+
+pub rows-long : (w : List ℕ) (from n less : ℕ) → length (rowsIn w from n less) ≡ 2 * n
+rows-long w from n less = flat-length 2 n (λ i. halves (getD w (from + i) 0 - less)) (λ i h. refl)
+
 -- the ranges of one item are some of all
-ranges-below : (A : ℕ → Option (List Range)) (i n : ℕ) → i < n → rangesOf (tabulate i A) + rangesIn (A i) ≤ rangesOf (tabulate n A)
+pub ranges-below : (A : ℕ → Option (List Range)) (i n : ℕ) → i < n → rangesOf (tabulate i A) + rangesIn (A i) ≤ rangesOf (tabulate n A)
 ranges-below A i n h =
     let e : n ≡ i + 1 + (n - (i + 1)) = omega arith in
     let a : rangesOf (tabulate n A) ≡ rangesOf (tabulate (i + 1 + (n - (i + 1))) A) = ap (λ (k : ℕ). rangesOf (tabulate k A)) e in
@@ -71,10 +79,10 @@ module _ (A : ℕ → Option (List Range)) (locals room n : ℕ) (w : List ℕ) 
     list-fine = ap (check ListWord) (le-ltb room (rangesOf (tabulate locals A)) (omega (arith, D .total-is)))
 
     areas-are : rowsIn w 0 n 0 ≡ areaRows locals A
-    areas-are = sym (packed-rows w n (omega arith)) ∙ ap (λ (m : List Range). flat (map rangeRow m)) (D .areas fits)
+    areas-are = rows-areas locals A w n (omega arith) (D .areas fits)
 
     areas-long : length (areaRows locals A) ≡ 2 * n
-    areas-long = ap length (sym areas-are) ∙ flat-length 2 n (λ i. halves (getD w (0 + i) 0 - 0)) (λ i h. refl)
+    areas-long = ap length (sym areas-are) ∙ rows-long w 0 n 0
 
     items-are : rowsIn w room locals 1 ≡ itemRows locals A
     items-are = ap flat (tabulate-eq locals (λ i. halves (getD w (room + i) 0 - 1)) (λ i. rangesOf (tabulate i A) ∷ rangesIn (A i) ∷ [])

@@ -17,7 +17,7 @@ use solve::Found;
 pub mod layout; // layout.rt: where the regions stand in the work space
 mod checks; // checks.rt: refusals 1, 2, 3 and 7
 mod solve; // solve.rt: the areas in the work space
-mod tables; // tables.rt: from the work space into the answer lists
+pub mod tables; // tables.rt: from the work space into the answer lists
 
 // How many ranges all areas have, or a refusal with the index of the first offending record.
 pub enum Answer {

@@ -1,0 +1,80 @@
+-- From the areas in the work space to what the entry leaves.
+use Prim.Native.Nat.{ℕ, _+_, _*_, _/_, _≤_}
+use native.Mathlib.Omega.{arith}
+use mathlib.Core.Path.{_≡_, refl, sym, ap, subst, _∙_}
+use mathlib.Core.Option.{Option}
+use mathlib.Core.List.{List, _++_}
+use lib.ListN.{length, drop, replicate, length-replicate}
+use Rattle.refusals.specs.declared.Verdict.{Verdict}
+use Rattle.refusals.specs.declared.Verdict.the-variants.{Fine, Bad}
+use Rattle.refusals.specs.declared.Refusal.{Refusal}
+use Rattle.refusals.specs.Verdicts.{first}
+use Rattle.refusals.proofs.Laws.{first-fine, first-bad}
+use Rattle.words.specs.Regions.{cleared}
+use Rattle.graph.specs.Work.{Within}
+use Rattle.components.proofs.Entries.{cleared-same}
+use Rattle.words.specs.Rows.{rowCount}
+use Rattle.words.proofs.RowLaws.{length-records}
+use Rattle.ranges.specs.declared.Range.{Range}
+use Rattle.areas.specs.Job.{itemCount, itemArea, listVerdict}
+use Rattle.area_entries.specs.Entry.{listVerdict as listVerdictOf}
+use Rattle.area_measure.specs.Locals.{wordOf, ListedBy}
+use Rattle.job_checks.specs.declared.Sizes.{Sizes}
+use Rattle.job_checks.specs.Job.{jobOf, sizesOf, spaceOf}
+use Rattle.job_areas.specs.Areas.{listing, Lent, Solved}
+use Rattle.item_areas.specs.declared.Answer.{Answer}
+use Rattle.item_areas.specs.declared.Answer.the-variants.{Refused}
+use Rattle.item_areas.specs.Entry.{lentVerdict, AnsweredBy, ItemAreas}
+use Rattle.item_areas.specs.Inner.{Held}
+
+module _ (points v : ℕ) (blocks edges insts operands crossings locals slots addresses ends pieces assigned moves areas items work : List ℕ) where
+  abbrev lentV : Verdict
+  lentV = lentVerdict points v blocks edges insts operands crossings locals slots addresses ends pieces assigned moves (length areas) (length items) (length work)
+
+  abbrev space : ℕ
+  space = spaceOf (sizesOf v blocks edges insts operands crossings locals slots addresses ends pieces assigned moves (length areas))
+
+  pub refused-entry : (r : Refusal) (i : ℕ) → lentV ≡ Bad r i → ItemAreas points v blocks edges insts operands crossings locals slots addresses ends pieces assigned moves areas items work (Refused r i) areas items work
+  refused-entry r i e = record {
+    lists = rw (first-bad lentV (listVerdict (jobOf points v blocks edges insts operands crossings locals slots addresses ends pieces assigned moves) (length areas / 2)) r i e) (record { answer = refl; in-areas = refl; in-items = refl });
+    in-work = rw e refl;
+  }
+
+  -- the counts are those of the items
+  many : (z : Sizes) → z ≡ sizesOf v blocks edges insts operands crossings locals slots addresses ends pieces assigned moves (length areas) → z .locals + z .slots ≡ itemCount (jobOf points v blocks edges insts operands crossings locals slots addresses ends pieces assigned moves)
+  many z e = ap (λ (y : Sizes). y .locals + y .slots) e ∙ ap (λ (k : ℕ). k + length slots) (sym (length-records 2 (λ f. record { size = f 0; align = f 1 }) locals))
+
+  pub answered-entry : lentV ≡ Fine → {r : Answer} {areas′ items′ w work′ : List ℕ}
+      → AnsweredBy (listVerdict (jobOf points v blocks edges insts operands crossings locals slots addresses ends pieces assigned moves) (length areas / 2)) (itemCount (jobOf points v blocks edges insts operands crossings locals slots addresses ends pieces assigned moves)) (itemArea (jobOf points v blocks edges insts operands crossings locals slots addresses ends pieces assigned moves)) areas items r areas′ items′
+      → Within 0 space work w → {n : ℕ} → n ≡ space → work′ ≡ cleared n w → ItemAreas points v blocks edges insts operands crossings locals slots addresses ends pieces assigned moves areas items work r areas′ items′ work′
+  answered-entry e {r} {areas′} {items′} {w} {work′} B K {n} en Z = record {
+    lists = rw (first-fine lentV (listVerdict (jobOf points v blocks edges insts operands crossings locals slots addresses ends pieces assigned moves) (length areas / 2)) e) B;
+    in-work = rw e (Z ∙ ap (λ (k : ℕ). cleared k w) en ∙ cleared-same space work w K
+        ∙ ap (λ (k : ℕ). replicate space 0 ++ drop k work) (sym (length-replicate space 0)));
+  }
+
+module _ (points v : ℕ) (blocks edges insts operands crossings locals slots addresses ends pieces assigned moves areas items : List ℕ) where
+  -- what listing asks
+  pub list-asked : {w₀ w : List ℕ} {n : ℕ} → Lent points v blocks edges insts operands crossings locals slots addresses ends pieces assigned moves (length areas) w₀
+      → 3 * (sizesOf v blocks edges insts operands crossings locals slots addresses ends pieces assigned moves (length areas) .locals + sizesOf v blocks edges insts operands crossings locals slots addresses ends pieces assigned moves (length areas) .slots) ≤ length items
+      → (z : Sizes) → z ≡ sizesOf v blocks edges insts operands crossings locals slots addresses ends pieces assigned moves (length areas) → Solved points v blocks edges insts operands crossings locals slots addresses ends pieces assigned moves (length areas) w₀ w n
+      → Held (z .locals + z .slots) (length areas / 2) n w × (3 * (z .locals + z .slots) ≤ length items) × (length areas / 2 ≤ 65536) × (length areas / 2 + (z .locals + z .slots) ≤ length w)
+  list-asked {w₀} {w} {n} N many-items z e S =
+      let c = many points v blocks edges insts operands crossings locals slots addresses ends pieces assigned moves areas items w₀ z e in
+      let y : z .locals + z .slots ≡ rowCount 2 locals + length slots = ap (λ (x : Sizes). x .locals + x .slots) e in (
+        record { area = itemArea (jobOf points v blocks edges insts operands crossings locals slots addresses ends pieces assigned moves); found = subst (λ (k : ℕ). ListedBy wordOf (listing (length areas / 2) (length areas / 2)) (itemArea (jobOf points v blocks edges insts operands crossings locals slots addresses ends pieces assigned moves)) k n w) (sym c) (S .listed) },
+        omega (arith, many-items, y),
+        N .passed .small .few-ranges,
+        omega (arith, N .space, S .kept .len, y),
+      )
+
+  -- what was listed is the job's
+  pub listed-all : {w₀ w : List ℕ} {n : ℕ} (z : Sizes) → z ≡ sizesOf v blocks edges insts operands crossings locals slots addresses ends pieces assigned moves (length areas) → Solved points v blocks edges insts operands crossings locals slots addresses ends pieces assigned moves (length areas) w₀ w n
+      → {r : Answer} {areas′ items′ : List ℕ}
+      → ((A : ℕ → Option (List Range)) → ListedBy wordOf (listing (length areas / 2) (length areas / 2)) A (z .locals + z .slots) n w
+      → AnsweredBy (listVerdictOf (z .locals + z .slots) A (length areas / 2)) (z .locals + z .slots) A areas items r areas′ items′)
+      → AnsweredBy (listVerdict (jobOf points v blocks edges insts operands crossings locals slots addresses ends pieces assigned moves) (length areas / 2)) (itemCount (jobOf points v blocks edges insts operands crossings locals slots addresses ends pieces assigned moves)) (itemArea (jobOf points v blocks edges insts operands crossings locals slots addresses ends pieces assigned moves)) areas items r areas′ items′
+  listed-all {w₀} {w} {n} z e S {r} {areas′} {items′} B =
+      let c = many points v blocks edges insts operands crossings locals slots addresses ends pieces assigned moves areas items w₀ z e in
+      subst (λ (k : ℕ). AnsweredBy (listVerdictOf k (itemArea (jobOf points v blocks edges insts operands crossings locals slots addresses ends pieces assigned moves)) (length areas / 2)) k (itemArea (jobOf points v blocks edges insts operands crossings locals slots addresses ends pieces assigned moves)) areas items r areas′ items′) c
+      (B (itemArea (jobOf points v blocks edges insts operands crossings locals slots addresses ends pieces assigned moves)) (subst (λ (k : ℕ). ListedBy wordOf (listing (length areas / 2) (length areas / 2)) (itemArea (jobOf points v blocks edges insts operands crossings locals slots addresses ends pieces assigned moves)) k n w) (sym c) (S .listed)))

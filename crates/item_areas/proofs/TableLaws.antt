@@ -1,0 +1,96 @@
+-- The answer lists' rows, by the words of the areas and of the items.
+use Prim.Native.Nat.{ℕ, _+_, _-_, _*_, _/_, _%_, _^_, _≤_, _<_}
+use native.Mathlib.Omega.{arith}
+use native.Mathlib.Nat.{add-zero}
+use mathlib.Core.Path.{_≡_, refl, sym, ap, _∙_}
+use mathlib.Core.Bool.{Bool, false, cond}
+use mathlib.Core.Option.{Option, some, none}
+use mathlib.Core.List.{List, [], _∷_, _++_, map}
+use lib.ListN.{length, getD, drop, set}
+use lib.Dec.{eqb}
+use borrow.Author.Tests.{lt-ltb, le-ltb, eq-eqb, ne-eqb}
+use Rattle.refusals.specs.declared.Verdict.the-variants.{Fine, Bad}
+use Rattle.refusals.specs.declared.Refusal.the-variants.{List as ListWord}
+use Rattle.refusals.specs.Verdicts.{check}
+use Rattle.refusals.specs.Outcomes.{given}
+use Rattle.words.specs.Rows.{tabulate, flat}
+use Rattle.words.specs.Regions.{part}
+use Rattle.words.proofs.RowLaws.{tabulate-eq}
+use Rattle.words.proofs.FlatLaws.{flat-length, flat-at}
+use Rattle.words.proofs.PasteLaws.{Filling, fill-more}
+use Rattle.ranges.specs.declared.Range.{Range}
+use Rattle.areas.specs.Job.{rangesIn, rangesOf}
+use Rattle.area_measure.specs.Locals.{wordOf, ListedBy}
+use Rattle.area_entries.specs.Entry.{listVerdict, areaRows}
+use Rattle.area_entries.specs.Inner.{rowsIn}
+use Rattle.area_entries.proofs.TableLaws.{ranges-below, rows-areas, rows-long}
+use Rattle.job_areas.specs.Areas.{listing}
+use Rattle.item_areas.specs.declared.Answer.the-variants.{Given, Refused}
+use Rattle.item_areas.specs.Entry.{itemRow, itemRows, AnsweredBy}
+use Rattle.item_areas.specs.Inner.{itemOf, rowOf, rowsOf}
+
+-- three numbers more of the rows
+pub three-more : (n : ℕ) (row : ℕ → List ℕ) (d s : List ℕ) (i : ℕ) → i < n → ((j : ℕ) → j < n → length (row j) ≡ 3) → Filling d 0 (flat (tabulate n row)) (3 * n) s (3 * i)
+    → (a b c : ℕ) → row i ≡ a ∷ b ∷ c ∷ [] → Filling d 0 (flat (tabulate n row)) (3 * n) (set (set (set s (3 * i) a) (3 * i + 1) b) (3 * i + 2) c) (3 * (i + 1))
+three-more n row d s i h long F a b c e =
+    let x : 3 * i + 1 + 1 ≡ 3 * i + 2 = omega arith in
+    let y : 3 * i + 2 + 1 ≡ 3 * (i + 1) = omega arith in
+    let f₁ = fill-more F (3 * i) a (omega arith) (omega arith) (at 0 a (omega arith) (ap (λ (l : List ℕ). getD l 0 0) e) ∙ ap (λ (k : ℕ). getD (flat (tabulate n row)) k 0) (add-zero (3 * i))) in
+    let f₂ = fill-more f₁ (3 * i + 1) b (omega arith) (omega arith) (at 1 b (omega arith) (ap (λ (l : List ℕ). getD l 1 0) e)) in
+    let f₃ = fill-more (rw x at f₂) (3 * i + 2) c (omega arith) (omega arith) (at 2 c (omega arith) (ap (λ (l : List ℕ). getD l 2 0) e)) in
+    rw y at f₃
+  where
+    at : (f v : ℕ) → f < 3 → getD (row i) f 0 ≡ v → v ≡ getD (flat (tabulate n row)) (3 * i + f) 0
+    at f v q g = sym (flat-at 3 n row long i f h q ∙ g)
+
+-- an item, by its word
+pub item-none : (x : ℕ) → x ≡ 0 → record { present = 0; first = 0; count = 0 } ≡ itemOf x
+item-none x e = rw e
+
+pub item-some : (x f c : ℕ) → 0 < x → f ≡ (x - 1) / 2 ^ 32 → c ≡ (x - 1) % 2 ^ 32 → record { present = 1; first = f; count = c } ≡ itemOf x
+item-some x f c h e g = let z : eqb x 0 ≡ false = ne-eqb x 0 (λ y. absurd (omega arith)) in rw (z, e, g)
+
+-- an item's row, by its word
+word-row : (x first : ℕ) (a : Option (List Range)) → x ≡ wordOf first a → rangesIn a < 2 ^ 32 → rowOf x ≡ itemRow first a
+word-row x first none e h = rw (e)
+word-row x first (some rs) e h =
+    let p : (x - 1) / 2 ^ 32 ≡ first = omega arith in
+    let q : (x - 1) % 2 ^ 32 ≡ length rs = omega arith in
+    let z : eqb x 0 ≡ false = ne-eqb x 0 (λ y. absurd (omega arith)) in
+    rw (z, p, q) refl
+
+row-long : (first : ℕ) (a : Option (List Range)) → length (itemRow first a) ≡ 3
+row-long first none = refl
+row-long first (some rs) = refl
+
+module _ (A : ℕ → Option (List Range)) (count room n : ℕ) (w : List ℕ) (D : ListedBy wordOf (listing room room) A count n w) where
+  list-full : room < n → listVerdict count A room ≡ Bad ListWord 0
+  list-full h = ap (check ListWord) (lt-ltb room (rangesOf (tabulate count A)) (omega (arith, D .total-is)))
+
+  pub refused-list : room < n → (areas items : List ℕ) → AnsweredBy (listVerdict count A room) count A areas items (Refused ListWord 0) areas items
+  refused-list h areas items = rw (list-full h) (record { answer = refl; in-areas = refl; in-items = refl })
+
+  module _ (fits : n ≤ room) (few : room ≤ 65536) (in-work : room + count ≤ length w) where
+    list-fine : listVerdict count A room ≡ Fine
+    list-fine = ap (check ListWord) (le-ltb room (rangesOf (tabulate count A)) (omega (arith, D .total-is)))
+
+    areas-are : rowsIn w 0 n 0 ≡ areaRows count A
+    areas-are = rows-areas count A w n (omega arith) (D .areas fits)
+
+    areas-long : length (areaRows count A) ≡ 2 * n
+    areas-long = ap length (sym areas-are) ∙ rows-long w 0 n 0
+
+    items-are : rowsOf w room count ≡ itemRows count A
+    items-are = ap flat (tabulate-eq count (λ i. rowOf (getD w (room + i) 0)) (λ i. itemRow (rangesOf (tabulate i A)) (A i))
+        (λ i h. word-row (getD w (room + i) 0) (rangesOf (tabulate i A)) (A i) (D .items i h) (omega (arith, ranges-below A i count h, D .total-is))))
+
+    items-long : length (itemRows count A) ≡ 3 * count
+    items-long = flat-length 3 count (λ i. itemRow (rangesOf (tabulate i A)) (A i)) (λ i h. row-long (rangesOf (tabulate i A)) (A i))
+
+    pub given-list : (areas items areas′ items′ : List ℕ) → areas′ ≡ rowsIn w 0 n 0 ++ drop (2 * n) areas → items′ ≡ rowsOf w room count ++ drop (3 * count) items
+        → AnsweredBy (listVerdict count A room) count A areas items (Given n) areas′ items′
+    given-list areas items areas′ items′ a b = rw list-fine (record {
+      answer = ap (λ (k : ℕ). given k) (D .total-is);
+      in-areas = a ∙ ap (λ (l : List ℕ). l ++ drop (2 * n) areas) areas-are ∙ ap (λ (k : ℕ). areaRows count A ++ drop k areas) (sym areas-long);
+      in-items = b ∙ ap (λ (l : List ℕ). l ++ drop (3 * count) items) items-are ∙ ap (λ (k : ℕ). itemRows count A ++ drop k items) (sym items-long);
+    })

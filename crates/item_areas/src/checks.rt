@@ -1,0 +1,86 @@
+// The refusals that come before the areas are measured: numbers 1 to 7, in linear time and without work space.
+ghost use mathlib.Core.Path.{_≡_};
+ghost use Rattle.job_checks.specs.Job.{Small};
+ghost use Rattle.item_areas.specs.Entry.{spaceVerdict, lentVerdict};
+use job_checks::Sizes;
+use refusals::Refusal;
+use refusals::Verdict;
+
+// Refusal 7: work space under W, or an item list under the items.
+fn short(z: Sizes, items: usize, work: usize) -> Verdict
+    requires { ⌜ Small z ⌝ }
+    ensures { λ r. ⌜ r ≡ spaceVerdict z items work ⌝ }
+{
+    if work < job_checks::space::needed(z) {
+        return Verdict::Bad(Refusal::Space, 0);
+    }
+    if items / 3 < z.locals + z.slots {
+        return Verdict::Bad(Refusal::Space, 0);
+    }
+    Verdict::Fine
+}
+
+// Of the entry, by the lent records and the lengths of the answer lists and the work space.
+pub fn refusal(
+    points: u32,
+    v: u32,
+    blocks: &[u32],
+    edges: &[u32],
+    insts: &[u32],
+    operands: &[u32],
+    crossings: &[u32],
+    locals: &[u32],
+    slots: &[u32],
+    addresses: &[u32],
+    ends: &[u32],
+    pieces: &[u32],
+    assigned: &[u32],
+    moves: &[u32],
+    areas: usize,
+    items: usize,
+    work: usize,
+) -> Verdict
+    ensures { λ r. ⌜ r ≡ lentVerdict points v (now (blocks .entry)) (now (edges .entry)) (now (insts .entry)) (now (operands .entry)) (now (crossings .entry)) (now (locals .entry)) (now (slots .entry)) (now (addresses .entry)) (now (ends .entry)) (now (pieces .entry)) (now (assigned .entry)) (now (moves .entry)) areas items work ⌝ }
+{
+    let whole = insts::counts::rows(items, 3, items);
+    if let Verdict::Bad(r, i) = whole {
+        return Verdict::Bad(r, i);
+    }
+    let lent = job_checks::checks::records(
+        points,
+        v,
+        blocks,
+        edges,
+        insts,
+        operands,
+        crossings,
+        locals,
+        slots,
+        addresses,
+        ends,
+        pieces,
+        assigned,
+        moves,
+        areas,
+    );
+    if let Verdict::Bad(r, i) = lent {
+        return Verdict::Bad(r, i);
+    }
+    let z = job_checks::space::sizes(
+        v,
+        blocks,
+        edges,
+        insts,
+        operands,
+        crossings,
+        locals,
+        slots,
+        addresses,
+        ends,
+        pieces,
+        assigned,
+        moves,
+        areas,
+    );
+    short(z, items, work)
+}
