@@ -1,0 +1,4 @@
+pub mod LineLaws
+pub mod ShareLaws
+pub mod PlanLaws
+pub mod Stars

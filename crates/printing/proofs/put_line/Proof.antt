@@ -1,0 +1,77 @@
+-- `put_line` meets its contract: a field more is written each turn.
+use native.Mathlib.Omega.{arith}
+use borrow.Author.Needs.{needs}
+use denote.Ref.{now}
+use Prim.Native.Nat.{_-_, _≤_}
+use mathlib.Core.Path.{_∙_}
+use lib.ListN.{length, take}
+use Rattle.printing.proofs.PutLaws.{puts-length, fields-start, fields-more, fields-near, line-put}
+use Rattle.printing.specs.Puts.{Puts}
+use Rattle.printing.specs.Lines.{fieldsText}
+use Rattle.printing.proofs.put_line.Statement.{statement}
+use Rattle.printing.proofs.put_line.Tie as tie
+
+abbrev Inv-loop : tie.InvT-loop
+Inv-loop out₀ at letter ns next₀ i₀ t8 out next i = (i ≤ length ns) × Puts (fieldsText (take i ns)) out₀ next₀ out next
+
+abbrev μ-loop : tie.MeasureT-loop
+μ-loop out₀ at letter ns next₀ i₀ t8 out next i = length ns - i
+
+slice-aggregate-put : tie.Need-slice-aggregate-put Inv-loop μ-loop
+slice-aggregate-put c = search needs
+
+put-requires : tie.Need-put-requires Inv-loop μ-loop
+put-requires c κs = let h = (c .before .before .before .before .pre) .0 in omega arith
+
+loop-holds : tie.Need-loop-holds Inv-loop μ-loop
+loop-holds c = (omega arith, fields-start (now ((c .before .before .before .before .before .before .before .args) .ns)) _ _)
+
+mul-put-field : tie.Need-mul-put-field Inv-loop μ-loop
+mul-put-field c = omega arith
+
+shared-slice-read-put-field : tie.Need-shared-slice-read-put-field Inv-loop μ-loop
+shared-slice-read-put-field c = omega arith
+
+put-field-requires : tie.Need-put-field-requires Inv-loop μ-loop
+put-field-requires c κs = let g = fields-near (now ((c .before .before .before .before .before .before .before .before .before .before .before .args) .ns)) ((c .before .before .before .loop) .i) ((c .before .before .before .loop) .inv .1) ((c .before .before .before .before .before .before .before .before .before .before .before .pre) .1) in let p = (c .before .before .before .before .before .before .put) .ensures .place in let h = (c .before .before .before .before .before .before .before .before .before .before .before .pre) .0 in omega arith
+
+add-i : tie.Need-add-i Inv-loop μ-loop
+add-i c = omega arith
+
+loop-less : tie.Need-loop-less Inv-loop μ-loop
+loop-less c = omega arith
+
+loop-again : tie.Need-loop-again Inv-loop μ-loop
+loop-again c = (omega arith, fields-more (now ((c .before .before .before .before .before .before .before .before .before .before .before .before .before .before .args) .ns)) ((c .before .before .before .before .before .before .loop) .i) ((c .before .before .before .before .before .before .loop) .inv .1) (omega arith) ((c .before .before .put-field) .ensures))
+
+slice-aggregate-put-2 : tie.Need-slice-aggregate-put-2 Inv-loop μ-loop
+slice-aggregate-put-2 c = search needs
+
+put-requires-2 : tie.Need-put-requires-2 Inv-loop μ-loop
+put-requires-2 c κs = let g = fields-near (now ((c .before .before .before .before .before .before .before .before .before .before .before .args) .ns)) ((c .before .before .before .loop) .i) ((c .before .before .before .loop) .inv .1) ((c .before .before .before .before .before .before .before .before .before .before .before .pre) .1) in let p = (c .before .before .before .before .before .before .put) .ensures .place in let h = (c .before .before .before .before .before .before .before .before .before .before .before .pre) .0 in omega arith
+
+same-length : tie.Need-same-length Inv-loop μ-loop
+same-length c = puts-length ((c .before .before .put2) .ensures) ∙ puts-length ((c .before .before .before .before .before .before .loop) .inv .1) ∙ puts-length ((c .before .before .before .before .before .before .before .before .before .put) .ensures)
+
+returns : tie.Need-returns Inv-loop μ-loop
+returns c = line-put (now ((c .before .before .before .before .before .before .before .before .before .before .before .before .before .before .args) .ns)) ((c .before .before .before .before .before .before .loop) .i) ((c .before .before .before .before .before .before .loop) .inv .1) (omega arith) ((c .before .before .before .before .before .before .before .before .before .put) .ensures) ((c .before .before .put2) .ensures)
+
+pub put-line-spec : {M : Type 1} → statement M
+put-line-spec =
+    tie.close
+    (tie.spec
+    Inv-loop
+    μ-loop
+    slice-aggregate-put
+    put-requires
+    loop-holds
+    mul-put-field
+    shared-slice-read-put-field
+    put-field-requires
+    add-i
+    loop-less
+    loop-again
+    slice-aggregate-put-2
+    put-requires-2
+    same-length
+    returns)
