@@ -152,7 +152,8 @@ fn escapes(
     ensures { λ _. ⌜ Marked (now (work .entry)) (now (work .exit)) row v (strayReader (rowOf (now (insts .entry)) (now (operands .entry)) i from)) ⌝ }
 {
     let at = 9 * i;
-    if insts[at] != 1 {
+    let placed = insts[at];
+    if placed != 1 {
         return;
     }
     let n = wide(insts[at + 8]);

@@ -1,28 +1,25 @@
 -- `reach::scan::escapes` meets its contract: only a placed instruction reads.
 use native.Mathlib.Omega.{arith}
-use Prim.Native.Nat.{ℕ, suc, _+_, _-_, _*_, _≤_, _<_}
-use mathlib.Core.Path.{_≡_, refl, sym, ap, _∙_}
-use lib.ListN.{length, take, drop, getD, set, length-set}
+use Prim.Native.Nat.{ℕ}
+use mathlib.Core.Path.{ap, _∙_}
 use Rattle.words.specs.Rows.{field}
 use Rattle.insts.specs.Rows.{operandsFrom}
-use Rattle.carrying.specs.Insts.{defOf}
-use Rattle.reach.specs.Scan.{escapesIn, handsIn, rowOf, strayReader}
-use Rattle.reach.proofs.ScanLaws.{unplaced-stray, placed-stray, unplaced-lea, other-lea, no-memory, placed-lea, marked-none, marked-same, none-number, some-number, hand-none, hand-stuck, hand-linked, added, scan-start, scan-more}
-use Prim.Native.Nat.{_/_}
+use Rattle.reach.specs.Scan.{escapesIn}
+use Rattle.reach.proofs.ScanLaws.{unplaced-stray, placed-stray, marked-none, marked-same}
 use Rattle.reach.proofs.scan.escapes.Statement.{statement}
 use Rattle.reach.proofs.scan.escapes.Tie as tie
 
 mul-at : tie.Need-mul-at
 mul-at c = omega arith
 
-mul-if1 : tie.Need-mul-if1
-mul-if1 c = omega arith
+mul-placed : tie.Need-mul-placed
+mul-placed c = omega arith
 
-shared-slice-read-if1 : tie.Need-shared-slice-read-if1
-shared-slice-read-if1 c = omega arith
+shared-slice-read-placed : tie.Need-shared-slice-read-placed
+shared-slice-read-placed c = omega arith
 
 returns : tie.Need-returns
-returns c = marked-none _ _ _ _ (unplaced-stray ((c .before .before .before .before .before .args) .insts .now) ((c .before .before .before .before .before .args) .operands .now) ((c .before .before .before .before .before .args) .i) ((c .before .before .before .before .before .args) .from) (c .if1 .taken))
+returns c = marked-none _ _ _ _ (unplaced-stray ((c .before .before .before .before .before .args) .insts .now) ((c .before .before .before .before .before .args) .operands .now) ((c .before .before .before .before .before .args) .i) ((c .before .before .before .before .before .args) .from) (λ e. omega arith))
 
 add-wide : tie.Need-add-wide
 add-wide c = omega arith
@@ -77,8 +74,8 @@ escapes-spec =
     tie.close
     (tie.spec
     mul-at
-    mul-if1
-    shared-slice-read-if1
+    mul-placed
+    shared-slice-read-placed
     returns
     add-wide
     mul-wide
