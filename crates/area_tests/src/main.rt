@@ -12,10 +12,9 @@ struct Head {
 
 fn given(a: Answer) {
     match a {
-        Answer::Given(n) => cases::put(b" ", n as u64),
+        Answer::Given(n) => cases::counted(n),
         Answer::Refused(r, i) => cases::refused(r, i),
     }
-    cases::text(b":");
 }
 
 fn areas_into(
@@ -43,8 +42,7 @@ fn areas_into(
     given(a);
     cases::show(areas);
     cases::text(b" |");
-    cases::show(items);
-    cases::space(work);
+    cases::left(items, work);
 }
 
 fn areas(h: Head, blocks: &[u32], edges: &[u32], kinds: &[u32], touches: &[u32], ends: &[u32]) {

@@ -15,19 +15,17 @@ struct Head {
 
 fn given(a: Answer) {
     match a {
-        Answer::Given(n) => cases::put(b" ", n as u64),
+        Answer::Given(n) => cases::counted(n),
         Answer::Refused(r, i) => cases::refused(r, i),
     }
-    cases::text(b":");
 }
 
 fn listed(c: Carrying) {
     match c {
-        Carrying::Listed(n) => cases::put(b" ", n as u64),
-        Carrying::Absent => cases::text(b" absent"),
+        Carrying::Listed(n) => cases::counted(n),
+        Carrying::Absent => cases::text(b" absent:"),
         Carrying::Refused(r, i) => cases::refused(r, i),
     }
-    cases::text(b":");
 }
 
 fn reach_into(
@@ -55,10 +53,8 @@ fn reach_into(
         answer,
         work,
     );
-    cases::text(b" reach");
     given(a);
-    cases::show(answer);
-    cases::space(work);
+    cases::left(answer, work);
 }
 
 fn reach(
@@ -122,11 +118,8 @@ fn carried_into(
         answer,
         work,
     );
-    cases::put(b" carried(", local as u64);
-    cases::text(b")");
     listed(a);
-    cases::show(answer);
-    cases::space(work);
+    cases::left(answer, work);
 }
 
 fn carried(
@@ -187,6 +180,7 @@ fn run(
     );
     let mut l = 0;
     while l <= locals.len() / 2 {
+        cases::asked(b" carried", l);
         carried(
             h,
             blocks,
@@ -275,6 +269,7 @@ fn line(s: &[u8]) {
     let at = cases::find(s, 0, b' ');
     if at < s.len() {
         cases::text(&s[0..at]);
+        cases::text(b" reach");
         case(&s[at + 1..s.len()]);
     }
 }

@@ -14,9 +14,23 @@ pub fn put(before: &[u8], n: u64) {
     io::print_decimal(1, n);
 }
 
+// An entry's name with the index of what it is asked about.
+pub fn asked(name: &[u8], i: usize) {
+    text(name);
+    put(b"(", i as u64);
+    text(b")");
+}
+
+// What was answered: a count, or a refusal.
+pub fn counted(n: usize) {
+    put(b" ", n as u64);
+    text(b":");
+}
+
 pub fn refused(r: Refusal, i: usize) {
     put(b" refused ", number(r) as u64);
     put(b" at ", i as u64);
+    text(b":");
 }
 
 pub fn show(list: &[u32]) {
@@ -39,8 +53,9 @@ fn zeros(work: &[u64]) -> usize {
     i
 }
 
-// The end of an answer: how many words at the front of the work space are zero.
-pub fn space(work: &[u64]) {
+// What was left: an answer list, and how many words at the front of the work space are zero.
+pub fn left(answer: &[u32], work: &[u64]) {
+    show(answer);
     put(b" | ", zeros(work) as u64);
     text(b"\n");
 }

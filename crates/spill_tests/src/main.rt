@@ -14,10 +14,9 @@ struct Head {
 
 fn given(a: Answer) {
     match a {
-        Answer::Given(n) => cases::put(b" ", n as u64),
+        Answer::Given(n) => cases::counted(n),
         Answer::Refused(r, i) => cases::refused(r, i),
     }
-    cases::text(b":");
 }
 
 fn spilled_into(v: u32, slots: usize, assigned: &[u32], answer: &mut [u32]) {
@@ -56,8 +55,7 @@ fn moved_into(
         work,
     );
     given(a);
-    cases::show(answer);
-    cases::space(work);
+    cases::left(answer, work);
 }
 
 fn moved(h: Head, blocks: &[u32], insts: &[u32], operands: &[u32], moves: &[u32]) {
