@@ -24,14 +24,18 @@ pub fn lines(case: &Case) -> Vec<Option<String>> {
     let (v, room) = (c[0][1], c[0][2] as usize);
     let records = Records { v, points: c[0][0], blocks: &c[1], edges: &[], insts: &c[2], operands: &c[3], crossings: &c[4] };
     let locals = c[5].len() / 2;
-    let reached = reach(&records.func(), &mentions(&c[6]), &mentions(&c[7]), locals, &FrameInsts::default(), &mut Interner);
-    let followed = probe::followed(&reached);
+    let followed = |ends: &[(Inst, usize)]| {
+        probe::followed(&reach(&records.func(), &mentions(&c[6]), ends, locals, &FrameInsts::default(), &mut Interner))
+    };
+    let mut ends = mentions(&c[7]);
+    let kinds: Vec<u32> = followed(&ends).iter().map(|held| held.as_ref().map_or(0, |held| 1 + u32::from(held.0))).collect();
     let words = space(v, c);
-
-    let kinds: Vec<u32> = followed.iter().map(|held| held.as_ref().map_or(0, |held| 1 + u32::from(held.0))).collect();
     let mut lines = vec![(locals <= room).then(|| format!("{} reach {locals}:{} | {words}", case.name, list(&kinds, room)))];
-    for (local, held) in followed.iter().enumerate() {
-        // of a local that is not followed slots.rs keeps no registers
+    // slots.rs keeps no registers of a local that is not followed; of one that escapes it does where the local has an end, so each is given one
+    if let Some(placed) = c[2].chunks(9).position(|row| row[0] == 1) {
+        ends.extend((0..locals).map(|local| (Inst(placed as u32), local)));
+    }
+    for (local, held) in followed(&ends).iter().enumerate() {
         lines.push(held.as_ref().map(|(_, registers)| {
             let mut numbers: Vec<u32> = registers.iter().map(|r| r.number().unwrap()).collect();
             numbers.sort_unstable();
