@@ -30,7 +30,7 @@ pub fn lines(case: &Case) -> Vec<Option<String>> {
     let mut ends = mentions(&c[7]);
     let kinds: Vec<u32> = followed(&ends).iter().map(|held| held.as_ref().map_or(0, |held| 1 + u32::from(held.0))).collect();
     let words = space(v, c);
-    let mut lines = vec![(locals <= room).then(|| format!("{} reach {locals}:{} | {words}", case.name, list(&kinds, room)))];
+    let mut lines = vec![Some(format!("{} reach {locals}:{} | {words}", case.name, list(&kinds, room)))];
     // slots.rs keeps no registers of a local that is not followed; of one that escapes it does where the local has an end, so each is given one
     if let Some(placed) = c[2].chunks(9).position(|row| row[0] == 1) {
         ends.extend((0..locals).map(|local| (Inst(placed as u32), local)));

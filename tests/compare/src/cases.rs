@@ -27,7 +27,7 @@ impl Case {
 
 /// An answer list: what was answered, and 7s up to its length.
 pub fn list(answer: &[u32], length: usize) -> String {
-    let sevens = std::iter::repeat(&7).take(length - answer.len());
+    let sevens = std::iter::repeat(&7).take(length.saturating_sub(answer.len()));
     answer.iter().chain(sevens).map(|n| format!(" {n}")).collect()
 }
 
