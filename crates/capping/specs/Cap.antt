@@ -10,10 +10,15 @@ use Rattle.refusals.specs.Verdicts.{check}
 use Rattle.refusals.specs.Outcomes.{unless, after}
 use Rattle.words.specs.Rows.{rowCount, wholeRows, field, tabulate, flat}
 use Rattle.fitting.specs.Queries.{Room, cap}
+use Rattle.capping.specs.declared.Cell.{Cell}
 
 -- a cell's row: size, align
 abbrev pub roomRow : Room → List ℕ
 roomRow c = c .size ∷ c .align ∷ []
+
+-- a cell by value, as the paper's
+abbrev pub roomBy : Cell → Room
+roomBy c = record { size = c .size; align = c .align }
 
 -- `cap`: number 1, a list that is no whole rows or has fewer than the cells counted, or more cells than a plan can have
 abbrev pub capVerdict : List ℕ → ℕ → Verdict

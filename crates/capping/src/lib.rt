@@ -3,7 +3,8 @@ ghost use mathlib.Core.Path.{_≡_};
 ghost use Prim.Native.Nat.{_*_, _≤_, min};
 ghost use mathlib.Core.List.{_++_};
 ghost use lib.ListN.{length, drop};
-ghost use Rattle.capping.specs.Cap.{CappedBy, capRows};
+ghost use Rattle.fitting.specs.Queries.{cap};
+ghost use Rattle.capping.specs.Cap.{roomBy, CappedBy, capRows};
 use refusals::Refusal;
 use refusals::Verdict;
 
@@ -24,6 +25,14 @@ pub fn lowered(c: Cell, most: u32) -> Cell
         };
     }
     c
+}
+
+// `cap` of one cell that is lent: its alignment is lowered to a maximum. Proved by a walk of its code.
+pub fn cap_cell(cell: &mut Cell, most: u32)
+    ensures { λ _. ⌜ roomBy (now (cell .exit)) ≡ cap most (roomBy (now (cell .entry))) ⌝ }
+{
+    let c = *cell;
+    *cell = lowered(c, most);
 }
 
 // Lowers the alignment of the first `count` cells to a maximum. Refuses a list that is no whole rows or is shorter than the count (1).

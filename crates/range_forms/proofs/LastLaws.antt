@@ -1,10 +1,10 @@
 -- `joined` of one range and a new one, by the facts that each way out of the code has found.
 use mathlib.Core.Path.{_≡_, refl, sym, ap, _∙_}
 use mathlib.Core.Bool.{Bool, true, false, cond}
-use mathlib.Core.List.{List, [], _∷_}
+use mathlib.Core.List.{[], _∷_}
 use Prim.Native.Nat.{ℕ, _+_, _≤_, _<_}
 use lib.ListN.{length}
-use lib.Dec.{eqb, ltb}
+use lib.Dec.{eqb}
 use borrow.Author.Tests.{lt-ltb, le-ltb}
 use Rattle.refusals.specs.declared.Verdict.{Verdict}
 use Rattle.refusals.specs.declared.Verdict.the-variants.{Fine, Bad}
@@ -18,7 +18,7 @@ use Rattle.ranges.specs.Merged.{joined}
 use Rattle.ranges.specs.Lent.{listVerdict}
 use Rattle.range_checks.proofs.VerdictLaws.{pair-first, pair-new-bad, pair-new-fine}
 use Rattle.range_checks.specs.Verdicts.{pairVerdict}
-use Rattle.range_forms.specs.Lent.{joinedOf, takenUp, lastAfter, taking, Joins}
+use Rattle.range_forms.specs.Lent.{joinedOf, takenUp, lastAfter, taking}
 use Rattle.range_forms.specs.declared.TakenUp.{TakenUp}
 use Rattle.range_forms.specs.declared.TakenUp.the-variants.{Is, Refused}
 

@@ -1,14 +1,8 @@
-use native.Mathlib.Omega.{arith}
-use Prim.Native.Nat.{ℕ, suc, _+_, _-_, _*_, _≤_, _<_}
-use mathlib.Core.Path.{_≡_, refl, sym, ap, _∙_}
-use lib.ListN.{length, take, drop, getD, set, length-set}
+-- `end_after` meets its contract: a law for each case of the answer.
 use borrow.Author.Needs.{needs}
 use Rattle.range_forms.proofs.LastLaws.{end-raised, end-left, end-kept}
 use Rattle.range_forms.proofs.end_after.Statement.{statement}
 use Rattle.range_forms.proofs.end_after.Tie as tie
-use Rattle.range_forms.proofs.end_after.Reads as reads
-use Rattle.range_forms.proofs.end_after.Lts as lts
-use Rattle.range_forms.proofs.taken_up.Reads as taken-up-reads
 
 -- src/lib.rt:32:9
 taken-up-requires : tie.Need-taken-up-requires

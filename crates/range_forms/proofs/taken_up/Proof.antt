@@ -1,14 +1,9 @@
+-- `taken_up` meets its contract: a law for each way out.
 use native.Mathlib.Omega.{arith}
-use Prim.Native.Nat.{ℕ, suc, _+_, _-_, _*_, _≤_, _<_}
-use mathlib.Core.Path.{_≡_, refl, sym, ap, _∙_}
-use lib.ListN.{length, take, drop, getD, set, length-set}
 use borrow.Author.Needs.{needs}
 use Rattle.range_forms.proofs.LastLaws.{says-last, says-new, says-follows}
 use Rattle.range_forms.proofs.taken_up.Statement.{statement}
 use Rattle.range_forms.proofs.taken_up.Tie as tie
-use Rattle.range_forms.proofs.taken_up.Reads as reads
-use Rattle.range_forms.proofs.taken_up.Lts as lts
-use Rattle.columns.proofs.follows.Reads as follows-reads
 
 -- src/lib.rt:20:9
 returns : tie.Need-returns
