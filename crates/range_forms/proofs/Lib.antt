@@ -1,1 +1,2 @@
 pub mod LastLaws
+pub mod ColumnLaws

@@ -10,7 +10,9 @@ use Rattle.refusals.specs.Outcomes.{Outcome, given, refused, unless}
 use Rattle.ranges.specs.declared.Range.{Range}
 use Rattle.ranges.specs.Points.{rangeAt}
 use Rattle.ranges.specs.Merged.{joined}
+use Rattle.ranges.specs.Forms.{starts, ends}
 use Rattle.range_checks.specs.Verdicts.{pairVerdict}
+use Rattle.range_entries.specs.Entries.{clashesOf as columnsClash}
 use Rattle.range_forms.specs.declared.TakenUp.{TakenUp}
 use Rattle.range_forms.specs.declared.TakenUp.the-variants.{Is, Refused}
 
@@ -37,3 +39,7 @@ lastAfter (refused n i) last = last
 pub record Joins (last new : Range) (r : TakenUp) (last′ : Range) : Type 0 where
   pub answer : taking r ≡ takenUp (joinedOf last new)
   pub in-last : last′ ≡ lastAfter (joinedOf last new) last
+
+-- "a thin entry that reads two lent lists of ranges": what the test over columns answers for the columns of the two lists
+unfoldable pub clashesOf : List Range → List Range → Outcome Bool
+clashesOf rs ss = columnsClash (starts rs) (ends rs) (starts ss) (ends ss)

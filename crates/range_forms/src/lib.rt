@@ -1,7 +1,11 @@
 // The range functions in the forms that document 01 names, where ranges are lent as structs. A function over a reference to a `Range` is thin and
 // proved by a walk of its code: it takes the ranges apart and calls a covered function.
 ghost use mathlib.Core.Path.{_≡_};
-ghost use Rattle.range_forms.specs.Lent.{joinedOf, takenUp, lastAfter, taking, Joins};
+ghost use Prim.Native.Nat.{min};
+ghost use lib.ListN.{length};
+ghost use Rattle.range_entries.specs.Entries.{clashing};
+ghost use Rattle.range_forms.specs.Lent.{joinedOf, takenUp, lastAfter, taking, Joins, clashesOf};
+ghost use Rattle.range_forms.specs.Inner.{pointOf, Column, clashesOver};
 use range_entries::Clash;
 use ranges::Range;
 use refusals::Refusal;
@@ -49,4 +53,76 @@ pub fn joined(last: &mut Range, new: Range) -> TakenUp
     let was = *last;
     last.end = end_after(was, new);
     taken_up(was, new)
+}
+
+// The most ranges in a list that is lent.
+const LIMIT: usize = 65536;
+
+// Whether some point is in both of two lists of ranges, which are in order and apart: the lists are taken apart into columns, arrays by value up to the limit,
+// and the test over columns is called once. Refuses as that does: more than 65,536 ranges (1), a range that is reversed or starts no later than the one before
+// ends (10), the second list's counted on from the first's.
+pub fn clashes(a: &[Range], b: &[Range]) -> Clash
+    ensures { λ r. ⌜ clashing r ≡ clashesOf (now (a .entry)) (now (b .entry)) ⌝ }
+{
+    let s = column(a, false);
+    let e = column(a, true);
+    let t = column(b, false);
+    let f = column(b, true);
+    over(s, e, a.len(), t, f, b.len())
+}
+
+// The starts or the ends of a list's ranges, as far as the limit; zeros past them.
+fn column(list: &[Range], ends: bool) -> [u32; 65536]
+    ensures { λ r. ⌜ Column ends (now (list .entry)) r ⌝ }
+{
+    let mut out = blank();
+    let n = within(list.len());
+    let mut i = 0;
+    while i < n {
+        out[i] = point(list[i], ends);
+        i += 1;
+    }
+    out
+}
+
+fn blank() -> [u32; 65536] {
+    [0u32; 65536]
+}
+
+fn within(n: usize) -> usize
+    ensures { λ r. ⌜ r ≡ min n 65536 ⌝ }
+{
+    if LIMIT < n {
+        return LIMIT;
+    }
+    n
+}
+
+fn point(r: Range, ends: bool) -> u32
+    ensures { λ p. ⌜ p ≡ pointOf ends r ⌝ }
+{
+    if ends {
+        return r.end;
+    }
+    r.start
+}
+
+// The clash test over the first n and the first m of the columns.
+fn over(
+    s: [u32; 65536],
+    e: [u32; 65536],
+    n: usize,
+    t: [u32; 65536],
+    f: [u32; 65536],
+    m: usize,
+) -> Clash
+    ensures { λ r. ⌜ clashing r ≡ clashesOver s e n t f m ⌝ }
+{
+    if LIMIT < n {
+        return Clash::Refused(Refusal::Count, 0);
+    }
+    if LIMIT < m {
+        return Clash::Refused(Refusal::Count, 0);
+    }
+    range_entries::clashes(&s[..n], &e[..n], &t[..m], &f[..m])
 }

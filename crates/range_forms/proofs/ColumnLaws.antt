@@ -1,0 +1,99 @@
+-- The columns of a list of ranges, filled one number at a time.
+use mathlib.Core.Path.{_≡_, refl, sym, ap, _∙_, subst}
+use mathlib.Core.Bool.{Bool, true, false, _||_}
+use mathlib.Core.List.{List, [], _∷_, map}
+use Prim.Native.Nat.{ℕ, suc, _+_, _≤_, _<_}
+use native.Mathlib.Omega.{arith}
+use native.Mathlib.Nat.{min-eq-left}
+use lib.ListN.{length, getD, set, take, length-map}
+use lib.Dec.{ltb}
+use borrow.Author.Tests.{lt-ltb, le-ltb}
+use Rattle.words.proofs.Points.{stored, cut}
+use Rattle.refusals.specs.declared.Verdict.{Verdict}
+use Rattle.refusals.specs.Outcomes.{refused, unless}
+use Rattle.ranges.specs.declared.Range.{Range}
+use Rattle.ranges.specs.Points.{rangeAt}
+use Rattle.ranges.specs.Forms.{starts, ends, columns}
+use Rattle.ranges.specs.Merged.{clashes}
+use Rattle.range_checks.specs.Verdicts.{badList, uneven, pairVerdict, entryVerdict}
+use Rattle.range_checks.proofs.VerdictLaws.{entry-count, or-true, or-left}
+use Rattle.range_entries.specs.Entries.{clashesOf as columnsClash}
+use Rattle.range_forms.specs.Lent.{clashesOf}
+use Rattle.range_forms.specs.Inner.{pointOf, Filled, Column, clashesOver}
+
+module _ (t : Bool) (rs : List Range) (c : List ℕ) where
+  pub filled-none : Filled t rs c 0
+  unfolding Filled
+  filled-none i l = absurd (omega arith)
+
+  pub filled-more : (i p : ℕ) → Filled t rs c i → i < length c → p ≡ pointOf t (rangeAt rs i) → Filled t rs (set c i p) (i + 1)
+  unfolding Filled
+  filled-more i p f l e j lt = stored (λ y. y ≡ pointOf t (rangeAt rs j)) c i p j l (λ same. e ∙ ap (λ (k : ℕ). pointOf t (rangeAt rs k)) (sym same)) (λ other. f j (omega arith))
+
+-- ---- the test over columns
+
+module _ (s e : List ℕ) (n : ℕ) (t f : List ℕ) (m : ℕ) where
+  pub over-first : 65536 < n → refused 1 0 ≡ clashesOver s e n t f m
+  unfolding clashesOver
+  over-first h = sym (rw (lt-ltb 65536 n h))
+
+  pub over-second : n ≤ 65536 → 65536 < m → refused 1 0 ≡ clashesOver s e n t f m
+  unfolding clashesOver
+  over-second h l = sym (rw (le-ltb 65536 n h, lt-ltb 65536 m l))
+
+  pub over-fine : n ≤ 65536 → m ≤ 65536 → columnsClash (take n s) (take n e) (take m t) (take m f) ≡ clashesOver s e n t f m
+  unfolding clashesOver
+  over-fine h l = sym (rw (le-ltb 65536 n h, le-ltb 65536 m l))
+
+-- a column whose numbers are those of the ranges
+taken : (t : Bool) (rs : List Range) (c : List ℕ) → length rs ≤ length c → ((i : ℕ) → i < length rs → getD c i 0 ≡ pointOf t (rangeAt rs i)) → take (length rs) c ≡ map (pointOf t) rs
+taken t [] c l f = refl
+taken t (r ∷ rs) [] l f = absurd (omega arith)
+taken t (r ∷ rs) (x ∷ c) l f = ap (λ (y : ℕ). y ∷ take (length rs) c) (f 0 (omega arith)) ∙ ap (λ (k : List ℕ). pointOf t r ∷ k) (taken t rs c (omega arith) (λ i h. f (suc i) (omega arith)))
+
+column-is : (t : Bool) (rs : List Range) (c : List ℕ) → length c ≡ 65536 → length rs ≤ 65536 → Column t rs c → take (length rs) c ≡ map (pointOf t) rs
+unfolding Filled
+column-is t rs c len l f = taken t rs c (omega arith) (λ i h. f i (subst (λ (k : ℕ). i < k) (sym (min-eq-left l)) h))
+
+-- a list over the limit
+over-limit : (ss es : List ℕ) → 65536 < length ss → badList ss es ≡ true
+over-limit ss es h = or-true (uneven (length ss) (length es)) (ltb 65536 (length ss)) (lt-ltb 65536 (length ss) h)
+
+counted-out : (c d : Bool) (v : Verdict) → c ≡ true → refused 1 0 ≡ unless (entryVerdict c false v) d
+counted-out c d v h = ap (λ (w : Verdict). unless w d) (entry-count c false v h)
+
+long : (rs : List Range) → 65536 < length rs → badList (starts rs) (ends rs) ≡ true
+long rs h = over-limit (starts rs) (ends rs) (subst (λ (k : ℕ). 65536 < k) (sym (length-map rs (λ (r : Range). r .start))) h)
+
+module _ (rs ss : List Range) where
+  abbrev one : List Range
+  one = columns (starts rs) (ends rs)
+
+  abbrev two : List Range
+  two = columns (starts ss) (ends ss)
+
+  first-over : 65536 < length rs → refused 1 0 ≡ clashesOf rs ss
+  unfolding clashesOf
+  first-over h = counted-out (badList (starts rs) (ends rs) || badList (starts ss) (ends ss)) (clashes one two) (pairVerdict true one two) (or-left (badList (starts rs) (ends rs)) (badList (starts ss) (ends ss)) (long rs h))
+
+  second-over : 65536 < length ss → refused 1 0 ≡ clashesOf rs ss
+  unfolding clashesOf
+  second-over h = counted-out (badList (starts rs) (ends rs) || badList (starts ss) (ends ss)) (clashes one two) (pairVerdict true one two) (or-true (badList (starts rs) (ends rs)) (badList (starts ss) (ends ss)) (long ss h))
+
+-- what is taken of a list by `column`
+pub record Apart (rs : List Range) (s e : List ℕ) : Type 0 where
+  pub starts-long : length s ≡ 65536
+  pub ends-long : length e ≡ 65536
+  pub in-starts : Column false rs s
+  pub in-ends : Column true rs e
+
+module _ (rs ss : List Range) (s e t f : List ℕ) (a : Apart rs s e) (b : Apart ss t f) where
+  both-within : length rs ≤ 65536 → length ss ≤ 65536 → columnsClash (take (length rs) s) (take (length rs) e) (take (length ss) t) (take (length ss) f) ≡ clashesOf rs ss
+  unfolding clashesOf
+  both-within h l = rw (column-is false rs s (a .starts-long) h (a .in-starts), column-is true rs e (a .ends-long) h (a .in-ends), column-is false ss t (b .starts-long) l (b .in-starts), column-is true ss f (b .ends-long) l (b .in-ends))
+
+  pub over-lists : clashesOver s e (length rs) t f (length ss) ≡ clashesOf rs ss
+  over-lists =
+      cut (length rs) 65536
+      (λ h. cut (length ss) 65536 (λ l. sym (over-fine s e (length rs) t f (length ss) h l) ∙ both-within h l) (λ l. sym (over-second s e (length rs) t f (length ss) h l) ∙ second-over rs ss l))
+      (λ h. sym (over-first s e (length rs) t f (length ss) h) ∙ first-over rs ss h)
