@@ -266,3 +266,19 @@ module _ {text line rows counts : List ℕ} {r : Reader} {n : ℕ} (d : Reading 
 -- a refusal is no answer
 pub absent : {A : Type 0} {q : Refusal} {i : ℕ} → _≡_ {A = Verdict} (Bad q i) Fine → A
 absent e = absurd (let z : _≡_ {A = ℕ} 0 1 = cc in omega arith)
+
+-- ---- for programs that read pieces in a loop
+
+pub ready-start : {r : Reader} {n : ℕ} {line rows counts : List ℕ} → Reading [] r n line rows counts → (more : ℕ) → more ≤ 18446744073709551615 → Ready r n line rows counts more
+ready-start d more h = record { text = []; reading = d; short = omega arith }
+
+pub ready-less : {r : Reader} {n : ℕ} {line rows counts : List ℕ} {m : ℕ} → Ready r n line rows counts m → (k : ℕ) → k ≤ m → Ready r n line rows counts k
+ready-less y k h = record { text = y .text; reading = y .reading; short = let s = y .short in omega arith }
+
+pub ready-fed : {r r′ : Reader} {n n′ : ℕ} {line fields rows counts line′ fields′ rows′ counts′ : List ℕ} {m : ℕ} {piece : List ℕ} → Ready r n line rows counts m
+    → Feeds piece r n line fields rows counts r′ n′ line′ fields′ rows′ counts′ → (k : ℕ) → length piece + k ≤ m → Ready r′ n′ line′ rows′ counts′ k
+ready-fed {piece = piece} y f k h = record {
+  text = y .text ++ piece;
+  reading = f .feeds (y .text) (y .reading);
+  short = let s = y .short in let e = length-append (y .text) piece in omega arith;
+}
