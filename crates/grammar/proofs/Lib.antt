@@ -1,6 +1,7 @@
 pub mod TableLaws
 pub mod NumeralLaws
 pub mod PartLaws
+pub mod RoundTrip
 pub mod RowLaws
 pub mod OperandLaws
 pub mod OrderLaws

@@ -1,18 +1,18 @@
 -- Where the last line stands at the instructions' place, the lines end in an instruction and its operands.
-use Prim.Native.Nat.{ℕ, zero, suc, _+_, _≤_, _<_}
+use Prim.Native.Nat.{ℕ, zero, suc, _≤_, _<_}
 use native.Mathlib.Omega.{arith}
 use mathlib.Core.Path.{_≡_, refl, ap, sym, _∙_}
 use mathlib.Core.Logic.{⊎-elim}
-use mathlib.Core.Bool.{Bool, true, false, cond, not, _&&_}
-use mathlib.Core.List.{List, [], _∷_, _++_}
+use mathlib.Core.Bool.{Bool, true, false, _&&_}
+use mathlib.Core.List.{List, []}
 use lib.ListN.{length, getD, take}
 use lib.Seq.{take-suc, take-length}
-use lib.Dec.{eqb, leb, ltb}
+use lib.Dec.{leb, ltb}
 use borrow.Author.Tests.{eq-eqb, ltb-true, leb-true, not-false}
 use Rattle.refusals.specs.declared.Verdict.the-variants.{Fine}
 use Rattle.refusals.specs.declared.Refusal.the-variants.{Text as TextRefused}
 use Rattle.refusals.proofs.Laws.{scan-fine}
-use Rattle.grammar.specs.Groups.{groupAt, none, mayFollow, instGroup, operandGroup}
+use Rattle.grammar.specs.Groups.{none, mayFollow, operandGroup}
 use Rattle.grammar.specs.Lines.{lineGroup}
 use Rattle.grammar.specs.Text.{placeBefore, malformed, badLine}
 use Rattle.grammar.proofs.TableLaws.{open-place}

@@ -1,18 +1,16 @@
 -- The parts between separators, and a line's fields, one after another.
-use Prim.Native.Nat.{ℕ, zero, suc, _+_, _-_, _≤_, _<_}
+use Prim.Native.Nat.{ℕ, zero, suc, _≤_, _<_}
 use native.Mathlib.Omega.{arith}
-use native.Mathlib.Nat.{le-of-suc-le-suc, not-suc-le-zero}
-use native.Mathlib.Numerals.{add-one}
+use native.Mathlib.Nat.{not-suc-le-zero}
 use mathlib.Core.Path.{_≡_, refl, ap, sym, _∙_}
-use mathlib.Core.Bool.{Bool, true, false, cond, _&&_}
-use mathlib.Core.List.{List, [], _∷_, _++_, map}
-use lib.ListN.{length, getD, take, drop, length-map, drop-of-length-le}
-use lib.Seq.{drop-cons, drop-drop}
+use mathlib.Core.Bool.{Bool, true, false, cond}
+use mathlib.Core.List.{List, [], _∷_}
+use lib.ListN.{length, getD, take, drop}
 use lib.Dec.{eqb, ltb, leb·suc-suc}
 use borrow.Author.Tests.{lt-ltb, le-ltb}
-use Rattle.grammar.specs.Numerals.{fieldOf, limit}
+use Rattle.grammar.specs.Numerals.{limit}
 use Rattle.grammar.specs.Groups.{indexOf}
-use Rattle.grammar.specs.Lines.{onto, parts, meant, fits, comma}
+use Rattle.grammar.specs.Lines.{onto, parts, meant, fits}
 
 -- ---- the first part
 
@@ -71,12 +69,6 @@ pub fits-fewer : (ds : List ℕ) → 0 < length ds → fits ds [] ≡ false
 unfolding fits
 fits-fewer [] h = absurd (not-suc-le-zero h)
 fits-fewer (d ∷ ds) h = refl
-
-drop-step : {A : Type 0} (l : List A) (j : ℕ) (x : A) (r : List A) → drop j l ≡ x ∷ r → drop (suc j) l ≡ r
-drop-step [] zero x r e = absurd (let z : _≡_ {A = ℕ} 0 1 = cc in omega arith)
-drop-step [] (suc j) x r e = absurd (let z : _≡_ {A = ℕ} 0 1 = cc in omega arith)
-drop-step (y ∷ l) zero x r e = cc
-drop-step (y ∷ l) (suc j) x r e = drop-step l j x r e
 
 pub getD-step : (l : List ℕ) (j x : ℕ) (r : List ℕ) → drop j l ≡ x ∷ r → (getD l j 0 ≡ x) × (j < length l)
 getD-step [] zero x r e = absurd (let z : _≡_ {A = ℕ} 0 1 = cc in omega arith)

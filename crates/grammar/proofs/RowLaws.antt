@@ -1,13 +1,13 @@
 -- The rows that lines decode to, and one line more.
-use Prim.Native.Nat.{ℕ, zero, suc, _+_, _-_, _*_, _≤_, _<_}
+use Prim.Native.Nat.{ℕ, suc, _+_, _*_, _<_}
 use native.Mathlib.Omega.{arith}
 use native.Mathlib.Nat.{mul-suc, mul-zero}
-use mathlib.Core.Path.{_≡_, refl, ap, sym, subst, _∙_}
+use mathlib.Core.Path.{_≡_, refl, ap, sym, _∙_}
 use mathlib.Core.Bool.{Bool, true, false, cond, _&&_}
-use mathlib.Core.List.{List, [], _∷_, _++_, append-assoc}
-use lib.ListN.{length, getD, length-append}
+use mathlib.Core.List.{List, [], _∷_, _++_}
+use lib.ListN.{length, length-append}
 use lib.Dec.{eqb, leb, ltb, eqb→eq}
-use borrow.Author.Tests.{eq-eqb, ne-eqb, eqb-true, eqb-false, ltb-true}
+use borrow.Author.Tests.{eq-eqb, ne-eqb, eqb-true}
 use Rattle.words.specs.Rows.{flat}
 use Rattle.words.proofs.Points.{same}
 use Rattle.grammar.specs.Groups.{groupAt, none, instGroup, operandGroup}
@@ -95,9 +95,6 @@ module _ (l : List ℕ) where
       go false = refl
   count-more k (m ∷ ls) = go (eqb (lineGroup m) k) (count-more k ls)
     where
-      x : ℕ
-      x = cond (eqb (lineGroup l) k) 1 0
-
       go : (t : Bool) → countOf k (ls ++ (l ∷ [])) ≡ countOf k ls + cond (eqb (lineGroup l) k) 1 0
           → length (cond t (rowWith k (lineFields m) (operandsAfter (ls ++ (l ∷ []))) ∷ rowsIn k (ls ++ (l ∷ []))) (rowsIn k (ls ++ (l ∷ []))))
           ≡ length (cond t (rowWith k (lineFields m) (operandsAfter ls) ∷ rowsIn k ls) (rowsIn k ls)) + cond (eqb (lineGroup l) k) 1 0

@@ -4,7 +4,6 @@ use mathlib.Core.List.{List, [], _∷_}
 use Prim.Native.Nat.{ℕ}
 use Rattle.refusals.specs.declared.Verdict.the-variants.{Fine}
 use Rattle.refusals.specs.Verdicts.{first, scan}
-use Rattle.words.specs.Rows.{flat}
 use Rattle.grammar.specs.Numerals.{digits, valueFrom, numberFrom, fieldOf}
 use Rattle.grammar.specs.Groups.{indexOf}
 use Rattle.grammar.specs.Lines.{linesOf, parts, groupOf, fieldsOf, fits, formed, wellFormed, lineGroup}

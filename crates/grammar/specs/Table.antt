@@ -1,5 +1,4 @@
 -- The table's entry of a group, as the code has it.
-use Prim.Native.Nat.{ℕ}
 use mathlib.Core.Path.{_≡_}
 use lib.ListN.{length}
 use Rattle.grammar.specs.Groups.{Group}

@@ -1,15 +1,14 @@
 -- Document 01, "Job text": number 11, and what a text without a malformed line decodes to.
-use Prim.Native.Nat.{ℕ, zero, suc, _+_, _-_, _*_, max}
-use mathlib.Core.Bool.{Bool, true, false, cond, not, _&&_, _||_}
-use mathlib.Core.List.{List, [], _∷_, _++_, map}
-use lib.ListN.{length, getD, take}
+use Prim.Native.Nat.{ℕ, zero, suc, max}
+use mathlib.Core.Bool.{Bool, false, cond, not, _&&_, _||_}
+use mathlib.Core.List.{List, [], _∷_, _++_}
+use lib.ListN.{length, getD}
 use lib.Dec.{eqb, ltb}
 use Rattle.refusals.specs.declared.Verdict.{Verdict}
 use Rattle.refusals.specs.declared.Refusal.the-variants.{Count, Text as TextRefused}
 use Rattle.refusals.specs.Verdicts.{first, scan, check}
-use Rattle.words.specs.Rows.{flat}
 use Rattle.grammar.specs.Numerals.{dash}
-use Rattle.grammar.specs.Groups.{groupAt, groups, mayFollow, none, instGroup, operandGroup}
+use Rattle.grammar.specs.Groups.{groupAt, mayFollow, none, instGroup, operandGroup}
 use Rattle.grammar.specs.Lines.{linesOf, lineGroup, lineFields, meant}
 
 -- ---- number 11: the first malformed line

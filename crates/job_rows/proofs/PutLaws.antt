@@ -1,11 +1,11 @@
 -- The numbers of a row, one after another.
-use Prim.Native.Nat.{ℕ, zero, suc, _+_, _-_, _*_, _≤_, _<_}
+use Prim.Native.Nat.{ℕ, zero, suc, _+_, _-_, _≤_, _<_}
 use native.Mathlib.Omega.{arith}
 use native.Mathlib.Nat.{le-of-suc-le-suc, not-suc-le-zero}
 use mathlib.Core.Path.{_≡_, refl, ap, sym, subst, _∙_}
 use mathlib.Core.Bool.{Bool, true, false, cond, _&&_, _||_}
 use mathlib.Core.List.{List, [], _∷_, _++_}
-use lib.ListN.{length, getD, set, length-set, List·getD-append, length-append, drop}
+use lib.ListN.{length, getD, set, length-set, List·getD-append, length-append}
 use lib.Seq.{getD-append-seam}
 use lib.Dec.{T, eqb, ltb, eqb→eq}
 use native.Mathlib.Numerals.{add-one}
@@ -16,9 +16,8 @@ use Rattle.grammar.specs.Numerals.{dash, limit}
 use Rattle.grammar.specs.Groups.{groupAt, none, instGroup}
 use Rattle.grammar.specs.Lines.{meant, fits, lineGroup, lineFields}
 use Rattle.grammar.specs.Text.{numbers, placed, rowWith}
-use Rattle.grammar.proofs.RowLaws.{never, group-fits, length-numbers, length-row}
+use Rattle.grammar.proofs.RowLaws.{never, group-fits, length-numbers}
 use Rattle.grammar.proofs.TableLaws.{at}
-use Rattle.lines.specs.Read.{onFront}
 use Rattle.job_rows.specs.Put.{Meant}
 
 pub numbers-at : (ds fs : List ℕ) (j : ℕ) → j < length ds → length ds ≤ length fs → getD (numbers ds fs) j 0 ≡ meant (getD ds j 0) (getD fs j 0)

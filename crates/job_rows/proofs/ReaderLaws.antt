@@ -1,23 +1,21 @@
 -- What the reader knows after one line more.
-use Prim.Native.Nat.{ℕ, zero, suc, _+_, _*_, _≤_, _<_}
+use Prim.Native.Nat.{ℕ, _+_, _<_}
 use native.Mathlib.Omega.{arith}
 use mathlib.Core.Path.{_≡_, refl, ap, sym, subst, _∙_}
 use mathlib.Core.Bool.{Bool, true, false, cond, _&&_, _||_, not}
 use mathlib.Core.List.{List, [], _∷_, _++_}
 use lib.ListN.{length, getD, drop}
-use lib.Dec.{eqb, ltb, leb}
-use borrow.Author.Tests.{eq-eqb, leb-true, leb-false, not-true, not-false, ltb-true}
-use Rattle.refusals.specs.declared.Verdict.{Verdict}
+use lib.Dec.{ltb, leb}
+use borrow.Author.Tests.{eq-eqb, leb-true, leb-false, not-true, ltb-true}
 use Rattle.refusals.specs.declared.Verdict.the-variants.{Fine, Bad}
 use Rattle.refusals.specs.declared.Refusal.the-variants.{Text as TextRefused}
-use Rattle.words.proofs.Points.{same}
-use Rattle.grammar.specs.Groups.{groupAt, none, rowNumbers, mayFollow, instGroup, operandGroup}
+use Rattle.grammar.specs.Groups.{groupAt, none, mayFollow, operandGroup}
 use Rattle.grammar.specs.Lines.{lineGroup, lineFields}
-use Rattle.grammar.specs.Text.{placeBefore, malformed, rowWith, rowsIn, countOf}
+use Rattle.grammar.specs.Text.{placeBefore, malformed, rowWith, countOf}
 use Rattle.grammar.proofs.RowLaws.{never, count-more}
 use Rattle.grammar.proofs.OrderLaws.{soFar, far-bad, far-fine, far-found, length-more, place-last}
 use Rattle.grammar.proofs.OperandLaws.{opens}
-use Rattle.grammar.proofs.OpenLaws.{follows-of, operand-opens}
+use Rattle.grammar.proofs.OpenLaws.{operand-opens}
 use Rattle.lines.specs.Read.{onFront}
 use Rattle.job_rows.specs.declared.Reader.{Reader}
 use Rattle.job_rows.specs.Put.{Meant, Storable, Put}

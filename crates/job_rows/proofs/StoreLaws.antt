@@ -1,18 +1,17 @@
 -- The store of one line: where its row stands, and the instruction that an operand belongs to.
-use Prim.Native.Nat.{ℕ, zero, suc, _+_, _-_, _*_, _≤_, _<_}
+use Prim.Native.Nat.{ℕ, suc, _+_, _*_, _≤_, _<_}
 use native.Mathlib.Omega.{arith}
-use native.Mathlib.Numerals.{add-one}
 use mathlib.Core.Path.{_≡_, refl, ap, sym, subst, _∙_}
-use mathlib.Core.Bool.{Bool, true, false, cond, _&&_}
-use mathlib.Core.List.{List, [], _∷_}
+use mathlib.Core.Bool.{Bool, false, _&&_}
+use mathlib.Core.List.{List}
 use lib.ListN.{length, getD, set}
 use lib.Dec.{leb, ltb}
 use borrow.Author.Tests.{lt-ltb, le-ltb, le-leb, lt-leb}
 use Rattle.words.specs.Regions.{Region}
-use Rattle.grammar.specs.Groups.{groupAt, none, rowNumbers, mayFollow, instGroup, operandGroup}
+use Rattle.grammar.specs.Groups.{groupAt, none, rowNumbers, mayFollow, operandGroup}
 use Rattle.grammar.specs.Text.{rowWith}
 use Rattle.grammar.proofs.TableLaws.{row-within, end-within, room-most}
-use Rattle.job_rows.specs.Put.{Meant, Storable, Put, countAt}
+use Rattle.job_rows.specs.Put.{Storable, Put, countAt}
 
 -- ---- whether a line may follow
 

@@ -1,34 +1,29 @@
 -- One line more: what the reader's lists hold, and what it knows, afterwards.
-use Prim.Native.Nat.{ℕ, zero, suc, _+_, _-_, _*_, _≤_, _<_}
+use Prim.Native.Nat.{ℕ, suc, _+_, _-_, _*_, _≤_, _<_}
 use native.Mathlib.Omega.{arith}
 use native.Mathlib.Nat.{mul-suc, mul-le-mul-left, add-zero}
 use native.Mathlib.Numerals.{add-one}
 use mathlib.Core.Path.{_≡_, refl, ap, sym, subst, _∙_}
-use mathlib.Core.Logic.{_⊎_, inl, inr, ⊎-elim, _≢_}
-use mathlib.Core.Bool.{Bool, true, false, cond, _&&_, not}
+use mathlib.Core.Logic.{inl, inr, ⊎-elim, _≢_}
+use mathlib.Core.Bool.{Bool, true, cond}
 use mathlib.Core.List.{List, [], _∷_, _++_, append-nil, append-assoc}
-use lib.ListN.{length, getD, set, take, drop, length-set, length-append, length-drop, List·getD-append}
-use lib.Seq.{getD-set-same, getD-set-other, take-add, drop-drop, getD-append-seam, set-at}
-use lib.Dec.{eqb, ltb, lit<}
+use lib.ListN.{length, getD, set, take, drop, length-set, length-append, List·getD-append}
+use lib.Seq.{getD-set-same, getD-set-other, take-add, drop-drop, getD-append-seam}
+use lib.Dec.{lit<}
 use borrow.Author.Tests.{eq-eqb, ne-eqb}
-use Rattle.refusals.specs.declared.Verdict.the-variants.{Fine, Bad}
-use Rattle.refusals.specs.declared.Refusal.the-variants.{Text as TextRefused}
 use Rattle.words.specs.Rows.{flat, tabulate}
 use Rattle.words.specs.Regions.{Region, Kept, part}
 use Rattle.words.proofs.Points.{cut, same, stored}
 use Rattle.words.proofs.RegionLaws.{kept-before, kept-after, kept-part, kept-part-list, kept-then, kept-store, region-part, length-part, getD-part, part-is}
-use Rattle.words.proofs.RowLaws.{tabulate-getD, tabulate-eq}
-use Rattle.grammar.specs.Groups.{groupAt, none, rowNumbers, mayFollow, instGroup, operandGroup}
+use Rattle.words.proofs.RowLaws.{tabulate-getD}
+use Rattle.grammar.specs.Groups.{groupAt, none, rowNumbers, instGroup, operandGroup}
 use Rattle.grammar.specs.Lines.{lineGroup, lineFields}
-use Rattle.grammar.specs.Text.{placeBefore, malformed, rowWith, rowsIn, countOf}
+use Rattle.grammar.specs.Text.{rowWith, rowsIn, countOf}
 use Rattle.grammar.proofs.TableLaws.{regionEnd, end-within, regions-apart, row-within}
-use Rattle.grammar.proofs.RowLaws.{never, group-fits, length-row, length-rows, count-more, rows-more, row-of, row-none}
+use Rattle.grammar.proofs.RowLaws.{group-fits, length-row, count-more, rows-more, row-of, row-none}
 use Rattle.grammar.proofs.OperandLaws.{opens, Raised, raised}
-use Rattle.grammar.proofs.OrderLaws.{soFar, far-bad, far-fine, far-found, length-more, place-last}
-use Rattle.grammar.proofs.OpenLaws.{follows-of, operand-opens}
-use Rattle.job_rows.specs.declared.Reader.{Reader}
 use Rattle.job_rows.specs.Put.{Meant, Storable, Put, countAt}
-use Rattle.job_rows.specs.Taken.{Stored, Over, Taken, Refuses}
+use Rattle.job_rows.specs.Taken.{Stored}
 
 -- ---- parts of the rows
 

@@ -5,7 +5,6 @@ use mathlib.Core.Bool.{Bool, true, false, cond, not, _&&_, _||_}
 use mathlib.Core.List.{List, _++_, _∷_, []}
 use lib.ListN.{length, getD}
 use lib.Dec.{ltb, leb}
-use Rattle.refusals.specs.declared.Verdict.{Verdict}
 use Rattle.refusals.specs.declared.Verdict.the-variants.{Fine, Bad}
 use Rattle.refusals.specs.declared.Refusal.the-variants.{Text as TextRefused}
 use Rattle.refusals.specs.Verdicts.{scan}

@@ -1,17 +1,16 @@
 // The records of a job text in the reader's lists: its lines are taken one after another.
 ghost use mathlib.Core.Path.{_≡_};
 ghost use mathlib.Core.Bool.{_&&_};
-ghost use Prim.Native.Nat.{ℕ, suc, _+_, _-_, _*_, _≤_, _<_, _^_};
+ghost use Prim.Native.Nat.{suc, _+_, _-_, _*_, _≤_, _<_, _^_};
 ghost use lib.Dec.{ltb};
 ghost use lib.ListN.{length, getD, set};
 ghost use Rattle.words.specs.Regions.{Region};
 ghost use Rattle.grammar.specs.Numerals.{limit};
 ghost use Rattle.grammar.specs.Groups.{groupAt, none, mayFollow, rowNumbers};
-ghost use Rattle.grammar.specs.Lines.{meant, lineGroup};
+ghost use Rattle.grammar.specs.Lines.{meant};
 ghost use Rattle.grammar.specs.Text.{numbers, rowWith};
 ghost use Rattle.job_rows.specs.Put.{Meant, Storable, Put, countAt};
 ghost use Rattle.job_rows.specs.Taken.{Reads, Takes, Refuses, accepts, crowds};
-use grammar::Entry;
 use grammar::dash_at;
 use grammar::entry_of;
 use lines::read_line;

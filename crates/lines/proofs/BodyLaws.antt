@@ -1,17 +1,17 @@
 -- A line as its letter and its fields: which of the ways out of the code is which case of the grammar.
-use Prim.Native.Nat.{ℕ, zero, suc, _+_, _-_, _≤_, _<_}
+use Prim.Native.Nat.{ℕ, suc, _-_, _≤_, _<_}
 use native.Mathlib.Omega.{arith}
-use mathlib.Core.Path.{_≡_, refl, ap, sym, subst, _∙_}
+use mathlib.Core.Path.{_≡_, refl, ap, sym, _∙_}
 use mathlib.Core.Bool.{Bool, true, false, cond, _&&_}
-use mathlib.Core.List.{List, [], _∷_, _++_, map}
-use lib.ListN.{length, getD, take, drop, length-take, length-drop}
-use lib.Seq.{take-all, getD-take, length-take-le}
+use mathlib.Core.List.{List, [], _∷_, map}
+use lib.ListN.{length, getD, take, drop}
+use lib.Seq.{getD-take, length-take-le}
 use lib.Dec.{eqb, ltb, leb, ltb→lt}
-use borrow.Author.Tests.{eq-eqb, ne-eqb, lt-ltb, le-ltb, le-leb, lt-leb}
+use borrow.Author.Tests.{eq-eqb, ne-eqb, lt-ltb, le-leb, lt-leb}
 use Rattle.words.proofs.Points.{cut}
 use Rattle.grammar.specs.Numerals.{fieldOf}
 use Rattle.grammar.specs.Groups.{indexOf, groupAt, letters, none}
-use Rattle.grammar.specs.Lines.{comma, newline, parts, letterIn, groupOf, fieldsOf, fits, formed, ended, body, wellFormed, lineGroup}
+use Rattle.grammar.specs.Lines.{comma, newline, parts, groupOf, fieldsOf, fits, formed, ended, body, wellFormed, lineGroup}
 use Rattle.grammar.proofs.PartLaws.{index-within, parts-split, parts-last, parts-more, fits-fewer}
 use Rattle.grammar.proofs.TableLaws.{at}
 use Rattle.lines.specs.Read.{onFront, fieldsIn, FieldsRead, BodyRead, LineRead}
@@ -72,9 +72,6 @@ module _ (b : List ℕ) where
   formed-is : groupOf b < none → formed b ≡ fits (groupAt (groupOf b) .dashes) (fieldsOf b)
   unfolding formed
   formed-is h = rw (lt-ltb (groupOf b) none h)
-
-  never : {A : Type 0} → none < none → A
-  never h = absurd (omega arith)
 
   module _ (out out′ : List ℕ) (kept : length out′ ≡ length out) where
     no-body : formed b ≡ false → BodyRead b out none out′

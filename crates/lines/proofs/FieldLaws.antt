@@ -5,7 +5,7 @@ use native.Mathlib.Numerals.{add-one}
 use mathlib.Core.Path.{_≡_, refl, ap, sym, _∙_}
 use mathlib.Core.Bool.{Bool, true, false, cond}
 use mathlib.Core.List.{List, [], _∷_, _++_, map, append-assoc}
-use lib.ListN.{length, getD, take, drop, set, length-set, length-take, length-map, length-drop, drop-of-length-le}
+use lib.ListN.{length, getD, take, drop, set, length-set, length-drop, drop-of-length-le}
 use lib.Seq.{drop-cons, drop-drop, take-suc, take-all, take-length, set-at, length-take-le}
 use lib.Dec.{eqb, ltb}
 use borrow.Author.Tests.{eq-eqb, ne-eqb, lt-ltb, le-ltb, ltb-true, ltb-false}
@@ -13,7 +13,7 @@ use Rattle.words.proofs.Points.{cut, same}
 use Rattle.grammar.specs.Numerals.{fieldOf, limit}
 use Rattle.grammar.specs.Groups.{indexOf, groupAt}
 use Rattle.grammar.specs.Lines.{comma, parts, meant, fits}
-use Rattle.grammar.proofs.PartLaws.{index-within, partsAfter, parts-split, parts-last, parts-more, fits-head, fits-not, fits-none, fits-more, fits-fewer, getD-step}
+use Rattle.grammar.proofs.PartLaws.{index-within, partsAfter, parts-split, fits-head, fits-not, fits-none, fits-more, fits-fewer, getD-step}
 use Rattle.lines.specs.Read.{onFront, fieldsIn, FieldsRead}
 
 -- ---- a list that is filled from its front

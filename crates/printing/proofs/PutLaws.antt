@@ -7,7 +7,7 @@ use mathlib.Core.Path.{_≡_, refl, ap, sym, subst, _∙_}
 use mathlib.Core.Bool.{Bool, true, false, cond}
 use mathlib.Core.List.{List, [], _∷_, _++_, append-assoc, append-nil}
 use lib.ListN.{length, getD, take, drop, set, length-set, length-append, length-take, drop-of-length-le, length-drop}
-use lib.Seq.{sets, length-sets, take-suc, take-length, drop-cons, set-out, sets-eq, drop-set-lt, getD-set-same, take-all}
+use lib.Seq.{sets, length-sets, take-suc, take-length, drop-cons, set-out, drop-set-lt, getD-set-same, take-all}
 use lib.Dec.{ltb, lit≤}
 use borrow.Author.Tests.{lt-ltb, le-ltb}
 use Rattle.words.specs.Rows.{tabulate, flat}

@@ -1,16 +1,16 @@
 -- A text read piece by piece, and what it is answered where it ends.
-use Prim.Native.Nat.{ℕ, zero, suc, _+_, _-_, _*_, _≤_, _<_, min}
+use Prim.Native.Nat.{ℕ, zero, suc, _+_, _-_, _*_, _≤_, _<_}
 use native.Mathlib.Omega.{arith}
-use native.Mathlib.Nat.{not-suc-le-zero, le-of-suc-le-suc, zero-add}
+use native.Mathlib.Nat.{not-suc-le-zero, le-of-suc-le-suc}
 use native.Mathlib.Numerals.{add-one}
 use native.Mathlib.Decide.{ℕ-discrete}
 use mathlib.Core.Path.{_≡_, refl, ap, sym, subst, _∙_}
 use mathlib.Core.Bool.{Bool, true, false, cond, _&&_, _||_, not}
 use mathlib.Core.List.{List, [], _∷_, _++_, append-assoc, append-nil}
-use lib.ListN.{length, getD, take, drop, length-append, length-take, List·getD-append}
-use lib.Seq.{take-suc, take-length, getD-take}
+use lib.ListN.{length, getD, take, length-append, length-take, List·getD-append}
+use lib.Seq.{take-suc, take-length}
 use lib.Dec.{T, eqb, leb, ltb, lit<, leb·suc-zero}
-use borrow.Author.Tests.{eq-eqb, ne-eqb, lt-ltb, le-ltb, eqb-true, eqb-false, leb-true}
+use borrow.Author.Tests.{eq-eqb, ne-eqb, lt-ltb, le-ltb, eqb-true}
 use Rattle.refusals.specs.declared.Verdict.{Verdict}
 use Rattle.refusals.specs.declared.Refusal.{Refusal}
 use Rattle.refusals.specs.declared.Verdict.the-variants.{Fine, Bad}
@@ -21,16 +21,16 @@ use Rattle.words.specs.Rows.{flat}
 use Rattle.words.specs.Regions.{part}
 use Rattle.words.proofs.RegionLaws.{getD-part}
 use Rattle.words.proofs.Points.{cut}
-use Rattle.grammar.specs.Groups.{groupAt, none, rowNumbers, mayFollow}
+use Rattle.grammar.specs.Groups.{groupAt, none, mayFollow}
 use Rattle.grammar.specs.Lines.{newline, linesOf, groupOf, ended, body, formed, wellFormed, lineGroup, lineFields}
-use Rattle.grammar.specs.Text.{placeBefore, malformed, badLine, linesVerdict, textVerdict, rowsIn, rowWith, operandsAfter, countOf, registers, crowded, tooMany, readVerdict}
+use Rattle.grammar.specs.Text.{placeBefore, malformed, badLine, linesVerdict, rowsIn, rowWith, operandsAfter, countOf, registers, crowded, tooMany, readVerdict}
 use Rattle.grammar.proofs.TableLaws.{at}
 use Rattle.grammar.proofs.RowLaws.{never, group-fits, length-row}
-use Rattle.grammar.proofs.OrderLaws.{soFar, far-bad, far-found, verdict-none, verdict-some, length-more}
+use Rattle.grammar.proofs.OrderLaws.{soFar, far-bad, far-found, verdict-none, verdict-some}
 use Rattle.grammar.proofs.OpenLaws.{follows-of}
 use Rattle.job_rows.specs.declared.Reader.{Reader}
-use Rattle.job_rows.specs.Taken.{Stored, Over, Taken}
-use Rattle.text.specs.Read.{unbroken, Held, Reading, Ready, Records, Feeds, Finishes}
+use Rattle.job_rows.specs.Taken.{Stored}
+use Rattle.text.specs.Read.{unbroken, Reading, Ready, Records, Feeds}
 use Rattle.text.proofs.ByteLaws.{lines-open}
 
 -- ---- a piece, byte by byte

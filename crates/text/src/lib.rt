@@ -1,10 +1,9 @@
 // A job text, read byte by byte through a line buffer: nothing is cut off, and no line is kept but the one that is read.
 ghost use mathlib.Core.Path.{_≡_};
-ghost use mathlib.Core.List.{List, _∷_, [], _++_};
-ghost use Prim.Native.Nat.{ℕ, _+_, _-_, _≤_, _<_, _^_};
-ghost use lib.ListN.{length, getD};
+ghost use mathlib.Core.List.{_∷_, []};
+ghost use Prim.Native.Nat.{_+_, _≤_, _<_};
+ghost use lib.ListN.{length};
 ghost use Rattle.grammar.specs.Groups.{none, rowNumbers};
-ghost use Rattle.job_rows.specs.Taken.{Reads, Takes};
 ghost use Rattle.text.specs.Read.{Reading, Ready, Feeds, Finishes, TextRead};
 use job_rows::Reader;
 use job_rows::malformed;

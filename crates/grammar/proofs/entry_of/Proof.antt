@@ -1,9 +1,6 @@
 -- `entry_of` meets its contract: each array is a column of the table.
 use Rattle.grammar.proofs.TableLaws.{column}
-use native.Mathlib.Omega.{arith}
-use Prim.Native.Nat.{ℕ, suc, _+_, _-_, _*_, _≤_, _<_}
-use mathlib.Core.Path.{_≡_, refl, sym, ap, _∙_}
-use lib.ListN.{length, take, drop, getD, set, length-set}
+use lib.ListN.{length}
 use borrow.Author.Needs.{needs}
 use Rattle.grammar.proofs.entry_of.Statement.{statement}
 use Rattle.grammar.proofs.entry_of.Tie as tie
