@@ -1,5 +1,5 @@
 // Runs `cap_cell` over a lent cell: held to the file `stdout`. `cap` lends its local, and is proved by a walk of its code.
-use queries::Cell;
+use capping::Cell;
 
 fn show(c: Cell) {
     io::write_all(1, b"cap ");
@@ -11,7 +11,7 @@ fn show(c: Cell) {
 
 fn cap(c: Cell, most: u32) {
     let mut cell = c;
-    queries::cap_cell(&mut cell, most);
+    capping::cap_cell(&mut cell, most);
     show(cell);
 }
 

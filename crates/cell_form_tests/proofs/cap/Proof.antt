@@ -38,13 +38,13 @@ use denote.Triple.Spec.{Meets, tripleOf}
 use denote.Triple.Table.{entered, cited}
 use denote.Triple.Walked.{Stays, stay-none, walkOf, AllGo, goes-none, Walks, ends-at, walked, walk-meets}
 use denote.Exit.{yes}
-use Rattle.queries.specs.declared.Cell.{Cell}
-use Rattle.queries.proofs.Cell as T
-use Rattle.queries.proofs.Cell.Laws as T′
-use Rattle.queries.proofs.cap_cell as ca
-use Rattle.queries.proofs.cap_cell.Symbol as ca-def
-use Rattle.queries.proofs.cap_cell.Symbol.{name as #queries·cap-cell}
-use Rattle.queries.proofs.cap_cell.Met as ca-thm
+use Rattle.capping.specs.declared.Cell.{Cell}
+use Rattle.capping.proofs.Cell as T
+use Rattle.capping.proofs.Cell.Laws as T′
+use Rattle.capping.proofs.cap_cell as ca
+use Rattle.capping.proofs.cap_cell.Symbol as ca-def
+use Rattle.capping.proofs.cap_cell.Symbol.{name as #capping·cap-cell}
+use Rattle.capping.proofs.cap_cell.Met as ca-thm
 use Rattle.cell_form_tests.proofs.show as sh
 use Rattle.cell_form_tests.proofs.show.Symbol as sh-def
 use Rattle.cell_form_tests.proofs.show.Symbol.{name as #cell-form-tests·show}
@@ -121,7 +121,7 @@ module _ {M : Type 1} (𝓤 : URA M) (H : Heap 𝓤) (A : Atoms 𝓤) (W : Given
   asks-show : (z : Cell) → Is R z (machine z ∷ []) → ent 𝓤 (sem 𝓤 H A ftrue) (Show 𝓤 H A at-mem run .pre (to-show z))
   asks-show z gz = qed W (‵ ftrue ∷ []) ∵ owned ! R (Is R) (LL.makes T.the-type T′.the-plain 𝓤 H A) z _ gz $ fjoin ! $ nothing ! $ join ! $ frame ! $ done !
 
-  module _ (C : Calls 𝓤 H) (Λ : Loops 𝓤 H) (fm : FmC 𝓤 H (W .laws) C) (known-caps : Triple 𝓤 (C #queries·cap-cell) (Caps 𝓤 H A at-mem run)) (known-show : Triple 𝓤 (C #cell-form-tests·show) (Show 𝓤 H A at-mem run)) where
+  module _ (C : Calls 𝓤 H) (Λ : Loops 𝓤 H) (fm : FmC 𝓤 H (W .laws) C) (known-caps : Triple 𝓤 (C #capping·cap-cell) (Caps 𝓤 H A at-mem run)) (known-show : Triple 𝓤 (C #cell-form-tests·show) (Show 𝓤 H A at-mem run)) where
     walk : ent 𝓤 (onEntry 𝓤 H A f.signature tt tt x at) (WpFn 𝓤 H C Λ code.function (machine h ∷ vint w32 most ∷ []) Post)
     walk =
         qed W (‵ ftrue ∷ ‵ (owns (R ∷ u32 ∷ []) x at) ∷ []) ∵ move ! (1 ∷ []) $ fsplit ! $ peeks ! R (Is R) (shows 𝓤 H A R) h (machine h ∷ []) (λ g₀. keep ! (2 ∷ []) $
@@ -155,7 +155,7 @@ module _ {M : Type 1} (𝓤 : URA M) (H : Heap 𝓤) (A : Atoms 𝓤) (W : Given
         keep ! (3 ∷ []) $ by ! (exits g₀)))))))))))))))))))
 
 module _ {M : Type 1} (𝓤 : URA M) (H : Heap 𝓤) (A : Atoms 𝓤) (W : Given 𝓤 H A) (at-mem : Memory → SProp 𝓤) (run : Routine → Fun 𝓤) where
-  cap-walks : (C : Calls 𝓤 H) (Λ : Loops 𝓤 H) → FmC 𝓤 H (W .laws) C → Triple 𝓤 (C #queries·cap-cell) (Caps 𝓤 H A at-mem run) → Triple 𝓤 (C #cell-form-tests·show) (Show 𝓤 H A at-mem run)
+  cap-walks : (C : Calls 𝓤 H) (Λ : Loops 𝓤 H) → FmC 𝓤 H (W .laws) C → Triple 𝓤 (C #capping·cap-cell) (Caps 𝓤 H A at-mem run) → Triple 𝓤 (C #cell-form-tests·show) (Show 𝓤 H A at-mem run)
       → Walks 𝓤 H A f.ended stayed (WpFn 𝓤 H C Λ code.function) (f.clauses 𝓤 H A at-mem run)
   cap-walks C Λ fm known-caps known-show = walked 𝓤 H A f.ended stayed (f.clauses 𝓤 H A at-mem run) (WpFn 𝓤 H C Λ code.function) (λ κs. (LL.vals T.the-type T′.the-laws, (uint-vals w32, tt))) (λ κs. (LL.tells T.the-type T′.the-laws, (uint-tells w32, tt)))
       (λ κs qs bounds a _ are. via 𝓤 _ (fst∗ 𝓤 _ (emp 𝓤)) (walk 𝓤 H A W at-mem run (a .0) (a .1 .0) (are .1 .0 .1) C Λ fm known-caps known-show))
@@ -164,7 +164,7 @@ module _ {M : Type 1} (𝓤 : URA M) (H : Heap 𝓤) (A : Atoms 𝓤) (W : Given
   goes = (goes-none 𝓤 H A W 0 (λ _. R) yes (λ κs x f. refl), (goes-none 𝓤 H A W 0 (λ _. u32) yes (λ κs x f. refl), tt))
 
 cap-meets : {M : Type 1} (𝓤 : URA M) (H : Heap 𝓤) (A : Atoms 𝓤) (W : Given 𝓤 H A) (at-mem : Memory → SProp 𝓤) (run : Routine → Fun 𝓤) (𝓣 : Tables 𝓤 H)
-    → Triple 𝓤 (𝓣 .C #queries·cap-cell) (Caps 𝓤 H A at-mem run) → Triple 𝓤 (𝓣 .C #cell-form-tests·show) (Show 𝓤 H A at-mem run)
+    → Triple 𝓤 (𝓣 .C #capping·cap-cell) (Caps 𝓤 H A at-mem run) → Triple 𝓤 (𝓣 .C #cell-form-tests·show) (Show 𝓤 H A at-mem run)
     → Meets 𝓤 H A f.signature (WpFn 𝓤 H (𝓣 .C) (𝓣 .Λ) code.function) (f.spec 𝓤 H A at-mem run)
 cap-meets 𝓤 H A W at-mem run 𝓣 known-caps known-show = walk-meets 𝓤 H A f.ended stayed W (goes 𝓤 H A W at-mem run) (f.clauses 𝓤 H A at-mem run) (WpFn 𝓤 H (𝓣 .C) (𝓣 .Λ) code.function) (WpFn-mono 𝓤 H (W .laws) 𝓣 code.function) (cap-walks 𝓤 H A W at-mem run (𝓣 .C) (𝓣 .Λ) (fmOf 𝓤 H (W .laws) 𝓣) known-caps known-show)
 
@@ -174,5 +174,5 @@ cap-spec 𝓤 H 𝓜 𝓖 𝓡 =
     entered 𝓤 H (tripleOf 𝓤 H (𝓖 .A) f.signature (f.spec 𝓤 H (𝓖 .A) (𝓜 .mem) (𝓡 .run)))
     (tables 𝓤 H 𝓜 𝓡 code.env .C) (tables 𝓤 H 𝓜 𝓡 code.env .Λ) #cell-form-tests·cap code.function (code.unfolded 𝓤 H 𝓜 𝓡)
     (cap-meets 𝓤 H (𝓖 .A) (givenOf 𝓤 H 𝓜 𝓖) (𝓜 .mem) (𝓡 .run) (tablesOf 𝓤 H 𝓜 (tables 𝓤 H 𝓜 𝓡 code.env))
-    (cited 𝓤 H (Caps 𝓤 H (𝓖 .A) (𝓜 .mem) (𝓡 .run)) 𝓜 𝓡 code.env #queries·cap-cell ca-def.routine code.calls-queries·cap-cell (ca-thm.met 𝓤 H 𝓜 𝓖 𝓡))
+    (cited 𝓤 H (Caps 𝓤 H (𝓖 .A) (𝓜 .mem) (𝓡 .run)) 𝓜 𝓡 code.env #capping·cap-cell ca-def.routine code.calls-capping·cap-cell (ca-thm.met 𝓤 H 𝓜 𝓖 𝓡))
     (cited 𝓤 H (Show 𝓤 H (𝓖 .A) (𝓜 .mem) (𝓡 .run)) 𝓜 𝓡 code.env #cell-form-tests·show sh-def.routine code.calls-cell-form-tests·show (sh-thm.met 𝓤 H 𝓜 𝓖 𝓡)))
