@@ -1,14 +1,14 @@
 -- Lines of a plan's text, one after another, and how long they are.
-use Prim.Native.Nat.{ℕ, zero, suc, _+_, _-_, _*_, _≤_, _<_}
+use Prim.Native.Nat.{ℕ, zero, suc, _+_, _*_, _≤_, _<_}
 use native.Mathlib.Omega.{arith}
 use native.Mathlib.Nat.{mul-suc}
-use mathlib.Core.Path.{_≡_, refl, ap, sym, subst, _∙_}
-use mathlib.Core.List.{List, [], _∷_, _++_, map}
-use lib.ListN.{length, getD, length-append}
+use mathlib.Core.Path.{_≡_, ap, subst, _∙_}
+use mathlib.Core.List.{List, [], _∷_}
+use lib.ListN.{length, length-append}
 use Rattle.words.specs.Rows.{tabulate, flat}
 use Rattle.printing.specs.Puts.{Puts}
 use Rattle.printing.specs.Lines.{fieldsText, lineText}
-use Rattle.printing.proofs.PutLaws.{fields-length, rows-none, rows-more, puts-as, puts-none}
+use Rattle.printing.proofs.PutLaws.{fields-length, rows-none, rows-more, puts-as}
 use native.Mathlib.Numerals.{add-one}
 
 pub line-length : (letter : ℕ) (ns : List ℕ) → length ns ≤ 4 → length (lineText letter ns) ≤ 128

@@ -1,34 +1,31 @@
 -- The text of a whole plan, and what is answered.
-use Prim.Native.Nat.{ℕ, zero, suc, _+_, _-_, _*_, _≤_, _<_}
+use Prim.Native.Nat.{ℕ, _+_, _*_, _≤_, _<_}
 use native.Mathlib.Omega.{arith}
 use native.Mathlib.Nat.{zero-add}
 use mathlib.Core.Path.{_≡_, refl, ap, sym, subst, _∙_}
 use mathlib.Core.Bool.{Bool, true, false, cond, not, _||_}
 use mathlib.Core.Option.{Option}
-use mathlib.Core.List.{List, [], _∷_, _++_}
+use mathlib.Core.List.{List, [], _++_}
 use lib.ListN.{length, drop}
-use lib.Seq.{sets, sets-eq}
-use lib.Dec.{ltb, lit≤}
+use lib.Seq.{sets-eq}
+use lib.Dec.{lit≤}
 use borrow.Author.Tests.{ltb-false, lt-ltb, le-ltb}
 use Rattle.refusals.specs.declared.Verdict.{Verdict}
 use Rattle.refusals.specs.declared.Verdict.the-variants.{Fine, Bad}
 use Rattle.refusals.specs.declared.Refusal.{Refusal}
-use Rattle.refusals.specs.declared.Refusal.the-variants.{Count, Space}
+use Rattle.refusals.specs.declared.Refusal.the-variants.{Space}
 use Rattle.refusals.specs.Verdicts.{numberOf, first, check}
-use Rattle.refusals.specs.Outcomes.{Outcome, given, refused, unless, after}
+use Rattle.refusals.specs.Outcomes.{Outcome, given, refused, unless}
 use Rattle.words.specs.Rows.{rowCount, wholeRows}
 use Rattle.ranges.specs.declared.Range.{Range}
 use Rattle.fitting.specs.Queries.{slotsOf, shared, areasOf}
 use Rattle.queries.specs.Shares.{SharedBy, shareOf, badAreas, sharedVerdict}
 use Rattle.queries.specs.declared.Share.{Share}
 use Rattle.queries.specs.declared.Share.the-variants.{Part, Absent, Refused}
-use Rattle.queries.proofs.QueryLaws.{Sound}
 use Rattle.queries.proofs.ShareLaws.{parts-areas, shared-sound}
 use Rattle.printing.specs.Puts.{Puts}
-use Rattle.printing.specs.Lines.{lineText}
-use Rattle.plan_text.specs.declared.Written.{Written}
 use Rattle.plan_text.specs.declared.Written.the-variants.{Bytes, Refused as WrittenRefused}
-use Rattle.plan_text.specs.Printed.{cellLine, cellLines, itemLine, itemLines, printed, refusalText, printVerdict, Alike, writtenOf, counted, PrintedTo, planText, noText}
+use Rattle.plan_text.specs.Printed.{cellLine, cellLines, itemLine, itemLines, printed, refusalText, printVerdict, Alike, PrintedTo, planText, noText}
 use Rattle.plan_text.proofs.LineLaws.{line-length, rows-length}
 
 -- ---- a plan that is not refused

@@ -1,14 +1,13 @@
 -- What `shared` answers of a local, as lines.
-use Prim.Native.Nat.{ℕ, zero, suc, _+_, _-_, _*_, _≤_, _<_}
+use Prim.Native.Nat.{ℕ, _+_, _-_, _≤_}
 use native.Mathlib.Omega.{arith}
-use mathlib.Core.Path.{_≡_, refl, ap, sym, subst, _∙_}
-use mathlib.Core.Option.{Option, some, none}
-use mathlib.Core.List.{List, [], _∷_, _++_, map, append-nil}
-use lib.ListN.{length, getD, take, drop}
+use mathlib.Core.Path.{_≡_, ap, sym, subst, _∙_}
+use mathlib.Core.List.{List, [], map}
+use lib.ListN.{take, drop}
 use Rattle.refusals.specs.declared.Verdict.{Verdict}
 use Rattle.refusals.specs.declared.Verdict.the-variants.{Fine}
 use Rattle.refusals.specs.declared.Refusal.{Refusal}
-use Rattle.refusals.specs.Outcomes.{Outcome, given, refused, unless}
+use Rattle.refusals.specs.Outcomes.{Outcome, given, unless}
 use Rattle.words.specs.Rows.{tabulate, rowCount, field, flat}
 use Rattle.words.proofs.RowLaws.{take-tabulate, drop-tabulate, map-tabulate}
 use Rattle.ranges.specs.declared.Range.{Range}

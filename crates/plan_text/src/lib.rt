@@ -1,14 +1,12 @@
 // The text of a plan, or of a refusal, written into a lent list.
 ghost use mathlib.Core.Path.{_≡_};
-ghost use mathlib.Core.List.{_++_};
 ghost use Prim.Native.Nat.{_+_, _-_, _≤_, _<_};
 ghost use lib.ListN.{length};
 ghost use Rattle.refusals.specs.declared.Verdict.the-variants.{Fine};
-ghost use Rattle.words.specs.Rows.{rowCount, field, tabulate, flat};
+ghost use Rattle.words.specs.Rows.{rowCount, tabulate, flat};
 ghost use Rattle.queries.specs.Shares.{sharedVerdict};
 ghost use Rattle.printing.specs.Puts.{Puts};
-ghost use Rattle.printing.specs.Lines.{lineText};
-ghost use Rattle.plan_text.specs.Printed.{cellLines, itemLines, rowLine, sharedLines, totalLine, printed, refusalText, Alike, PrintedTo, planText, noText};
+ghost use Rattle.plan_text.specs.Printed.{cellLines, itemLines, rowLine, sharedLines, printed, Alike, PrintedTo, planText, noText};
 use printing::put_line;
 use queries::Share;
 use queries::shared;
