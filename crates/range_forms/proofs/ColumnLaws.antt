@@ -6,19 +6,18 @@ use Prim.Native.Nat.{ℕ, suc, _+_, _≤_, _<_}
 use native.Mathlib.Omega.{arith}
 use native.Mathlib.Nat.{min-eq-left}
 use lib.ListN.{length, getD, set, take, length-map}
-use lib.Dec.{ltb}
-use borrow.Author.Tests.{lt-ltb, le-ltb}
+use borrow.Author.Tests.{lt-ltb, le-ltb, eq-eqb}
 use Rattle.words.proofs.Points.{stored, cut}
 use Rattle.refusals.specs.declared.Verdict.{Verdict}
-use Rattle.refusals.specs.Outcomes.{refused, unless}
+use Rattle.refusals.specs.Outcomes.{Outcome, refused, unless}
 use Rattle.ranges.specs.declared.Range.{Range}
 use Rattle.ranges.specs.Points.{rangeAt}
 use Rattle.ranges.specs.Forms.{starts, ends, columns}
 use Rattle.ranges.specs.Merged.{clashes}
-use Rattle.range_checks.specs.Verdicts.{badList, uneven, pairVerdict, entryVerdict}
+use Rattle.range_checks.specs.Verdicts.{badList, pairVerdict, entryVerdict}
 use Rattle.range_checks.proofs.VerdictLaws.{entry-count, or-true, or-left}
 use Rattle.range_entries.specs.Entries.{clashesOf as columnsClash}
-use Rattle.range_forms.specs.Lent.{clashesOf}
+use Rattle.range_forms.specs.Lent.{overLimit, clashesOf}
 use Rattle.range_forms.specs.Inner.{pointOf, Filled, Column, clashesOver}
 
 module _ (t : Bool) (rs : List Range) (c : List ℕ) where
@@ -56,14 +55,16 @@ unfolding Filled
 column-is t rs c len l f = taken t rs c (omega arith) (λ i h. f i (subst (λ (k : ℕ). i < k) (sym (min-eq-left l)) h))
 
 -- a list over the limit
-over-limit : (ss es : List ℕ) → 65536 < length ss → badList ss es ≡ true
-over-limit ss es h = or-true (uneven (length ss) (length es)) (ltb 65536 (length ss)) (lt-ltb 65536 (length ss) h)
-
 counted-out : (c d : Bool) (v : Verdict) → c ≡ true → refused 1 0 ≡ unless (entryVerdict c false v) d
 counted-out c d v h = ap (λ (w : Verdict). unless w d) (entry-count c false v h)
 
-long : (rs : List Range) → 65536 < length rs → badList (starts rs) (ends rs) ≡ true
-long rs h = over-limit (starts rs) (ends rs) (subst (λ (k : ℕ). 65536 < k) (sym (length-map rs (λ (r : Range). r .start))) h)
+-- the columns of a list are the list
+columns-again : (rs : List Range) → columns (starts rs) (ends rs) ≡ rs
+columns-again [] = refl
+columns-again (r ∷ rs) = ap (λ (l : List Range). r ∷ l) (columns-again rs)
+
+bad-list : (rs : List Range) → badList (starts rs) (ends rs) ≡ overLimit rs
+bad-list rs = rw (length-map rs (λ (r : Range). r .start), length-map rs (λ (r : Range). r .end), eq-eqb (length rs) (length rs) refl)
 
 module _ (rs ss : List Range) where
   abbrev one : List Range
@@ -72,13 +73,22 @@ module _ (rs ss : List Range) where
   abbrev two : List Range
   two = columns (starts ss) (ends ss)
 
+  abbrev answer : Bool → Bool → List Range → List Range → Outcome Bool
+  answer x y r s = unless (entryVerdict (x || y) false (pairVerdict true r s)) (clashes r s)
+
+  by-columns : columnsClash (starts rs) (ends rs) (starts ss) (ends ss) ≡ clashesOf rs ss
+  unfolding clashesOf
+  by-columns =
+      ap (λ (x : Bool). answer x (badList (starts ss) (ends ss)) one two) (bad-list rs) ∙ ap (λ (y : Bool). answer (overLimit rs) y one two) (bad-list ss)
+      ∙ ap (λ (r : List Range). answer (overLimit rs) (overLimit ss) r two) (columns-again rs) ∙ ap (λ (s : List Range). answer (overLimit rs) (overLimit ss) rs s) (columns-again ss)
+
   first-over : 65536 < length rs → refused 1 0 ≡ clashesOf rs ss
   unfolding clashesOf
-  first-over h = counted-out (badList (starts rs) (ends rs) || badList (starts ss) (ends ss)) (clashes one two) (pairVerdict true one two) (or-left (badList (starts rs) (ends rs)) (badList (starts ss) (ends ss)) (long rs h))
+  first-over h = counted-out (overLimit rs || overLimit ss) (clashes rs ss) (pairVerdict true rs ss) (or-left (overLimit rs) (overLimit ss) (lt-ltb 65536 (length rs) h))
 
   second-over : 65536 < length ss → refused 1 0 ≡ clashesOf rs ss
   unfolding clashesOf
-  second-over h = counted-out (badList (starts rs) (ends rs) || badList (starts ss) (ends ss)) (clashes one two) (pairVerdict true one two) (or-true (badList (starts rs) (ends rs)) (badList (starts ss) (ends ss)) (long ss h))
+  second-over h = counted-out (overLimit rs || overLimit ss) (clashes rs ss) (pairVerdict true rs ss) (or-true (overLimit rs) (overLimit ss) (lt-ltb 65536 (length ss) h))
 
 -- what is taken of a list by `column`
 pub record Apart (rs : List Range) (s e : List ℕ) : Type 0 where
@@ -89,8 +99,8 @@ pub record Apart (rs : List Range) (s e : List ℕ) : Type 0 where
 
 module _ (rs ss : List Range) (s e t f : List ℕ) (a : Apart rs s e) (b : Apart ss t f) where
   both-within : length rs ≤ 65536 → length ss ≤ 65536 → columnsClash (take (length rs) s) (take (length rs) e) (take (length ss) t) (take (length ss) f) ≡ clashesOf rs ss
-  unfolding clashesOf
-  both-within h l = rw (column-is false rs s (a .starts-long) h (a .in-starts), column-is true rs e (a .ends-long) h (a .in-ends), column-is false ss t (b .starts-long) l (b .in-starts), column-is true ss f (b .ends-long) l (b .in-ends))
+  both-within h l =
+      rw (column-is false rs s (a .starts-long) h (a .in-starts), column-is true rs e (a .ends-long) h (a .in-ends), column-is false ss t (b .starts-long) l (b .in-starts), column-is true ss f (b .ends-long) l (b .in-ends)) (by-columns rs ss)
 
   pub over-lists : clashesOver s e (length rs) t f (length ss) ≡ clashesOf rs ss
   over-lists =

@@ -1,18 +1,16 @@
 -- Document 01, "The form for each place": the range functions over ranges that are lent as structs.
 use Prim.Native.Nat.{ℕ}
 use mathlib.Core.Path.{_≡_}
-use mathlib.Core.Bool.{Bool, false}
+use mathlib.Core.Bool.{Bool, true, false, _||_}
 use mathlib.Core.List.{List, [], _∷_}
 use lib.ListN.{length}
-use lib.Dec.{eqb}
+use lib.Dec.{eqb, ltb}
 use Rattle.refusals.specs.Verdicts.{numberOf}
 use Rattle.refusals.specs.Outcomes.{Outcome, given, refused, unless}
 use Rattle.ranges.specs.declared.Range.{Range}
 use Rattle.ranges.specs.Points.{rangeAt}
-use Rattle.ranges.specs.Merged.{joined}
-use Rattle.ranges.specs.Forms.{starts, ends}
-use Rattle.range_checks.specs.Verdicts.{pairVerdict}
-use Rattle.range_entries.specs.Entries.{clashesOf as columnsClash}
+use Rattle.ranges.specs.Merged.{joined, clashes}
+use Rattle.range_checks.specs.Verdicts.{pairVerdict, entryVerdict}
 use Rattle.range_forms.specs.declared.TakenUp.{TakenUp}
 use Rattle.range_forms.specs.declared.TakenUp.the-variants.{Is, Refused}
 
@@ -40,6 +38,10 @@ pub record Joins (last new : Range) (r : TakenUp) (last′ : Range) : Type 0 whe
   pub answer : taking r ≡ takenUp (joinedOf last new)
   pub in-last : last′ ≡ lastAfter (joinedOf last new) last
 
--- "a thin entry that reads two lent lists of ranges": what the test over columns answers for the columns of the two lists
+-- number 1: a list lent that is over its limit
+abbrev pub overLimit : List Range → Bool
+overLimit rs = ltb 65536 (length rs)
+
+-- "a thin entry that reads two lent lists of ranges": `clashes` of the two lists, refused as over columns
 unfoldable pub clashesOf : List Range → List Range → Outcome Bool
-clashesOf rs ss = columnsClash (starts rs) (ends rs) (starts ss) (ends ss)
+clashesOf rs ss = unless (entryVerdict (overLimit rs || overLimit ss) false (pairVerdict true rs ss)) (clashes rs ss)
