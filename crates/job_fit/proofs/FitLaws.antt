@@ -1,0 +1,103 @@
+-- The loaded tables hold the wants of the items, so what fitting leaves is their plan.
+use Prim.Native.Nat.{ℕ, _+_, _-_, _*_, _/_, _%_, _^_, _≤_, _<_}
+use native.Mathlib.Omega.{arith}
+use native.Mathlib.Nat.{add-zero}
+use mathlib.Core.Path.{_≡_, refl, sym, ap, subst, _∙_}
+use mathlib.Core.Logic.{_⊎_, inl, inr}
+use mathlib.Core.Bool.{Bool, true, false, cond}
+use mathlib.Core.Option.{Option, some, none}
+use mathlib.Core.List.{List}
+use lib.ListN.{length, getD}
+use lib.Dec.{ltb}
+use borrow.Author.Tests.{lt-ltb, le-ltb}
+use Rattle.words.specs.Rows.{rowCount, field, tabulate}
+use Rattle.words.specs.Regions.{Region}
+use Rattle.words.proofs.RowLaws.{tabulate-eq}
+use Rattle.words.proofs.RegionLaws.{region-next}
+use Rattle.ranges.specs.declared.Range.{Range}
+use Rattle.ranges.specs.Points.{Apart}
+use Rattle.graph.specs.Work.{Within}
+use Rattle.fitting.specs.Wants.{Want, orderOf}
+use Rattle.fitting.specs.Plan.{Plan, planOf, depthOf}
+use Rattle.order.specs.Keys.{sizeOf, alignOf}
+use Rattle.cell_tables.specs.declared.Counts.{Counts}
+use Rattle.cell_tables.specs.Tables.{areaIn, wantIn, wantsIn, planIn, Lent, Shown, Fitted}
+use Rattle.area_measure.specs.Locals.{wordOf, ListedBy}
+use Rattle.job_areas.specs.Areas.{listing}
+use Rattle.job_fit.specs.Wants.{countOf, sizeAt, alignAt, localWord, slotWord, wantWord, wantFor, wantsFor, planFor, Ready, Holds, FittedFor}
+use Rattle.job_fit.proofs.AreaLaws.{area-is, proper-is, listed-kept}
+
+-- ---- the wants' table
+
+pub local-word : (locals : List ℕ) (i : ℕ) → getD locals (2 * i) 0 * 2 ^ 32 + getD locals (2 * i + 1) 0 ≡ localWord locals i
+local-word locals i = ap (λ (k : ℕ). getD locals k 0 * 2 ^ 32 + getD locals (2 * i + 1) 0) (sym (add-zero (2 * i)))
+
+module _ (locals slots : List ℕ) where
+  local-want : (i : ℕ) → i < rowCount 2 locals → localWord locals i ≡ wantWord locals slots i
+  local-want i h = simp (lt-ltb i (rowCount 2 locals) h)
+
+  slot-want : (i : ℕ) → slotWord slots i ≡ wantWord locals slots (rowCount 2 locals + i)
+  slot-want i =
+      let e : rowCount 2 locals + i - rowCount 2 locals ≡ i = omega arith in
+      simp (le-ltb (rowCount 2 locals + i) (rowCount 2 locals) (omega arith), e)
+
+  pub both-loaded : {w₀ w₁ w₂ : List ℕ} {at bt : ℕ} → Region w₀ w₁ at (rowCount 2 locals) (localWord locals) → Region w₁ w₂ bt (length slots) (slotWord slots) → bt ≡ at + rowCount 2 locals
+      → Region w₀ w₂ at (rowCount 2 locals + length slots) (wantWord locals slots)
+  both-loaded {w₀} {w₁} {w₂} {at} {bt} R S e =
+      region-next {w₀ = w₀} {w₁ = w₁} {w₂ = w₂} {at = at} {n = rowCount 2 locals} {f = wantWord locals slots} {bt = bt} {m = length slots} (record { len = R .len; inside = λ x i q h. R .inside x i q h ∙ local-want i h; before = R .before; after = R .after })
+      (record { len = S .len; inside = λ x i q h. S .inside x i q h ∙ slot-want i; before = S .before; after = S .after }) e _ refl
+
+  module _ (narrow : (x : ℕ) → getD locals x 0 < 2 ^ 32) (thin : (x : ℕ) → getD slots x 0 < 2 ^ 32) where
+    align-small : (i : ℕ) → alignAt locals slots i < 2 ^ 32
+    align-small i = go (ltb i (rowCount 2 locals))
+      where
+        go : (t : Bool) → cond t (field 2 locals i 1) (getD slots (i - rowCount 2 locals) 0) < 2 ^ 32
+        go true = narrow (2 * i + 1)
+        go false = thin (i - rowCount 2 locals)
+
+    size-is : (x i : ℕ) → x ≡ wantWord locals slots i → sizeOf x ≡ sizeAt locals slots i
+    size-is x i e = let l = align-small i in ap sizeOf e ∙ omega arith
+
+    align-is : (x i : ℕ) → x ≡ wantWord locals slots i → alignOf x ≡ alignAt locals slots i
+    align-is x i e = let l = align-small i in ap alignOf e ∙ omega arith
+
+    -- ---- the plan
+
+    module _ {room : ℕ} {w₀ w₁ : List ℕ} (R : Region w₀ w₁ (room + countOf locals slots) (countOf locals slots) (wantWord locals slots)) (space : room + 2 * countOf locals slots ≤ length w₀) (short : room ≤ 65536) where
+      module _ {A : ℕ → Option (List Range)} {total : ℕ} (D : ListedBy wordOf (listing room room) A (countOf locals slots) total w₀) (fits : total ≤ room) where
+        listed-there : ListedBy wordOf (listing room room) A (countOf locals slots) total w₁
+        listed-there = listed-kept D fits (omega arith) w₁ (R .len) (λ x h. R .before x h)
+
+        want-is : (i : ℕ) → i < countOf locals slots → wantIn w₁ 0 room (countOf locals slots) i ≡ wantFor locals slots A i
+        want-is i h =
+            let x = R .inside (room + countOf locals slots + i) i refl h in
+            let a = size-is _ i x in
+            let b = align-is _ i x in
+            let c = area-is listed-there fits (omega (arith, R .len)) short i h in
+            cc
+
+        pub wants-are : wantsIn w₁ 0 room (countOf locals slots) ≡ wantsFor locals slots A
+        wants-are = tabulate-eq (countOf locals slots) (wantIn w₁ 0 room (countOf locals slots)) (wantFor locals slots A) want-is
+
+      module _ {end budget : ℕ} {w : List ℕ} {r : Counts} (inside : room + 8 * countOf locals slots ≤ end) (F : Fitted w₁ w 0 room (countOf locals slots) end budget r) where
+        holds : (A : ℕ → Option (List Range)) (total : ℕ) → ListedBy wordOf (listing room room) A (countOf locals slots) total w₀ → total ≤ room
+            → Holds (planFor locals slots A budget) (countOf locals slots) room w r
+        holds A total D fits =
+            subst (λ (ws : List Want). Holds (planOf ws budget (orderOf ws)) (countOf locals slots) room w r) (wants-are D fits)
+            (record { cells = F .cells; probes = F .probes; depth = F .depth; shown = F .shown })
+
+        pub fitted-for : FittedFor locals slots budget room end w₀ w r
+        fitted-for = record {
+          kept = record { len = F .len ∙ R .len; below = λ i h. absurd (omega arith); past = λ i h. F .rest i (inr h) ∙ R .after i (omega arith) };
+          few = F .few;
+          plan = holds;
+          listed = λ A total D fits. listed-kept D fits (omega arith) w (F .len ∙ R .len) (λ x h. F .rest x (inl (omega arith)) ∙ R .before x h);
+        }
+
+      -- what fitting asks
+      pub lent : {end : ℕ} → Ready (countOf locals slots) room end w₀ → Lent w₁ 0 room (countOf locals slots)
+      lent N = record {
+        few = N .few;
+        room = omega (arith, R .len, N .space, N .inside);
+        proper = λ i h q. proper-is (listed-there (N .listed) (N .fits)) (N .fits) (omega (arith, R .len)) short i h (N .apart i) q;
+      }
