@@ -10,7 +10,7 @@ pub fn count(case: &Case) -> usize {
     2 + case.columns[5].len() / 2
 }
 
-fn mentions(rows: &[u32]) -> Vec<(Inst, usize)> {
+pub fn mentions(rows: &[u32]) -> Vec<(Inst, usize)> {
     rows.chunks(2).map(|m| (Inst(m[0]), m[1] as usize)).collect()
 }
 
@@ -65,28 +65,53 @@ fn inst(r: &mut Random, v: u32, blocks: &[u32], insts: &mut Vec<u32>, operands: 
     operands.extend(own);
 }
 
-/// Up to 5 locals in up to 11 instructions: small enough that every rule is met often.
-pub fn random(r: &mut Random) -> String {
-    let v = if r.one_in(8) { 60 + r.below(10) } else { 1 + r.below(5) };
-    let (blocks, points) = r.line(3);
-    let (mut insts, mut operands) = (Vec::new(), Vec::new());
-    for _ in 0..r.below(12) {
-        inst(r, v, &blocks, &mut insts, &mut operands);
+/// The records that addresses are followed in.
+pub struct Code {
+    pub v: u32,
+    pub points: u32,
+    pub blocks: Vec<u32>,
+    pub insts: Vec<u32>,
+    pub operands: Vec<u32>,
+    pub crossings: Vec<u32>,
+    pub locals: u32,
+    pub addresses: Vec<u32>,
+    pub ends: Vec<u32>,
+}
+
+impl Code {
+    /// Up to 5 locals in up to 11 instructions: small enough that every rule is met often.
+    pub fn random(r: &mut Random, most: u32) -> Self {
+        let v = if r.one_in(8) { 60 + r.below(10) } else { 1 + r.below(5) };
+        let (blocks, points) = r.line(most);
+        let (mut insts, mut operands) = (Vec::new(), Vec::new());
+        for _ in 0..r.below(12) {
+            inst(r, v, &blocks, &mut insts, &mut operands);
+        }
+        let crossings = (0..r.below(6).saturating_sub(3)).map(|_| r.below(v + 2)).collect();
+        let locals = r.below(6);
+        let mut code = Self { v, points, blocks, insts, operands, crossings, locals, addresses: Vec::new(), ends: Vec::new() };
+        let (all, placed) = ((0..code.insts.len() as u32 / 9).collect::<Vec<_>>(), code.placed());
+        let leas: Vec<u32> = placed.iter().copied().filter(|&i| code.insts[9 * i as usize + 4] == 1).collect();
+        let among = if r.one_in(3) { &placed } else { &leas };
+        code.addresses = some(r, among, locals);
+        code.ends = some(r, &all, locals);
+        code
     }
-    let crossings = (0..r.below(6).saturating_sub(3)).map(|_| r.below(v + 2)).collect();
-    let locals = r.below(6);
-    let rows: Vec<u32> = (0..insts.len() as u32 / 9).collect();
-    let field = |i: &u32, k: usize| insts[9 * *i as usize + k];
-    let placed: Vec<u32> = rows.iter().copied().filter(|i| field(i, 0) == 1).collect();
-    let leas: Vec<u32> = placed.iter().copied().filter(|i| field(i, 4) == 1).collect();
-    let some = |r: &mut Random, among: &[u32], most: u32| -> Vec<u32> {
-        let count = if among.is_empty() { 0 } else { r.below(most) };
-        (0..count).flat_map(|_| [among[r.below(among.len() as u32) as usize], r.below(locals + 1)]).collect()
-    };
-    let among = if r.one_in(3) { &placed } else { &leas };
-    let addresses = some(r, among, 8);
-    let ends = some(r, &rows, 8);
-    let mut columns = vec![Vec::new(), blocks, insts, operands, crossings, vec![8; 2 * locals as usize], addresses, ends];
-    columns[0] = vec![points, v, 12, space(v, &columns) as u32 + 1];
+
+    pub fn placed(&self) -> Vec<u32> {
+        (0..self.insts.len() as u32 / 9).filter(|&i| self.insts[9 * i as usize] == 1).collect()
+    }
+}
+
+/// Up to 7 rows of one of these instructions and a local, or one past the end.
+fn some(r: &mut Random, among: &[u32], locals: u32) -> Vec<u32> {
+    let count = if among.is_empty() { 0 } else { r.below(8) };
+    (0..count).flat_map(|_| [among[r.below(among.len() as u32) as usize], r.below(locals + 1)]).collect()
+}
+
+pub fn random(r: &mut Random) -> String {
+    let c = Code::random(r, 3);
+    let mut columns = vec![Vec::new(), c.blocks, c.insts, c.operands, c.crossings, vec![8; 2 * c.locals as usize], c.addresses, c.ends];
+    columns[0] = vec![c.points, c.v, 12, space(c.v, &columns) as u32 + 1];
     Case::write("random", &columns)
 }

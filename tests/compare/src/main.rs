@@ -2,6 +2,7 @@
 mod areas;
 mod carry;
 mod cases;
+mod items;
 mod spills;
 
 use cases::{Case, Random};
@@ -17,10 +18,11 @@ struct Program {
     random: fn(&mut Random) -> String,
 }
 
-const PROGRAMS: [Program; 3] = [
+const PROGRAMS: [Program; 4] = [
     Program { name: "carry_tests", count: carry::count, lines: carry::lines, random: carry::random },
     Program { name: "area_tests", count: |_| 1, lines: areas::lines, random: areas::random },
     Program { name: "spill_tests", count: |_| 1, lines: spills::lines, random: spills::random },
+    Program { name: "item_tests", count: |_| 1, lines: items::lines, random: items::random },
 ];
 
 #[derive(Default)]

@@ -1,4 +1,5 @@
-// Takes slots.rs from the path in SLOTS_RS, unchanged, and puts a module behind it through which its private functions can be called.
+// Takes slots.rs from the path in SLOTS_RS, unchanged, and puts a module behind it through which its private functions can be called,
+// and a function that has the text of `share` up to where it fits.
 // Links the static library of the component from the folder in SLOTS_LIB, where that is given.
 use std::{env, fs, path::PathBuf};
 
@@ -36,6 +37,14 @@ pub mod probe {
 }
 "#;
 
+/// The areas that `share` wants, of all locals, then of all slots.
+fn wanted(slots: &str) -> String {
+    let share = slots.split_once("pub fn share(").expect("slots.rs has `share`").1;
+    let (parameters, body) = share.split_once(") -> Self {").expect("`share` answers itself");
+    let body = body.split_once("fit(wants,").expect("`share` ends in `fit`").0;
+    format!("pub fn wanted({parameters}) -> Vec<Option<Vec<Range>>> {{{body}wants.into_iter().map(|want| want.area).collect()\n}}\n")
+}
+
 fn main() {
     println!("cargo:rerun-if-env-changed=SLOTS_RS");
     println!("cargo:rerun-if-env-changed=SLOTS_LIB");
@@ -43,7 +52,7 @@ fn main() {
     println!("cargo:rerun-if-changed={path}");
     let text = fs::read_to_string(&path).expect("slots.rs can be read");
     let out = PathBuf::from(env::var("OUT_DIR").unwrap());
-    fs::write(out.join("slots.rs"), format!("{text}{PROBE}")).unwrap();
+    fs::write(out.join("slots.rs"), format!("{text}{PROBE}{}", wanted(&text))).unwrap();
     let module = format!("#[allow(dead_code, unused)]\n#[path = {:?}]\npub mod slots;\n", out.join("slots.rs"));
     fs::write(out.join("module.rs"), module).unwrap();
     if let Ok(lib) = env::var("SLOTS_LIB") {
