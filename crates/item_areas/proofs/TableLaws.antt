@@ -51,7 +51,7 @@ pub item-some : (x f c : ℕ) → 0 < x → f ≡ (x - 1) / 2 ^ 32 → c ≡ (x 
 item-some x f c h e g = let z : eqb x 0 ≡ false = ne-eqb x 0 (λ y. absurd (omega arith)) in rw (z, e, g)
 
 -- an item's row, by its word
-word-row : (x first : ℕ) (a : Option (List Range)) → x ≡ wordOf first a → rangesIn a < 2 ^ 32 → rowOf x ≡ itemRow first a
+pub word-row : (x first : ℕ) (a : Option (List Range)) → x ≡ wordOf first a → rangesIn a < 2 ^ 32 → rowOf x ≡ itemRow first a
 word-row x first none e h = rw (e)
 word-row x first (some rs) e h =
     let p : (x - 1) / 2 ^ 32 ≡ first = omega arith in
@@ -59,19 +59,19 @@ word-row x first (some rs) e h =
     let z : eqb x 0 ≡ false = ne-eqb x 0 (λ y. absurd (omega arith)) in
     rw (z, p, q) refl
 
-row-long : (first : ℕ) (a : Option (List Range)) → length (itemRow first a) ≡ 3
+pub row-long : (first : ℕ) (a : Option (List Range)) → length (itemRow first a) ≡ 3
 row-long first none = refl
 row-long first (some rs) = refl
 
 module _ (A : ℕ → Option (List Range)) (count room n : ℕ) (w : List ℕ) (D : ListedBy wordOf (listing room room) A count n w) where
-  list-full : room < n → listVerdict count A room ≡ Bad ListWord 0
+  pub list-full : room < n → listVerdict count A room ≡ Bad ListWord 0
   list-full h = ap (check ListWord) (lt-ltb room (rangesOf (tabulate count A)) (omega (arith, D .total-is)))
 
   pub refused-list : room < n → (areas items : List ℕ) → AnsweredBy (listVerdict count A room) count A areas items (Refused ListWord 0) areas items
   refused-list h areas items = rw (list-full h) (record { answer = refl; in-areas = refl; in-items = refl })
 
   module _ (fits : n ≤ room) (few : room ≤ 65536) (in-work : room + count ≤ length w) where
-    list-fine : listVerdict count A room ≡ Fine
+    pub list-fine : listVerdict count A room ≡ Fine
     list-fine = ap (check ListWord) (le-ltb room (rangesOf (tabulate count A)) (omega (arith, D .total-is)))
 
     areas-are : rowsIn w 0 n 0 ≡ areaRows count A

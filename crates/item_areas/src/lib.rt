@@ -14,7 +14,7 @@ use refusals::Refusal;
 use refusals::Verdict;
 
 mod checks; // checks.rt: refusals 1 to 7
-mod tables; // tables.rt: from the items' words into the answer list
+pub mod tables; // tables.rt: from the items' words into the answer list
 
 // How many ranges all areas have, or a refusal with the index of the first offending record.
 pub enum Answer {

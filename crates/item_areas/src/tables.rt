@@ -15,7 +15,7 @@ pub struct Item {
 }
 
 // An item by its word.
-fn part(x: u64) -> Item
+pub fn part(x: u64) -> Item
     ensures { λ r. ⌜ r ≡ itemOf x ⌝ }
 {
     if x == 0 {

@@ -114,7 +114,7 @@ drop-same : (n : ℕ) (v w : List ℕ) → length v ≡ length w → ((x : ℕ) 
 drop-same n v w e f =
     ext-getD 0 (drop n v) (drop n w) (simp length-drop (ap (λ (k : ℕ). k - n) e)) (λ i h. getD-drop n v i 0 ∙ f (n + i) (omega arith) ∙ sym (getD-drop n w i 0))
 
-rows-cells : (cs : List Cell) → flat (map cellRow cs) ≡ flat (tabulate (length cs) (λ i. cellRow (cellAt cs i)))
+pub rows-cells : (cs : List Cell) → flat (map cellRow cs) ≡ flat (tabulate (length cs) (λ i. cellRow (cellAt cs i)))
 rows-cells cs =
     let d : Cell = record { size = 0; align = 0; area = none } in
     ap flat (ap (map cellRow) (sym (tabulate-getD cs d)) ∙ map-tabulate cellRow (length cs) (λ i. getD cs i d))

@@ -7,7 +7,7 @@ use refusals::Refusal;
 use refusals::Verdict;
 
 mod checks; // checks.rt: refusals 1, 7 and 10
-mod tables; // tables.rt: from the lent rows into the work space, and back
+pub mod tables; // tables.rt: from the lent rows into the work space, and back
 
 // A plan's cells, the probes spent and its depth, or a refusal.
 pub enum Fitted {

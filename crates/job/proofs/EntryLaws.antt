@@ -1,0 +1,137 @@
+-- From the areas in the work space to what the entry leaves.
+use Prim.Native.Nat.{ℕ, _+_, _-_, _*_, _/_, _^_, _≤_, _<_}
+use native.Mathlib.Omega.{arith}
+use mathlib.Core.Path.{_≡_, refl, sym, ap, subst, _∙_}
+use mathlib.Core.Bool.{Bool, true, false, cond}
+use mathlib.Core.Option.{Option}
+use mathlib.Core.List.{List, _++_}
+use lib.ListN.{length, getD, drop, replicate, length-replicate}
+use lib.Dec.{ltb}
+use borrow.Author.Tests.{lt-ltb, le-ltb}
+use native.Mathlib.Nat.{mul-le-mul-right}
+use Rattle.refusals.specs.declared.Verdict.the-variants.{Fine, Bad}
+use Rattle.refusals.specs.declared.Refusal.{Refusal}
+use Rattle.refusals.proofs.Laws.{first-fine, first-bad}
+use Rattle.words.specs.Regions.{cleared}
+use Rattle.words.specs.Rows.{rowCount, field, tabulate}
+use Rattle.words.proofs.Points.{cut}
+use Rattle.words.proofs.RowLaws.{length-records, getD-records, tabulate-eq}
+use Rattle.graph.specs.Work.{Within}
+use Rattle.components.proofs.Entries.{cleared-same}
+use Rattle.ranges.specs.declared.Range.{Range}
+use Rattle.reach.specs.Prepared.{wordsOf}
+use Rattle.areas.specs.Job.{Job, Local, localsOf, itemCount, itemArea, listVerdict}
+use Rattle.areas.proofs.ApartLaws.{areas-apart}
+use Rattle.fitting.specs.Wants.{Want, orderOf}
+use Rattle.fitting.specs.Plan.{Plan, planOf}
+use Rattle.area_entries.specs.Entry.{listVerdict as listVerdictOf}
+use Rattle.area_measure.specs.Locals.{wordOf, ListedBy}
+use Rattle.job_checks.specs.declared.Sizes.{Sizes}
+use Rattle.job_checks.specs.Job.{jobOf, sizesOf, spaceOf, Small}
+use Rattle.job_areas.specs.Areas.{listing, Lent, Solved}
+use Rattle.job_fit.specs.Wants.{countOf, sizeAt, alignAt, wantFor, wantsFor, planFor}
+use Rattle.soundness.specs.Demand.{wantOf, wantsOf, jobPlan}
+use Rattle.job.specs.declared.Shared.{Shared}
+use Rattle.job.specs.declared.Shared.the-variants.{Refused}
+use Rattle.job.specs.Entry.{lentVerdict, AnsweredBy, SharedAs}
+use Rattle.job.specs.Inner.{Measured}
+use Rattle.job.proofs.CheckLaws.{Granted}
+
+-- ---- the wants are the job's
+
+abbrev makeLocal : (ℕ → ℕ) → Local
+makeLocal f = record { size = f 0; align = f 1 }
+
+module _ (points v : ℕ) (blocks edges insts operands crossings locals slots addresses ends pieces assigned moves : List ℕ) where
+  many : itemCount (jobOf points v blocks edges insts operands crossings locals slots addresses ends pieces assigned moves) ≡ countOf locals slots
+  many = ap (λ (k : ℕ). k + length slots) (length-records 2 makeLocal locals)
+
+  want-is : (i : ℕ) → wantFor locals slots (itemArea (jobOf points v blocks edges insts operands crossings locals slots addresses ends pieces assigned moves)) i ≡ wantOf (jobOf points v blocks edges insts operands crossings locals slots addresses ends pieces assigned moves) i
+  want-is i = cut (rowCount 2 locals) i
+      (λ h.
+      let l = length-records 2 makeLocal locals in
+      let a = le-ltb i (rowCount 2 locals) h in
+      let b = le-ltb i (length (localsOf locals)) (omega arith) in
+      let s : sizeAt locals slots i ≡ wantOf (jobOf points v blocks edges insts operands crossings locals slots addresses ends pieces assigned moves) i .size = ap (λ (t : Bool). cond t (field 2 locals i 0) (getD slots (i - rowCount 2 locals) 0)) a ∙ ap (λ (k : ℕ). getD slots (i - k) 0) (sym l) ∙ sym (ap (λ (t : Bool). cond t (getD (localsOf locals) i (record { size = 0; align = 0 }) .size) (getD slots (i - length (localsOf locals)) 0)) b) in
+      let t : alignAt locals slots i ≡ wantOf (jobOf points v blocks edges insts operands crossings locals slots addresses ends pieces assigned moves) i .align = ap (λ (t : Bool). cond t (field 2 locals i 1) (getD slots (i - rowCount 2 locals) 0)) a ∙ ap (λ (k : ℕ). getD slots (i - k) 0) (sym l) ∙ sym (ap (λ (t : Bool). cond t (getD (localsOf locals) i (record { size = 0; align = 0 }) .align) (getD slots (i - length (localsOf locals)) 0)) b) in
+      both s t)
+      (λ h.
+      let l = length-records 2 makeLocal locals in
+      let a = lt-ltb i (rowCount 2 locals) h in
+      let b = lt-ltb i (length (localsOf locals)) (omega arith) in
+      let g = getD-records 2 makeLocal locals i (record { size = 0; align = 0 }) h in
+      let s : sizeAt locals slots i ≡ wantOf (jobOf points v blocks edges insts operands crossings locals slots addresses ends pieces assigned moves) i .size = ap (λ (t : Bool). cond t (field 2 locals i 0) (getD slots (i - rowCount 2 locals) 0)) a ∙ ap (λ (k : Local). k .size) (sym g) ∙ sym (ap (λ (t : Bool). cond t (getD (localsOf locals) i (record { size = 0; align = 0 }) .size) (getD slots (i - length (localsOf locals)) 0)) b) in
+      let t : alignAt locals slots i ≡ wantOf (jobOf points v blocks edges insts operands crossings locals slots addresses ends pieces assigned moves) i .align = ap (λ (t : Bool). cond t (field 2 locals i 1) (getD slots (i - rowCount 2 locals) 0)) a ∙ ap (λ (k : Local). k .align) (sym g) ∙ sym (ap (λ (t : Bool). cond t (getD (localsOf locals) i (record { size = 0; align = 0 }) .align) (getD slots (i - length (localsOf locals)) 0)) b) in
+      both s t)
+    where
+      both : {x y z u : ℕ} {o : Option (List Range)} → x ≡ y → z ≡ u → _≡_ {A = Want} (record { size = x; align = z; area = o }) (record { size = y; align = u; area = o })
+      both e f = rw (e, f) refl
+
+  plan-is : (budget : ℕ) → planFor locals slots (itemArea (jobOf points v blocks edges insts operands crossings locals slots addresses ends pieces assigned moves)) budget ≡ jobPlan (jobOf points v blocks edges insts operands crossings locals slots addresses ends pieces assigned moves) budget
+  plan-is budget =
+      ap (λ (ws : List Want). planOf ws budget (orderOf ws))
+      (tabulate-eq (countOf locals slots) (wantFor locals slots (itemArea (jobOf points v blocks edges insts operands crossings locals slots addresses ends pieces assigned moves))) (wantOf (jobOf points v blocks edges insts operands crossings locals slots addresses ends pieces assigned moves)) (λ i h. want-is i) ∙ ap (λ (k : ℕ). tabulate k (wantOf (jobOf points v blocks edges insts operands crossings locals slots addresses ends pieces assigned moves))) (sym many))
+
+-- ---- W is small
+
+words-small : (n : ℕ) → n ≤ 65535 → wordsOf n ≤ 1024
+words-small n h = omega arith
+
+space-small : (z : Sizes) → Small z → (z .room + 8 * (z .locals + z .slots) ≤ spaceOf z) × (spaceOf z < 2 ^ 32)
+space-small z s =
+    let a : wordsOf (z .locals) ≤ 1024 = words-small (z .locals) (omega (arith, s .few-locals)) in
+    let b : wordsOf (z .v) ≤ 1024 = words-small (z .v) (s .registers) in
+    let m : z .blocks * wordsOf (z .locals) ≤ 4096 * wordsOf (z .locals) = mul-le-mul-right (wordsOf (z .locals)) (s .few-blocks) in
+    (omega arith, omega (arith, s .few-blocks, s .few-edges, s .few-insts, s .few-operands, s .few-crossings, s .few-locals, s .few-slots, s .few-addresses, s .few-ends, s .few-pieces, s .few-assigned, s .few-moves, s .few-ranges))
+
+-- ---- the entry
+
+module _ (points v budget : ℕ) (blocks edges insts operands crossings locals slots addresses ends pieces assigned moves cells items areas work : List ℕ) where
+  abbrev space : ℕ
+  space = spaceOf (sizesOf v blocks edges insts operands crossings locals slots addresses ends pieces assigned moves (length areas))
+
+  pub refused-entry : (r : Refusal) (i : ℕ) → lentVerdict points v budget blocks edges insts operands crossings locals slots addresses ends pieces assigned moves (length cells) (length items) (length areas) (length work) ≡ Bad r i
+      → SharedAs points v budget blocks edges insts operands crossings locals slots addresses ends pieces assigned moves cells items areas work (Refused r i) cells items areas work
+  refused-entry r i e = record {
+    lists = rw (first-bad (lentVerdict points v budget blocks edges insts operands crossings locals slots addresses ends pieces assigned moves (length cells) (length items) (length areas) (length work)) (listVerdict (jobOf points v blocks edges insts operands crossings locals slots addresses ends pieces assigned moves) (length areas / 2)) r i e) (record { answer = refl; in-cells = refl; in-items = refl; in-areas = refl });
+    in-work = rw e refl;
+  }
+
+  -- what the answer asks
+  pub asked : {w : List ℕ} {n end : ℕ} → Granted points v blocks edges insts operands crossings locals slots addresses ends pieces assigned moves (length cells) (length items) (length areas) work → Solved points v blocks edges insts operands crossings locals slots addresses ends pieces assigned moves (length areas) work w n → end ≡ space
+      → Measured (countOf locals slots) (length areas / 2) n end (length cells) (length items) w
+  asked {w} {n} {end} G T e =
+      let P = G .lent .passed in
+      let q = space-small (sizesOf v blocks edges insts operands crossings locals slots addresses ends pieces assigned moves (length areas)) (P .small) in
+      record {
+        area = itemArea (jobOf points v blocks edges insts operands crossings locals slots addresses ends pieces assigned moves);
+        listed = subst (λ (k : ℕ). ListedBy wordOf (listing (length areas / 2) (length areas / 2)) (itemArea (jobOf points v blocks edges insts operands crossings locals slots addresses ends pieces assigned moves)) k n w) (many points v blocks edges insts operands crossings locals slots addresses ends pieces assigned moves) (T .listed);
+        apart = areas-apart (jobOf points v blocks edges insts operands crossings locals slots addresses ends pieces assigned moves) (P .checked) (some-block (P .small .some-block));
+        few = omega (arith, P .small .few-locals, P .small .few-slots);
+        short = P .small .few-ranges;
+        in-cells = G .in-cells;
+        in-items = G .in-items;
+        space = rw e (q .0);
+        inside = omega (arith, G .lent .space, T .kept .len);
+        small = rw e (q .1);
+      }
+    where
+      some-block : 0 < rowCount 3 blocks → 0 < length ((jobOf points v blocks edges insts operands crossings locals slots addresses ends pieces assigned moves) .blocks)
+      some-block h = rw (length-records 3 _ blocks) h
+
+  pub answered-entry : lentVerdict points v budget blocks edges insts operands crossings locals slots addresses ends pieces assigned moves (length cells) (length items) (length areas) (length work) ≡ Fine → {r : Shared} {cells′ items′ areas′ w w′ work′ : List ℕ} {n end : ℕ}
+      → Solved points v blocks edges insts operands crossings locals slots addresses ends pieces assigned moves (length areas) work w n
+      → end ≡ space → Within 0 end w w′
+      → ((A : ℕ → Option (List Range)) → ListedBy wordOf (listing (length areas / 2) (length areas / 2)) A (countOf locals slots) n w
+      → AnsweredBy (listVerdictOf (countOf locals slots) A (length areas / 2)) (countOf locals slots) A (planFor locals slots A budget) cells items areas r cells′ items′ areas′)
+      → work′ ≡ cleared end w′ → SharedAs points v budget blocks edges insts operands crossings locals slots addresses ends pieces assigned moves cells items areas work r cells′ items′ areas′ work′
+  answered-entry e {r} {cells′} {items′} {areas′} {w} {w′} {work′} {n} {end} T en K B Z = record {
+    lists = rw (first-fine (lentVerdict points v budget blocks edges insts operands crossings locals slots addresses ends pieces assigned moves (length cells) (length items) (length areas) (length work)) (listVerdict (jobOf points v blocks edges insts operands crossings locals slots addresses ends pieces assigned moves) (length areas / 2)) e) listed-all;
+    in-work = rw e (Z ∙ ap (λ (k : ℕ). cleared k w′) en ∙ cleared-same space w w′ (subst (λ (k : ℕ). Within 0 k w w′) en K) ∙ cleared-same space work w (T .kept) ∙ ap (λ (k : ℕ). replicate space 0 ++ drop k work) (sym (length-replicate space 0)));
+  }
+    where
+      listed-all : AnsweredBy (listVerdict (jobOf points v blocks edges insts operands crossings locals slots addresses ends pieces assigned moves) (length areas / 2)) (itemCount (jobOf points v blocks edges insts operands crossings locals slots addresses ends pieces assigned moves)) (itemArea (jobOf points v blocks edges insts operands crossings locals slots addresses ends pieces assigned moves)) (jobPlan (jobOf points v blocks edges insts operands crossings locals slots addresses ends pieces assigned moves) budget) cells items areas r cells′ items′ areas′
+      listed-all =
+          subst (λ (k : ℕ). AnsweredBy (listVerdictOf k (itemArea (jobOf points v blocks edges insts operands crossings locals slots addresses ends pieces assigned moves)) (length areas / 2)) k (itemArea (jobOf points v blocks edges insts operands crossings locals slots addresses ends pieces assigned moves)) (jobPlan (jobOf points v blocks edges insts operands crossings locals slots addresses ends pieces assigned moves) budget) cells items areas r cells′ items′ areas′) (sym (many points v blocks edges insts operands crossings locals slots addresses ends pieces assigned moves))
+          (subst (λ (p : Plan). AnsweredBy (listVerdictOf (countOf locals slots) (itemArea (jobOf points v blocks edges insts operands crossings locals slots addresses ends pieces assigned moves)) (length areas / 2)) (countOf locals slots) (itemArea (jobOf points v blocks edges insts operands crossings locals slots addresses ends pieces assigned moves)) p cells items areas r cells′ items′ areas′) (plan-is points v blocks edges insts operands crossings locals slots addresses ends pieces assigned moves budget)
+          (B (itemArea (jobOf points v blocks edges insts operands crossings locals slots addresses ends pieces assigned moves)) (subst (λ (k : ℕ). ListedBy wordOf (listing (length areas / 2) (length areas / 2)) (itemArea (jobOf points v blocks edges insts operands crossings locals slots addresses ends pieces assigned moves)) k n w) (many points v blocks edges insts operands crossings locals slots addresses ends pieces assigned moves) (T .listed))))

@@ -1,0 +1,4 @@
+pub mod CheckLaws
+pub mod TableLaws
+pub mod EntryLaws
+pub mod Demand

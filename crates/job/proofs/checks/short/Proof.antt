@@ -1,0 +1,38 @@
+-- `short` meets its contract: one law for each way out.
+use native.Mathlib.Omega.{arith}
+use Rattle.job.proofs.CheckLaws.{short-work, short-cells, short-items, enough}
+use Rattle.job.proofs.checks.short.Statement.{statement}
+use Rattle.job.proofs.checks.short.Tie as tie
+
+needed-requires : tie.Need-needed-requires
+needed-requires c κs = (c .pre)
+
+returns : tie.Need-returns
+returns c = short-work ((c .before .before .args) .z) ((c .before .before .args) .cells) ((c .before .before .args) .items) ((c .before .before .args) .work) (omega (arith, (c .before .needed) .ensures))
+
+add-if2 : tie.Need-add-if2
+add-if2 c = omega (arith, (c .before .before .before .pre) .few-locals, (c .before .before .before .pre) .few-slots)
+
+returns-2 : tie.Need-returns-2
+returns-2 c = short-cells ((c .before .before .before .before .args) .z) ((c .before .before .before .before .args) .cells) ((c .before .before .before .before .args) .items) ((c .before .before .before .before .args) .work) (omega (arith, (c .before .before .before .needed) .ensures)) (omega arith)
+
+add-if3 : tie.Need-add-if3
+add-if3 c = omega (arith, (c .before .before .before .before .before .pre) .few-locals, (c .before .before .before .before .before .pre) .few-slots)
+
+returns-3 : tie.Need-returns-3
+returns-3 c = short-items ((c .before .before .before .before .before .before .args) .z) ((c .before .before .before .before .before .before .args) .cells) ((c .before .before .before .before .before .before .args) .items) ((c .before .before .before .before .before .before .args) .work) (omega (arith, (c .before .before .before .before .before .needed) .ensures)) (omega arith) (omega arith)
+
+returns-4 : tie.Need-returns-4
+returns-4 c = enough ((c .before .before .before .before .before .before .args) .z) ((c .before .before .before .before .before .before .args) .cells) ((c .before .before .before .before .before .before .args) .items) ((c .before .before .before .before .before .before .args) .work) (omega (arith, (c .before .before .before .before .before .needed) .ensures)) (omega arith) (omega arith)
+
+pub short-spec : {M : Type 1} → statement M
+short-spec =
+    tie.close
+    (tie.spec
+    needed-requires
+    returns
+    add-if2
+    returns-2
+    add-if3
+    returns-3
+    returns-4)

@@ -1,0 +1,54 @@
+-- `write` meets its contract: three lists.
+use native.Mathlib.Omega.{arith}
+use borrow.Author.Needs.{needs}
+use Rattle.job.proofs.tables.write.Statement.{statement}
+use Rattle.job.proofs.tables.write.Tie as tie
+
+mul-write-cells : tie.Need-mul-write-cells
+mul-write-cells c = omega (arith, (c .before .before .before .before .before .pre) .few)
+
+add-write-cells : tie.Need-add-write-cells
+add-write-cells c = omega (arith, (c .before .before .before .before .before .pre) .few, (c .before .before .before .before .before .pre) .short)
+
+write-cells-requires : tie.Need-write-cells-requires
+write-cells-requires c κs = ((c .before .before .before .before .before .pre) .in-cells, omega (arith, (c .before .before .before .before .before .pre) .in-work, (c .before .before .before .before .before .pre) .used-few))
+
+mul-write-items : tie.Need-mul-write-items
+mul-write-items c = omega (arith, (c .before .before .before .before .before .before .before .before .before .pre) .few)
+
+add-write-items : tie.Need-add-write-items
+add-write-items c = omega (arith, (c .before .before .before .before .before .before .before .before .before .pre) .few, (c .before .before .before .before .before .before .before .before .before .pre) .short)
+
+write-items-requires : tie.Need-write-items-requires
+write-items-requires c κs = ((c .before .before .before .before .before .before .before .before .before .pre) .in-items, omega (arith, (c .before .before .before .before .before .before .before .before .before .pre) .in-work), omega (arith, (c .before .before .before .before .before .before .before .before .before .pre) .in-work), (c .before .before .before .before .before .before .before .before .before .pre) .small)
+
+write-rows-requires : tie.Need-write-rows-requires
+write-rows-requires c κs = (omega (arith, (c .before .before .before .before .before .before .before .before .before .before .before .before .before .pre) .in-areas), omega (arith, (c .before .before .before .before .before .before .before .before .before .before .before .before .before .pre) .in-areas, (c .before .before .before .before .before .before .before .before .before .before .before .before .before .pre) .in-work), λ i h. omega arith)
+
+same-length : tie.Need-same-length
+same-length c = search needs
+
+same-length-2 : tie.Need-same-length-2
+same-length-2 c = search needs
+
+same-length-3 : tie.Need-same-length-3
+same-length-3 c = search needs
+
+returns : tie.Need-returns
+returns c = record { in-cells = (c .before .before .before .before .before .before .before .before .before .before .write-cells) .ensures; in-items = (c .before .before .before .before .before .before .write-items) .ensures; in-areas = (c .before .before .write-rows) .ensures }
+
+pub write-spec : {M : Type 1} → statement M
+write-spec =
+    tie.close
+    (tie.spec
+    mul-write-cells
+    add-write-cells
+    write-cells-requires
+    mul-write-items
+    add-write-items
+    write-items-requires
+    write-rows-requires
+    same-length
+    same-length-2
+    same-length-3
+    returns)

@@ -1,0 +1,105 @@
+// The refusals that come before the areas are measured: numbers 1 to 7, in linear time and without work space.
+ghost use mathlib.Core.Path.{_≡_};
+ghost use Rattle.job_checks.specs.Job.{Small};
+ghost use Rattle.job.specs.Entry.{badShape, spaceVerdict, lentVerdict};
+use job_checks::Sizes;
+use refusals::Refusal;
+use refusals::Verdict;
+
+const BUDGET: u32 = 1048576;
+
+// Refusal 1 of what only fitting takes: a budget over its limit, or a cell or an item list that is no whole rows.
+fn bad_shape(budget: u32, cells: usize, items: usize) -> bool
+    ensures { λ r. ⌜ r ≡ badShape budget cells items ⌝ }
+{
+    if BUDGET < budget {
+        return true;
+    }
+    if cells % 2 != 0 {
+        return true;
+    }
+    items % 4 != 0
+}
+
+// Refusal 7: work space under W, or a cell or an item list under the items.
+fn short(z: Sizes, cells: usize, items: usize, work: usize) -> Verdict
+    requires { ⌜ Small z ⌝ }
+    ensures { λ r. ⌜ r ≡ spaceVerdict z cells items work ⌝ }
+{
+    if work < job_checks::space::needed(z) {
+        return Verdict::Bad(Refusal::Space, 0);
+    }
+    if cells / 2 < z.locals + z.slots {
+        return Verdict::Bad(Refusal::Space, 0);
+    }
+    if items / 4 < z.locals + z.slots {
+        return Verdict::Bad(Refusal::Space, 0);
+    }
+    Verdict::Fine
+}
+
+// Of the entry, by the lent records and the lengths of the answer lists and the work space.
+pub fn refusal(
+    points: u32,
+    v: u32,
+    budget: u32,
+    blocks: &[u32],
+    edges: &[u32],
+    insts: &[u32],
+    operands: &[u32],
+    crossings: &[u32],
+    locals: &[u32],
+    slots: &[u32],
+    addresses: &[u32],
+    ends: &[u32],
+    pieces: &[u32],
+    assigned: &[u32],
+    moves: &[u32],
+    cells: usize,
+    items: usize,
+    areas: usize,
+    work: usize,
+) -> Verdict
+    ensures { λ r. ⌜ r ≡ lentVerdict points v budget (now (blocks .entry)) (now (edges .entry)) (now (insts .entry)) (now (operands .entry)) (now (crossings .entry)) (now (locals .entry)) (now (slots .entry)) (now (addresses .entry)) (now (ends .entry)) (now (pieces .entry)) (now (assigned .entry)) (now (moves .entry)) cells items areas work ⌝ }
+{
+    if bad_shape(budget, cells, items) {
+        return Verdict::Bad(Refusal::Count, 0);
+    }
+    let lent = job_checks::checks::records(
+        points,
+        v,
+        blocks,
+        edges,
+        insts,
+        operands,
+        crossings,
+        locals,
+        slots,
+        addresses,
+        ends,
+        pieces,
+        assigned,
+        moves,
+        areas,
+    );
+    if let Verdict::Bad(r, i) = lent {
+        return Verdict::Bad(r, i);
+    }
+    let z = job_checks::space::sizes(
+        v,
+        blocks,
+        edges,
+        insts,
+        operands,
+        crossings,
+        locals,
+        slots,
+        addresses,
+        ends,
+        pieces,
+        assigned,
+        moves,
+        areas,
+    );
+    short(z, cells, items, work)
+}
