@@ -1,0 +1,112 @@
+-- `input` is safe: as much more can be read as turns are left.
+use native.Mathlib.Omega.{arith}
+use borrow.Author.Needs.{needs}
+use Prim.Native.Nat.{_-_, _*_}
+use mathlib.Core.Path.{_≡_, refl, sym, _∙_}
+use lib.ListN.{length, length-take}
+use lib.Dec.{lit≤}
+use Rattle.text.proofs.EndLaws.{ready-start, ready-less, ready-fed}
+use Rattle.text.specs.Read.{Ready}
+use Rattle.plan.proofs.input.Statement.{statement}
+use Rattle.plan.proofs.input.Tie as tie
+
+abbrev Inv-loop : tie.InvT-loop
+Inv-loop rows₀ counts₀ line₀ fields₀ piece₀ s₀ turn₀ rows counts line fields piece s turn = (length fields ≡ 7) × (length piece ≡ 4096) × Ready (s .reader) (s .len) line rows counts (4096 * (2251799813685248 - turn))
+
+abbrev μ-loop : tie.MeasureT-loop
+μ-loop rows₀ counts₀ line₀ fields₀ piece₀ s₀ turn₀ rows counts line fields piece s turn = 2251799813685248 - turn
+
+slice-aggregate-start : tie.Need-slice-aggregate-start Inv-loop μ-loop
+slice-aggregate-start c = search needs
+
+start-requires : tie.Need-start-requires Inv-loop μ-loop
+start-requires c κs = (refl, (c .before .before .before .before .before .pre) .0, (c .before .before .before .before .before .pre) .1)
+
+loop-holds : tie.Need-loop-holds Inv-loop μ-loop
+loop-holds c = (refl, refl, ready-start ((c .before .before .before .before .before .start) .ensures) _ (lit≤ tt))
+
+slice-aggregate-read-full : tie.Need-slice-aggregate-read-full Inv-loop μ-loop
+slice-aggregate-read-full c = search needs
+
+read-full-requires : tie.Need-read-full-requires Inv-loop μ-loop
+read-full-requires c κs = tt
+
+finish-requires : tie.Need-finish-requires Inv-loop μ-loop
+finish-requires c κs = (c .before .before .before .before .before .before .loop) .inv .2 .reading .held .taken .rows-length
+
+same-length : tie.Need-same-length Inv-loop μ-loop
+same-length c = (c .before .before .before .before .before .before .before .loop) .inv .2 .reading .held .taken .rows-length ∙ sym ((c .before .before .before .before .before .before .before .before .before .before .before .before .before .before .before .before .before .before .before .pre) .0)
+
+same-length-2 : tie.Need-same-length-2 Inv-loop μ-loop
+same-length-2 c = (c .before .before .before .before .before .before .before .loop) .inv .2 .reading .held .taken .counts-length ∙ sym ((c .before .before .before .before .before .before .before .before .before .before .before .before .before .before .before .before .before .before .before .pre) .1)
+
+returns : tie.Need-returns Inv-loop μ-loop
+returns c = omega arith
+
+sub-feed : tie.Need-sub-feed Inv-loop μ-loop
+sub-feed c = omega arith
+
+part-feed-start : tie.Need-part-feed-start Inv-loop μ-loop
+part-feed-start c = omega arith
+
+part-feed-end : tie.Need-part-feed-end Inv-loop μ-loop
+part-feed-end c = let p = (c .before .before .before .read-full) .kept .1 .0 in let q = (c .before .before .before .before .before .before .loop) .inv .1 in let r = (c .before .before .before .read-full) .ensures in omega arith
+
+slice-aggregate-feed : tie.Need-slice-aggregate-feed Inv-loop μ-loop
+slice-aggregate-feed c = search needs
+
+slice-aggregate-feed-2 : tie.Need-slice-aggregate-feed-2 Inv-loop μ-loop
+slice-aggregate-feed-2 c = search needs
+
+feed-requires : tie.Need-feed-requires Inv-loop μ-loop
+feed-requires c κs = (let f = (c .before .before .before .before .before .before .before .before .before .before .before .loop) .inv .0 in omega arith, ready-less ((c .before .before .before .before .before .before .before .before .before .before .before .loop) .inv .2) _ (let p = (c .before .before .before .before .before .before .before .before .read-full) .kept .1 .0 in let q = (c .before .before .before .before .before .before .before .before .before .before .before .loop) .inv .1 in let r = (c .before .before .before .before .before .before .before .before .read-full) .ensures in let t = (c .before .before .before .before .before .before .before .before .before .before .loop-test) .taken in simp length-take (omega arith)))
+
+add-turn : tie.Need-add-turn Inv-loop μ-loop
+add-turn c = let t = (c .before .before .before .before .before .before .before .before .before .before .before .before .before .before .before .before .before .loop-test) .taken in omega arith
+
+loop-less : tie.Need-loop-less Inv-loop μ-loop
+loop-less c = let t = (c .before .before .before .before .before .before .before .before .before .before .before .before .before .before .before .before .before .loop-test) .taken in omega arith
+
+loop-again : tie.Need-loop-again Inv-loop μ-loop
+loop-again c = ((c .before .before .before .before .before .before .feed) .ensures .fields-kept ∙ (c .before .before .before .before .before .before .before .before .before .before .before .before .before .before .before .before .before .before .loop) .inv .0, (c .before .before .before .before .before .before .before .before .before .before .before .before .before .before .before .read-full) .kept .1 .0 ∙ (c .before .before .before .before .before .before .before .before .before .before .before .before .before .before .before .before .before .before .loop) .inv .1, ready-fed ((c .before .before .before .before .before .before .before .before .before .before .before .before .before .before .before .before .before .before .loop) .inv .2) ((c .before .before .before .before .before .before .feed) .ensures) _ (let p = (c .before .before .before .before .before .before .before .before .before .before .before .before .before .before .before .read-full) .kept .1 .0 in let q = (c .before .before .before .before .before .before .before .before .before .before .before .before .before .before .before .before .before .before .loop) .inv .1 in let r = (c .before .before .before .before .before .before .before .before .before .before .before .before .before .before .before .read-full) .ensures in let t = (c .before .before .before .before .before .before .before .before .before .before .before .before .before .before .before .before .before .loop-test) .taken in simp length-take (omega arith)))
+
+finish-requires-2 : tie.Need-finish-requires-2 Inv-loop μ-loop
+finish-requires-2 c κs = (c .before .before .loop) .inv .2 .reading .held .taken .rows-length
+
+same-length-3 : tie.Need-same-length-3 Inv-loop μ-loop
+same-length-3 c = (c .before .before .before .loop) .inv .2 .reading .held .taken .rows-length ∙ sym ((c .before .before .before .before .before .before .before .before .before .before .before .before .before .before .before .pre) .0)
+
+same-length-4 : tie.Need-same-length-4 Inv-loop μ-loop
+same-length-4 c = (c .before .before .before .loop) .inv .2 .reading .held .taken .counts-length ∙ sym ((c .before .before .before .before .before .before .before .before .before .before .before .before .before .before .before .pre) .1)
+
+returns-2 : tie.Need-returns-2 Inv-loop μ-loop
+returns-2 c = omega arith
+
+pub input-spec : {M : Type 1} → statement M
+input-spec =
+    tie.close
+    (tie.spec
+    Inv-loop
+    μ-loop
+    slice-aggregate-start
+    start-requires
+    loop-holds
+    slice-aggregate-read-full
+    read-full-requires
+    finish-requires
+    same-length
+    same-length-2
+    returns
+    sub-feed
+    part-feed-start
+    part-feed-end
+    slice-aggregate-feed
+    slice-aggregate-feed-2
+    feed-requires
+    add-turn
+    loop-less
+    loop-again
+    finish-requires-2
+    same-length-3
+    same-length-4
+    returns-2)
