@@ -41,7 +41,7 @@ shared-slice-read-put-item-2 : tie.Need-shared-slice-read-put-item-2 Inv-loop μ
 shared-slice-read-put-item-2 c = omega arith
 
 put-item-requires : tie.Need-put-item-requires Inv-loop μ-loop
-put-item-requires c κs = (omega (arith, (c .before .before .before .before .loop) .inv .1 .len), (c .before .before .before .before .before .before .before .pre) .3 ((c .before .before .before .before .loop) .i) (omega arith))
+put-item-requires c κs = (omega (arith, (c .before .before .before .before .loop) .inv .1 .len), omega (arith, (c .before .before .before .before .before .before .before .pre) .3 ((c .before .before .before .before .loop) .i) (omega arith)))
 
 add-i : tie.Need-add-i Inv-loop μ-loop
 add-i c = omega arith
