@@ -20,7 +20,7 @@ use Rattle.job_checks.proofs.CheckLaws.{records-checked}
 use Rattle.job_areas.specs.Areas.{Lent}
 use Rattle.job.specs.Entry.{badShape, spaceVerdict, lentVerdict}
 
-check-told : (r : Refusal) (t : Bool) → check r t ≡ Fine → t ≡ false
+pub check-told : (r : Refusal) (t : Bool) → check r t ≡ Fine → t ≡ false
 check-told r true e = absurd (let z : _≡_ {A = ℕ} 0 1 = cc in omega arith)
 check-told r false e = refl
 

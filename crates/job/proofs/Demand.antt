@@ -1,10 +1,10 @@
 -- Demand 3 of the entry, in terms of what a call returned and wrote.
-use Prim.Native.Nat.{ℕ, suc, _+_, _*_, _/_, _<_}
+use Prim.Native.Nat.{ℕ, zero, suc, _+_, _*_, _/_, _<_}
 use native.Mathlib.Omega.{arith}
-use native.Mathlib.Nat.{add-zero}
+use native.Mathlib.Nat.{add-zero, not-suc-le-zero}
 use mathlib.Core.Path.{_≡_, refl, sym, ap, subst, _∙_}
 use mathlib.Core.Option.{Option}
-use mathlib.Core.List.{List, _∷_, _++_}
+use mathlib.Core.List.{List, [], _∷_, _++_, map}
 use lib.ListN.{length, getD, drop, List·getD-append}
 use Rattle.refusals.specs.declared.Verdict.{Verdict}
 use Rattle.refusals.specs.declared.Verdict.the-variants.{Fine, Bad}
@@ -14,17 +14,19 @@ use Rattle.refusals.proofs.Laws.{first-left}
 use Rattle.words.specs.Rows.{tabulate, flat}
 use Rattle.words.proofs.FlatLaws.{flat-length, flat-at}
 use Rattle.ranges.specs.declared.Range.{Range}
-use Rattle.areas.specs.Job.{itemCount, itemArea, rangesOf, listVerdict}
-use Rattle.fitting.specs.Plan.{Plan}
-use Rattle.wants.specs.Entry.{Tally, tallyOf}
+use Rattle.areas.specs.Job.{Job, Checked, itemCount, itemArea, rangesOf, listVerdict}
+use Rattle.fitting.specs.Wants.{orderOf}
+use Rattle.fitting.specs.Plan.{Plan, Cell, cellAt}
+use Rattle.wants.specs.Entry.{Tally, tallyOf, cellRow, cellRows}
 use Rattle.item_areas.specs.Entry.{itemRow}
 use Rattle.item_areas.proofs.TableLaws.{row-long}
 use Rattle.job_checks.specs.Job.{jobOf}
-use Rattle.soundness.specs.Walks.{Step, Legal}
-use Rattle.soundness.specs.Demand.{frameOf, jobPlan, AsPrivate}
-use Rattle.soundness.proofs.Demand.{demand-3}
+use Rattle.soundness.specs.Walks.{Step, Legal, Separate}
+use Rattle.soundness.specs.Demand.{wantsOf, frameOf, jobPlan}
+use Rattle.soundness.proofs.Demand.{job-order, separate, uses, any-cells, demand-3}
 use Rattle.job.specs.declared.Shared.the-variants.{Plan as Planned, Refused}
 use Rattle.job.specs.Entry.{lentVerdict, verdictOf, itemRows, SharedAs}
+use Rattle.job.specs.Reads.{cellIn, sizeIn, ReadsAsPrivate}
 use Rattle.job.proofs.CheckLaws.{granted}
 
 -- an answer is no refusal
@@ -40,20 +42,53 @@ listed-cell n A p old i h =
     List·getD-append (itemRows n A p) old 0 (4 * i) (omega arith) ∙ ap (λ (k : ℕ). getD (itemRows n A p) k 0) (sym (add-zero (4 * i)))
     ∙ flat-at 4 n (λ j. p .cell j ∷ itemRow (rangesOf (tabulate j A)) (A j)) wide i 0 h (omega arith)
 
+-- number 2·c of the cell list is cell c's size
+listed-size : (cs : List Cell) (old : List ℕ) (c b : ℕ) → b < cellAt cs c .size → b < getD (flat (map cellRow cs) ++ old) (2 * c) 0
+unfolding flat
+listed-size [] old c b h = absurd (not-suc-le-zero h)
+listed-size (x ∷ cs) old zero b h = h
+listed-size (x ∷ cs) old (suc c) b h =
+    let e : 2 * suc c ≡ suc (suc (2 * c)) = omega arith in
+    rw e (listed-size cs old c b h)
+
 module _ {points v budget : ℕ} {blocks edges insts operands crossings locals slots addresses ends pieces assigned moves cells items areas work cells′ items′ areas′ work′ : List ℕ} {c p d : ℕ}
     (E : SharedAs points v budget blocks edges insts operands crossings locals slots addresses ends pieces assigned moves cells items areas work (Planned c p d) cells′ items′ areas′ work′) where
+  -- the job's records
+  abbrev J : Job
+  J = jobOf points v blocks edges insts operands crossings locals slots addresses ends pieces assigned moves
+
   none-refused : verdictOf points v budget blocks edges insts operands crossings locals slots addresses ends pieces assigned moves (length cells) (length items) (length areas) (length work) ≡ Fine
-  none-refused = not-refused _ (jobPlan (jobOf points v blocks edges insts operands crossings locals slots addresses ends pieces assigned moves) budget) _ (E .lists .answer)
+  none-refused = not-refused _ (jobPlan J budget) _ (E .lists .answer)
 
-  -- whenever the answer is a plan, every walk over the job's records reads through the plan's cells as through private ones
-  pub shared-as-private : (first : ℕ) (w : List Step) → Legal (frameOf (jobOf points v blocks edges insts operands crossings locals slots addresses ends pieces assigned moves)) first w → AsPrivate (jobOf points v blocks edges insts operands crossings locals slots addresses ends pieces assigned moves) (jobPlan (jobOf points v blocks edges insts operands crossings locals slots addresses ends pieces assigned moves) budget) first w
-  shared-as-private start w L =
-      let f = first-left (lentVerdict points v budget blocks edges insts operands crossings locals slots addresses ends pieces assigned moves (length cells) (length items) (length areas) (length work)) (listVerdict (jobOf points v blocks edges insts operands crossings locals slots addresses ends pieces assigned moves) (length areas / 2)) none-refused in
-      demand-3 (jobOf points v blocks edges insts operands crossings locals slots addresses ends pieces assigned moves) (granted points v budget blocks edges insts operands crossings locals slots addresses ends pieces assigned moves (length cells) (length items) (length areas) work f .lent .passed .checked) budget start w L
+  checked : Checked J
+  checked =
+      granted points v budget blocks edges insts operands crossings locals slots addresses ends pieces assigned moves (length cells) (length items) (length areas) work
+      (first-left (lentVerdict points v budget blocks edges insts operands crossings locals slots addresses ends pieces assigned moves (length cells) (length items) (length areas) (length work)) (listVerdict J (length areas / 2)) none-refused)
+      .lent .passed .checked
 
-  -- and these are the cells that stand in the item list
-  pub cells-listed : (i : ℕ) → i < itemCount (jobOf points v blocks edges insts operands crossings locals slots addresses ends pieces assigned moves) → getD items′ (4 * i) 0 ≡ jobPlan (jobOf points v blocks edges insts operands crossings locals slots addresses ends pieces assigned moves) budget .cell i
+  -- the cells that stand in the item list are the plan's
+  pub cells-listed : (i : ℕ) → i < itemCount J → cellIn items′ i ≡ jobPlan J budget .cell i
   cells-listed i h =
-      let e : items′ ≡ itemRows (itemCount (jobOf points v blocks edges insts operands crossings locals slots addresses ends pieces assigned moves)) (itemArea (jobOf points v blocks edges insts operands crossings locals slots addresses ends pieces assigned moves)) (jobPlan (jobOf points v blocks edges insts operands crossings locals slots addresses ends pieces assigned moves) budget) ++ drop (length (itemRows (itemCount (jobOf points v blocks edges insts operands crossings locals slots addresses ends pieces assigned moves)) (itemArea (jobOf points v blocks edges insts operands crossings locals slots addresses ends pieces assigned moves)) (jobPlan (jobOf points v blocks edges insts operands crossings locals slots addresses ends pieces assigned moves) budget))) items =
-      E .lists .in-items ∙ ap (λ (x : Verdict). after (unless x (jobPlan (jobOf points v blocks edges insts operands crossings locals slots addresses ends pieces assigned moves) budget)) (itemRows (itemCount (jobOf points v blocks edges insts operands crossings locals slots addresses ends pieces assigned moves)) (itemArea (jobOf points v blocks edges insts operands crossings locals slots addresses ends pieces assigned moves))) items) none-refused in
-      ap (λ (l : List ℕ). getD l (4 * i) 0) e ∙ listed-cell (itemCount (jobOf points v blocks edges insts operands crossings locals slots addresses ends pieces assigned moves)) (itemArea (jobOf points v blocks edges insts operands crossings locals slots addresses ends pieces assigned moves)) (jobPlan (jobOf points v blocks edges insts operands crossings locals slots addresses ends pieces assigned moves) budget) _ i h
+      let e : items′ ≡ itemRows (itemCount J) (itemArea J) (jobPlan J budget) ++ drop (length (itemRows (itemCount J) (itemArea J) (jobPlan J budget))) items =
+      E .lists .in-items ∙ ap (λ (x : Verdict). after (unless x (jobPlan J budget)) (itemRows (itemCount J) (itemArea J)) items) none-refused in
+      ap (λ (l : List ℕ). getD l (4 * i) 0) e ∙ listed-cell (itemCount J) (itemArea J) (jobPlan J budget) _ i h
+
+  sizes-listed : (c b : ℕ) → b < cellAt (jobPlan J budget .cells) c .size → b < sizeIn cells′ c
+  sizes-listed c b h =
+      let e : cells′ ≡ cellRows (jobPlan J budget) ++ drop (length (cellRows (jobPlan J budget))) cells =
+      E .lists .in-cells ∙ ap (λ (x : Verdict). after (unless x (jobPlan J budget)) cellRows cells) none-refused in
+      rw e (listed-size (jobPlan J budget .cells) _ c b h)
+
+  listed-separate : Separate (frameOf J) (cellIn items′)
+  listed-separate i j h k d e = separate J budget (orderOf (wantsOf J)) (job-order J) i j h k d (sym (cells-listed i h) ∙ e ∙ cells-listed j k)
+
+  -- Demand 3: whenever the answer is a plan, every walk over the job's records reads through the cells in the answer lists as through private ones
+  pub reads-as-private : (start : ℕ) (w : List Step) → Legal (frameOf J) start w → ReadsAsPrivate J cells′ items′ start w
+  reads-as-private start w L = record {
+    alike = any-cells J checked (cellIn items′) listed-separate start w L .0;
+    runs = any-cells J checked (cellIn items′) listed-separate start w L .1;
+    below = λ n i b u.
+        let a = demand-3 J checked budget start w L .below n i b u in
+        let k = cells-listed i (uses (frameOf J) start w L n i b u .item) in
+        rw k (sizes-listed (jobPlan J budget .cell i) b a);
+  }

@@ -12,7 +12,7 @@ use Rattle.refusals.specs.Verdicts.{numberOf, first, check}
 use Rattle.refusals.specs.Outcomes.{Outcome, given, refused, unless, after}
 use Rattle.words.specs.Rows.{tabulate, flat}
 use Rattle.ranges.specs.declared.Range.{Range}
-use Rattle.areas.specs.Job.{itemCount, itemArea, rangesOf, listVerdict}
+use Rattle.areas.specs.Job.{Job, itemCount, itemArea, rangesOf, listVerdict}
 use Rattle.fitting.specs.Plan.{Plan}
 use Rattle.wants.specs.Entry.{Tally, tallyOf, cellRows}
 use Rattle.area_entries.specs.Entry.{areaRows}
@@ -36,18 +36,6 @@ badShape budget cells items = ltb 1048576 budget || (not (eqb (cells % 2) 0) || 
 abbrev pub spaceVerdict : Sizes → ℕ → ℕ → ℕ → Verdict
 spaceVerdict z cells items work = check Space (ltb work (spaceOf z) || (ltb (cells / 2) (z .locals + z .slots) || ltb (items / 4) (z .locals + z .slots)))
 
--- numbers 1 to 7: what is refused before anything is measured
-unfoldable pub lentVerdict : ℕ → ℕ → ℕ → List ℕ → List ℕ → List ℕ → List ℕ → List ℕ → List ℕ → List ℕ → List ℕ → List ℕ → List ℕ → List ℕ → List ℕ → ℕ → ℕ → ℕ → ℕ → Verdict
-lentVerdict points v budget blocks edges insts operands crossings locals slots addresses ends pieces assigned moves cells items areas work =
-    first (check Count (badShape budget cells items)) (first (recordsVerdict points v blocks edges insts operands crossings locals slots addresses ends pieces assigned moves areas)
-    (spaceVerdict (sizesOf v blocks edges insts operands crossings locals slots addresses ends pieces assigned moves areas) cells items work))
-
--- all refusals, lowest number first
-abbrev pub verdictOf : ℕ → ℕ → ℕ → List ℕ → List ℕ → List ℕ → List ℕ → List ℕ → List ℕ → List ℕ → List ℕ → List ℕ → List ℕ → List ℕ → List ℕ → ℕ → ℕ → ℕ → ℕ → Verdict
-verdictOf points v budget blocks edges insts operands crossings locals slots addresses ends pieces assigned moves cells items areas work =
-    first (lentVerdict points v budget blocks edges insts operands crossings locals slots addresses ends pieces assigned moves cells items areas work)
-    (listVerdict (jobOf points v blocks edges insts operands crossings locals slots addresses ends pieces assigned moves) (areas / 2))
-
 -- items 4 numbers: "its cell", then "a present flag and a part of the area list"
 abbrev pub itemRows : ℕ → (ℕ → Option (List Range)) → Plan → List ℕ
 itemRows n A p = flat (tabulate n (λ i. p .cell i ∷ itemRow (rangesOf (tabulate i A)) (A i)))
@@ -59,10 +47,31 @@ pub record AnsweredBy (v : Verdict) (n : ℕ) (A : ℕ → Option (List Range)) 
   pub in-items : items′ ≡ after (unless v p) (itemRows n A) items
   pub in-areas : areas′ ≡ after (unless v p) (λ _. areaRows n A) areas
 
--- the whole job: the plan of all items' areas, unless refused; the work space is unchanged after a refusal that comes before measuring, else its first W words are zero
-pub record SharedAs (points v budget : ℕ) (blocks edges insts operands crossings locals slots addresses ends pieces assigned moves cells items areas work : List ℕ) (r : Shared) (cells′ items′ areas′ work′ : List ℕ) : Type 0 where
-  pub lists : AnsweredBy
-      (verdictOf points v budget blocks edges insts operands crossings locals slots addresses ends pieces assigned moves (length cells) (length items) (length areas) (length work))
-      (itemCount (jobOf points v blocks edges insts operands crossings locals slots addresses ends pieces assigned moves)) (itemArea (jobOf points v blocks edges insts operands crossings locals slots addresses ends pieces assigned moves)) (jobPlan (jobOf points v blocks edges insts operands crossings locals slots addresses ends pieces assigned moves) budget) cells items areas r cells′ items′ areas′
-  pub in-work : work′ ≡ after (unless (lentVerdict points v budget blocks edges insts operands crossings locals slots addresses ends pieces assigned moves (length cells) (length items) (length areas) (length work))
-      (spaceOf (sizesOf v blocks edges insts operands crossings locals slots addresses ends pieces assigned moves (length areas)))) (λ n. replicate n 0) work
+-- what a call is lent: `H`'s numbers and the rows of each group
+module _ (points v budget : ℕ) (blocks edges insts operands crossings locals slots addresses ends pieces assigned moves : List ℕ) where
+  -- the records of the rows
+  abbrev pub job : Job
+  job = jobOf points v blocks edges insts operands crossings locals slots addresses ends pieces assigned moves
+
+  -- how many they are, with an area list of so many numbers
+  abbrev pub sizes : ℕ → Sizes
+  sizes areas = sizesOf v blocks edges insts operands crossings locals slots addresses ends pieces assigned moves areas
+
+  -- the answer lists and the work space are given by their lengths
+  module _ (cells items areas work : ℕ) where
+    -- numbers 1 to 7: what is refused before anything is measured
+    unfoldable pub lentVerdict : Verdict
+    lentVerdict =
+        first (check Count (badShape budget cells items))
+        (first (recordsVerdict points v blocks edges insts operands crossings locals slots addresses ends pieces assigned moves areas)
+        (spaceVerdict (sizes areas) cells items work))
+
+    -- all refusals, lowest number first
+    abbrev pub verdictOf : Verdict
+    verdictOf = first lentVerdict (listVerdict job (areas / 2))
+
+  -- the whole job: the plan of all items' areas, unless refused; the work space is unchanged after a refusal that comes before measuring, else its first W words are zero
+  pub record SharedAs (cells items areas work : List ℕ) (r : Shared) (cells′ items′ areas′ work′ : List ℕ) : Type 0 where
+    pub lists : AnsweredBy (verdictOf (length cells) (length items) (length areas) (length work)) (itemCount job) (itemArea job) (jobPlan job budget)
+        cells items areas r cells′ items′ areas′
+    pub in-work : work′ ≡ after (unless (lentVerdict (length cells) (length items) (length areas) (length work)) (spaceOf (sizes (length areas)))) (λ n. replicate n 0) work

@@ -43,7 +43,7 @@ module _ (J : Job) where
     plan-facts : Facts (wantsOf J) budget (itemCount J) plan
     plan-facts = facts (wantsOf J) budget (itemCount J) order N
 
-    separate : Separate (frameOf J) (plan .cell)
+    pub separate : Separate (frameOf J) (plan .cell)
     separate i j h k d e =
         let c = plan-facts .clear i j h k d e in
         record {
@@ -82,7 +82,7 @@ module _ (J : Job) where
         go true = by-kind (kindOf (J .code) i)
         go false = tt
 
-uses : (F : Frame) (first : ℕ) (w : List Step) → Legal F first w → (n i b : ℕ)
+pub uses : (F : Frame) (first : ℕ) (w : List Step) → Legal F first w → (n i b : ℕ)
     → (getElem? w n ≡ some (read i b)) ⊎ (getElem? w n ≡ some (write i b)) → Uses F first w i b n
 uses F first w L n i b (inl e) = rw e at (L .steps n)
 uses F first w L n i b (inr e) = rw e at (L .steps n)
