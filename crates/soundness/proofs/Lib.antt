@@ -5,4 +5,3 @@ pub mod MachineLaws
 pub mod Demand
 pub mod StarOne
 pub mod Trials
-pub mod Stars

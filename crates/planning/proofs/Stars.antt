@@ -1,4 +1,4 @@
--- ★1 to ★9 as one table, of the definitions.
+-- ★1 to ★9 as one table, of the definitions: ★1 from its text to the text that the program prints.
 use mathlib.Core.Path.{_≡_}
 use mathlib.Core.Bool.{true, false}
 use mathlib.Core.List.{List, [], _∷_}
@@ -11,10 +11,14 @@ use Rattle.areas.proofs.Stars as areas
 use Rattle.fitting.specs.Wants.{orderOf}
 use Rattle.fitting.specs.Plan.{planOf}
 use Rattle.fitting.proofs.Stars as fitting
-use Rattle.soundness.proofs.StarOne.{Star1, star-1}
+use Rattle.grammar.proofs.Stars as grammar
+use Rattle.plan_text.proofs.Stars as plan_text
+use Rattle.planning.specs.Program.{programText}
+use Rattle.planning.proofs.StarOne.{star-1}
 
 pub record Table : Type 0 where
-  pub one : Star1
+  -- "`H,20,0,1048576` … on standard input makes the planning program print: `C,0,8,8` …"
+  pub one : programText grammar.star ≡ plan_text.star
   -- "merged 5–9, 1–5, 10–12: 1–9, 10–12"
   pub two : merged (range 5 9 ∷ range 1 5 ∷ range 10 12 ∷ []) ≡ range 1 9 ∷ range 10 12 ∷ []
   -- "1–4 clashes with 4–6", "not with 5–6"

@@ -1,0 +1,130 @@
+-- ★1 from its text to the printed text: each part's own ★1, put together.
+use Prim.Native.Nat.{ℕ}
+use mathlib.Core.Path.{_≡_, refl, ap, sym, _∙_}
+use mathlib.Core.Option.{Option, some, Option·some-injective}
+use mathlib.Core.List.{List, [], _∷_}
+use lib.ListN.{length, getD}
+use Rattle.refusals.specs.declared.Verdict.{Verdict}
+use Rattle.refusals.specs.declared.Verdict.the-variants.{Fine}
+use Rattle.refusals.specs.Verdicts.{first, inOrder, check}
+use Rattle.refusals.specs.Outcomes.{unless}
+use Rattle.refusals.proofs.Laws.{first-fine}
+use Rattle.words.specs.Rows.{tabulate, flat}
+use Rattle.ranges.specs.declared.Range.{Range}
+use Rattle.ranges.specs.Points.{range}
+use Rattle.graph.specs.Work.{sumOf}
+use Rattle.carrying.specs.Lists.{gather}
+use Rattle.insts.specs.Counts.{instCounts, codeCounts}
+use Rattle.areas.specs.Job.{Job, checks, itemArea, rangesOf, listVerdict}
+use Rattle.fitting.specs.Plan.{Plan}
+use Rattle.wants.specs.Entry.{cellRows}
+use Rattle.area_entries.specs.Entry.{areaRows}
+use Rattle.carry_entries.specs.Checks.{carryCounts}
+use Rattle.job_checks.specs.Job.{otherCounts, countVerdict, recordsVerdict}
+use Rattle.soundness.specs.Demand.{jobPlan}
+use Rattle.soundness.proofs.StarOne.{star-1-job, star-1-checked, star-1-areas, star-1 as star-1-plan}
+use Rattle.job.specs.Entry.{itemRows, lentVerdict}
+use Rattle.grammar.proofs.Stars.{star, star-1 as star-1-read}
+use Rattle.plan_text.specs.Printed.{printed}
+use Rattle.plan_text.proofs.Stars.{star as starText, star-1 as star-1-printed}
+use Rattle.planning.specs.Program.{told, jobText, job, refusal, printedFor, numbersIn, programText}
+use Rattle.planning.proofs.GroupLaws.{same-printed}
+
+abbrev head : List ℕ
+head = 20 ∷ 0 ∷ 1048576 ∷ []
+
+abbrev blocks : List ℕ
+blocks = 0 ∷ 0 ∷ 19 ∷ []
+
+abbrev insts : List ℕ
+insts = 1 ∷ 0 ∷ 2 ∷ 3 ∷ 0 ∷ 0 ∷ 256 ∷ 256 ∷ 0 ∷ 1 ∷ 0 ∷ 6 ∷ 7 ∷ 0 ∷ 0 ∷ 256 ∷ 256 ∷ 0 ∷ []
+
+abbrev locals : List ℕ
+locals = 8 ∷ 8 ∷ 4 ∷ 4 ∷ []
+
+abbrev addresses : List ℕ
+addresses = 0 ∷ 0 ∷ 1 ∷ 1 ∷ []
+
+abbrev rowsOf : ℕ → List ℕ
+rowsOf k = getD (head ∷ blocks ∷ [] ∷ insts ∷ [] ∷ [] ∷ locals ∷ [] ∷ addresses ∷ []) k []
+
+-- ---- the records
+
+read : programText star ≡ printedFor rowsOf Fine
+unfolding flat
+read =
+    ap (printedFor (numbersIn star)) (star-1-read .fine)
+    ∙ same-printed (numbersIn star) rowsOf Fine (ap flat (star-1-read .head)) (ap flat (star-1-read .blocks)) (ap flat (star-1-read .edges)) (ap flat (star-1-read .insts))
+    (ap flat (star-1-read .operands)) (ap flat (star-1-read .crossings)) (ap flat (star-1-read .locals)) (ap flat (star-1-read .slots)) (ap flat (star-1-read .addresses))
+    (ap flat (star-1-read .ends)) (ap flat (star-1-read .pieces)) (ap flat (star-1-read .assigned)) (ap flat (star-1-read .moves))
+
+-- they are those of the job's own ★1
+same-job : job rowsOf ≡ star-1-job
+unfolding tabulate
+same-job = refl
+
+-- ---- nothing is refused
+
+counted : countVerdict 0 blocks [] insts [] [] locals [] addresses [] [] [] [] 128 ≡ Fine
+unfolding countVerdict carryCounts otherCounts instCounts codeCounts first sumOf
+counted = refl
+
+recorded : recordsVerdict 20 0 blocks [] insts [] [] locals [] addresses [] [] [] [] 128 ≡ Fine
+unfolding recordsVerdict
+recorded = first-fine _ _ counted ∙ ap (λ (J : Job). inOrder (checks J)) same-job ∙ star-1-checked
+
+lent : lentVerdict 20 0 1048576 blocks [] insts [] [] locals [] addresses [] [] [] [] 256 512 128 8192 ≡ Fine
+unfolding lentVerdict first
+lent = ap (λ (v : Verdict). first v Fine) recorded
+
+-- two items with the areas a and b, both in cell 0
+module _ (A : ℕ → Option (List Range)) (p : Plan) (one : A 0 ≡ some (range 2 3 ∷ [])) (two : A 1 ≡ some (range 6 7 ∷ [])) where
+  ranges : rangesOf (tabulate 2 A) ≡ 2
+  unfolding rangesOf tabulate
+  ranges = rw (one, two) refl
+
+  rows : p .cell 0 ≡ 0 → p .cell 1 ≡ 0 → itemRows 2 A p ≡ 0 ∷ 1 ∷ 0 ∷ 1 ∷ 0 ∷ 1 ∷ 1 ∷ 1 ∷ []
+  unfolding rangesOf tabulate flat
+  rows e f = rw (e, f, one, two) refl
+
+  area-rows : areaRows 2 A ≡ 2 ∷ 3 ∷ 6 ∷ 7 ∷ []
+  unfolding gather tabulate flat
+  area-rows = rw (one, two) refl
+
+listed : listVerdict star-1-job 64 ≡ Fine
+unfolding tabulate
+listed = rw (ranges (itemArea star-1-job) (jobPlan star-1-job 1048576) (star-1-areas .0) (star-1-areas .1)) refl
+
+none-refused : refusal rowsOf ≡ Fine
+none-refused = first-fine _ _ lent ∙ ap (λ (J : Job). listVerdict J 64) same-job ∙ listed
+
+-- ---- its plan
+
+cells : cellRows (jobPlan star-1-job 1048576) ≡ 8 ∷ 8 ∷ []
+unfolding flat
+cells = rw (star-1-plan .cells) refl
+
+first-cell : jobPlan star-1-job 1048576 .cell 0 ≡ 0
+unfolding tabulate
+first-cell = Option·some-injective _ _ (star-1-plan .locals .0)
+
+second-cell : jobPlan star-1-job 1048576 .cell 1 ≡ 0
+unfolding tabulate
+second-cell = Option·some-injective _ _ (star-1-plan .locals .1)
+
+printed-as : {c c′ i i′ a a′ : List ℕ} {l l′ p p′ d d′ : ℕ} → c ≡ c′ → i ≡ i′ → a ≡ a′ → l ≡ l′ → p ≡ p′ → d ≡ d′ → printed c i a l p d ≡ printed c′ i′ a′ l′ p′ d′
+printed-as e f g h k m = rw (e, f, g, h, k, m) refl
+
+planned : jobText star-1-job 1048576 ≡ starText
+unfolding jobText tabulate
+planned =
+    printed-as {l = 2} {l′ = 2} cells (rows (itemArea star-1-job) (jobPlan star-1-job 1048576) (star-1-areas .0) (star-1-areas .1) first-cell second-cell)
+    (area-rows (itemArea star-1-job) (jobPlan star-1-job 1048576) (star-1-areas .0) (star-1-areas .1)) refl (star-1-plan .counts .1) (star-1-plan .counts .2)
+    ∙ star-1-printed
+
+accepted : printedFor rowsOf Fine ≡ starText
+unfolding printedFor first
+accepted = ap (λ (v : Verdict). told (unless v (jobText (job rowsOf) 1048576))) none-refused ∙ ap (λ (J : Job). jobText J 1048576) same-job ∙ planned
+
+pub star-1 : programText star ≡ starText
+star-1 = read ∙ accepted

@@ -1,0 +1,1 @@
+// The planning program: what it prints for a text, and ★1 to ★9.
