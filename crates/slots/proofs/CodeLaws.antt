@@ -7,13 +7,13 @@ use native.Mathlib.Omega.{arith}
 use lib.ListN.{length, take, drop, set}
 use lib.Seq.{take-length}
 use Rattle.flow.specs.declared.Over.the-variants.{Successors}
-use Rattle.refusals.specs.declared.Refusal.{Refusal}
-use Rattle.refusals.specs.Verdicts.{numberOf}
-use Rattle.refusals.specs.Outcomes.{Outcome}
+use Rattle.refusals.specs.Outcomes.{Outcome, given, refused}
 use Rattle.fitting.specs.Plan.{Plan}
 use Rattle.wants.specs.declared.Fitted.{Fitted}
-use Rattle.wants.specs.declared.Fitted.the-variants.{Plan as Planned, Refused}
 use Rattle.wants.specs.Entry.{Tally, answerOf, FittedAlone}
+use Rattle.job.specs.declared.Shared.{Shared}
+use Rattle.job.specs.Entry.{answered, SharedAs}
+use Rattle.slots.specs.Job.{JobCoded}
 use Rattle.slots.specs.Codes.{refusalCode, codeOf, fitted, countsAfter, overOf, PlanTold, PlanCoded}
 
 module _ (c p d : ℕ) where
@@ -42,22 +42,23 @@ pub over-some : (n : ℕ) → n ≢ 0 → Successors ≡ overOf n
 over-some zero h = absurd (h refl)
 over-some (suc n) h = refl
 
-pub plan-told : {counts counts′ : List ℕ} {c p d : ℕ} (f : Fitted) → f ≡ Planned c p d → counts′ ≡ fitted (c ∷ p ∷ d ∷ []) counts → PlanTold counts f 0 counts′
-plan-told {counts} {counts′} f e h =
-    record {
-      answer = ap (λ (a : Fitted). codeOf (answerOf a)) (sym e);
-      in-counts = h ∙ ap (λ (a : Fitted). countsAfter (answerOf a) counts) (sym e);
-    }
+module _ {counts : List ℕ} {o : Outcome Tally} where
+  pub plan-told : {counts′ : List ℕ} {c p d : ℕ} → o ≡ given (record { cells = c; probes = p; depth = d }) → counts′ ≡ fitted (c ∷ p ∷ d ∷ []) counts → PlanTold counts o 0 counts′
+  plan-told e h =
+      record {
+        answer = ap codeOf (sym e);
+        in-counts = h ∙ ap (λ (x : Outcome Tally). countsAfter x counts) (sym e);
+      }
 
-pub plan-refused : {counts : List ℕ} {n i : ℕ} {k : Refusal} (f : Fitted) → f ≡ Refused k i → n ≡ refusalCode (numberOf k) i → PlanTold counts f n counts
-plan-refused {counts} f e h =
-    record {
-      answer = h ∙ ap (λ (a : Fitted). codeOf (answerOf a)) (sym e);
-      in-counts = ap (λ (a : Fitted). countsAfter (answerOf a) counts) (sym e);
-    }
+  pub plan-refused : {n k i : ℕ} → o ≡ refused k i → n ≡ refusalCode k i → PlanTold counts o n counts
+  plan-refused e h =
+      record {
+        answer = h ∙ ap codeOf (sym e);
+        in-counts = ap (λ (x : Outcome Tally). countsAfter x counts) (sym e);
+      }
 
 pub plan-coded : {wants areas cells items counts work cells′ items′ counts′ work′ : List ℕ} {o : Outcome Plan} {f : Fitted} {r : ℕ}
-    → FittedAlone wants areas o cells items work f cells′ items′ work′ → PlanTold counts f r counts′
+    → FittedAlone wants areas o cells items work f cells′ items′ work′ → PlanTold counts (answerOf f) r counts′
     → PlanCoded wants areas o cells items counts work r cells′ items′ counts′ work′
 plan-coded {counts = counts} a t =
     record {
@@ -65,5 +66,18 @@ plan-coded {counts = counts} a t =
       in-cells = a .in-cells;
       in-items = a .in-items;
       in-counts = t .in-counts ∙ ap (λ (x : Outcome Tally). countsAfter x counts) (a .answer);
+      in-work = a .in-work;
+    }
+
+pub job-coded : {points v budget : ℕ} {blocks edges insts operands crossings locals slots addresses ends pieces assigned moves cells items areas counts work cells′ items′ areas′ counts′ work′ : List ℕ} {s : Shared} {r : ℕ}
+    → SharedAs points v budget blocks edges insts operands crossings locals slots addresses ends pieces assigned moves cells items areas work s cells′ items′ areas′ work′ → PlanTold counts (answered s) r counts′
+    → JobCoded points v budget blocks edges insts operands crossings locals slots addresses ends pieces assigned moves cells items areas counts work r cells′ items′ areas′ counts′ work′
+job-coded {counts = counts} a t =
+    record {
+      answer = t .answer ∙ ap codeOf (a .lists .answer);
+      in-cells = a .lists .in-cells;
+      in-items = a .lists .in-items;
+      in-areas = a .lists .in-areas;
+      in-counts = t .in-counts ∙ ap (λ (x : Outcome Tally). countsAfter x counts) (a .lists .answer);
       in-work = a .in-work;
     }

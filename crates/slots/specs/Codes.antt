@@ -11,8 +11,7 @@ use Rattle.flow.specs.Entry.{Answered as Flowed, outcomeOf as flowOutcome}
 use Rattle.spread.specs.declared.Answer.{Answer as SpreadAnswer}
 use Rattle.spread.specs.Entry.{Answered as Spread, outcomeOf as spreadOutcome}
 use Rattle.fitting.specs.Plan.{Plan}
-use Rattle.wants.specs.declared.Fitted.{Fitted}
-use Rattle.wants.specs.Entry.{Tally, tallyOf, answerOf, spaceOf, zeroed, cellRows, itemRows}
+use Rattle.wants.specs.Entry.{Tally, tallyOf, spaceOf, zeroed, cellRows, itemRows}
 
 -- a refusal
 abbrev pub refusalCode : ℕ → ℕ → ℕ
@@ -52,9 +51,9 @@ countsAfter (given t) old = fitted (countsOf t) old
 countsAfter (refused k i) old = old
 
 -- the answer in one number, and the counts told
-pub record PlanTold (counts : List ℕ) (f : Fitted) (r : ℕ) (counts′ : List ℕ) : Type 0 where
-  pub answer : r ≡ codeOf (answerOf f)
-  pub in-counts : counts′ ≡ countsAfter (answerOf f) counts
+pub record PlanTold (counts : List ℕ) (o : Outcome Tally) (r : ℕ) (counts′ : List ℕ) : Type 0 where
+  pub answer : r ≡ codeOf o
+  pub in-counts : counts′ ≡ countsAfter o counts
 
 -- fitting alone
 pub record PlanCoded (wants areas : List ℕ) (o : Outcome Plan) (cells items counts work : List ℕ) (r : ℕ) (cells′ items′ counts′ work′ : List ℕ) : Type 0 where

@@ -6,9 +6,12 @@ ghost use lib.ListN.{length};
 ghost use Rattle.refusals.specs.Verdicts.{numberOf};
 ghost use Rattle.flow.specs.Entry.{outcomeOf as flowOutcome};
 ghost use Rattle.spread.specs.Entry.{outcomeOf as spreadOutcome};
-ghost use Rattle.wants.specs.Entry.{outcome};
+ghost use Rattle.wants.specs.Entry.{outcome, answerOf};
+ghost use Rattle.job.specs.Entry.{answered};
 ghost use Rattle.slots.specs.Codes.{codeOf, refusalCode, overOf, fitted, FlowCoded, SpreadCoded, PlanTold, PlanCoded};
+ghost use Rattle.slots.specs.Job.{JobCoded};
 use flow::Over;
+use job::Shared;
 use refusals::Refusal;
 use wants::Fitted;
 
@@ -112,7 +115,7 @@ fn tell(counts: &mut [u64], cells: usize, probes: u64, depth: u64)
 
 // A plan's counts are told, or the refusal is answered.
 fn plan_code(counts: &mut [u64], f: Fitted) -> u64
-    ensures { λ r. ⌜ PlanTold (now (counts .entry)) f r (now (counts .exit)) ⌝ }
+    ensures { λ r. ⌜ PlanTold (now (counts .entry)) (answerOf f) r (now (counts .exit)) ⌝ }
 {
     match f {
         Fitted::Plan(c, p, d) => {
@@ -143,5 +146,72 @@ pub extern "C" fn slots_fit_wants(
     plan_code(
         counts,
         wants::fit_wants(wants, areas, locals, budget, cells, items, work),
+    )
+}
+
+// The same of the whole job's plan.
+fn share_code(counts: &mut [u64], s: Shared) -> u64
+    ensures { λ r. ⌜ PlanTold (now (counts .entry)) (answered s) r (now (counts .exit)) ⌝ }
+{
+    match s {
+        Shared::Plan(c, p, d) => {
+            tell(counts, c, p, d);
+            0
+        }
+        Shared::Refused(r, i) => refused(r, i),
+    }
+}
+
+// `job::share`, the whole job, with the counts as in `slots_fit_wants`.
+#[no_mangle]
+pub extern "C" fn slots_share(
+    points: u32,
+    v: u32,
+    budget: u32,
+    blocks: &[u32],
+    edges: &[u32],
+    insts: &[u32],
+    operands: &[u32],
+    crossings: &[u32],
+    locals: &[u32],
+    slots: &[u32],
+    addresses: &[u32],
+    ends: &[u32],
+    pieces: &[u32],
+    assigned: &[u32],
+    moves: &[u32],
+    cells: &mut [u32],
+    items: &mut [u32],
+    areas: &mut [u32],
+    counts: &mut [u64],
+    work: &mut [u64],
+) -> u64
+    ensures { λ r. ⌜ JobCoded points v budget (now (blocks .entry)) (now (edges .entry)) (now (insts .entry)) (now (operands .entry)) (now (crossings .entry)) (now (locals .entry)) (now (slots .entry)) (now (addresses .entry)) (now (ends .entry)) (now (pieces .entry)) (now (assigned .entry)) (now (moves .entry))
+        (now (cells .entry)) (now (items .entry)) (now (areas .entry)) (now (counts .entry)) (now (work .entry)) r
+        (now (cells .exit)) (now (items .exit)) (now (areas .exit)) (now (counts .exit)) (now (work .exit)) ⌝ }
+{
+    share_code(
+        counts,
+        job::share(
+            points,
+            v,
+            budget,
+            blocks,
+            edges,
+            insts,
+            operands,
+            crossings,
+            locals,
+            slots,
+            addresses,
+            ends,
+            pieces,
+            assigned,
+            moves,
+            cells,
+            items,
+            areas,
+            work,
+        ),
     )
 }

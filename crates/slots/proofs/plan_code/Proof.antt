@@ -1,5 +1,7 @@
 -- `slots::plan_code` meets its contract.
+use mathlib.Core.Path.{ap}
 use borrow.Author.Needs.{needs}
+use Rattle.wants.specs.Entry.{answerOf}
 use Rattle.slots.proofs.CodeLaws.{plan-told, plan-refused}
 use Rattle.slots.proofs.plan_code.Statement.{statement}
 use Rattle.slots.proofs.plan_code.Tie as tie
@@ -20,10 +22,10 @@ same-length : tie.Need-same-length
 same-length c = search needs
 
 returns : tie.Need-returns
-returns c = plan-told _ ((c .before .before .before .before .before .f) .given .1) ((c .before .before .tell) .ensures)
+returns c = plan-told (ap answerOf ((c .before .before .before .before .before .f) .given .1)) ((c .before .before .tell) .ensures)
 
 returns-2 : tie.Need-returns-2
-returns-2 c = plan-refused _ ((c .before .before .f2) .given .1) ((c .refused) .ensures)
+returns-2 c = plan-refused (ap answerOf ((c .before .before .f2) .given .1)) ((c .refused) .ensures)
 
 pub plan-code-spec : {M : Type 1} → statement M
 plan-code-spec =

@@ -1,0 +1,42 @@
+-- `slots::slots_share` meets its contract.
+use borrow.Author.Needs.{needs}
+use Rattle.slots.proofs.CodeLaws.{job-coded}
+use Rattle.slots.proofs.slots_share.Statement.{statement}
+use Rattle.slots.proofs.slots_share.Tie as tie
+
+share-requires : tie.Need-share-requires
+share-requires c κs = search needs
+
+share-code-requires : tie.Need-share-code-requires
+share-code-requires c κs = search needs
+
+same-length : tie.Need-same-length
+same-length c = search needs
+
+same-length-2 : tie.Need-same-length-2
+same-length-2 c = search needs
+
+same-length-3 : tie.Need-same-length-3
+same-length-3 c = search needs
+
+same-length-4 : tie.Need-same-length-4
+same-length-4 c = search needs
+
+same-length-5 : tie.Need-same-length-5
+same-length-5 c = search needs
+
+returns : tie.Need-returns
+returns c = job-coded ((c .before .before .before .before .before .before .before .before .before .before .before .share) .ensures) ((c .before .before .share-code) .ensures)
+
+pub slots-share-spec : {M : Type 1} → statement M
+slots-share-spec =
+    tie.close
+    (tie.spec
+    share-requires
+    share-code-requires
+    same-length
+    same-length-2
+    same-length-3
+    same-length-4
+    same-length-5
+    returns)
