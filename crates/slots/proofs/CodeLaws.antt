@@ -1,61 +1,28 @@
--- The exported functions' answers: a plan's counts in a list with room for some of them, and which edges are followed.
-use mathlib.Core.Path.{_≡_, refl, sym, ap, _∙_}
-use mathlib.Core.Logic.{_≢_}
-use mathlib.Core.List.{List, [], _∷_}
-use Prim.Native.Nat.{ℕ, zero, suc, _<_}
+-- From what an entry promises and its answer in one number to what the exported function promises.
+use mathlib.Core.Path.{_≡_, ap, _∙_}
+use mathlib.Core.List.{List}
+use Prim.Native.Nat.{ℕ, _*_, _^_, _≤_, _<_}
+use native.Mathlib.Nat.{mul-le-mul-left}
 use native.Mathlib.Omega.{arith}
-use lib.ListN.{length, take, drop, set}
-use lib.Seq.{take-length}
-use Rattle.flow.specs.declared.Over.the-variants.{Successors}
-use Rattle.refusals.specs.Outcomes.{Outcome, given, refused}
+use Rattle.refusals.specs.Outcomes.{Outcome}
+use Rattle.refusals.specs.declared.Verdict.{Verdict}
+use Rattle.ranges.specs.declared.Range.{Range}
+use Rattle.range_entries.specs.declared.Counted.{Counted}
+use Rattle.range_entries.specs.Entries.{counted, Listed}
+use Rattle.reach.specs.Prepared.{wordsOf}
 use Rattle.fitting.specs.Plan.{Plan}
+use Rattle.fitting.specs.Queries.{Slots}
 use Rattle.wants.specs.declared.Fitted.{Fitted}
 use Rattle.wants.specs.Entry.{Tally, answerOf, FittedAlone}
+use Rattle.queries.specs.declared.Crowd.{Crowd}
+use Rattle.queries.specs.Shares.{crowdOf, CrowdedBy}
+use Rattle.capping.specs.Cap.{CappedBy}
+use Rattle.apart.specs.Apart.{ApartBy}
 use Rattle.job.specs.declared.Shared.{Shared}
 use Rattle.job.specs.Entry.{answered, SharedAs}
+use Rattle.codes.specs.Codes.{codeOf, countCode, verdictCode, countsAfter, PlanTold}
+use Rattle.slots.specs.Exports.{PlanCoded, ListCoded, CrowdCoded, CapCoded, ApartCoded}
 use Rattle.slots.specs.Job.{JobCoded}
-use Rattle.slots.specs.Codes.{refusalCode, codeOf, fitted, countsAfter, overOf, PlanTold, PlanCoded}
-
-module _ (c p d : ℕ) where
-  pub told-none : (l : List ℕ) → length l ≡ 0 → l ≡ fitted (c ∷ p ∷ d ∷ []) l
-  told-none [] e = refl
-  told-none (x ∷ l) e = absurd (omega arith)
-
-  pub told-one : (l : List ℕ) → length l ≡ 1 → set l 0 c ≡ fitted (c ∷ p ∷ d ∷ []) l
-  told-one [] e = absurd (omega arith)
-  told-one (x ∷ []) e = refl
-  told-one (x ∷ y ∷ l) e = absurd (omega arith)
-
-  pub told-two : (l : List ℕ) → length l ≡ 2 → set (set l 0 c) 1 p ≡ fitted (c ∷ p ∷ d ∷ []) l
-  told-two [] e = absurd (omega arith)
-  told-two (x ∷ []) e = absurd (omega arith)
-  told-two (x ∷ y ∷ []) e = refl
-  told-two (x ∷ y ∷ z ∷ l) e = absurd (omega arith)
-
-  pub told-all : (l : List ℕ) → 2 < length l → set (set (set l 0 c) 1 p) 2 d ≡ fitted (c ∷ p ∷ d ∷ []) l
-  told-all [] e = absurd (omega arith)
-  told-all (x ∷ []) e = absurd (omega arith)
-  told-all (x ∷ y ∷ []) e = absurd (omega arith)
-  told-all (x ∷ y ∷ z ∷ l) e = ap (λ (r : List ℕ). c ∷ p ∷ d ∷ r) (sym (take-length l))
-
-pub over-some : (n : ℕ) → n ≢ 0 → Successors ≡ overOf n
-over-some zero h = absurd (h refl)
-over-some (suc n) h = refl
-
-module _ {counts : List ℕ} {o : Outcome Tally} where
-  pub plan-told : {counts′ : List ℕ} {c p d : ℕ} → o ≡ given (record { cells = c; probes = p; depth = d }) → counts′ ≡ fitted (c ∷ p ∷ d ∷ []) counts → PlanTold counts o 0 counts′
-  plan-told e h =
-      record {
-        answer = ap codeOf (sym e);
-        in-counts = h ∙ ap (λ (x : Outcome Tally). countsAfter x counts) (sym e);
-      }
-
-  pub plan-refused : {n k i : ℕ} → o ≡ refused k i → n ≡ refusalCode k i → PlanTold counts o n counts
-  plan-refused e h =
-      record {
-        answer = h ∙ ap codeOf (sym e);
-        in-counts = ap (λ (x : Outcome Tally). countsAfter x counts) (sym e);
-      }
 
 pub plan-coded : {wants areas cells items counts work cells′ items′ counts′ work′ : List ℕ} {o : Outcome Plan} {f : Fitted} {r : ℕ}
     → FittedAlone wants areas o cells items work f cells′ items′ work′ → PlanTold counts (answerOf f) r counts′
@@ -81,3 +48,22 @@ job-coded {counts = counts} a t =
       in-counts = t .in-counts ∙ ap (λ (x : Outcome Tally). countsAfter x counts) (a .lists .answer);
       in-work = a .in-work;
     }
+
+pub list-coded : {o : Outcome (List Range)} {os oe os′ oe′ : List ℕ} {c : Counted} {r : ℕ} → Listed o os oe c os′ oe′ → r ≡ countCode (counted c) → ListCoded o os oe r os′ oe′
+list-coded a e = record { answer = e ∙ ap countCode (a .answer); in-starts = a .in-starts; in-ends = a .in-ends }
+
+pub crowd-coded : {o : Outcome (List ℕ)} {out out′ : List ℕ} {c : Crowd} {r : ℕ} → CrowdedBy o out c out′ → r ≡ countCode (crowdOf c) → CrowdCoded o out r out′
+crowd-coded a e = record { answer = e ∙ ap countCode (a .answer); in-out = a .in-out }
+
+pub cap-coded : {cells cells′ : List ℕ} {count most r : ℕ} {v : Verdict} → CappedBy cells count most v cells′ → r ≡ verdictCode v → CapCoded cells count most r cells′
+cap-coded a e = record { answer = e ∙ ap verdictCode (a .answer); in-cells = a .in-cells }
+
+pub apart-coded : {v w : Verdict} {o : Outcome Slots} {cells items cells′ items′ : List ℕ} {r : ℕ} → ApartBy v o cells items w cells′ items′ → r ≡ verdictCode w → ApartCoded v o cells items r cells′ items′
+apart-coded a e = record { answer = e ∙ ap verdictCode (a .answer); in-cells = a .in-cells; in-items = a .in-items }
+
+-- W of any 32-bit numbers: the rows of the blocks are far below 64 bits
+pub rows-few : (b l : ℕ) → b < 2 ^ 32 → l < 2 ^ 32 → b * wordsOf l ≤ 288230376151711744
+rows-few b l hb hl =
+    let w : wordsOf l ≤ 67108864 = omega arith in
+    let a = mul-le-mul-left b w in
+    omega arith

@@ -11,7 +11,7 @@ use Rattle.area_entries.specs.Entry.{areaRows}
 use Rattle.job_checks.specs.Job.{jobOf, sizesOf, spaceOf}
 use Rattle.soundness.specs.Demand.{jobPlan}
 use Rattle.job.specs.Entry.{verdictOf, lentVerdict, itemRows}
-use Rattle.slots.specs.Codes.{codeOf, countsAfter}
+use Rattle.codes.specs.Codes.{codeOf, countsAfter}
 
 -- the job's plan, unless refused; the lengths are those of the answer lists and the work space
 abbrev pub jobOutcome : ℕ → ℕ → ℕ → List ℕ → List ℕ → List ℕ → List ℕ → List ℕ → List ℕ → List ℕ → List ℕ → List ℕ → List ℕ → List ℕ → List ℕ → ℕ → ℕ → ℕ → ℕ → Outcome Plan

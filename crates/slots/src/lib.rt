@@ -1,55 +1,16 @@
-// The entries for C and Rust: numbers and slices, a slice as a pointer and then its length. Each answers in one number: 0, or a
-// refusal's number times 2 to the 32 plus its index.
+// The entries for C and Rust: numbers and slices, a slice as a pointer and then its length. Each answers in one number (`codes`).
 ghost use mathlib.Core.Path.{_≡_};
-ghost use mathlib.Core.List.{List, [], _∷_};
 ghost use lib.ListN.{length};
-ghost use Rattle.refusals.specs.Verdicts.{numberOf};
-ghost use Rattle.flow.specs.Entry.{outcomeOf as flowOutcome};
-ghost use Rattle.spread.specs.Entry.{outcomeOf as spreadOutcome};
-ghost use Rattle.wants.specs.Entry.{outcome, answerOf};
-ghost use Rattle.job.specs.Entry.{answered};
-ghost use Rattle.slots.specs.Codes.{codeOf, refusalCode, overOf, fitted, FlowCoded, SpreadCoded, PlanTold, PlanCoded};
+ghost use Rattle.ranges.specs.Points.{range, overlaps};
+ghost use Rattle.range_entries.specs.Entries.{mergedOf, joinedOf, unionOf, clashesOf};
+ghost use Rattle.wants.specs.Entry.{outcome};
+ghost use Rattle.queries.specs.Entry.{localOf, slotOf, savedBy};
+ghost use Rattle.queries.specs.Shares.{crowdedOf};
+ghost use Rattle.apart.specs.Apart.{apartVerdict, apartOf};
+ghost use Rattle.job_checks.specs.Job.{spaceOf};
+ghost use Rattle.codes.specs.Codes.{countCode, optionCode, truthOf, truthCode};
+ghost use Rattle.slots.specs.Exports.{FlowCoded, SpreadCoded, PlanCoded, fitSpace, ListCoded, ShareCoded, CrowdCoded, CapCoded, ApartCoded};
 ghost use Rattle.slots.specs.Job.{JobCoded};
-use flow::Over;
-use job::Shared;
-use refusals::Refusal;
-use wants::Fitted;
-
-const HIGH: u64 = 0x1_0000_0000;
-
-fn refused(r: Refusal, i: usize) -> u64
-    ensures { λ n. ⌜ n ≡ refusalCode (numberOf r) i ⌝ }
-{
-    let k = refusals::number(r) as u64;
-    k * HIGH + (i as u64) % HIGH
-}
-
-fn flow_code(a: flow::Answer) -> u64
-    ensures { λ n. ⌜ n ≡ codeOf (flowOutcome a) ⌝ }
-{
-    match a {
-        flow::Answer::Given => 0,
-        flow::Answer::Refused(r, i) => refused(r, i),
-    }
-}
-
-fn spread_code(a: spread::Answer) -> u64
-    ensures { λ n. ⌜ n ≡ codeOf (spreadOutcome a) ⌝ }
-{
-    match a {
-        spread::Answer::Given => 0,
-        spread::Answer::Refused(r, i) => refused(r, i),
-    }
-}
-
-fn over_of(over: u32) -> Over
-    ensures { λ r. ⌜ r ≡ overOf over ⌝ }
-{
-    if over == 0 {
-        return Over::Predecessors;
-    }
-    Over::Successors
-}
 
 // `flow::flowed`: over predecessors for 0, else over successors.
 #[no_mangle]
@@ -65,8 +26,8 @@ pub extern "C" fn slots_flowed(
 ) -> u64
     ensures { λ r. ⌜ FlowCoded over (now (blocks .entry)) (now (edges .entry)) points (now (touched .entry)) words (now (out .entry)) (now (work .entry)) r (now (out .exit)) (now (work .exit)) ⌝ }
 {
-    flow_code(flow::flowed(
-        over_of(over),
+    codes::flowed(flow::flowed(
+        codes::over(over),
         blocks,
         edges,
         points,
@@ -91,39 +52,7 @@ pub extern "C" fn slots_spread(
 ) -> u64
     ensures { λ r. ⌜ SpreadCoded (now (blocks .entry)) (now (edges .entry)) points (now (leaves .entry)) (now (passes .entry)) words (now (out .entry)) (now (work .entry)) r (now (out .exit)) (now (work .exit)) ⌝ }
 {
-    spread_code(spread::spread(blocks, edges, points, leaves, passes, words, out, work))
-}
-
-// A plan's counts, as many as there is room for.
-fn tell(counts: &mut [u64], cells: usize, probes: u64, depth: u64)
-    ensures { λ _. ⌜ now (counts .exit) ≡ fitted (cells ∷ probes ∷ depth ∷ []) (now (counts .entry)) ⌝ }
-{
-    let n = counts.len();
-    if n == 0 {
-        return;
-    }
-    counts[0] = cells as u64;
-    if n == 1 {
-        return;
-    }
-    counts[1] = probes;
-    if n == 2 {
-        return;
-    }
-    counts[2] = depth;
-}
-
-// A plan's counts are told, or the refusal is answered.
-fn plan_code(counts: &mut [u64], f: Fitted) -> u64
-    ensures { λ r. ⌜ PlanTold (now (counts .entry)) (answerOf f) r (now (counts .exit)) ⌝ }
-{
-    match f {
-        Fitted::Plan(c, p, d) => {
-            tell(counts, c, p, d);
-            0
-        }
-        Fitted::Refused(r, i) => refused(r, i),
-    }
+    codes::spread(spread::spread(blocks, edges, points, leaves, passes, words, out, work))
 }
 
 // `wants::fit_wants`: of the plan's counts, which are cells, probes and depth, as many as `counts` has room for.
@@ -143,23 +72,10 @@ pub extern "C" fn slots_fit_wants(
         (now (cells .entry)) (now (items .entry)) (now (counts .entry)) (now (work .entry)) r
         (now (cells .exit)) (now (items .exit)) (now (counts .exit)) (now (work .exit)) ⌝ }
 {
-    plan_code(
+    codes::plan(
         counts,
         wants::fit_wants(wants, areas, locals, budget, cells, items, work),
     )
-}
-
-// The same of the whole job's plan.
-fn share_code(counts: &mut [u64], s: Shared) -> u64
-    ensures { λ r. ⌜ PlanTold (now (counts .entry)) (answered s) r (now (counts .exit)) ⌝ }
-{
-    match s {
-        Shared::Plan(c, p, d) => {
-            tell(counts, c, p, d);
-            0
-        }
-        Shared::Refused(r, i) => refused(r, i),
-    }
 }
 
 // `job::share`, the whole job, with the counts as in `slots_fit_wants`.
@@ -190,7 +106,7 @@ pub extern "C" fn slots_share(
         (now (cells .entry)) (now (items .entry)) (now (areas .entry)) (now (counts .entry)) (now (work .entry)) r
         (now (cells .exit)) (now (items .exit)) (now (areas .exit)) (now (counts .exit)) (now (work .exit)) ⌝ }
 {
-    share_code(
+    codes::job(
         counts,
         job::share(
             points,
@@ -214,4 +130,180 @@ pub extern "C" fn slots_share(
             work,
         ),
     )
+}
+
+// W of a job, by the numbers of its records. No sum is too large for any 32-bit numbers.
+#[no_mangle]
+pub extern "C" fn slots_work_words(
+    v: u32,
+    blocks: u32,
+    edges: u32,
+    insts: u32,
+    operands: u32,
+    crossings: u32,
+    locals: u32,
+    slots: u32,
+    addresses: u32,
+    ends: u32,
+    pieces: u32,
+    assigned: u32,
+    moves: u32,
+    ranges: u32,
+) -> u64
+    ensures { λ r. ⌜ r ≡ spaceOf (record { v = v; blocks = blocks; edges = edges; insts = insts; operands = operands; crossings = crossings; locals = locals; slots = slots; addresses = addresses; ends = ends; pieces = pieces; assigned = assigned; moves = moves; room = ranges }) ⌝ }
+{
+    let code = blocks as u64 + edges as u64 + insts as u64 + operands as u64 + crossings as u64;
+    let items = locals as u64 + slots as u64 + addresses as u64 + ends as u64;
+    let live = pieces as u64 + assigned as u64 + moves as u64;
+    let rows = blocks as u64 * ((locals as u64 + 63) / 64);
+    8 * (code + items + live + rows + ranges as u64 + (v as u64 + 63) / 64)
+}
+
+// W of fitting alone, by the numbers of wants and of ranges.
+#[no_mangle]
+pub extern "C" fn slots_fit_words(wants: u32, ranges: u32) -> u64
+    ensures { λ r. ⌜ r ≡ fitSpace wants ranges ⌝ }
+{
+    8 * (wants as u64 + ranges as u64)
+}
+
+// ---- queries of a lent plan
+
+// `queries::local`: the cell of a local.
+#[no_mangle]
+pub extern "C" fn slots_local(cells: &[u32], items: &[u32], locals: u32, i: u32) -> u64
+    ensures { λ r. ⌜ r ≡ optionCode (localOf (now (cells .entry)) (now (items .entry)) locals i) ⌝ }
+{
+    codes::place(queries::local(cells, items, locals, i))
+}
+
+// `queries::slot`: the cell of a slot.
+#[no_mangle]
+pub extern "C" fn slots_slot(cells: &[u32], items: &[u32], locals: u32, i: u32) -> u64
+    ensures { λ r. ⌜ r ≡ optionCode (slotOf (now (cells .entry)) (now (items .entry)) locals i) ⌝ }
+{
+    codes::place(queries::slot(cells, items, locals, i))
+}
+
+// `queries::saved`.
+#[no_mangle]
+pub extern "C" fn slots_saved(cells: &[u32], items: &[u32], locals: u32) -> u64
+    ensures { λ r. ⌜ r ≡ countCode (savedBy (now (cells .entry)) (now (items .entry)) locals) ⌝ }
+{
+    codes::saving(queries::saved(cells, items, locals))
+}
+
+// `queries::shared`: of the part's first range and how many there are, as many as `part` has room for.
+#[no_mangle]
+pub extern "C" fn slots_shared(
+    cells: &[u32],
+    items: &[u32],
+    areas: &[u32],
+    locals: u32,
+    i: u32,
+    part: &mut [u64],
+) -> u64
+    ensures { λ r. ⌜ ShareCoded (now (cells .entry)) (now (items .entry)) (now (areas .entry)) locals i (now (part .entry)) r (now (part .exit)) ⌝ }
+{
+    codes::share(part, queries::shared(cells, items, areas, locals, i))
+}
+
+// `queries::crowded`.
+#[no_mangle]
+pub extern "C" fn slots_crowded(cells: &[u32], items: &[u32], locals: u32, out: &mut [u32]) -> u64
+    ensures { λ r. ⌜ CrowdCoded (crowdedOf (now (cells .entry)) (now (items .entry)) locals (length (now (out .entry)))) (now (out .entry)) r (now (out .exit)) ⌝ }
+{
+    codes::crowd(queries::crowded(cells, items, locals, out))
+}
+
+// `capping::cap`.
+#[no_mangle]
+pub extern "C" fn slots_cap(cells: &mut [u32], count: u32, most: u32) -> u64
+    ensures { λ r. ⌜ CapCoded (now (cells .entry)) count most r (now (cells .exit)) ⌝ }
+{
+    codes::verdict(capping::cap(cells, count, most))
+}
+
+// `apart::apart`.
+#[no_mangle]
+pub extern "C" fn slots_apart(
+    locals: &[u32],
+    slots: &[u32],
+    cells: &mut [u32],
+    items: &mut [u32],
+) -> u64
+    ensures { λ r. ⌜ ApartCoded (apartVerdict (now (locals .entry)) (now (slots .entry)) (length (now (cells .entry))) (length (now (items .entry))))
+        (apartOf (now (locals .entry)) (now (slots .entry)) (length (now (cells .entry))) (length (now (items .entry))))
+        (now (cells .entry)) (now (items .entry)) r (now (cells .exit)) (now (items .exit)) ⌝ }
+{
+    codes::verdict(apart::apart(locals, slots, cells, items))
+}
+
+// ---- ranges in two columns
+
+// `ranges::overlaps`: 1 or 0.
+#[no_mangle]
+pub extern "C" fn slots_overlaps(start: u32, end: u32, other_start: u32, other_end: u32) -> u64
+    ensures { λ r. ⌜ r ≡ truthOf (overlaps (range start end) (range «other_start» «other_end»)) ⌝ }
+{
+    codes::truth(ranges::overlaps(start, end, other_start, other_end))
+}
+
+// `range_entries::merged`.
+#[no_mangle]
+pub extern "C" fn slots_merged(
+    start: &[u32],
+    end: &[u32],
+    out_start: &mut [u32],
+    out_end: &mut [u32],
+) -> u64
+    ensures { λ r. ⌜ ListCoded (mergedOf (now (start .entry)) (now (end .entry)) (length (now («out_start» .entry))) (length (now («out_end» .entry))))
+        (now («out_start» .entry)) (now («out_end» .entry)) r (now («out_start» .exit)) (now («out_end» .exit)) ⌝ }
+{
+    codes::counted(range_entries::merged(start, end, out_start, out_end))
+}
+
+// `range_entries::joined`.
+#[no_mangle]
+pub extern "C" fn slots_joined(
+    start: &[u32],
+    end: &[u32],
+    new_start: u32,
+    new_end: u32,
+    out_start: &mut [u32],
+    out_end: &mut [u32],
+) -> u64
+    ensures { λ r. ⌜ ListCoded (joinedOf (now (start .entry)) (now (end .entry)) (range «new_start» «new_end») (length (now («out_start» .entry))) (length (now («out_end» .entry))))
+        (now («out_start» .entry)) (now («out_end» .entry)) r (now («out_start» .exit)) (now («out_end» .exit)) ⌝ }
+{
+    codes::counted(range_entries::joined(start, end, new_start, new_end, out_start, out_end))
+}
+
+// `range_entries::union`.
+#[no_mangle]
+pub extern "C" fn slots_union(
+    start: &[u32],
+    end: &[u32],
+    other_start: &[u32],
+    other_end: &[u32],
+    out_start: &mut [u32],
+    out_end: &mut [u32],
+) -> u64
+    ensures { λ r. ⌜ ListCoded (unionOf (now (start .entry)) (now (end .entry)) (now («other_start» .entry)) (now («other_end» .entry)) (length (now («out_start» .entry))) (length (now («out_end» .entry))))
+        (now («out_start» .entry)) (now («out_end» .entry)) r (now («out_start» .exit)) (now («out_end» .exit)) ⌝ }
+{
+    codes::counted(range_entries::union(start, end, other_start, other_end, out_start, out_end))
+}
+
+// `range_entries::clashes`: 1 or 0.
+#[no_mangle]
+pub extern "C" fn slots_clashes(
+    start: &[u32],
+    end: &[u32],
+    other_start: &[u32],
+    other_end: &[u32],
+) -> u64
+    ensures { λ r. ⌜ r ≡ truthCode (clashesOf (now (start .entry)) (now (end .entry)) (now («other_start» .entry)) (now («other_end» .entry))) ⌝ }
+{
+    codes::clash(range_entries::clashes(start, end, other_start, other_end))
 }

@@ -7,8 +7,8 @@ use Rattle.slots.proofs.slots_fit_wants.Tie as tie
 fit-wants-requires : tie.Need-fit-wants-requires
 fit-wants-requires c κs = search needs
 
-plan-code-requires : tie.Need-plan-code-requires
-plan-code-requires c κs = search needs
+plan-requires : tie.Need-plan-requires
+plan-requires c κs = search needs
 
 same-length : tie.Need-same-length
 same-length c = search needs
@@ -23,14 +23,14 @@ same-length-4 : tie.Need-same-length-4
 same-length-4 c = search needs
 
 returns : tie.Need-returns
-returns c = plan-coded ((c .before .before .before .before .before .before .before .before .before .fit-wants) .ensures) ((c .before .before .plan-code) .ensures)
+returns c = plan-coded ((c .before .before .before .before .before .before .before .before .before .fit-wants) .ensures) ((c .before .before .plan) .ensures)
 
 pub slots-fit-wants-spec : {M : Type 1} → statement M
 slots-fit-wants-spec =
     tie.close
     (tie.spec
     fit-wants-requires
-    plan-code-requires
+    plan-requires
     same-length
     same-length-2
     same-length-3

@@ -4,14 +4,14 @@ use borrow.Author.Needs.{needs}
 use Rattle.slots.proofs.slots_flowed.Statement.{statement}
 use Rattle.slots.proofs.slots_flowed.Tie as tie
 
-over-of-requires : tie.Need-over-of-requires
-over-of-requires c κs = search needs
+over-requires : tie.Need-over-requires
+over-requires c κs = search needs
 
 flowed-requires : tie.Need-flowed-requires
 flowed-requires c κs = search needs
 
-flow-code-requires : tie.Need-flow-code-requires
-flow-code-requires c κs = search needs
+flowed-requires-2 : tie.Need-flowed-requires-2
+flowed-requires-2 c κs = search needs
 
 same-length : tie.Need-same-length
 same-length c = search needs
@@ -20,15 +20,9 @@ same-length-2 : tie.Need-same-length-2
 same-length-2 c = search needs
 
 returns : tie.Need-returns
-returns c = record { told = (c .before .before .before .before .before .flowed) .result; answer = (c .flow-code) .ensures; holds = rw (sym ((c .before .before .before .before .before .before .before .before .over-of) .ensures)) ((c .before .before .before .before .before .flowed) .ensures) }
+returns c = record { told = (c .before .before .before .before .before .flowed) .result; answer = (c .flowed2) .ensures; holds = rw (sym ((c .before .before .before .before .before .before .before .before .over) .ensures)) ((c .before .before .before .before .before .flowed) .ensures) }
 
 pub slots-flowed-spec : {M : Type 1} → statement M
 slots-flowed-spec =
     tie.close
-    (tie.spec
-    over-of-requires
-    flowed-requires
-    flow-code-requires
-    same-length
-    same-length-2
-    returns)
+    (tie.spec over-requires flowed-requires flowed-requires-2 same-length same-length-2 returns)

@@ -7,8 +7,8 @@ use Rattle.slots.proofs.slots_share.Tie as tie
 share-requires : tie.Need-share-requires
 share-requires c κs = search needs
 
-share-code-requires : tie.Need-share-code-requires
-share-code-requires c κs = search needs
+job-requires : tie.Need-job-requires
+job-requires c κs = search needs
 
 same-length : tie.Need-same-length
 same-length c = search needs
@@ -26,14 +26,14 @@ same-length-5 : tie.Need-same-length-5
 same-length-5 c = search needs
 
 returns : tie.Need-returns
-returns c = job-coded ((c .before .before .before .before .before .before .before .before .before .before .before .share) .ensures) ((c .before .before .share-code) .ensures)
+returns c = job-coded ((c .before .before .before .before .before .before .before .before .before .before .before .share) .ensures) ((c .before .before .job) .ensures)
 
 pub slots-share-spec : {M : Type 1} → statement M
 slots-share-spec =
     tie.close
     (tie.spec
     share-requires
-    share-code-requires
+    job-requires
     same-length
     same-length-2
     same-length-3

@@ -1,10 +1,10 @@
--- `slots::tell` meets its contract.
+-- `codes::tell` meets its contract.
 use native.Mathlib.Omega.{arith}
 use lib.ListN.{length-set}
 use borrow.Author.Needs.{needs}
-use Rattle.slots.proofs.CodeLaws.{told-none, told-one, told-two, told-all}
-use Rattle.slots.proofs.tell.Statement.{statement}
-use Rattle.slots.proofs.tell.Tie as tie
+use Rattle.codes.proofs.CodeLaws.{told-none, told-one, told-two, told-all}
+use Rattle.codes.proofs.tell.Statement.{statement}
+use Rattle.codes.proofs.tell.Tie as tie
 
 returns : tie.Need-returns
 returns c = told-none _ _ _ ((c .before .args) .counts .now) (omega arith)

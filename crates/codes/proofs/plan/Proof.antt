@@ -1,10 +1,10 @@
--- `slots::plan_code` meets its contract.
+-- `codes::plan` meets its contract.
 use mathlib.Core.Path.{ap}
 use borrow.Author.Needs.{needs}
 use Rattle.wants.specs.Entry.{answerOf}
-use Rattle.slots.proofs.CodeLaws.{plan-told, plan-refused}
-use Rattle.slots.proofs.plan_code.Statement.{statement}
-use Rattle.slots.proofs.plan_code.Tie as tie
+use Rattle.codes.proofs.CodeLaws.{plan-told, plan-refused}
+use Rattle.codes.proofs.plan.Statement.{statement}
+use Rattle.codes.proofs.plan.Tie as tie
 
 enum-known-f : tie.Need-enum-known-f
 enum-known-f c = search needs
@@ -27,8 +27,8 @@ returns c = plan-told (ap answerOf ((c .before .before .before .before .before .
 returns-2 : tie.Need-returns-2
 returns-2 c = plan-refused (ap answerOf ((c .before .before .f2) .given .1)) ((c .refused) .ensures)
 
-pub plan-code-spec : {M : Type 1} → statement M
-plan-code-spec =
+pub plan-spec : {M : Type 1} → statement M
+plan-spec =
     tie.close
     (tie.spec
     enum-known-f

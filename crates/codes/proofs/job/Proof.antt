@@ -1,10 +1,10 @@
--- `slots::share_code` meets its contract.
+-- `codes::job` meets its contract.
 use mathlib.Core.Path.{ap}
 use borrow.Author.Needs.{needs}
 use Rattle.job.specs.Entry.{answered}
-use Rattle.slots.proofs.CodeLaws.{plan-told, plan-refused}
-use Rattle.slots.proofs.share_code.Statement.{statement}
-use Rattle.slots.proofs.share_code.Tie as tie
+use Rattle.codes.proofs.CodeLaws.{plan-told, plan-refused}
+use Rattle.codes.proofs.job.Statement.{statement}
+use Rattle.codes.proofs.job.Tie as tie
 
 enum-known-s : tie.Need-enum-known-s
 enum-known-s c = search needs
@@ -27,8 +27,8 @@ returns c = plan-told (ap answered ((c .before .before .before .before .before .
 returns-2 : tie.Need-returns-2
 returns-2 c = plan-refused (ap answered ((c .before .before .s2) .given .1)) ((c .refused) .ensures)
 
-pub share-code-spec : {M : Type 1} → statement M
-share-code-spec =
+pub job-spec : {M : Type 1} → statement M
+job-spec =
     tie.close
     (tie.spec
     enum-known-s

@@ -1,0 +1,126 @@
+-- What the codes tell apart, and what is told in a list with room for some of it.
+use mathlib.Core.Path.{_≡_, refl, sym, ap, _∙_}
+use mathlib.Core.Logic.{_≢_}
+use mathlib.Core.List.{List, [], _∷_}
+use Prim.Native.Nat.{ℕ, zero, suc, _/_, _%_, _^_, _≤_, _<_}
+use native.Mathlib.Omega.{arith}
+use lib.ListN.{length, take, drop, set}
+use lib.Seq.{take-length}
+use Rattle.flow.specs.declared.Over.the-variants.{Successors}
+use Rattle.refusals.specs.declared.Refusal.{Refusal}
+use Rattle.refusals.specs.declared.Refusal.the-variants.{Count, Line, Edge, Inst, Stray, Piece, Space, Inverted, List as ListFull, Want, Text}
+use Rattle.refusals.specs.Verdicts.{numberOf}
+use Rattle.refusals.specs.Outcomes.{Outcome, given, refused}
+use Rattle.wants.specs.Entry.{Tally}
+use Rattle.queries.specs.declared.Share.{Share}
+use Rattle.queries.specs.declared.Share.the-variants.{Part, Absent, Refused as ShareRefused}
+use Rattle.codes.specs.Codes.{refusalCode, absentCode, codeOf, fitted, countsAfter, overOf, PlanTold, partCode, partAfter, PartTold}
+
+-- ---- a refusal's code is no answer, is not that of absence, and gives its number and index back
+
+number-small : (r : Refusal) → (1 ≤ numberOf r) × (numberOf r ≤ 11)
+number-small Count = (omega arith, omega arith)
+number-small Line = (omega arith, omega arith)
+number-small Edge = (omega arith, omega arith)
+number-small Inst = (omega arith, omega arith)
+number-small Stray = (omega arith, omega arith)
+number-small Piece = (omega arith, omega arith)
+number-small Space = (omega arith, omega arith)
+number-small Inverted = (omega arith, omega arith)
+number-small ListFull = (omega arith, omega arith)
+number-small Want = (omega arith, omega arith)
+number-small Text = (omega arith, omega arith)
+
+pub refusal-no-answer : (r : Refusal) (i n : ℕ) → n < 2 ^ 32 → n < refusalCode (numberOf r) i
+refusal-no-answer r i n h = let s = number-small r in omega arith
+
+pub refusal-not-absent : (r : Refusal) (i : ℕ) → refusalCode (numberOf r) i < absentCode
+refusal-not-absent r i = let s = number-small r in omega arith
+
+pub code-number : (k i : ℕ) → refusalCode k i / 2 ^ 32 ≡ k
+code-number k i = omega arith
+
+pub code-index : (k i : ℕ) → i < 2 ^ 32 → refusalCode k i % 2 ^ 32 ≡ i
+code-index k i h = omega arith
+
+-- ---- counts told
+
+module _ (c p d : ℕ) where
+  pub told-none : (l : List ℕ) → length l ≡ 0 → l ≡ fitted (c ∷ p ∷ d ∷ []) l
+  told-none [] e = refl
+  told-none (x ∷ l) e = absurd (omega arith)
+
+  pub told-one : (l : List ℕ) → length l ≡ 1 → set l 0 c ≡ fitted (c ∷ p ∷ d ∷ []) l
+  told-one [] e = absurd (omega arith)
+  told-one (x ∷ []) e = refl
+  told-one (x ∷ y ∷ l) e = absurd (omega arith)
+
+  pub told-two : (l : List ℕ) → length l ≡ 2 → set (set l 0 c) 1 p ≡ fitted (c ∷ p ∷ d ∷ []) l
+  told-two [] e = absurd (omega arith)
+  told-two (x ∷ []) e = absurd (omega arith)
+  told-two (x ∷ y ∷ []) e = refl
+  told-two (x ∷ y ∷ z ∷ l) e = absurd (omega arith)
+
+  pub told-all : (l : List ℕ) → 2 < length l → set (set (set l 0 c) 1 p) 2 d ≡ fitted (c ∷ p ∷ d ∷ []) l
+  told-all [] e = absurd (omega arith)
+  told-all (x ∷ []) e = absurd (omega arith)
+  told-all (x ∷ y ∷ []) e = absurd (omega arith)
+  told-all (x ∷ y ∷ z ∷ l) e = ap (λ (r : List ℕ). c ∷ p ∷ d ∷ r) (sym (take-length l))
+
+module _ (f c : ℕ) where
+  pub part-none : (l : List ℕ) → length l ≡ 0 → l ≡ fitted (f ∷ c ∷ []) l
+  part-none [] e = refl
+  part-none (x ∷ l) e = absurd (omega arith)
+
+  pub part-one : (l : List ℕ) → length l ≡ 1 → set l 0 f ≡ fitted (f ∷ c ∷ []) l
+  part-one [] e = absurd (omega arith)
+  part-one (x ∷ []) e = refl
+  part-one (x ∷ y ∷ l) e = absurd (omega arith)
+
+  pub part-all : (l : List ℕ) → 1 < length l → set (set l 0 f) 1 c ≡ fitted (f ∷ c ∷ []) l
+  part-all [] e = absurd (omega arith)
+  part-all (x ∷ []) e = absurd (omega arith)
+  part-all (x ∷ y ∷ l) e = ap (λ (r : List ℕ). f ∷ c ∷ r) (sym (take-length l))
+
+-- ---- answers
+
+pub over-some : (n : ℕ) → n ≢ 0 → Successors ≡ overOf n
+over-some zero h = absurd (h refl)
+over-some (suc n) h = refl
+
+module _ {counts : List ℕ} {o : Outcome Tally} where
+  pub plan-told : {counts′ : List ℕ} {c p d : ℕ} → o ≡ given (record { cells = c; probes = p; depth = d }) → counts′ ≡ fitted (c ∷ p ∷ d ∷ []) counts → PlanTold counts o 0 counts′
+  plan-told e h =
+      record {
+        answer = ap codeOf (sym e);
+        in-counts = h ∙ ap (λ (x : Outcome Tally). countsAfter x counts) (sym e);
+      }
+
+  pub plan-refused : {n k i : ℕ} → o ≡ refused k i → n ≡ refusalCode k i → PlanTold counts o n counts
+  plan-refused e h =
+      record {
+        answer = h ∙ ap codeOf (sym e);
+        in-counts = ap (λ (x : Outcome Tally). countsAfter x counts) (sym e);
+      }
+
+module _ {part : List ℕ} {s : Share} where
+  pub part-told : {part′ : List ℕ} {f c : ℕ} → s ≡ Part f c → part′ ≡ fitted (f ∷ c ∷ []) part → PartTold part s 0 part′
+  part-told e h =
+      record {
+        answer = ap partCode (sym e);
+        in-part = h ∙ ap (λ (x : Share). partAfter x part) (sym e);
+      }
+
+  pub part-absent : s ≡ Absent → PartTold part s absentCode part
+  part-absent e =
+      record {
+        answer = ap partCode (sym e);
+        in-part = ap (λ (x : Share). partAfter x part) (sym e);
+      }
+
+  pub part-refused : {n i : ℕ} {k : Refusal} → s ≡ ShareRefused k i → n ≡ refusalCode (numberOf k) i → PartTold part s n part
+  part-refused e h =
+      record {
+        answer = h ∙ ap partCode (sym e);
+        in-part = ap (λ (x : Share). partAfter x part) (sym e);
+      }
