@@ -1,0 +1,87 @@
+//! Why a call was turned back.
+use std::fmt;
+
+/// What is wrong, by the words of the component's table of refusals.
+#[derive(Clone, Copy, Debug, PartialEq, Eq, Hash)]
+#[repr(u32)]
+pub enum Kind {
+    Count = 1,
+    Line = 2,
+    Edge = 3,
+    Inst = 4,
+    Stray = 5,
+    Piece = 6,
+    Space = 7,
+    Inverted = 8,
+    List = 9,
+    Want = 10,
+    Text = 11,
+}
+
+/// Each kind in the order of the numbers, from 1 on.
+const KINDS: [Kind; 11] = [
+    Kind::Count, Kind::Line, Kind::Edge, Kind::Inst, Kind::Stray, Kind::Piece, Kind::Space, Kind::Inverted, Kind::List, Kind::Want, Kind::Text,
+];
+
+/// A refusal: what is wrong, and the index of the first offending record of its group.
+#[derive(Clone, Copy, Debug, PartialEq, Eq, Hash)]
+pub struct Refusal {
+    pub kind: Kind,
+    pub index: u32,
+}
+
+impl Refusal {
+    /// The number in the table of refusals.
+    pub fn number(self) -> u32 {
+        self.kind as u32
+    }
+
+    /// The word in the table of refusals.
+    pub fn word(self) -> &'static str {
+        match self.kind {
+            Kind::Count => "count",
+            Kind::Line => "line",
+            Kind::Edge => "edge",
+            Kind::Inst => "inst",
+            Kind::Stray => "stray",
+            Kind::Piece => "piece",
+            Kind::Space => "space",
+            Kind::Inverted => "inverted",
+            Kind::List => "list",
+            Kind::Want => "want",
+            Kind::Text => "text",
+        }
+    }
+
+    /// What it means, in a sentence.
+    pub fn sentence(self) -> &'static str {
+        match self.kind {
+            Kind::Count => "a count or the budget is outside its limits, or a list is no whole rows",
+            Kind::Line => "a block's number is repeated or too large, or the block is reversed, leaves a gap or ends past the last point",
+            Kind::Edge => "an edge names no block",
+            Kind::Inst => "an instruction or a crossing has a block, point, flag, position or register out of range",
+            Kind::Stray => "an address, an end or a move stands at no instruction or block, or a move's kind is over 3",
+            Kind::Piece => "a live piece is reversed, not wholly in the blocks, or it or an assignment is of a register that is not numbered",
+            Kind::Space => "the work space or an answer list is too short",
+            Kind::Inverted => "a computed range ends before it starts",
+            Kind::List => "all areas together exceed the area list",
+            Kind::Want => "a range is reversed or out of order, or a lent plan's part is outside its list",
+            Kind::Text => "a line of a job text is malformed",
+        }
+    }
+
+    /// The refusal that a code above the answers stands for.
+    pub(crate) fn of(code: u64) -> Refusal {
+        let number = (code >> 32) as usize;
+        let kind = KINDS.get(number.wrapping_sub(1)).copied();
+        Refusal { kind: kind.expect("a refusal's number is 1 to 11"), index: code as u32 }
+    }
+}
+
+impl fmt::Display for Refusal {
+    fn fmt(&self, f: &mut fmt::Formatter<'_>) -> fmt::Result {
+        write!(f, "refusal {} ({}) at {}: {}", self.number(), self.word(), self.index, self.sentence())
+    }
+}
+
+impl std::error::Error for Refusal {}
