@@ -165,7 +165,8 @@ uint64_t slots_apart(
 
 /* 1 if each range starts no later than the other ends, else 0. It refuses nothing. */
 uint64_t slots_overlaps(uint32_t start, uint32_t end, uint32_t other_start, uint32_t other_end);
-/* The ranges sorted, those joined that share a point: how many; out has them. 10: a reversed range. */
+/* The ranges sorted, those joined that share a point: how many; out has them. 10: a reversed range.
+ * Takes 512 KiB of stack for more than 256 ranges. */
 uint64_t slots_merged(
     const uint32_t *start, size_t start_len, const uint32_t *end, size_t end_len,
     uint32_t *out_start, size_t out_start_len, uint32_t *out_end, size_t out_end_len);
