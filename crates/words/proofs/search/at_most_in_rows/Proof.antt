@@ -1,8 +1,8 @@
 -- `words::search::at_most_in_rows` meets its contract: a turn keeps `Between`.
-use Rattle.words.proofs.SearchLaws.{Between, between-start, between-up, between-down, between-done, front-le}
+use Rattle.words.proofs.SearchLaws.{Between, between-all, between-turn, between-none, between-last, taken-le, one-at-most, front-le}
 use Rattle.words.proofs.RowLaws.{field-within}
 use Rattle.words.specs.Rows.{field}
-use borrow.Author.Tests.{le-leb, lt-leb}
+use mathlib.Core.Path.{_≡_, refl}
 use lib.Dec.{leb}
 use native.Mathlib.Omega.{arith}
 use Prim.Native.Nat.{_+_, _-_, _*_, _/_, _<_}
@@ -11,56 +11,78 @@ use Rattle.words.proofs.search.at_most_in_rows.Statement.{statement}
 use Rattle.words.proofs.search.at_most_in_rows.Tie as tie
 
 abbrev Inv-loop : tie.InvT-loop
-Inv-loop s width f n point lo₀ hi₀ lo hi = Between (λ i. leb (field width s i f) point) n lo hi
+Inv-loop s width f n point lo₀ left₀ lo left = Between (λ i. leb (field width s i f) point) n lo (lo + left)
 
 abbrev μ-loop : tie.MeasureT-loop
-μ-loop s width f n point lo₀ hi₀ lo hi = hi - lo
+μ-loop s width f n point lo₀ left₀ lo left = left
 
 loop-holds : tie.Need-loop-holds Inv-loop μ-loop
-loop-holds c = between-start _ _ (front-le (λ i. field (c .args .width) (c .args .s .now) i (c .args .f)) _ _ (c .pre .2))
-
-sub-m : tie.Need-sub-m Inv-loop μ-loop
-sub-m c = omega arith
-
-add-m : tie.Need-add-m Inv-loop μ-loop
-add-m c = omega arith
+loop-holds c = between-all _ _ (front-le (λ i. field ((c .before .args) .width) ((c .before .args) .s .now) i ((c .before .args) .f)) _ _ ((c .before .pre) .2))
 
 -- the row that is looked at
-within : (c : tie.In-loop Inv-loop μ-loop)
-    → c .before .before .args .width * (c .before .loop .lo + (c .before .loop .hi - c .before .loop .lo) / 2) + c .before .before .args .f < length (c .before .before .args .s .now)
-within c =
-    field-within (c .before .before .args .width) (c .before .before .args .n) (c .before .loop .lo + (c .before .loop .hi - c .before .loop .lo) / 2) (c .before .before .args .f) (length (c .before .before .args .s .now))
-    (omega arith) (omega arith) (omega arith)
+within : (c : tie.In-loop Inv-loop μ-loop) → (c .before .before .before .args) .width * ((c .before .loop) .lo + (c .before .loop) .left / 2) + (c .before .before .before .args) .f < length ((c .before .before .before .args) .s .now)
+within c = field-within ((c .before .before .before .args) .width) ((c .before .before .before .args) .n) ((c .before .loop) .lo + (c .before .loop) .left / 2) ((c .before .before .before .args) .f) (length ((c .before .before .before .args) .s .now)) (omega arith) (omega arith) (omega arith)
 
-mul-if1 : tie.Need-mul-if1 Inv-loop μ-loop
-mul-if1 c = omega (arith, within c)
+-- the last one
+lastly : (c : tie.Else1 Inv-loop μ-loop) → (c .before .before .before .before .args) .width * (c .before .before .loop) .lo + (c .before .before .before .before .args) .f < length ((c .before .before .before .before .args) .s .now)
+lastly c = field-within ((c .before .before .before .before .args) .width) ((c .before .before .before .before .args) .n) ((c .before .before .loop) .lo) ((c .before .before .before .before .args) .f) (length ((c .before .before .before .before .args) .s .now)) (omega arith) (omega arith) (omega arith)
 
-add-if1 : tie.Need-add-if1 Inv-loop μ-loop
-add-if1 c = omega (arith, within c)
+add-x : tie.Need-add-x Inv-loop μ-loop
+add-x c = omega arith
 
-mul-if1-2 : tie.Need-mul-if1-2 Inv-loop μ-loop
-mul-if1-2 c = omega (arith, within c)
+mul-x : tie.Need-mul-x Inv-loop μ-loop
+mul-x c = omega (arith, within c)
 
-shared-slice-read-if1 : tie.Need-shared-slice-read-if1 Inv-loop μ-loop
-shared-slice-read-if1 c = omega (arith, within (c .before))
+add-x-2 : tie.Need-add-x-2 Inv-loop μ-loop
+add-x-2 c = omega (arith, within c)
+
+mul-x-2 : tie.Need-mul-x-2 Inv-loop μ-loop
+mul-x-2 c = omega (arith, within c)
+
+shared-slice-read-x : tie.Need-shared-slice-read-x Inv-loop μ-loop
+shared-slice-read-x c = within (c .before)
+
+no-more-requires : tie.Need-no-more-requires Inv-loop μ-loop
+no-more-requires c κs = tt
+
+mul-lo : tie.Need-mul-lo Inv-loop μ-loop
+mul-lo c = omega (arith, taken-le ((c .before .before .before .loop) .left / 2) (c .no-more .result) (leb (field ((c .before .before .before .before .before .args) .width) ((c .before .before .before .before .before .args) .s .now) ((c .before .before .before .loop) .lo + (c .before .before .before .loop) .left / 2) ((c .before .before .before .before .before .args) .f)) ((c .before .before .before .before .before .args) .point)) (c .no-more .ensures))
 
 add-lo : tie.Need-add-lo Inv-loop μ-loop
-add-lo c = omega arith
+add-lo c = omega (arith, taken-le ((c .before .before .before .loop) .left / 2) (c .no-more .result) (leb (field ((c .before .before .before .before .before .args) .width) ((c .before .before .before .before .before .args) .s .now) ((c .before .before .before .loop) .lo + (c .before .before .before .loop) .left / 2) ((c .before .before .before .before .before .args) .f)) ((c .before .before .before .before .before .args) .point)) (c .no-more .ensures))
+
+sub-left : tie.Need-sub-left Inv-loop μ-loop
+sub-left c = omega arith
 
 loop-less : tie.Need-loop-less Inv-loop μ-loop
 loop-less c = omega arith
 
 loop-again : tie.Need-loop-again Inv-loop μ-loop
-loop-again c = between-up (c .before .before .before .loop .inv) _ (omega arith) (omega arith) (le-leb _ _ (c .if1 .taken))
-
-loop-less-2 : tie.Need-loop-less-2 Inv-loop μ-loop
-loop-less-2 c = omega arith
-
-loop-again-2 : tie.Need-loop-again-2 Inv-loop μ-loop
-loop-again-2 c = between-down (c .before .before .before .loop .inv) _ (omega arith) (omega arith) (lt-leb _ _ (c .if1 .left))
+loop-again c = between-turn ((c .before .before .before .loop) .inv) ((c .before .before .before .loop) .left / 2) (c .no-more .result) (omega arith) (omega arith) (c .no-more .ensures)
 
 returns : tie.Need-returns Inv-loop μ-loop
-returns c = between-done (c .before .loop .inv) (c .loop-test .left)
+returns c = between-none ((c .before .before .loop) .inv) (omega arith)
+
+mul-no-more : tie.Need-mul-no-more Inv-loop μ-loop
+mul-no-more c = omega (arith, lastly c)
+
+add-no-more : tie.Need-add-no-more Inv-loop μ-loop
+add-no-more c = omega (arith, lastly c)
+
+mul-no-more-2 : tie.Need-mul-no-more-2 Inv-loop μ-loop
+mul-no-more-2 c = omega (arith, lastly c)
+
+shared-slice-read-no-more : tie.Need-shared-slice-read-no-more Inv-loop μ-loop
+shared-slice-read-no-more c = lastly (c .before)
+
+no-more-requires-2 : tie.Need-no-more-requires-2 Inv-loop μ-loop
+no-more-requires-2 c κs = tt
+
+add-result : tie.Need-add-result Inv-loop μ-loop
+add-result c = omega (arith, one-at-most (c .no-more2 .result) (leb (field ((c .before .before .before .before .before .before .args) .width) ((c .before .before .before .before .before .before .args) .s .now) ((c .before .before .before .before .loop) .lo) ((c .before .before .before .before .before .before .args) .f)) ((c .before .before .before .before .before .before .args) .point)) (c .no-more2 .ensures))
+
+returns-2 : tie.Need-returns-2 Inv-loop μ-loop
+returns-2 c = between-last ((c .before .before .before .before .loop) .inv) (c .no-more2 .result) (omega arith) (c .no-more2 .ensures)
 
 pub at-most-in-rows-spec : {M : Type 1} → statement M
 at-most-in-rows-spec =
@@ -69,15 +91,22 @@ at-most-in-rows-spec =
     Inv-loop
     μ-loop
     loop-holds
-    sub-m
-    add-m
-    mul-if1
-    add-if1
-    mul-if1-2
-    shared-slice-read-if1
+    add-x
+    mul-x
+    add-x-2
+    mul-x-2
+    shared-slice-read-x
+    no-more-requires
+    mul-lo
     add-lo
+    sub-left
     loop-less
     loop-again
-    loop-less-2
-    loop-again-2
-    returns)
+    returns
+    mul-no-more
+    add-no-more
+    mul-no-more-2
+    shared-slice-read-no-more
+    no-more-requires-2
+    add-result
+    returns-2)
