@@ -1,6 +1,6 @@
 //! Fitting alone.
 use crate::entries;
-use crate::timing::{row, timed, Random};
+use crate::timing::{once, row, timed, Random};
 use reference::slots::probe;
 use rucc_regalloc::live::Range;
 
@@ -45,7 +45,7 @@ fn time(name: &str, w: &Wants, budget: u32) {
         &mut || {
             // slots.rs takes its wants by value
             let lent = w.lent.clone();
-            timed(|| probe::fit(lent, 0, budget as usize))
+            once(|| probe::fit(lent, 0, budget as usize))
         },
         &mut || timed(|| entries::fit_wants(&w.rows, &w.areas, 0, budget, &mut cells, &mut items, &mut counts, &mut work)),
     );
