@@ -1,5 +1,5 @@
 -- The pieces of a plain local in line order: blocks without both bits and without a span give none, so that only the others are visited.
-use Prim.Native.Nat.{ℕ, suc, _+_, _-_, _*_, _/_, _%_, _^_, _≤_, _<_, min}
+use Prim.Native.Nat.{ℕ, zero, suc, _+_, _-_, _*_, _/_, _%_, _^_, _≤_, _<_, min}
 use native.Mathlib.Omega.{arith}
 use mathlib.Core.Path.{_≡_, refl, sym, ap, _∙_}
 use mathlib.Core.Logic.{_≢_}
@@ -8,13 +8,17 @@ use mathlib.Core.List.{List, [], _∷_}
 use lib.ListN.{length, getD}
 use Rattle.words.specs.Regions.{part}
 use Rattle.words.proofs.RegionLaws.{row-before}
-use Rattle.bits.specs.Bits.{bitOf, PutBit, Row, FirstSet}
+use Rattle.words.proofs.Points.{cut, same}
+use borrow.Author.Tests.{eq-eqb}
+use lib.Dec.{eqb}
+use Rattle.bits.specs.Bits.{bitOf, Row, FirstSet}
 use Rattle.ranges.specs.declared.Range.{Range}
 use Rattle.ranges.specs.Points.{range}
 use Rattle.ranges.specs.Merged.{joined}
 use Rattle.ranges.specs.Forms.{pack, unpack, unpacked}
 use Rattle.ranges.proofs.FormLaws.{unpack-pack}
 use Rattle.graph.specs.Paths.{Edge}
+use Rattle.graph.specs.Line.{blocksOf, Sound}
 use Rattle.graph.proofs.Line.{start-is, end-is}
 use Rattle.areas.specs.Blocks.{Graph, top, bottom, whole}
 use Rattle.areas.specs.Pieces.{clips, span, blockPiece, joinEach, linePieces}
@@ -22,7 +26,7 @@ use Rattle.spots.specs.Spots.{lineOf}
 use Rattle.area_pieces.proofs.SweepLaws.{stays, Sweep, sweep-begin, sweep-in, sweep-mark, sweep-next, sweep-skip, sweep-pieces, sweep-more, sweep-done, swept-after}
 use Rattle.area_pieces.specs.declared.Local.{Local}
 use Rattle.area_pieces.specs.Local.{ownBit, writtenBit, readBit, markBit, Flowing, Both}
-use Rattle.area_pieces.specs.Inner.{spanAt, hull, pieceAt, Spans, Visitable, Pieced, Visited, Lined, JoinedIn}
+use Rattle.area_pieces.specs.Inner.{spanAt, hull, pieceAt, Spans, Run, RunPiece, Taken, Covered, Visitable, Pieced, Visited, Lined, JoinedIn}
 
 -- ---- a block's piece by its span
 
@@ -112,9 +116,38 @@ module _ (G : Graph) (ts : List Range) (f g : ℕ → Bool) where
 
 pub record Lining (blocks : List ℕ) (s : Local) (n from : ℕ) (w₀ w : List ℕ) (k r : ℕ) : Type 0 where
   pub asked : Visitable s n from w₀
+  pub covered : Covered s w₀
+  pub sound : Sound (blocksOf blocks)
+  pub all : n ≡ length (blocksOf blocks)
   pub sweep : Sweep s n from w₀ w k r
   pub pieces : (es : List Edge) (ts : List Range) (f g : ℕ → Bool) → Pieced (lineOf blocks es) ts f g s n w₀
       → unpacked (part from r w) ≡ linePieces (lineOf blocks es) ts f g (min k n)
+
+joined-behind : (s : Range) (l : List Range) (r : Range) → 0 < length l → joined (s ∷ l) r ≡ s ∷ joined l r
+unfolding joined
+joined-behind s [] r h = absurd (omega arith)
+joined-behind s (t ∷ l) r h = refl
+
+joined-some : (l : List Range) (r : Range) → 0 < length (joined l r)
+unfolding joined
+joined-some [] r = omega arith
+joined-some (s ∷ []) r = go (eqb (r .start) (s .end + 1))
+  where
+    go : (t : Bool) → 0 < length (cond t (range (s .start) (r .end) ∷ []) (s ∷ r ∷ []))
+    go true = omega arith
+    go false = omega arith
+joined-some (s ∷ t ∷ l) r = omega arith
+
+-- a range that starts where the last one ends goes on with it
+joined-twice : (l : List Range) (a b c : ℕ) → joined (joined l (range a b)) (range (b + 1) c) ≡ joined l (range a c)
+unfolding joined
+joined-twice [] a b c = ap (λ (t : Bool). cond t (range a c ∷ []) (range a b ∷ range (b + 1) c ∷ [])) (eq-eqb (b + 1) (b + 1) refl)
+joined-twice (s ∷ []) a b c = go (eqb a (s .end + 1))
+  where
+    go : (t : Bool) → joined (cond t (range (s .start) b ∷ []) (s ∷ range a b ∷ [])) (range (b + 1) c) ≡ cond t (range (s .start) c ∷ []) (s ∷ range a c ∷ [])
+    go true = ap (λ (t : Bool). cond t (range (s .start) c ∷ []) (range (s .start) b ∷ range (b + 1) c ∷ [])) (eq-eqb (b + 1) (b + 1) refl)
+    go false = ap (λ (t : Bool). s ∷ cond t (range a c ∷ []) (range a b ∷ range (b + 1) c ∷ [])) (eq-eqb (b + 1) (b + 1) refl)
+joined-twice (s ∷ t ∷ l) a b c = joined-behind s (joined (t ∷ l) (range a b)) (range (b + 1) c) (joined-some (t ∷ l) (range a b)) ∙ ap (λ (q : List Range). s ∷ q) (joined-twice (t ∷ l) a b c)
 
 -- some blocks more have no piece, and one has its own
 module _ (blocks : List ℕ) (s : Local) (n : ℕ) (w₀ : List ℕ) (es : List Edge) (ts : List Range) (f g : ℕ → Bool) (p : Pieced (lineOf blocks es) ts f g s n w₀) where
@@ -126,14 +159,41 @@ module _ (blocks : List ℕ) (s : Local) (n : ℕ) (w₀ : List ℕ) (es : List 
       stays lines n j k h l
       (λ i q m v. line-same (lineOf blocks es) ts f g i (p .is i v ∙ ap (λ (t : Bool). cond t (pieceAt (lineOf blocks es) s w₀ i ∷ []) []) (none i q m)))
 
+  own-piece : (k : ℕ) → ownBit s w₀ k ≡ true → pieceAt (lineOf blocks es) s w₀ k ≡ range (top (lineOf blocks es) k) (bottom (lineOf blocks es) k)
+  own-piece k o =
+      ap (λ (t : Bool). cond t (whole (lineOf blocks es) k)
+      (range (cond (writtenBit s w₀ k) (top (lineOf blocks es) k) (unpack (getD w₀ (s .span + k) 0) .start)) (cond (readBit s w₀ k) (bottom (lineOf blocks es) k) (unpack (getD w₀ (s .span + k) 0) .end)))) o
+
   taken : (k : ℕ) → k < n → markBit s w₀ k ≡ true → lines (suc k) ≡ joined (lines k) (pieceAt (lineOf blocks es) s w₀ k)
   taken k h e =
       line-one (lineOf blocks es) ts f g k (pieceAt (lineOf blocks es) s w₀ k)
       (p .is k h ∙ ap (λ (t : Bool). cond t (pieceAt (lineOf blocks es) s w₀ k ∷ []) []) e)
 
-pub line-begin : (blocks : List ℕ) (s : Local) (n from : ℕ) {w : List ℕ} → Visitable s n from w → (k : ℕ) → FirstSet w (s .mark) (s .wide) 0 k → Lining blocks s n from w w k 0
-line-begin blocks s n from {w} a k first = record {
+  -- blocks that are marked and have the local's own bit, one behind another, come to one piece: there is no gap between blocks
+  taken-run : (m k e : ℕ) → e ≡ suc (k + m) → e ≤ n → n ≡ length (blocksOf blocks) → Sound (blocksOf blocks)
+      → ((c : ℕ) → k ≤ c → c < e → (markBit s w₀ c ≡ true) × (ownBit s w₀ c ≡ true)) → lines e ≡ joined (lines k) (range (top (lineOf blocks es) k) (bottom (lineOf blocks es) (k + m)))
+  taken-run zero k e q h a g all =
+      let z : e ≡ suc k = omega arith in
+      let y : k ≡ k + 0 = omega arith in
+      ap lines z ∙ taken k (omega arith) (all k (omega arith) (omega arith) .0) ∙ ap (joined (lines k)) (own-piece k (all k (omega arith) (omega arith) .1)
+      ∙ ap (λ (j : ℕ). range (top (lineOf blocks es) k) (bottom (lineOf blocks es) j)) y)
+  taken-run (suc m) k e q h a g all =
+      let z : e ≡ suc (suc (k + m)) = omega arith in
+      let y : suc (k + m) ≡ k + suc m = omega arith in
+      ap lines z ∙ taken (suc (k + m)) (omega arith) (all (suc (k + m)) (omega arith) (omega arith) .0)
+      ∙ ap (joined (lines (suc (k + m)))) (own-piece (suc (k + m)) (all (suc (k + m)) (omega arith) (omega arith) .1)
+      ∙ ap (λ (t : ℕ). range t (bottom (lineOf blocks es) (suc (k + m)))) (g .gapless (k + m) (omega arith)))
+      ∙ ap (λ (l : List Range). joined l (range (bottom (lineOf blocks es) (k + m) + 1) (bottom (lineOf blocks es) (suc (k + m))))) (taken-run m k (suc (k + m)) refl (omega arith) a g (λ c i j. all c i (omega arith)))
+      ∙ joined-twice (lines k) (top (lineOf blocks es) k) (bottom (lineOf blocks es) (k + m)) (bottom (lineOf blocks es) (suc (k + m)))
+      ∙ ap (λ (j : ℕ). joined (lines k) (range (top (lineOf blocks es) k) (bottom (lineOf blocks es) j))) y
+
+pub line-begin : (blocks : List ℕ) (s : Local) (n from : ℕ) {w : List ℕ} → Visitable s n from w → Covered s w → Sound (blocksOf blocks) → n ≡ length (blocksOf blocks)
+    → (k : ℕ) → FirstSet w (s .mark) (s .wide) 0 k → Lining blocks s n from w w k 0
+line-begin blocks s n from {w} a v g all k first = record {
   asked = a;
+  covered = v;
+  sound = g;
+  all = all;
   sweep = sweep-begin (a .swept) first;
   pieces = λ es ts f g p. sym (passed blocks s n w es ts f g p 0 k (omega arith) (λ i q m. first .least i (omega arith) m) (omega arith)
       ∙ line-start (lineOf blocks es) ts f g);
@@ -148,29 +208,58 @@ module _ {blocks : List ℕ} {s : Local} {n from : ℕ} {w₀ w : List ℕ} {k r
       let m = a .mark-fits in
       piece-kept s n w₀ w (a .flowing) (d .sweep .before) G k h (a .row-fits) (omega arith) (d .sweep .between (s .span + k) (omega arith) (omega arith))
 
-  module _ {w₁ w₂ : List ℕ} {r′ k′ x : ℕ} (h : k < s .wide * 64) (ex : unpack x ≡ pieceAt (lineOf blocks []) s w k) (j : JoinedIn w w₁ from r r′ x)
-      (u : PutBit w₁ w₂ (s .mark) k false) (first : FirstSet w₂ (s .mark) (s .wide) (k / 64) k′) where
-    pub line-next : k < k′
-    line-next = sweep-next (d .sweep) h (j .listed .len) (j .listed .before) (j .listed .after) (j .most) u first
+  module _ {e : ℕ} (h : k < s .wide * 64) (run : Run s k e w) where
+    own-marked : e ≢ k + 1 → (c : ℕ) → k ≤ c → c < e → (markBit s w₀ c ≡ true) × (ownBit s w₀ c ≡ true)
+    own-marked q c i j =
+        let z = run .word q in
+        let o : ownBit s w₀ c ≡ true = sym (own-kept s n w₀ w (d .asked .flowing) (d .sweep .before) (d .asked .row-fits) c (omega arith)) ∙ run .own q c i j in
+        (d .covered .marked c (omega arith) o, o)
 
-    pub line-more : Lining blocks s n from w₀ w₂ k′ r′
-    line-more = record {
-      asked = d .asked;
-      sweep = sweep-more (d .sweep) h (j .listed .len) (j .listed .before) (j .listed .after) (j .most) u first;
-      pieces = λ es ts f g p. listed ∙ ap (λ (q : Range). joined (unpacked (part from r w)) q) (ex ∙ piece-same (lineOf blocks []) kn)
-          ∙ ap (λ (q : List Range). joined q (pieceAt (lineOf blocks es) s w₀ k)) (d .pieces es ts f g p ∙ ap (λ (q : ℕ). linePieces (lineOf blocks es) ts f g q) least)
-          ∙ sym (passed blocks s n w₀ es ts f g p (suc k) k′ line-next (sweep-skip (d .sweep) h (j .listed .len) (j .listed .before) (j .listed .after) (j .most) u first) kn
-          ∙ taken blocks s n w₀ es ts f g p k kn (sweep-mark (d .sweep) h));
-    }
-      where
-        kn : k < n
-        kn = sweep-in (d .sweep) h
+    -- the blocks of a run are among the n
+    pub run-in : e ≤ n
+    run-in =
+        let l = run .some in
+        same e (k + 1) (λ q. let z = sweep-in (d .sweep) h in omega arith)
+        (λ q. let v = run .word q in cut e n (λ i. i)
+        (λ i. absurd (true≢false (sym (own-marked q (e - 1) (omega arith) (omega arith) .0) ∙ d .asked .swept .past (e - 1) (omega arith) (omega arith)))))
 
-        least : min k n ≡ k
-        least = let q = kn in omega arith
+    run-lines : (x : Range) → RunPiece (lineOf blocks []) s w k e x → (es : List Edge) (ts : List Range) (f g : ℕ → Bool) → Pieced (lineOf blocks es) ts f g s n w₀
+        → linePieces (lineOf blocks es) ts f g e ≡ joined (linePieces (lineOf blocks es) ts f g k) x
+    run-lines x p es ts f g o =
+        let l = run .some in
+        let v = run-in in
+        same e (k + 1)
+        (λ q. let z : e ≡ suc k = omega arith in let kn : k < n = omega arith in
+        ap (λ (j : ℕ). linePieces (lineOf blocks es) ts f g j) z ∙ taken blocks s n w₀ es ts f g o k kn (sweep-mark (d .sweep) h)
+        ∙ ap (joined (linePieces (lineOf blocks es) ts f g k)) (sym (p .one q ∙ piece-same (lineOf blocks []) kn)))
+        (λ q. let z : e ≡ suc (k + (e - 1 - k)) = omega arith in let y : k + (e - 1 - k) ≡ e - 1 = omega arith in
+        taken-run blocks s n w₀ es ts f g o (e - 1 - k) k e z v (d .all) (d .sound) (own-marked q)
+        ∙ ap (joined (linePieces (lineOf blocks es) ts f g k)) (ap (λ (j : ℕ). range (top (lineOf blocks es) k) (bottom (lineOf blocks es) j)) y ∙ sym (p .more q)))
 
-        listed : unpacked (part from r′ w₂) ≡ joined (unpacked (part from r w)) (unpack x)
-        listed = ap unpacked (sweep-pieces (d .sweep) h (j .listed .len) (j .listed .before) (j .listed .after) (j .most) u first) ∙ j .listed .is
+    module _ {w₁ w₂ : List ℕ} {r′ k′ x : ℕ} (ex : RunPiece (lineOf blocks []) s w k e (unpack x)) (j : JoinedIn w w₁ from r r′ x)
+        (u : Taken s k e w₁ w₂) (first : FirstSet w₂ (s .mark) (s .wide) (k / 64) k′) where
+      pub line-next : k < k′
+      line-next = let z = sweep-next (d .sweep) h (j .listed .len) (j .listed .before) (j .listed .after) (j .most) u first in let l = run .some in omega arith
+
+      pub line-more : Lining blocks s n from w₀ w₂ k′ r′
+      line-more = record {
+        asked = d .asked;
+        covered = d .covered;
+        sound = d .sound;
+        all = d .all;
+        sweep = sweep-more (d .sweep) h (j .listed .len) (j .listed .before) (j .listed .after) (j .most) u first;
+        pieces = λ es ts f g p. listed
+            ∙ ap (λ (q : List Range). joined q (unpack x)) (d .pieces es ts f g p ∙ ap (λ (q : ℕ). linePieces (lineOf blocks es) ts f g q) least)
+            ∙ sym (passed blocks s n w₀ es ts f g p e k′ (sweep-next (d .sweep) h (j .listed .len) (j .listed .before) (j .listed .after) (j .most) u first)
+            (sweep-skip (d .sweep) h (j .listed .len) (j .listed .before) (j .listed .after) (j .most) u first) run-in
+            ∙ run-lines (unpack x) ex es ts f g p);
+      }
+        where
+          least : min k n ≡ k
+          least = let q = sweep-in (d .sweep) h in omega arith
+
+          listed : unpacked (part from r′ w₂) ≡ joined (unpacked (part from r w)) (unpack x)
+          listed = ap unpacked (sweep-pieces (d .sweep) h (j .listed .len) (j .listed .before) (j .listed .after) (j .most) u first) ∙ j .listed .is
 
   pub line-done : s .wide * 64 ≤ k → Visited blocks s n from r w₀ w
   line-done h =
@@ -196,6 +285,15 @@ module _ (blocks : List ℕ) {s : Local} {n from : ℕ} {w₀ w₁ : List ℕ} (
         span-fits = a .span-fits;
         flowing = a .flowing;
       }
+
+  pub both-covered : Covered s w₁
+  both-covered = record {
+    marked = λ c l e. row .bits c l ∙ ap (λ (t : Bool). markBit s w₀ c || t) (sym (own-kept s n w₀ w₁ (a .flowing) (row .before) (a .row-fits) c l) ∙ e) ∙ or-true (markBit s w₀ c);
+  }
+    where
+      or-true : (b : Bool) → (b || true) ≡ true
+      or-true true = refl
+      or-true false = refl
 
   pieced : (es : List Edge) (ts : List Range) → Spans (lineOf blocks es) s n ts w₀ → Pieced (lineOf blocks es) ts (writtenBit s w₀) (readBit s w₀) s n w₁
   pieced es ts p = record {

@@ -1,8 +1,8 @@
 -- What private functions promise each other, here and in `area_ends`. No public promise names these.
-use Prim.Native.Nat.{ℕ, _+_, _*_, _^_, _≤_, _<_, min, max}
+use Prim.Native.Nat.{ℕ, _+_, _-_, _*_, _/_, _^_, _≤_, _<_, min, max}
 use mathlib.Core.Path.{_≡_}
-use mathlib.Core.Logic.{_≢_}
-use mathlib.Core.Bool.{Bool, false, cond}
+use mathlib.Core.Logic.{_≢_, _⊎_}
+use mathlib.Core.Bool.{Bool, true, false, cond}
 use mathlib.Core.List.{List, [], _∷_, _++_}
 use lib.ListN.{length, getD}
 use Rattle.words.specs.Regions.{part}
@@ -108,6 +108,31 @@ pieceAt G s w k =
     cond (ownBit s w k) (whole G k)
     (range (cond (writtenBit s w k) (top G k) (unpack (getD w (s .span + k) 0) .start))
     (cond (readBit s w k) (bottom G k) (unpack (getD w (s .span + k) 0) .end)))
+
+-- the blocks from k up to e: one, or those of one word of the local's own row from k on, which all have its bit
+pub record Run (s : Local) (k e : ℕ) (w : List ℕ) : Type 0 where
+  pub some : k < e
+  pub word : e ≢ k + 1 → e ≡ k / 64 * 64 + 64
+  pub own : e ≢ k + 1 → (c : ℕ) → k ≤ c → c < e → ownBit s w c ≡ true
+
+-- x is the piece of the blocks from k up to e
+pub record RunPiece (G : Graph) (s : Local) (w : List ℕ) (k e : ℕ) (x : Range) : Type 0 where
+  pub one : e ≡ k + 1 → x ≡ pieceAt G s w k
+  pub more : e ≢ k + 1 → x ≡ range (top G k) (bottom G (e - 1))
+
+-- the marks of the blocks from k up to e are taken away: those behind are as they were, and none before is set; nothing else has changed
+pub record Taken (s : Local) (k e : ℕ) (w₀ w : List ℕ) : Type 0 where
+  pub len : length w ≡ length w₀
+  pub some : k < e
+  pub within : e ≤ s .wide * 64
+  pub gone : (c : ℕ) → k ≤ c → c < e → markBit s w c ≡ false
+  pub fewer : (c : ℕ) → c < k → markBit s w₀ c ≡ false → markBit s w c ≡ false
+  pub others : (c : ℕ) → e ≤ c → markBit s w c ≡ markBit s w₀ c
+  pub rest : (i : ℕ) → (i < s .mark) ⊎ (s .mark + s .wide ≤ i) → getD w i 0 ≡ getD w₀ i 0
+
+-- each block of the local's own row is marked
+pub record Covered (s : Local) (w : List ℕ) : Type 0 where
+  pub marked : (c : ℕ) → c < s .wide * 64 → ownBit s w c ≡ true → markBit s w c ≡ true
 
 -- what `visit` asks: what it reads stands before the pieces
 pub record Visitable (s : Local) (n from : ℕ) (w : List ℕ) : Type 0 where

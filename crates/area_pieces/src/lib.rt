@@ -1,5 +1,6 @@
 // From the touches, the ends and the row bits of one local to its area, in the words of one work space.
 ghost use mathlib.Core.Path.{_≡_};
+ghost use mathlib.Core.Logic.{_≢_};
 ghost use mathlib.Core.Bool.{false, cond};
 ghost use mathlib.Core.List.{List, []};
 ghost use Prim.Native.Nat.{_+_, _-_, _*_, _/_, _≤_, _<_, _^_};
@@ -12,8 +13,11 @@ ghost use Rattle.graph.specs.Line.{blocksOf, Sound};
 ghost use Rattle.areas.specs.Blocks.{top, bottom, clip, inverted};
 ghost use Rattle.spots.specs.Spots.{lineOf, touchesAt};
 ghost use Rattle.area_pieces.specs.Local.{Appended, Free, Laid, Unmarked, Upright, Flowing, Both, PlainIn};
-ghost use Rattle.area_pieces.specs.Inner.{JoinedIn, Spannable, Widened, Put, Spanned, pieceAt, Visitable, Visited, Lined};
+ghost use Rattle.area_pieces.specs.Inner.{JoinedIn, Spannable, Widened, Put, Spanned, pieceAt, Run, RunPiece, Taken, Covered, Visitable, Visited, Lined};
 use spots::Spots;
+
+// A word with every bit set.
+const FULL: u64 = 0xffff_ffff_ffff_ffff;
 
 // Where the rows of one local stand: its own row over the blocks from `row` on, of `wide` words; rows of `words` words, one a block, from
 // `written` and from `read` on, in which its bit is `local`. And the words that its pieces are made in: from `mark` on a row over the
@@ -169,18 +173,54 @@ fn piece(blocks: &[u32], work: &[u64], s: Local, k: usize) -> u64
     packed::pack(first, last)
 }
 
+// Where the blocks end that are visited at once with block k: where its word of the local's own row has every bit, that word's blocks, else block k alone.
+fn run(work: &[u64], s: Local, k: usize) -> usize
+    requires { ⌜ (k < s .wide * 64) × (s .row + s .wide ≤ length (now work)) × (s .wide * 64 < 2 ^ 64) ⌝ }
+    ensures { λ r. ⌜ Run s k r (now (work .entry)) ⌝ }
+{
+    if work[s.row + k / 64] == FULL {
+        return k / 64 * 64 + 64;
+    }
+    k + 1
+}
+
+// The piece of the blocks from k up to e.
+fn stretch(blocks: &[u32], work: &[u64], s: Local, k: usize, e: usize) -> u64
+    requires { ⌜ (k < e) × (e ≤ length (now blocks) / 3) × (k < s .wide * 64) × (s .row + s .wide ≤ length (now work)) × (s .span + k < length (now work)) ⌝ }
+    requires { ⌜ Flowing s (length (now blocks) / 3) × (s .mark ≤ length (now work)) ⌝ }
+    ensures { λ r. ⌜ RunPiece (lineOf (now (blocks .entry)) []) s (now (work .entry)) k e (unpack r) ⌝ }
+{
+    if e == k + 1 {
+        return piece(blocks, work, s, k);
+    }
+    packed::pack(blocks[3 * k + 1], blocks[3 * (e - 1) + 2])
+}
+
+// Takes away the marks of the blocks from k up to e.
+fn unmark(work: &mut [u64], s: Local, k: usize, e: usize)
+    requires { ⌜ (k < s .wide * 64) × (s .wide * 64 < 2 ^ 64) × (s .mark + s .wide ≤ length (now work)) × (e ≢ k + 1 → e ≡ k / 64 * 64 + 64) ⌝ }
+    ensures { λ _. ⌜ Taken s k e (now (work .entry)) (now (work .exit)) ⌝ }
+{
+    if e == k + 1 {
+        bits::unset(work, s.mark, k);
+        return;
+    }
+    work[s.mark + k / 64] = 0;
+}
+
 // The pieces of the marked blocks in line order, from `from` on, joined; how many there are. The marks are taken away.
 fn visit(blocks: &[u32], work: &mut [u64], s: Local, from: usize) -> usize
-    requires { ⌜ Visitable s (length (now blocks) / 3) from (now work) ⌝ }
+    requires { ⌜ Visitable s (length (now blocks) / 3) from (now work) × Covered s (now work) × Sound (blocksOf (now blocks)) ⌝ }
     ensures { λ r. ⌜ Visited (now (blocks .entry)) s (length (now (blocks .entry)) / 3) from r (now (work .entry)) (now (work .exit)) ⌝ }
 {
     let end = s.wide * 64;
     let mut n = 0;
     let mut k = bits::first_from(work, s.mark, s.wide, 0);
     while k < end {
-        let x = piece(blocks, work, s, k);
+        let e = run(work, s, k);
+        let x = stretch(blocks, work, s, k, e);
         n = join(work, from, n, x);
-        bits::unset(work, s.mark, k);
+        unmark(work, s, k, e);
         k = bits::first_from(work, s.mark, s.wide, k / 64);
     }
     n
@@ -188,7 +228,7 @@ fn visit(blocks: &[u32], work: &mut [u64], s: Local, from: usize) -> usize
 
 // The pieces of the blocks in line order, from `from` on: of the blocks with both bits or a span, no other is visited.
 fn line(blocks: &[u32], work: &mut [u64], s: Local, from: usize) -> usize
-    requires { ⌜ Visitable s (length (now blocks) / 3) from (now work) × Both s (length (now blocks) / 3) (now work) ⌝ }
+    requires { ⌜ Visitable s (length (now blocks) / 3) from (now work) × Both s (length (now blocks) / 3) (now work) × Sound (blocksOf (now blocks)) ⌝ }
     ensures { λ r. ⌜ Lined (now (blocks .entry)) s (length (now (blocks .entry)) / 3) from r (now (work .entry)) (now (work .exit)) ⌝ }
 {
     bits::row_or(work, s.mark, s.row, s.wide);

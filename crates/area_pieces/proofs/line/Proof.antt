@@ -5,7 +5,7 @@ use denote.Ref.{now}
 use borrow.Author.Needs.{needs}
 use Rattle.words.specs.Regions.{above}
 use Rattle.bits.specs.Bits.{apart}
-use Rattle.area_pieces.proofs.LineLaws.{both-asked, both-lined}
+use Rattle.area_pieces.proofs.LineLaws.{both-asked, both-covered, both-lined}
 use Rattle.area_pieces.proofs.line.Statement.{statement}
 use Rattle.area_pieces.proofs.line.Tie as tie
 
@@ -13,7 +13,7 @@ row-or-requires : tie.Need-row-or-requires
 row-or-requires c κs = (omega arith, omega arith, apart (above ((c .before .before .before .pre) .0 .row-fits)))
 
 visit-requires : tie.Need-visit-requires
-visit-requires c κs = both-asked (now ((c .before .before .before .before .before .before .before .args) .blocks)) ((c .before .before .before .before .before .before .before .pre) .0) ((c .before .before .before .before .before .before .before .pre) .1) ((c .before .before .before .row-or) .ensures)
+visit-requires c κs = (both-asked (now ((c .before .before .before .before .before .before .before .args) .blocks)) ((c .before .before .before .before .before .before .before .pre) .0) ((c .before .before .before .before .before .before .before .pre) .1) ((c .before .before .before .row-or) .ensures), both-covered (now ((c .before .before .before .before .before .before .before .args) .blocks)) ((c .before .before .before .before .before .before .before .pre) .0) ((c .before .before .before .before .before .before .before .pre) .1) ((c .before .before .before .row-or) .ensures), (c .before .before .before .before .before .before .before .pre) .2)
 
 same-length : tie.Need-same-length
 same-length c = search needs

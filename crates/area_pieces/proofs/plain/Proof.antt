@@ -15,7 +15,7 @@ add-line : tie.Need-add-line
 add-line c = let a = plain-asked (now ((c .before .before .before .before .before .before .before .before .args) .blocks)) ((c .before .before .before .before .before .before .before .before .args) .t) ((c .before .before .before .before .before .before .before .before .args) .s) _ ((c .before .before .before .before .before .before .before .before .pre) .0 .1) ((c .before .before .before .before .before .before .before .before .pre) .0 .2) ((c .before .before .before .before .before .before .before .before .pre) .1 .1) ((c .before .before .before .before .spans) .ensures) in omega (arith, a .swept)
 
 line-requires : tie.Need-line-requires
-line-requires c κs = (plain-asked (now ((c .before .before .before .before .before .before .before .before .args) .blocks)) ((c .before .before .before .before .before .before .before .before .args) .t) ((c .before .before .before .before .before .before .before .before .args) .s) _ ((c .before .before .before .before .before .before .before .before .pre) .0 .1) ((c .before .before .before .before .before .before .before .before .pre) .0 .2) ((c .before .before .before .before .before .before .before .before .pre) .1 .1) ((c .before .before .before .before .spans) .ensures), plain-both (now ((c .before .before .before .before .before .before .before .before .args) .blocks)) ((c .before .before .before .before .before .before .before .before .args) .t) ((c .before .before .before .before .before .before .before .before .args) .s) _ ((c .before .before .before .before .before .before .before .before .pre) .0 .1) ((c .before .before .before .before .before .before .before .before .pre) .0 .2) ((c .before .before .before .before .before .before .before .before .pre) .1 .1) ((c .before .before .before .before .spans) .ensures))
+line-requires c κs = (plain-asked (now ((c .before .before .before .before .before .before .before .before .args) .blocks)) ((c .before .before .before .before .before .before .before .before .args) .t) ((c .before .before .before .before .before .before .before .before .args) .s) _ ((c .before .before .before .before .before .before .before .before .pre) .0 .1) ((c .before .before .before .before .before .before .before .before .pre) .0 .2) ((c .before .before .before .before .before .before .before .before .pre) .1 .1) ((c .before .before .before .before .spans) .ensures), plain-both (now ((c .before .before .before .before .before .before .before .before .args) .blocks)) ((c .before .before .before .before .before .before .before .before .args) .t) ((c .before .before .before .before .before .before .before .before .args) .s) _ ((c .before .before .before .before .before .before .before .before .pre) .0 .1) ((c .before .before .before .before .before .before .before .before .pre) .0 .2) ((c .before .before .before .before .before .before .before .before .pre) .1 .1) ((c .before .before .before .before .spans) .ensures), (c .before .before .before .before .before .before .before .before .pre) .0 .0)
 
 add-merge : tie.Need-add-merge
 add-merge c = omega (arith, plain-room (now ((c .before .before .before .before .before .before .before .before .before .before .before .before .args) .blocks)) ((c .before .before .before .before .before .before .before .before .before .before .before .before .args) .t) ((c .before .before .before .before .before .before .before .before .before .before .before .before .args) .s) _ ((c .before .before .before .before .before .before .before .before .before .before .before .before .pre) .0 .1) ((c .before .before .before .before .before .before .before .before .before .before .before .before .pre) .0 .2) ((c .before .before .before .before .before .before .before .before .before .before .before .before .pre) .1 .1) ((c .before .before .before .before .before .before .before .before .spans) .ensures) ((c .before .before .before .line) .ensures))
