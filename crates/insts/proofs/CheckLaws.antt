@@ -20,6 +20,7 @@ use Rattle.words.specs.Rows.{tabulate, rowCount, field, records}
 use Rattle.words.specs.Sort.{Rising}
 use Rattle.words.specs.Search.{Splits}
 use Rattle.words.proofs.Points.{cut, same}
+use Rattle.words.proofs.SortLaws.{rising-le}
 use Rattle.words.proofs.RowLaws.{length-records, getD-records}
 use Rattle.graph.specs.Line.{Stretch, blocksOf, blockAt, placeIn, Sound}
 use Rattle.graph.proofs.Line.{blocks-length, number-is, start-is, end-is, place-of-number, place-lt, number-of-place}
@@ -149,6 +150,23 @@ module _ (s : List ℕ) (S : Sound (blocksOf s)) where
       let g = rw (← add-one k) at (S .gapless k (let z = add-one k in omega arith)) in
       let u = S .upright k (a .here) in
       omega arith
+
+  -- a block that has the point is the last that starts no later
+  pub near-found : (k e : ℕ) → 0 < k → k ≤ length s / 3 → field 3 s (k - 1) 1 ≤ e → e ≤ field 3 s (k - 1) 2 → Splits (λ i. leb (field 3 s i 1) e) (length s / 3) k
+  near-found k e h l a b = record {
+    within = l;
+    holds = λ i q. le-leb (field 3 s i 1) e (omega (arith, rising-le (λ j. field 3 s j 1) (length s / 3) starts-rise i (k - 1) (omega arith) (omega arith)));
+    fails = λ i q v. lt-leb (field 3 s i 1) e (omega (arith, rising-le (λ j. field 3 s j 1) (length s / 3) starts-rise k i q v, next (omega arith)));
+  }
+    where
+      next : k < length s / 3 → field 3 s (k - 1) 2 < field 3 s k 1
+      next v =
+          let n = blocks-length s in
+          let z : suc (k - 1) ≡ k = omega arith in
+          let g = rw z at (S .gapless (k - 1) (omega arith)) in
+          let p = held (k - 1) (omega arith) .end in
+          let q = held k v .start in
+          omega arith
 
   -- the search finds the one block that has the point
   pub search-found : (r k e : ℕ) → Splits (λ i. leb (field 3 s i 1) e) (length s / 3) r → k < length s / 3

@@ -7,6 +7,7 @@ ghost use lib.ListN.{length};
 ghost use lib.Dec.{leb, ltb};
 ghost use Rattle.refusals.specs.Verdicts.{first, scan};
 ghost use Rattle.words.specs.Rows.{rowCount, field};
+ghost use Rattle.words.specs.Search.{Splits};
 ghost use Rattle.graph.specs.Line.{blocksOf, lineVerdict, Sound};
 ghost use Rattle.carrying.specs.Lists.{any};
 ghost use Rattle.carrying.specs.Insts.{instsOf, instAt, isSet};
@@ -39,13 +40,27 @@ pub fn below(s: &[u32], width: usize, f: usize, limit: usize, word: Refusal) -> 
     Verdict::Fine
 }
 
-// Whether a placed instruction is in no block or outside its block's points. The block that has its early point is looked for in the line; then its number must be the instruction's.
-fn outside(blocks: &[u32], number: u32, early: u32, late: u32) -> bool
-    requires { ⌜ Sound (blocksOf (now blocks)) × (early ≤ late) ⌝ }
+// How many blocks start no later than the point. The last of the first `k` is tried first: one instruction mostly stands in the block of the one before.
+fn near(blocks: &[u32], early: u32, k: usize) -> usize
+    requires { ⌜ Sound (blocksOf (now blocks)) × (k ≤ length (now blocks) / 3) ⌝ }
+    ensures { λ r. ⌜ Splits (λ j. leb (field 3 (now (blocks .entry)) j 1) early) (length (now (blocks .entry)) / 3) r ⌝ }
+{
+    if 0 < k {
+        let at = 3 * (k - 1);
+        if blocks[at + 1] <= early {
+            if early <= blocks[at + 2] {
+                return k;
+            }
+        }
+    }
+    words::at_most_in_rows(blocks, 3, 1, blocks.len() / 3, early)
+}
+
+// Whether a placed instruction is in no block or outside its block's points, where the first `k` blocks start no later than it: the number of the last of them must be the instruction's.
+fn outside(blocks: &[u32], number: u32, early: u32, late: u32, k: usize) -> bool
+    requires { ⌜ Sound (blocksOf (now blocks)) × (early ≤ late) × Splits (λ j. leb (field 3 (now blocks) j 1) early) (length (now blocks) / 3) k ⌝ }
     ensures { λ r. ⌜ r ≡ misplaced (blocksOf (now (blocks .entry))) (placing number early late) ⌝ }
 {
-    let n = blocks.len() / 3;
-    let k = words::at_most_in_rows(blocks, 3, 1, n, early);
     if k == 0 {
         return true;
     }
@@ -98,8 +113,8 @@ fn bad_fields(insts: &[u32], i: usize) -> bool
 }
 
 // Whether an instruction is reversed, or placed in no block or outside its points.
-fn bad_points(blocks: &[u32], insts: &[u32], i: usize) -> bool
-    requires { ⌜ Sound (blocksOf (now blocks)) × (i < length (now insts) / 9) ⌝ }
+fn bad_points(blocks: &[u32], insts: &[u32], i: usize, k: usize) -> bool
+    requires { ⌜ Sound (blocksOf (now blocks)) × (i < length (now insts) / 9) × Splits (λ j. leb (field 3 (now blocks) j 1) (field 9 (now insts) i 2)) (length (now blocks) / 3) k ⌝ }
     ensures { λ r. ⌜ r ≡ (ltb (field 9 (now (insts .entry)) i 3) (field 9 (now (insts .entry)) i 2) || isSet (field 9 (now (insts .entry)) i 0) && misplaced (blocksOf (now (blocks .entry))) (rowInst (now (insts .entry)) i)) ⌝ }
 {
     let at = 9 * i;
@@ -111,16 +126,24 @@ fn bad_points(blocks: &[u32], insts: &[u32], i: usize) -> bool
     if insts[at] != 1 {
         return false;
     }
-    outside(blocks, insts[at + 1], early, late)
+    outside(blocks, insts[at + 1], early, late, k)
 }
 
-// Whether instruction `i`, whose operands begin at `from`, is refused.
-fn bad_inst(blocks: &[u32], v: u32, insts: &[u32], operands: &[u32], i: usize, from: usize) -> bool
+// Whether instruction `i`, whose operands begin at `from`, is refused. `k` blocks start no later than its early point.
+fn bad_inst(
+    blocks: &[u32],
+    v: u32,
+    insts: &[u32],
+    operands: &[u32],
+    i: usize,
+    from: usize,
+    k: usize,
+) -> bool
     requires { ⌜ Sound (blocksOf (now blocks)) × (i < length (now insts) / 9) × AddsUp (now insts) (now operands) ⌝ }
-    requires { ⌜ (from ≡ offset (now insts) i) × (v ≤ 65535) ⌝ }
+    requires { ⌜ (from ≡ offset (now insts) i) × (v ≤ 65535) × Splits (λ j. leb (field 3 (now blocks) j 1) (field 9 (now insts) i 2)) (length (now blocks) / 3) k ⌝ }
     ensures { λ r. ⌜ r ≡ badInst (blocksOf (now (blocks .entry))) v (instAt (instsOf (now (insts .entry)) (now (operands .entry))) i) ⌝ }
 {
-    if bad_points(blocks, insts, i) {
+    if bad_points(blocks, insts, i, k) {
         return true;
     }
     if bad_fields(insts, i) {
@@ -137,8 +160,10 @@ pub fn inst(blocks: &[u32], v: u32, insts: &[u32], operands: &[u32]) -> Verdict
     let n = insts.len() / 9;
     let mut from = 0;
     let mut i = 0;
+    let mut k = 0;
     while i < n {
-        if bad_inst(blocks, v, insts, operands, i, from) {
+        k = near(blocks, insts[9 * i + 2], k);
+        if bad_inst(blocks, v, insts, operands, i, from, k) {
             return Verdict::Bad(Refusal::Inst, i);
         }
         from += wide(insts[9 * i + 8]);

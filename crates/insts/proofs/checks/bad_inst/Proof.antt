@@ -18,7 +18,7 @@ use Rattle.insts.proofs.checks.bad_inst.Statement.{statement}
 use Rattle.insts.proofs.checks.bad_inst.Tie as tie
 
 bad-points-requires : tie.Need-bad-points-requires
-bad-points-requires c κs = ((c .before .before .before .pre) .0 .0, (c .before .before .before .pre) .0 .1)
+bad-points-requires c κs = ((c .before .before .before .pre) .0 .0, (c .before .before .before .pre) .0 .1, (c .before .before .before .pre) .1 .2)
 
 returns : tie.Need-returns
 returns c = by-points (blocksOf (((c .before .before .before .before .before .args) .blocks .now))) ((c .before .before .before .before .before .args) .v) (((c .before .before .before .before .before .args) .insts .now)) (((c .before .before .before .before .before .args) .operands .now)) ((c .before .before .before .before .before .args) .i) ((c .before .before .before .before .before .pre) .0 .2) (omega arith) (sym ((c .before .bad-points) .ensures) ∙ c .if1 .taken)

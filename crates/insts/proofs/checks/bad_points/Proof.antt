@@ -46,7 +46,7 @@ shared-slice-read-if2 : tie.Need-shared-slice-read-if2
 shared-slice-read-if2 c = omega arith
 
 returns-2 : tie.Need-returns-2
-returns-2 c = (let z : getD (((c .before .before .before .before .before .before .before .args) .insts .now)) (9 * (c .before .before .before .before .before .before .before .args) .i + 0) 0 ≡ getD (((c .before .before .before .before .before .before .before .args) .insts .now)) (9 * (c .before .before .before .before .before .before .before .args) .i) 0 = ap (λ (k : ℕ). getD (((c .before .before .before .before .before .before .before .args) .insts .now)) k 0) (add-zero (9 * (c .before .before .before .before .before .before .before .args) .i)) in points-2 (field 9 (((c .before .before .before .before .before .before .before .args) .insts .now)) ((c .before .before .before .before .before .before .before .args) .i) 3) (field 9 (((c .before .before .before .before .before .before .before .args) .insts .now)) ((c .before .before .before .before .before .before .before .args) .i) 2) (field 9 (((c .before .before .before .before .before .before .before .args) .insts .now)) ((c .before .before .before .before .before .before .before .args) .i) 0) _ (omega arith) (λ q. c .if2 .taken (omega arith)))
+returns-2 c = (let z : getD (((c .before .before .before .before .before .before .before .args) .insts .now)) (9 * (c .before .before .before .before .before .before .before .args) .i + 0) 0 ≡ getD (((c .before .before .before .before .before .before .before .args) .insts .now)) (9 * (c .before .before .before .before .before .before .before .args) .i) 0 = ap (λ (k : ℕ). getD (((c .before .before .before .before .before .before .before .args) .insts .now)) k 0) (add-zero (9 * (c .before .before .before .before .before .before .before .args) .i)) in points-2 (field 9 (((c .before .before .before .before .before .before .before .args) .insts .now)) ((c .before .before .before .before .before .before .before .args) .i) 3) (field 9 (((c .before .before .before .before .before .before .before .args) .insts .now)) ((c .before .before .before .before .before .before .before .args) .i) 2) (field 9 (((c .before .before .before .before .before .before .before .args) .insts .now)) ((c .before .before .before .before .before .before .before .args) .i) 0) _ (omega arith) (λ q. (c .if2) .taken (omega arith)))
 
 add-outside : tie.Need-add-outside
 add-outside c = omega arith
@@ -58,10 +58,10 @@ shared-slice-read-outside : tie.Need-shared-slice-read-outside
 shared-slice-read-outside c = omega arith
 
 outside-requires : tie.Need-outside-requires
-outside-requires c κs = ((c .before .before .before .before .before .before .before .before .pre) .0, omega arith)
+outside-requires c κs = ((c .before .before .before .before .before .before .before .before .pre) .0, omega arith, (c .before .before .before .before .before .before .before .before .pre) .2)
 
 returns-3 : tie.Need-returns-3
-returns-3 c = (let z : getD (((c .before .before .before .before .before .before .before .before .before .args) .insts .now)) (9 * (c .before .before .before .before .before .before .before .before .before .args) .i + 0) 0 ≡ getD (((c .before .before .before .before .before .before .before .before .before .args) .insts .now)) (9 * (c .before .before .before .before .before .before .before .before .before .args) .i) 0 = ap (λ (k : ℕ). getD (((c .before .before .before .before .before .before .before .before .before .args) .insts .now)) k 0) (add-zero (9 * (c .before .before .before .before .before .before .before .before .before .args) .i)) in points-3 (field 9 (((c .before .before .before .before .before .before .before .before .before .args) .insts .now)) ((c .before .before .before .before .before .before .before .before .before .args) .i) 3) (field 9 (((c .before .before .before .before .before .before .before .before .before .args) .insts .now)) ((c .before .before .before .before .before .before .before .before .before .args) .i) 2) (field 9 (((c .before .before .before .before .before .before .before .before .before .args) .insts .now)) ((c .before .before .before .before .before .before .before .before .before .args) .i) 0) (misplaced (blocksOf (((c .before .before .before .before .before .before .before .before .before .args) .blocks .now))) (rowInst (((c .before .before .before .before .before .before .before .before .before .args) .insts .now)) ((c .before .before .before .before .before .before .before .before .before .args) .i))) _ (omega arith) (omega arith) (c .outside .ensures))
+returns-3 c = (let z : getD (((c .before .before .before .before .before .before .before .before .before .args) .insts .now)) (9 * (c .before .before .before .before .before .before .before .before .before .args) .i + 0) 0 ≡ getD (((c .before .before .before .before .before .before .before .before .before .args) .insts .now)) (9 * (c .before .before .before .before .before .before .before .before .before .args) .i) 0 = ap (λ (k : ℕ). getD (((c .before .before .before .before .before .before .before .before .before .args) .insts .now)) k 0) (add-zero (9 * (c .before .before .before .before .before .before .before .before .before .args) .i)) in points-3 (field 9 (((c .before .before .before .before .before .before .before .before .before .args) .insts .now)) ((c .before .before .before .before .before .before .before .before .before .args) .i) 3) (field 9 (((c .before .before .before .before .before .before .before .before .before .args) .insts .now)) ((c .before .before .before .before .before .before .before .before .before .args) .i) 2) (field 9 (((c .before .before .before .before .before .before .before .before .before .args) .insts .now)) ((c .before .before .before .before .before .before .before .before .before .args) .i) 0) (misplaced (blocksOf (((c .before .before .before .before .before .before .before .before .before .args) .blocks .now))) (rowInst (((c .before .before .before .before .before .before .before .before .before .args) .insts .now)) ((c .before .before .before .before .before .before .before .before .before .args) .i))) _ (omega arith) (omega arith) ((c .outside) .ensures))
 
 pub bad-points-spec : {M : Type 1} → statement M
 bad-points-spec =

@@ -20,19 +20,34 @@ use Rattle.insts.proofs.checks.inst.Statement.{statement}
 use Rattle.insts.proofs.checks.inst.Tie as tie
 
 abbrev Inv-loop : tie.InvT-loop
-Inv-loop blocks v insts operands n from₀ i₀ from i = (n ≡ length insts / 9) × (i ≤ n) × (from ≡ offset insts i) × (scan InstWord (λ k. badInst (blocksOf blocks) v (instAt (instsOf insts operands) k)) i ≡ Fine)
+Inv-loop blocks v insts operands n from₀ i₀ k₀ from i k = (k ≤ length blocks / 3) × (n ≡ length insts / 9) × (i ≤ n) × (from ≡ offset insts i) × (scan InstWord (λ k. badInst (blocksOf blocks) v (instAt (instsOf insts operands) k)) i ≡ Fine)
 
 abbrev μ-loop : tie.MeasureT-loop
-μ-loop blocks v insts operands n from₀ i₀ from i = n - i
+μ-loop blocks v insts operands n from₀ i₀ k₀ from i k = n - i
 
 loop-holds : tie.Need-loop-holds Inv-loop μ-loop
-loop-holds c = (omega arith, omega arith, sum-start _, scan-none _ _)
+loop-holds c = (omega arith, omega arith, omega arith, sum-start _, scan-none _ _)
+
+mul-near : tie.Need-mul-near Inv-loop μ-loop
+mul-near c = omega arith
+
+add-near : tie.Need-add-near Inv-loop μ-loop
+add-near c = omega arith
+
+mul-near-2 : tie.Need-mul-near-2 Inv-loop μ-loop
+mul-near-2 c = omega arith
+
+shared-slice-read-near : tie.Need-shared-slice-read-near Inv-loop μ-loop
+shared-slice-read-near c = omega arith
+
+near-requires : tie.Need-near-requires Inv-loop μ-loop
+near-requires c κs = ((c .before .before .before .before .before .before .pre) .0, (c .before .before .loop) .inv .0)
 
 bad-inst-requires : tie.Need-bad-inst-requires Inv-loop μ-loop
-bad-inst-requires c κs = (((c .before .before .before .before .before .pre) .0, omega arith, (c .before .before .before .before .before .pre) .1), ((c .before .loop) .inv .2, (c .before .before .before .before .before .pre) .2))
+bad-inst-requires c κs = (((c .before .before .before .before .before .before .before .pre) .0, omega arith, (c .before .before .before .before .before .before .before .pre) .1), ((c .before .before .before .loop) .inv .3, (c .before .before .before .before .before .before .before .pre) .2, (c .near) .ensures))
 
 returns : tie.Need-returns Inv-loop μ-loop
-returns c = sym (scan-hit _ _ _ _ ((c .before .before .before .loop) .inv .3) (sym ((c .before .bad-inst) .ensures) ∙ c .if1 .taken) (omega (arith, insts-length (((c .before .before .before .before .before .before .before .args) .insts .now)) (((c .before .before .before .before .before .before .before .args) .operands .now)))))
+returns c = sym (scan-hit _ _ _ _ ((c .before .before .before .before .before .loop) .inv .4) (sym ((c .before .bad-inst) .ensures) ∙ c .if1 .taken) (omega (arith, insts-length (((c .before .before .before .before .before .before .before .before .before .args) .insts .now)) (((c .before .before .before .before .before .before .before .before .before .args) .operands .now)))))
 
 mul-wide : tie.Need-mul-wide Inv-loop μ-loop
 mul-wide c = omega arith
@@ -50,7 +65,7 @@ wide-requires : tie.Need-wide-requires Inv-loop μ-loop
 wide-requires c κs = omega arith
 
 add-from : tie.Need-add-from Inv-loop μ-loop
-add-from c = omega (arith, operands-within (((c .before .before .before .before .before .before .before .before .before .args) .insts .now)) (((c .before .before .before .before .before .before .before .before .before .args) .operands .now)) ((c .before .before .before .before .before .before .before .before .before .pre) .1) ((c .before .before .before .before .before .loop) .i) (omega arith))
+add-from c = omega (arith, operands-within (((c .before .before .before .before .before .before .before .before .before .before .before .args) .insts .now)) (((c .before .before .before .before .before .before .before .before .before .before .before .args) .operands .now)) ((c .before .before .before .before .before .before .before .before .before .before .before .pre) .1) ((c .before .before .before .before .before .before .before .loop) .i) (omega arith))
 
 add-i : tie.Need-add-i Inv-loop μ-loop
 add-i c = omega arith
@@ -59,10 +74,10 @@ loop-less : tie.Need-loop-less Inv-loop μ-loop
 loop-less c = omega arith
 
 loop-again : tie.Need-loop-again Inv-loop μ-loop
-loop-again c = (omega arith, omega arith, ap (λ (x : ℕ). x + (c .wide) .result) ((c .before .before .before .before .before .loop) .inv .2) ∙ ap (λ (x : ℕ). offset (((c .before .before .before .before .before .before .before .before .before .args) .insts .now)) ((c .before .before .before .before .before .loop) .i) + x) ((c .wide) .ensures) ∙ sym (sum-next (λ k. field 9 (((c .before .before .before .before .before .before .before .before .before .args) .insts .now)) k 8) ((c .before .before .before .before .before .loop) .i)), scan-miss _ _ _ ((c .before .before .before .before .before .loop) .inv .3) (sym ((c .before .before .before .bad-inst) .ensures) ∙ (c .before .before .if1) .left))
+loop-again c = ((c .before .before .before .before .near) .ensures .within, omega arith, omega arith, ap (λ (x : ℕ). x + (c .wide) .result) ((c .before .before .before .before .before .before .before .loop) .inv .3) ∙ ap (λ (x : ℕ). offset (((c .before .before .before .before .before .before .before .before .before .before .before .args) .insts .now)) ((c .before .before .before .before .before .before .before .loop) .i) + x) ((c .wide) .ensures) ∙ sym (sum-next (λ k. field 9 (((c .before .before .before .before .before .before .before .before .before .before .before .args) .insts .now)) k 8) ((c .before .before .before .before .before .before .before .loop) .i)), scan-miss _ _ _ ((c .before .before .before .before .before .before .before .loop) .inv .4) (sym ((c .before .before .before .bad-inst) .ensures) ∙ (c .before .before .if1) .left))
 
 returns-2 : tie.Need-returns-2 Inv-loop μ-loop
-returns-2 c = sym (scan-end _ _ _ _ ((c .before .loop) .inv .3) (omega (arith, insts-length (((c .before .before .before .before .before .args) .insts .now)) (((c .before .before .before .before .before .args) .operands .now)))) (omega (arith, insts-length (((c .before .before .before .before .before .args) .insts .now)) (((c .before .before .before .before .before .args) .operands .now)))))
+returns-2 c = sym (scan-end _ _ _ _ ((c .before .loop) .inv .4) (omega (arith, insts-length (((c .before .before .before .before .before .args) .insts .now)) (((c .before .before .before .before .before .args) .operands .now)))) (omega (arith, insts-length (((c .before .before .before .before .before .args) .insts .now)) (((c .before .before .before .before .before .args) .operands .now)))))
 
 pub inst-spec : {M : Type 1} → statement M
 inst-spec =
@@ -71,6 +86,11 @@ inst-spec =
     Inv-loop
     μ-loop
     loop-holds
+    mul-near
+    add-near
+    mul-near-2
+    shared-slice-read-near
+    near-requires
     bad-inst-requires
     returns
     mul-wide

@@ -15,47 +15,43 @@ use Rattle.graph.proofs.Line.{number-is}
 use Rattle.insts.proofs.checks.outside.Statement.{statement}
 use Rattle.insts.proofs.checks.outside.Tie as tie
 
-at-most-in-rows-requires : tie.Need-at-most-in-rows-requires
-at-most-in-rows-requires c κs = (omega arith, omega arith, starts-rise (((c .before .args) .blocks .now)) ((c .before .pre) .0))
-
 returns : tie.Need-returns
-returns c = not-in (((c .before .before .before .args) .blocks .now)) ((c .before .before .before .pre) .0) ((c .before .before .before .args) .number) ((c .before .before .before .args) .early) ((c .before .before .before .args) .late) (λ k h e a b. let q = search-found (((c .before .before .before .args) .blocks .now)) ((c .before .before .before .pre) .0) _ k ((c .before .before .before .args) .early) ((c .before .at-most-in-rows) .ensures) h a (omega arith) in omega arith)
+returns c = not-in (((c .before .args) .blocks .now)) ((c .before .pre) .0) ((c .before .args) .number) ((c .before .args) .early) ((c .before .args) .late) (λ k h e a b. let q = search-found (((c .before .args) .blocks .now)) ((c .before .pre) .0) _ k ((c .before .args) .early) ((c .before .pre) .2) h a (omega arith) in omega arith)
 
 sub-at : tie.Need-sub-at
 sub-at c = omega arith
 
 mul-if2 : tie.Need-mul-if2
-mul-if2 c = let w = (c .before .at-most-in-rows) .ensures .within in omega arith
+mul-if2 c = let w = (c .before .pre) .2 .within in omega arith
 
 mul-if2-2 : tie.Need-mul-if2-2
-mul-if2-2 c = let w = (c .before .at-most-in-rows) .ensures .within in omega arith
+mul-if2-2 c = let w = (c .before .pre) .2 .within in omega arith
 
 shared-slice-read-if2 : tie.Need-shared-slice-read-if2
-shared-slice-read-if2 c = let w = (c .before .before .at-most-in-rows) .ensures .within in omega arith
+shared-slice-read-if2 c = let w = (c .before .before .pre) .2 .within in omega arith
 
 returns-2 : tie.Need-returns-2
-returns-2 c = not-in (((c .before .before .before .before .before .args) .blocks .now)) ((c .before .before .before .before .before .pre) .0) ((c .before .before .before .before .before .args) .number) ((c .before .before .before .before .before .args) .early) ((c .before .before .before .before .before .args) .late) (λ k h e a b. let q = search-found (((c .before .before .before .before .before .args) .blocks .now)) ((c .before .before .before .before .before .pre) .0) _ k ((c .before .before .before .before .before .args) .early) ((c .before .before .before .at-most-in-rows) .ensures) h a (omega arith) in let z : (c .before .before .before .at-most-in-rows) .result - 1 ≡ k = omega arith in c .if2 .taken (ap (λ (j : ℕ). getD (((c .before .before .before .before .before .args) .blocks .now)) (3 * j) 0) z ∙ sym (number-is (((c .before .before .before .before .before .args) .blocks .now)) k h) ∙ e))
+returns-2 c = not-in (((c .before .before .before .args) .blocks .now)) ((c .before .before .before .pre) .0) ((c .before .before .before .args) .number) ((c .before .before .before .args) .early) ((c .before .before .before .args) .late) (λ k h e a b. let q = search-found (((c .before .before .before .args) .blocks .now)) ((c .before .before .before .pre) .0) _ k ((c .before .before .before .args) .early) ((c .before .before .before .pre) .2) h a (omega arith) in let z : (c .before .before .before .args) .k - 1 ≡ k = omega arith in (c .if2) .taken (ap (λ (j : ℕ). getD (((c .before .before .before .args) .blocks .now)) (3 * j) 0) z ∙ sym (number-is (((c .before .before .before .args) .blocks .now)) k h) ∙ e))
 
 mul-result : tie.Need-mul-result
-mul-result c = let w = (c .before .before .before .at-most-in-rows) .ensures .within in omega arith
+mul-result c = let w = (c .before .before .before .pre) .2 .within in omega arith
 
 add-result : tie.Need-add-result
-add-result c = let w = (c .before .before .before .at-most-in-rows) .ensures .within in omega arith
+add-result c = let w = (c .before .before .before .pre) .2 .within in omega arith
 
 mul-result-2 : tie.Need-mul-result-2
-mul-result-2 c = let w = (c .before .before .before .at-most-in-rows) .ensures .within in omega arith
+mul-result-2 c = let w = (c .before .before .before .pre) .2 .within in omega arith
 
 shared-slice-read-result : tie.Need-shared-slice-read-result
-shared-slice-read-result c = let w = (c .before .before .before .before .at-most-in-rows) .ensures .within in omega arith
+shared-slice-read-result c = let w = (c .before .before .before .before .pre) .2 .within in omega arith
 
 returns-3 : tie.Need-returns-3
-returns-3 c = let w = (c .before .before .before .before .at-most-in-rows) .ensures .within in found-in (((c .before .before .before .before .before .before .args) .blocks .now)) ((c .before .before .before .before .before .before .pre) .0) ((c .before .before .before .before .before .before .args) .number) ((c .before .before .before .before .before .before .args) .early) ((c .before .before .before .before .before .before .args) .late) ((c .before .before .before .before .at-most-in-rows) .result - 1) (omega arith) ((c .before .if2) .left) (leb-true (field 3 (((c .before .before .before .before .before .before .args) .blocks .now)) ((c .before .before .before .before .at-most-in-rows) .result - 1) 1) ((c .before .before .before .before .before .before .args) .early) ((c .before .before .before .before .at-most-in-rows) .ensures .holds ((c .before .before .before .before .at-most-in-rows) .result - 1) (omega arith)))
+returns-3 c = let w = (c .before .before .before .before .pre) .2 .within in found-in (((c .before .before .before .before .args) .blocks .now)) ((c .before .before .before .before .pre) .0) ((c .before .before .before .before .args) .number) ((c .before .before .before .before .args) .early) ((c .before .before .before .before .args) .late) ((c .before .before .before .before .args) .k - 1) (omega arith) ((c .before .if2) .left) (leb-true (field 3 (((c .before .before .before .before .args) .blocks .now)) ((c .before .before .before .before .args) .k - 1) 1) ((c .before .before .before .before .args) .early) ((c .before .before .before .before .pre) .2 .holds ((c .before .before .before .before .args) .k - 1) (omega arith)))
 
 pub outside-spec : {M : Type 1} → statement M
 outside-spec =
     tie.close
     (tie.spec
-    at-most-in-rows-requires
     returns
     sub-at
     mul-if2
