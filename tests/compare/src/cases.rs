@@ -103,6 +103,24 @@ impl Random {
         ((self.0 >> 11) % u64::from(n)) as u32
     }
 
+    /// The generator of a seed, which may be any number.
+    pub fn seeded(seed: u64) -> Self {
+        let mut r = Self((seed ^ 0x9e37_79b9_7f4a_7c15) | 1 << 63);
+        for _ in 0..4 {
+            r.word();
+        }
+        r
+    }
+
+    pub fn word(&mut self) -> u64 {
+        let high = u64::from(self.number());
+        high << 32 | u64::from(self.number())
+    }
+
+    pub fn number(&mut self) -> u32 {
+        self.below(u32::MAX)
+    }
+
     pub fn one_in(&mut self, n: u32) -> bool {
         self.below(n) == 0
     }

@@ -1,100 +1,53 @@
-//! Compares what the test programs print with what slots.rs answers on the same cases: the stored ones, and random ones.
+//! Compares the component with slots.rs: `parts` by the programs that test them, whole jobs through the static library, texts through the planning program.
 mod areas;
 mod carry;
 mod cases;
+mod emit;
+mod entry;
+mod grammar;
 mod items;
+mod job;
+mod limits;
+mod parts;
+mod plans;
+mod random;
+mod refusals;
+mod sample;
+mod scale;
+mod small;
 mod spills;
+mod texts;
+mod whole;
 
-use cases::{Case, Random};
-use std::io::Write;
-use std::process::{Command, Stdio};
+use job::{Job, Lent};
+use whole::{hold, Tally};
 
-/// A test program: the lines that it prints for a case as slots.rs has them, and a random case that is not refused. A line of which slots.rs says nothing
-/// is none. A case prints as many lines whether it is refused or not.
-struct Program {
-    name: &'static str,
-    count: fn(&Case) -> usize,
-    lines: fn(&Case) -> Vec<Option<String>>,
-    random: fn(&mut Random) -> String,
-}
+const USAGE: &str = "parts CASES | jobs JOBS SEED | damaged JOBS SEED | small | limits JOBS | scale SECONDS SEED | texts TEXTS SEED | sample | record | emit JOBS SEED";
 
-const PROGRAMS: [Program; 4] = [
-    Program { name: "carry_tests", count: carry::count, lines: carry::lines, random: carry::random },
-    Program { name: "area_tests", count: |_| 1, lines: areas::lines, random: areas::random },
-    Program { name: "spill_tests", count: |_| 1, lines: spills::lines, random: spills::random },
-    Program { name: "item_tests", count: |_| 1, lines: items::lines, random: items::random },
-];
-
-#[derive(Default)]
-struct Tally {
-    cases: usize,
-    equal: usize,
-    silent: usize,
-    refused: usize,
-}
-
-/// Holds the lines of one case to slots.rs's, which has no refusals.
-fn hold(program: &Program, case: &Case, printed: &[&str], tally: &mut Tally) {
-    let refused = printed.iter().filter(|line| line.contains(" refused ")).count();
-    tally.cases += 1;
-    tally.refused += refused;
-    if refused == printed.len() {
-        return;
+/// Jobs from a seed on, each by a seed of its own.
+fn jobs(what: &str, made: fn(u64) -> (Job, Lent), count: u64, seed: u64) {
+    let mut tally = Tally::default();
+    for own in seed..seed + count {
+        let (job, lent) = made(own);
+        hold(&job, &lent, own, None, &mut tally);
     }
-    for (line, expected) in printed.iter().zip((program.lines)(case)) {
-        match expected {
-            _ if line.contains(" refused ") => (),
-            None => tally.silent += 1,
-            Some(expected) if expected == *line => tally.equal += 1,
-            Some(expected) => panic!("{} on\n{}\nprints   {line}\nslots.rs {expected}", program.name, case.text),
-        }
-    }
-}
-
-fn hold_all(program: &Program, input: &str, printed: &str, tally: &mut Tally) {
-    let mut lines = printed.lines();
-    for line in input.lines() {
-        let case = Case::read(line);
-        let own: Vec<&str> = lines.by_ref().take((program.count)(&case)).collect();
-        assert_eq!(own.len(), (program.count)(&case), "{}: the printed lines end before {line}", program.name);
-        hold(program, &case, &own, tally);
-    }
-    assert_eq!(lines.next(), None, "{}: more lines than cases", program.name);
-}
-
-fn run(program: &Program, input: &str) -> String {
-    let mut child = Command::new(format!("target/bin/{}", program.name)).stdin(Stdio::piped()).stdout(Stdio::piped()).spawn().expect("the program is built");
-    let mut stdin = child.stdin.take().unwrap();
-    stdin.write_all(input.as_bytes()).unwrap();
-    drop(stdin);
-    String::from_utf8(child.wait_with_output().unwrap().stdout).unwrap()
-}
-
-fn say(program: &Program, what: &str, t: &Tally) {
-    println!(
-        "{}, {what}: {} cases, {} lines equal, {} of which slots.rs says nothing, {} refused",
-        program.name, t.cases, t.equal, t.silent, t.refused
-    );
+    tally.say(&format!("{what} jobs, seeds {seed} to {}", seed + count - 1));
 }
 
 fn main() {
-    let wanted: usize = std::env::args().nth(1).map_or(0, |n| n.parse().expect("a number of cases"));
-    for program in &PROGRAMS {
-        let mut stored = Tally::default();
-        let file = |name: &str| std::fs::read_to_string(format!("crates/{}/{name}", program.name)).expect("run in the repository's root");
-        hold_all(program, &file("stdin"), &file("stdout"), &mut stored);
-        say(program, "stored", &stored);
-
-        let mut tally = Tally::default();
-        let mut random = Random(0x9e37_79b9_7f4a_7c15);
-        while tally.cases < wanted {
-            let mut input = String::new();
-            while input.len() < cases::ROOM - cases::LONGEST {
-                input += &(program.random)(&mut random);
-            }
-            hold_all(program, &input, &run(program, &input), &mut tally);
-        }
-        assert_eq!(tally.refused, 0, "{}: a random case was refused", program.name);
-        say(program, "random", &tally);
+    let given: Vec<String> = std::env::args().skip(1).collect();
+    let number = |at: usize, or: u64| given.get(at).map_or(or, |n| n.parse().unwrap_or_else(|_| panic!("{n} is no number; {USAGE}")));
+    match given.first().map(String::as_str) {
+        Some("parts") => parts::compare(number(1, 10_000) as usize),
+        Some("jobs") => jobs("random", whole::random, number(1, 100_000), number(2, 1)),
+        Some("damaged") => jobs("damaged", whole::damaged, number(1, 50_000), number(2, 1)),
+        Some("small") => small::compare(),
+        Some("limits") => limits::compare(number(1, 200)),
+        Some("scale") => scale::compare(number(1, 60), number(2, 1)),
+        Some("texts") => texts::compare(number(1, 5_000), number(2, 1)),
+        Some("sample") => sample::record(false),
+        Some("record") => sample::record(true),
+        Some("emit") => emit::emit(number(1, 5_000), number(2, 1)).expect("what reads the jobs reads them all"),
+        _ => panic!("{USAGE}"),
     }
 }

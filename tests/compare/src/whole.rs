@@ -1,0 +1,152 @@
+//! Whole jobs through the entry of the static library, held to slots.rs and the models: the answer, each list and the work space, to the word.
+use crate::cases::Random;
+use crate::entry::{share, Lists};
+use crate::job::*;
+use crate::plans::{areas, plan, ranges, Areas};
+use crate::refusals::refusal;
+
+/// What a job must be answered, and what the lists and the work space must hold afterwards.
+pub struct Expected {
+    pub answer: u64,
+    pub lists: Lists,
+}
+
+fn put<T: Copy>(list: &mut [T], answer: &[T]) {
+    let room = list.len().min(answer.len());
+    list[..room].copy_from_slice(&answer[..room]);
+}
+
+/// The lists are as they were but where a plan is written, and where the work space is cleared: after a plan, and after 9.
+pub fn expected(job: &Job, lent: &Lent, before: &Lists, known: Option<&Areas>) -> Expected {
+    let code = |(number, index): (u32, u32)| (u64::from(number) << 32) + u64::from(index);
+    let mut lists = before.clone();
+    if let Some(refused) = refusal(job, lent) {
+        return Expected { answer: code(refused), lists };
+    }
+    lists.work[..space(job, lent.areas)].fill(0);
+    let made;
+    let wanted = match known {
+        Some(areas) => areas,
+        None => {
+            made = areas(job);
+            &made
+        }
+    };
+    if ranges(wanted) > lent.areas / 2 {
+        return Expected { answer: code((9, 0)), lists };
+    }
+    let plan = plan(job, wanted);
+    assert!(plan.cells.len() <= lists.cells.len() && plan.items.len() <= lists.items.len() && plan.areas.len() <= lists.areas.len());
+    put(&mut lists.cells, &plan.cells);
+    put(&mut lists.items, &plan.items);
+    put(&mut lists.areas, &plan.areas);
+    put(&mut lists.counts, &plan.counts);
+    Expected { answer: 0, lists }
+}
+
+/// A random job of a seed, with lists that it is planned in but for one in ten.
+pub fn random(seed: u64) -> (Job, Lent) {
+    let mut r = Random::seeded(seed);
+    let most = if r.one_in(50) { 40 } else { 6 };
+    let job = crate::random::random(&mut r, most);
+    let lent = lent(&mut r, &job, ranges(&areas(&job)));
+    (job, lent)
+}
+
+/// A damaged job of a seed.
+pub fn damaged(seed: u64) -> (Job, Lent) {
+    let mut r = Random::seeded(seed);
+    let job = crate::random::random(&mut r, 6);
+    let lent = crate::random::any_lent(&mut r, &job);
+    crate::random::damaged(&mut r, job, lent)
+}
+
+/// Lists of those lengths with any numbers in them.
+pub fn any_lists(r: &mut Random, lent: &Lent) -> Lists {
+    let mut short = |n: usize| -> Vec<u32> { (0..n).map(|_| r.number()).collect() };
+    let (cells, items, areas) = (short(lent.cells), short(lent.items), short(lent.areas));
+    let mut long = |n: usize| -> Vec<u64> { (0..n).map(|_| r.word()).collect() };
+    Lists { cells, items, areas, counts: long(lent.counts), work: long(lent.work) }
+}
+
+/// How many jobs were answered with a plan, and how many with each refusal.
+#[derive(Default)]
+pub struct Tally(pub [usize; 10]);
+
+impl Tally {
+    pub fn all(&self) -> usize {
+        self.0.iter().sum()
+    }
+
+    pub fn say(&self, what: &str) {
+        let refused: Vec<String> = (1..10).filter(|&n| self.0[n] > 0).map(|n| format!("{n}: {}", self.0[n])).collect();
+        println!("{what}: {} jobs, no difference; {} plans, refusals {}", self.all(), self.0[0], if refused.is_empty() { "none".to_string() } else { refused.join(", ") });
+    }
+}
+
+/// Whether the entry answers and leaves what it must; if so, the refusal's number or 0.
+fn held(job: &Job, lent: &Lent, seed: u64, known: Option<&Areas>) -> Result<usize, String> {
+    let before = any_lists(&mut Random::seeded(seed), lent);
+    let expected = expected(job, lent, &before, known);
+    let mut lists = before;
+    let answer = share(job, &mut lists);
+    let told = |code: u64| if code == 0 { "a plan".to_string() } else { format!("refusal {} at {}", code >> 32, code as u32) };
+    if answer != expected.answer {
+        return Err(format!("the entry answers {}, expected {}", told(answer), told(expected.answer)));
+    }
+    let e = &expected.lists;
+    for (name, same) in [("cells", lists.cells == e.cells), ("items", lists.items == e.items), ("areas", lists.areas == e.areas), ("counts", lists.counts == e.counts), ("work", lists.work == e.work)] {
+        if !same {
+            let (got, wanted) = match name {
+                "cells" => (format!("{:?}", lists.cells), format!("{:?}", e.cells)),
+                "items" => (format!("{:?}", lists.items), format!("{:?}", e.items)),
+                "areas" => (format!("{:?}", lists.areas), format!("{:?}", e.areas)),
+                "counts" => (format!("{:?}", lists.counts), format!("{:?}", e.counts)),
+                _ => (String::new(), String::new()),
+            };
+            return Err(format!("{} is answered, and {name} is left as {got}, expected {wanted}", told(answer)));
+        }
+    }
+    Ok((answer >> 32) as usize)
+}
+
+/// The job with rows left out for as long as the difference stays.
+fn smaller(mut job: Job, lent: &Lent, seed: u64) -> Job {
+    let differs = |job: &Job| std::panic::catch_unwind(|| held(job, lent, seed, None)).map_or(true, |h| h.is_err());
+    loop {
+        let before = job.clone();
+        for group in 0..12 {
+            let mut at = 0;
+            while (at + 1) * WIDTHS[group] <= job.groups[group].len() {
+                let mut less = job.clone();
+                if group == INSTS {
+                    let first: usize = job.rows(INSTS).take(at).map(|row| row[8] as usize).sum();
+                    let own = job.groups[INSTS][9 * at + 8] as usize;
+                    if 2 * (first + own) <= less.groups[OPERANDS].len() {
+                        less.groups[OPERANDS].drain(2 * first..2 * (first + own));
+                    }
+                }
+                less.groups[group].drain(at * WIDTHS[group]..(at + 1) * WIDTHS[group]);
+                if differs(&less) {
+                    job = less;
+                } else {
+                    at += 1;
+                }
+            }
+        }
+        if job == before {
+            return job;
+        }
+    }
+}
+
+/// Holds one job; stops with a smaller job that differs too.
+pub fn hold(job: &Job, lent: &Lent, seed: u64, known: Option<&Areas>, tally: &mut Tally) {
+    match held(job, lent, seed, known) {
+        Ok(number) => tally.0[number] += 1,
+        Err(said) => {
+            let least = smaller(job.clone(), lent, seed);
+            panic!("seed {seed}: {said}\non {job:?}\nlent {lent:?}\nand on {least:?}");
+        }
+    }
+}
