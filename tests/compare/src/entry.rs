@@ -1,4 +1,4 @@
-//! The component's entry for whole jobs, through the static library: a slice is a pointer and then its length.
+//! The component's entries for whole jobs and for fitting alone, through the static library: a slice is a pointer and then its length.
 use crate::job::*;
 
 extern "C" {
@@ -10,6 +10,10 @@ extern "C" {
         pieces: *const u32, pieces_len: usize, assigned: *const u32, assigned_len: usize, moves: *const u32, moves_len: usize,
         cells: *mut u32, cells_len: usize, items: *mut u32, items_len: usize, areas: *mut u32, areas_len: usize,
         counts: *mut u64, counts_len: usize, work: *mut u64, work_len: usize,
+    ) -> u64;
+    fn slots_fit_wants(
+        wants: *const u32, wants_len: usize, areas: *const u32, areas_len: usize, locals: u32, budget: u32, cells: *mut u32, cells_len: usize,
+        items: *mut u32, items_len: usize, counts: *mut u64, counts_len: usize, work: *mut u64, work_len: usize,
     ) -> u64;
 }
 
@@ -35,6 +39,17 @@ pub fn share(job: &Job, l: &mut Lists) -> u64 {
             g[8].as_ptr(), g[8].len(), g[9].as_ptr(), g[9].len(), g[10].as_ptr(), g[10].len(), g[11].as_ptr(), g[11].len(),
             l.cells.as_mut_ptr(), l.cells.len(), l.items.as_mut_ptr(), l.items.len(), l.areas.as_mut_ptr(), l.areas.len(),
             l.counts.as_mut_ptr(), l.counts.len(), l.work.as_mut_ptr(), l.work.len(),
+        )
+    }
+}
+
+/// Fitting alone, which is lent its areas: `areas` of the lists is not.
+pub fn fit_wants(wants: &[u32], areas: &[u32], locals: u32, budget: u32, l: &mut Lists) -> u64 {
+    // SAFETY: as above.
+    unsafe {
+        slots_fit_wants(
+            wants.as_ptr(), wants.len(), areas.as_ptr(), areas.len(), locals, budget, l.cells.as_mut_ptr(), l.cells.len(),
+            l.items.as_mut_ptr(), l.items.len(), l.counts.as_mut_ptr(), l.counts.len(), l.work.as_mut_ptr(), l.work.len(),
         )
     }
 }

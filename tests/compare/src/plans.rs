@@ -4,7 +4,7 @@ use crate::cases::Records;
 use crate::job::*;
 use crate::spills::{assignment, edits};
 use reference::frame::Local;
-use reference::slots::{probe, reach, wanted, Slots};
+use reference::slots::{probe, reach, wanted};
 use rucc_base::Interner;
 use rucc_regalloc::live::{Area, Live, Range};
 use rucc_regalloc::Allocation;
@@ -116,9 +116,18 @@ fn fitted(sizes: &[(u32, u32)], areas: &Areas, budget: u32) -> (Vec<Cell>, Vec<u
     (cells, of, u64::from(budget - left))
 }
 
-/// Holds the plain model to slots.rs: cells, the cell of each item, the shared areas, crowded slots, cells saved.
-fn same(job: &Job, areas: &Areas, cells: &[Cell], of: &[usize], plan: &Slots) {
-    let locals = job.count(LOCALS);
+/// Cells as rows, the cell of each item, and cells, probes and depth.
+pub struct Fit {
+    pub cells: Vec<u32>,
+    pub of: Vec<usize>,
+    pub counts: [u64; 3],
+}
+
+/// What the items of those sizes are fitted to, by the plain model, which is held to slots.rs: cells, the cell of each item, the shared areas, crowded slots, cells saved.
+pub fn fit(sizes: &[(u32, u32)], areas: &Areas, locals: usize, budget: u32) -> Fit {
+    let (cells, of, probes) = fitted(sizes, areas, budget);
+    let wants = sizes.iter().zip(areas).map(|(&(size, align), area)| (size, align, area.clone())).collect();
+    let plan = probe::fit(wants, locals, budget as usize);
     assert!(cells.iter().map(|c| (c.size, c.align)).eq(plan.cells().iter().map(|c| (c.size, c.align))), "the model's cells are not slots.rs's");
     for (i, &cell) in of.iter().enumerate() {
         let own = if i < locals { plan.local(i) } else { plan.slot((i - locals) as u32) };
@@ -130,19 +139,16 @@ fn same(job: &Job, areas: &Areas, cells: &[Cell], of: &[usize], plan: &Slots) {
     }
     let mut crowded: Vec<u32> = plan.crowded().into_iter().collect();
     crowded.sort_unstable();
-    assert!((0..job.count(SLOTS)).filter(|s| cells[of[locals + s]].members > 1).map(|s| s as u32).eq(crowded), "the model's crowded slots are not slots.rs's");
+    assert!((locals..of.len()).filter(|&i| cells[of[i]].members > 1).map(|i| (i - locals) as u32).eq(crowded), "the model's crowded slots are not slots.rs's");
     assert_eq!(plan.saved(), of.len() - cells.len());
+    let counts = [cells.len() as u64, probes, cells.iter().map(|c| u64::from(c.size)).sum()];
+    Fit { cells: cells.iter().flat_map(|c| [c.size, c.align]).collect(), of, counts }
 }
 
 pub fn plan(job: &Job, areas: &Areas) -> Plan {
-    let sizes = sizes(job);
-    let wants = sizes.iter().zip(areas).map(|(&(size, align), area)| (size, align, area.clone())).collect();
-    let (cells, of, probes) = fitted(&sizes, areas, job.budget);
-    same(job, areas, &cells, &of, &probe::fit(wants, job.count(LOCALS), job.budget as usize));
-
-    let mut plan = Plan { counts: [cells.len() as u64, probes, cells.iter().map(|c| u64::from(c.size)).sum()], ..Plan::default() };
-    plan.cells = cells.iter().flat_map(|c| [c.size, c.align]).collect();
-    for (area, cell) in areas.iter().zip(of) {
+    let fit = fit(&sizes(job), areas, job.count(LOCALS), job.budget);
+    let mut plan = Plan { cells: fit.cells, counts: fit.counts, ..Plan::default() };
+    for (area, cell) in areas.iter().zip(fit.of) {
         let part = area.as_ref().map_or([0, 0, 0], |area| [1, plan.areas.len() as u32 / 2, area.len() as u32]);
         plan.items.push(cell as u32);
         plan.items.extend(part);

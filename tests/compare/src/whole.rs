@@ -11,7 +11,7 @@ pub struct Expected {
     pub lists: Lists,
 }
 
-fn put<T: Copy>(list: &mut [T], answer: &[T]) {
+pub fn put<T: Copy>(list: &mut [T], answer: &[T]) {
     let room = list.len().min(answer.len());
     list[..room].copy_from_slice(&answer[..room]);
 }
