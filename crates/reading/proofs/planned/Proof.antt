@@ -3,326 +3,326 @@ use Prim.Native.Nat.{ℕ, suc, _+_, _-_, _*_, _≤_, _<_}
 use mathlib.Core.Path.{_≡_, refl, sym, ap, _∙_}
 use lib.ListN.{length, take, drop, getD, set, length-set}
 use borrow.Author.Needs.{needs}
-use Rattle.plan.proofs.planned.Statement.{statement}
-use Rattle.plan.proofs.planned.Tie as tie
-use Rattle.plan.proofs.planned.Reads as reads
-use Rattle.plan.proofs.planned.Lts as lts
+use Rattle.reading.proofs.planned.Statement.{statement}
+use Rattle.reading.proofs.planned.Tie as tie
+use Rattle.reading.proofs.planned.Reads as reads
+use Rattle.reading.proofs.planned.Lts as lts
 use Rattle.job.proofs.share.Reads as share-reads
-use Rattle.plan.proofs.held.Reads as held-reads
+use Rattle.reading.proofs.held.Reads as held-reads
 
--- src/main.rt:78:9
+-- src/lib.rt:78:9
 held-requires : tie.Need-held-requires
 held-requires c κs = ((c .before .before .before .before .before .before .pre) .1, omega arith)
 
--- src/main.rt:79:9
+-- src/lib.rt:79:9
 held-requires-2 : tie.Need-held-requires-2
 held-requires-2 c κs = ((c .before .before .before .before .before .before .before .pre) .1, omega arith)
 
--- src/main.rt:80:9
+-- src/lib.rt:80:9
 held-requires-3 : tie.Need-held-requires-3
 held-requires-3 c κs = ((c .before .before .before .before .before .before .before .before .pre) .1, omega arith)
 
--- src/main.rt:81:9
+-- src/lib.rt:81:9
 held-requires-4 : tie.Need-held-requires-4
 held-requires-4 c κs = ((c .before .before .before .before .before .before .before .before .before .pre) .1, omega arith)
 
--- src/main.rt:82:9
+-- src/lib.rt:82:9
 held-requires-5 : tie.Need-held-requires-5
 held-requires-5 c κs = ((c .before .before .before .before .before .before .before .before .before .before .pre) .1, omega arith)
 
--- src/main.rt:83:9
+-- src/lib.rt:83:9
 held-requires-6 : tie.Need-held-requires-6
 held-requires-6 c κs = ((c .before .before .before .before .before .before .before .before .before .before .before .pre) .1, omega arith)
 
--- src/main.rt:84:9
+-- src/lib.rt:84:9
 held-requires-7 : tie.Need-held-requires-7
 held-requires-7 c κs = ((c .before .before .before .before .before .before .before .before .before .before .before .before .pre) .1, omega arith)
 
--- src/main.rt:85:9
+-- src/lib.rt:85:9
 held-requires-8 : tie.Need-held-requires-8
 held-requires-8 c κs = ((c .before .before .before .before .before .before .before .before .before .before .before .before .before .pre) .1, omega arith)
 
--- src/main.rt:86:9
+-- src/lib.rt:86:9
 held-requires-9 : tie.Need-held-requires-9
 held-requires-9 c κs = ((c .before .before .before .before .before .before .before .before .before .before .before .before .before .before .pre) .1, omega arith)
 
--- src/main.rt:87:9
+-- src/lib.rt:87:9
 held-requires-10 : tie.Need-held-requires-10
 held-requires-10 c κs = ((c .before .before .before .before .before .before .before .before .before .before .before .before .before .before .before .pre) .1, omega arith)
 
--- src/main.rt:88:9
+-- src/lib.rt:88:9
 held-requires-11 : tie.Need-held-requires-11
 held-requires-11 c κs = ((c .before .before .before .before .before .before .before .before .before .before .before .before .before .before .before .before .pre) .1, omega arith)
 
--- src/main.rt:89:9
+-- src/lib.rt:89:9
 held-requires-12 : tie.Need-held-requires-12
 held-requires-12 c κs = ((c .before .before .before .before .before .before .before .before .before .before .before .before .before .before .before .before .before .pre) .1, omega arith)
 
--- src/main.rt:91:9
+-- src/lib.rt:91:9
 shared-slice-read-share : tie.Need-shared-slice-read-share
 shared-slice-read-share c = omega (arith, (c .before .before .before .before .before .before .before .before .before .before .before .before .before .before .before .before .before .before .before .pre) .0)
 
--- src/main.rt:92:9
+-- src/lib.rt:92:9
 shared-slice-read-share-2 : tie.Need-shared-slice-read-share-2
 shared-slice-read-share-2 c = omega (arith, (c .before .before .before .before .before .before .before .before .before .before .before .before .before .before .before .before .before .before .before .before .pre) .0)
 
--- src/main.rt:93:9
+-- src/lib.rt:93:9
 shared-slice-read-share-3 : tie.Need-shared-slice-read-share-3
 shared-slice-read-share-3 c = omega (arith, (c .before .before .before .before .before .before .before .before .before .before .before .before .before .before .before .before .before .before .before .before .before .pre) .0)
 
--- src/main.rt:94:22
+-- src/lib.rt:94:22
 mul-share : tie.Need-mul-share
 mul-share c = omega (arith, (c .before .before .before .before .before .before .before .before .before .before .before .before .before .before .held) .ensures, (c .before .before .before .before .before .before .before .before .before .before .before .before .before .before .before .before .before .before .before .before .before .pre) .0)
 
--- src/main.rt:94:18
+-- src/lib.rt:94:18
 add-share : tie.Need-add-share
 add-share c = omega (arith, (c .before .before .before .before .before .before .before .before .before .before .before .before .before .before .held) .ensures, (c .before .before .before .before .before .before .before .before .before .before .before .before .before .before .before .before .before .before .before .before .before .pre) .0)
 
--- src/main.rt:94:9
+-- src/lib.rt:94:9
 sub-share : tie.Need-sub-share
 sub-share c = omega (arith, (c .before .before .before .before .before .before .before .before .before .before .before .before .before .before .held) .ensures, (c .before .before .before .before .before .before .before .before .before .before .before .before .before .before .before .before .before .before .before .before .before .pre) .0)
 
--- src/main.rt:94:9
+-- src/lib.rt:94:9
 part-share-start : tie.Need-part-share-start
 part-share-start c = omega (arith, (c .before .before .before .before .before .before .before .before .before .before .before .before .before .before .held) .ensures, (c .before .before .before .before .before .before .before .before .before .before .before .before .before .before .before .before .before .before .before .before .before .pre) .0)
 
--- src/main.rt:94:9
+-- src/lib.rt:94:9
 part-share-end : tie.Need-part-share-end
 part-share-end c = omega (arith, (c .before .before .before .before .before .before .before .before .before .before .before .before .before .before .held) .ensures, (c .before .before .before .before .before .before .before .before .before .before .before .before .before .before .before .before .before .before .before .before .before .pre) .0)
 
--- src/main.rt:95:26
+-- src/lib.rt:95:26
 mul-share-2 : tie.Need-mul-share-2
 mul-share-2 c = omega (arith, (c .before .before .before .before .before .before .before .before .before .before .before .before .before .before .held2) .ensures, (c .before .before .before .before .before .before .before .before .before .before .before .before .before .before .before .before .before .before .before .before .before .before .pre) .0)
 
--- src/main.rt:95:20
+-- src/lib.rt:95:20
 add-share-2 : tie.Need-add-share-2
 add-share-2 c = omega (arith, (c .before .before .before .before .before .before .before .before .before .before .before .before .before .before .held2) .ensures, (c .before .before .before .before .before .before .before .before .before .before .before .before .before .before .before .before .before .before .before .before .before .before .pre) .0)
 
--- src/main.rt:95:9
+-- src/lib.rt:95:9
 sub-share-2 : tie.Need-sub-share-2
 sub-share-2 c = omega (arith, (c .before .before .before .before .before .before .before .before .before .before .before .before .before .before .held2) .ensures, (c .before .before .before .before .before .before .before .before .before .before .before .before .before .before .before .before .before .before .before .before .before .before .pre) .0)
 
--- src/main.rt:95:9
+-- src/lib.rt:95:9
 part-share-start-2 : tie.Need-part-share-start-2
 part-share-start-2 c = omega (arith, (c .before .before .before .before .before .before .before .before .before .before .before .before .before .before .held2) .ensures, (c .before .before .before .before .before .before .before .before .before .before .before .before .before .before .before .before .before .before .before .before .before .before .pre) .0)
 
--- src/main.rt:95:9
+-- src/lib.rt:95:9
 part-share-end-2 : tie.Need-part-share-end-2
 part-share-end-2 c = omega (arith, (c .before .before .before .before .before .before .before .before .before .before .before .before .before .before .held2) .ensures, (c .before .before .before .before .before .before .before .before .before .before .before .before .before .before .before .before .before .before .before .before .before .before .pre) .0)
 
--- src/main.rt:96:26
+-- src/lib.rt:96:26
 mul-share-3 : tie.Need-mul-share-3
 mul-share-3 c = omega (arith, (c .before .before .before .before .before .before .before .before .before .before .before .before .before .before .held3) .ensures, (c .before .before .before .before .before .before .before .before .before .before .before .before .before .before .before .before .before .before .before .before .before .before .before .pre) .0)
 
--- src/main.rt:96:20
+-- src/lib.rt:96:20
 add-share-3 : tie.Need-add-share-3
 add-share-3 c = omega (arith, (c .before .before .before .before .before .before .before .before .before .before .before .before .before .before .held3) .ensures, (c .before .before .before .before .before .before .before .before .before .before .before .before .before .before .before .before .before .before .before .before .before .before .before .pre) .0)
 
--- src/main.rt:96:9
+-- src/lib.rt:96:9
 sub-share-3 : tie.Need-sub-share-3
 sub-share-3 c = omega (arith, (c .before .before .before .before .before .before .before .before .before .before .before .before .before .before .held3) .ensures, (c .before .before .before .before .before .before .before .before .before .before .before .before .before .before .before .before .before .before .before .before .before .before .before .pre) .0)
 
--- src/main.rt:96:9
+-- src/lib.rt:96:9
 part-share-start-3 : tie.Need-part-share-start-3
 part-share-start-3 c = omega (arith, (c .before .before .before .before .before .before .before .before .before .before .before .before .before .before .held3) .ensures, (c .before .before .before .before .before .before .before .before .before .before .before .before .before .before .before .before .before .before .before .before .before .before .before .pre) .0)
 
--- src/main.rt:96:9
+-- src/lib.rt:96:9
 part-share-end-3 : tie.Need-part-share-end-3
 part-share-end-3 c = omega (arith, (c .before .before .before .before .before .before .before .before .before .before .before .before .before .before .held3) .ensures, (c .before .before .before .before .before .before .before .before .before .before .before .before .before .before .before .before .before .before .before .before .before .before .before .pre) .0)
 
--- src/main.rt:97:26
+-- src/lib.rt:97:26
 mul-share-4 : tie.Need-mul-share-4
 mul-share-4 c = omega (arith, (c .before .before .before .before .before .before .before .before .before .before .before .before .before .before .held4) .ensures, (c .before .before .before .before .before .before .before .before .before .before .before .before .before .before .before .before .before .before .before .before .before .before .before .before .pre) .0)
 
--- src/main.rt:97:20
+-- src/lib.rt:97:20
 add-share-4 : tie.Need-add-share-4
 add-share-4 c = omega (arith, (c .before .before .before .before .before .before .before .before .before .before .before .before .before .before .held4) .ensures, (c .before .before .before .before .before .before .before .before .before .before .before .before .before .before .before .before .before .before .before .before .before .before .before .before .pre) .0)
 
--- src/main.rt:97:9
+-- src/lib.rt:97:9
 sub-share-4 : tie.Need-sub-share-4
 sub-share-4 c = omega (arith, (c .before .before .before .before .before .before .before .before .before .before .before .before .before .before .held4) .ensures, (c .before .before .before .before .before .before .before .before .before .before .before .before .before .before .before .before .before .before .before .before .before .before .before .before .pre) .0)
 
--- src/main.rt:97:9
+-- src/lib.rt:97:9
 part-share-start-4 : tie.Need-part-share-start-4
 part-share-start-4 c = omega (arith, (c .before .before .before .before .before .before .before .before .before .before .before .before .before .before .held4) .ensures, (c .before .before .before .before .before .before .before .before .before .before .before .before .before .before .before .before .before .before .before .before .before .before .before .before .pre) .0)
 
--- src/main.rt:97:9
+-- src/lib.rt:97:9
 part-share-end-4 : tie.Need-part-share-end-4
 part-share-end-4 c = omega (arith, (c .before .before .before .before .before .before .before .before .before .before .before .before .before .before .held4) .ensures, (c .before .before .before .before .before .before .before .before .before .before .before .before .before .before .before .before .before .before .before .before .before .before .before .before .pre) .0)
 
--- src/main.rt:98:21
+-- src/lib.rt:98:21
 add-share-5 : tie.Need-add-share-5
 add-share-5 c = omega (arith, (c .before .before .before .before .before .before .before .before .before .before .before .before .before .before .held5) .ensures, (c .before .before .before .before .before .before .before .before .before .before .before .before .before .before .before .before .before .before .before .before .before .before .before .before .before .pre) .0)
 
--- src/main.rt:98:9
+-- src/lib.rt:98:9
 sub-share-5 : tie.Need-sub-share-5
 sub-share-5 c = omega (arith, (c .before .before .before .before .before .before .before .before .before .before .before .before .before .before .held5) .ensures, (c .before .before .before .before .before .before .before .before .before .before .before .before .before .before .before .before .before .before .before .before .before .before .before .before .before .pre) .0)
 
--- src/main.rt:98:9
+-- src/lib.rt:98:9
 part-share-start-5 : tie.Need-part-share-start-5
 part-share-start-5 c = omega (arith, (c .before .before .before .before .before .before .before .before .before .before .before .before .before .before .held5) .ensures, (c .before .before .before .before .before .before .before .before .before .before .before .before .before .before .before .before .before .before .before .before .before .before .before .before .before .pre) .0)
 
--- src/main.rt:98:9
+-- src/lib.rt:98:9
 part-share-end-5 : tie.Need-part-share-end-5
 part-share-end-5 c = omega (arith, (c .before .before .before .before .before .before .before .before .before .before .before .before .before .before .held5) .ensures, (c .before .before .before .before .before .before .before .before .before .before .before .before .before .before .before .before .before .before .before .before .before .before .before .before .before .pre) .0)
 
--- src/main.rt:99:28
+-- src/lib.rt:99:28
 mul-share-5 : tie.Need-mul-share-5
 mul-share-5 c = omega (arith, (c .before .before .before .before .before .before .before .before .before .before .before .before .before .before .held6) .ensures, (c .before .before .before .before .before .before .before .before .before .before .before .before .before .before .before .before .before .before .before .before .before .before .before .before .before .before .pre) .0)
 
--- src/main.rt:99:21
+-- src/lib.rt:99:21
 add-share-6 : tie.Need-add-share-6
 add-share-6 c = omega (arith, (c .before .before .before .before .before .before .before .before .before .before .before .before .before .before .held6) .ensures, (c .before .before .before .before .before .before .before .before .before .before .before .before .before .before .before .before .before .before .before .before .before .before .before .before .before .before .pre) .0)
 
--- src/main.rt:99:9
+-- src/lib.rt:99:9
 sub-share-6 : tie.Need-sub-share-6
 sub-share-6 c = omega (arith, (c .before .before .before .before .before .before .before .before .before .before .before .before .before .before .held6) .ensures, (c .before .before .before .before .before .before .before .before .before .before .before .before .before .before .before .before .before .before .before .before .before .before .before .before .before .before .pre) .0)
 
--- src/main.rt:99:9
+-- src/lib.rt:99:9
 part-share-start-6 : tie.Need-part-share-start-6
 part-share-start-6 c = omega (arith, (c .before .before .before .before .before .before .before .before .before .before .before .before .before .before .held6) .ensures, (c .before .before .before .before .before .before .before .before .before .before .before .before .before .before .before .before .before .before .before .before .before .before .before .before .before .before .pre) .0)
 
--- src/main.rt:99:9
+-- src/lib.rt:99:9
 part-share-end-6 : tie.Need-part-share-end-6
 part-share-end-6 c = omega (arith, (c .before .before .before .before .before .before .before .before .before .before .before .before .before .before .held6) .ensures, (c .before .before .before .before .before .before .before .before .before .before .before .before .before .before .before .before .before .before .before .before .before .before .before .before .before .before .pre) .0)
 
--- src/main.rt:100:21
+-- src/lib.rt:100:21
 add-share-7 : tie.Need-add-share-7
 add-share-7 c = omega (arith, (c .before .before .before .before .before .before .before .before .before .before .before .before .before .before .held7) .ensures, (c .before .before .before .before .before .before .before .before .before .before .before .before .before .before .before .before .before .before .before .before .before .before .before .before .before .before .before .pre) .0)
 
--- src/main.rt:100:9
+-- src/lib.rt:100:9
 sub-share-7 : tie.Need-sub-share-7
 sub-share-7 c = omega (arith, (c .before .before .before .before .before .before .before .before .before .before .before .before .before .before .held7) .ensures, (c .before .before .before .before .before .before .before .before .before .before .before .before .before .before .before .before .before .before .before .before .before .before .before .before .before .before .before .pre) .0)
 
--- src/main.rt:100:9
+-- src/lib.rt:100:9
 part-share-start-7 : tie.Need-part-share-start-7
 part-share-start-7 c = omega (arith, (c .before .before .before .before .before .before .before .before .before .before .before .before .before .before .held7) .ensures, (c .before .before .before .before .before .before .before .before .before .before .before .before .before .before .before .before .before .before .before .before .before .before .before .before .before .before .before .pre) .0)
 
--- src/main.rt:100:9
+-- src/lib.rt:100:9
 part-share-end-7 : tie.Need-part-share-end-7
 part-share-end-7 c = omega (arith, (c .before .before .before .before .before .before .before .before .before .before .before .before .before .before .held7) .ensures, (c .before .before .before .before .before .before .before .before .before .before .before .before .before .before .before .before .before .before .before .before .before .before .before .before .before .before .before .pre) .0)
 
--- src/main.rt:101:28
+-- src/lib.rt:101:28
 mul-share-6 : tie.Need-mul-share-6
 mul-share-6 c = omega (arith, (c .before .before .before .before .before .before .before .before .before .before .before .before .before .before .held8) .ensures, (c .before .before .before .before .before .before .before .before .before .before .before .before .before .before .before .before .before .before .before .before .before .before .before .before .before .before .before .before .pre) .0)
 
--- src/main.rt:101:21
+-- src/lib.rt:101:21
 add-share-8 : tie.Need-add-share-8
 add-share-8 c = omega (arith, (c .before .before .before .before .before .before .before .before .before .before .before .before .before .before .held8) .ensures, (c .before .before .before .before .before .before .before .before .before .before .before .before .before .before .before .before .before .before .before .before .before .before .before .before .before .before .before .before .pre) .0)
 
--- src/main.rt:101:9
+-- src/lib.rt:101:9
 sub-share-8 : tie.Need-sub-share-8
 sub-share-8 c = omega (arith, (c .before .before .before .before .before .before .before .before .before .before .before .before .before .before .held8) .ensures, (c .before .before .before .before .before .before .before .before .before .before .before .before .before .before .before .before .before .before .before .before .before .before .before .before .before .before .before .before .pre) .0)
 
--- src/main.rt:101:9
+-- src/lib.rt:101:9
 part-share-start-8 : tie.Need-part-share-start-8
 part-share-start-8 c = omega (arith, (c .before .before .before .before .before .before .before .before .before .before .before .before .before .before .held8) .ensures, (c .before .before .before .before .before .before .before .before .before .before .before .before .before .before .before .before .before .before .before .before .before .before .before .before .before .before .before .before .pre) .0)
 
--- src/main.rt:101:9
+-- src/lib.rt:101:9
 part-share-end-8 : tie.Need-part-share-end-8
 part-share-end-8 c = omega (arith, (c .before .before .before .before .before .before .before .before .before .before .before .before .before .before .held8) .ensures, (c .before .before .before .before .before .before .before .before .before .before .before .before .before .before .before .before .before .before .before .before .before .before .before .before .before .before .before .before .pre) .0)
 
--- src/main.rt:102:28
+-- src/lib.rt:102:28
 mul-share-7 : tie.Need-mul-share-7
 mul-share-7 c = omega (arith, (c .before .before .before .before .before .before .before .before .before .before .before .before .before .before .held9) .ensures, (c .before .before .before .before .before .before .before .before .before .before .before .before .before .before .before .before .before .before .before .before .before .before .before .before .before .before .before .before .before .pre) .0)
 
--- src/main.rt:102:21
+-- src/lib.rt:102:21
 add-share-9 : tie.Need-add-share-9
 add-share-9 c = omega (arith, (c .before .before .before .before .before .before .before .before .before .before .before .before .before .before .held9) .ensures, (c .before .before .before .before .before .before .before .before .before .before .before .before .before .before .before .before .before .before .before .before .before .before .before .before .before .before .before .before .before .pre) .0)
 
--- src/main.rt:102:9
+-- src/lib.rt:102:9
 sub-share-9 : tie.Need-sub-share-9
 sub-share-9 c = omega (arith, (c .before .before .before .before .before .before .before .before .before .before .before .before .before .before .held9) .ensures, (c .before .before .before .before .before .before .before .before .before .before .before .before .before .before .before .before .before .before .before .before .before .before .before .before .before .before .before .before .before .pre) .0)
 
--- src/main.rt:102:9
+-- src/lib.rt:102:9
 part-share-start-9 : tie.Need-part-share-start-9
 part-share-start-9 c = omega (arith, (c .before .before .before .before .before .before .before .before .before .before .before .before .before .before .held9) .ensures, (c .before .before .before .before .before .before .before .before .before .before .before .before .before .before .before .before .before .before .before .before .before .before .before .before .before .before .before .before .before .pre) .0)
 
--- src/main.rt:102:9
+-- src/lib.rt:102:9
 part-share-end-9 : tie.Need-part-share-end-9
 part-share-end-9 c = omega (arith, (c .before .before .before .before .before .before .before .before .before .before .before .before .before .before .held9) .ensures, (c .before .before .before .before .before .before .before .before .before .before .before .before .before .before .before .before .before .before .before .before .before .before .before .before .before .before .before .before .before .pre) .0)
 
--- src/main.rt:103:28
+-- src/lib.rt:103:28
 mul-share-8 : tie.Need-mul-share-8
 mul-share-8 c = omega (arith, (c .before .before .before .before .before .before .before .before .before .before .before .before .before .before .held10) .ensures, (c .before .before .before .before .before .before .before .before .before .before .before .before .before .before .before .before .before .before .before .before .before .before .before .before .before .before .before .before .before .before .pre) .0)
 
--- src/main.rt:103:21
+-- src/lib.rt:103:21
 add-share-10 : tie.Need-add-share-10
 add-share-10 c = omega (arith, (c .before .before .before .before .before .before .before .before .before .before .before .before .before .before .held10) .ensures, (c .before .before .before .before .before .before .before .before .before .before .before .before .before .before .before .before .before .before .before .before .before .before .before .before .before .before .before .before .before .before .pre) .0)
 
--- src/main.rt:103:9
+-- src/lib.rt:103:9
 sub-share-10 : tie.Need-sub-share-10
 sub-share-10 c = omega (arith, (c .before .before .before .before .before .before .before .before .before .before .before .before .before .before .held10) .ensures, (c .before .before .before .before .before .before .before .before .before .before .before .before .before .before .before .before .before .before .before .before .before .before .before .before .before .before .before .before .before .before .pre) .0)
 
--- src/main.rt:103:9
+-- src/lib.rt:103:9
 part-share-start-10 : tie.Need-part-share-start-10
 part-share-start-10 c = omega (arith, (c .before .before .before .before .before .before .before .before .before .before .before .before .before .before .held10) .ensures, (c .before .before .before .before .before .before .before .before .before .before .before .before .before .before .before .before .before .before .before .before .before .before .before .before .before .before .before .before .before .before .pre) .0)
 
--- src/main.rt:103:9
+-- src/lib.rt:103:9
 part-share-end-10 : tie.Need-part-share-end-10
 part-share-end-10 c = omega (arith, (c .before .before .before .before .before .before .before .before .before .before .before .before .before .before .held10) .ensures, (c .before .before .before .before .before .before .before .before .before .before .before .before .before .before .before .before .before .before .before .before .before .before .before .before .before .before .before .before .before .before .pre) .0)
 
--- src/main.rt:104:28
+-- src/lib.rt:104:28
 mul-share-9 : tie.Need-mul-share-9
 mul-share-9 c = omega (arith, (c .before .before .before .before .before .before .before .before .before .before .before .before .before .before .held11) .ensures, (c .before .before .before .before .before .before .before .before .before .before .before .before .before .before .before .before .before .before .before .before .before .before .before .before .before .before .before .before .before .before .before .pre) .0)
 
--- src/main.rt:104:21
+-- src/lib.rt:104:21
 add-share-11 : tie.Need-add-share-11
 add-share-11 c = omega (arith, (c .before .before .before .before .before .before .before .before .before .before .before .before .before .before .held11) .ensures, (c .before .before .before .before .before .before .before .before .before .before .before .before .before .before .before .before .before .before .before .before .before .before .before .before .before .before .before .before .before .before .before .pre) .0)
 
--- src/main.rt:104:9
+-- src/lib.rt:104:9
 sub-share-11 : tie.Need-sub-share-11
 sub-share-11 c = omega (arith, (c .before .before .before .before .before .before .before .before .before .before .before .before .before .before .held11) .ensures, (c .before .before .before .before .before .before .before .before .before .before .before .before .before .before .before .before .before .before .before .before .before .before .before .before .before .before .before .before .before .before .before .pre) .0)
 
--- src/main.rt:104:9
+-- src/lib.rt:104:9
 part-share-start-11 : tie.Need-part-share-start-11
 part-share-start-11 c = omega (arith, (c .before .before .before .before .before .before .before .before .before .before .before .before .before .before .held11) .ensures, (c .before .before .before .before .before .before .before .before .before .before .before .before .before .before .before .before .before .before .before .before .before .before .before .before .before .before .before .before .before .before .before .pre) .0)
 
--- src/main.rt:104:9
+-- src/lib.rt:104:9
 part-share-end-11 : tie.Need-part-share-end-11
 part-share-end-11 c = omega (arith, (c .before .before .before .before .before .before .before .before .before .before .before .before .before .before .held11) .ensures, (c .before .before .before .before .before .before .before .before .before .before .before .before .before .before .before .before .before .before .before .before .before .before .before .before .before .before .before .before .before .before .before .pre) .0)
 
--- src/main.rt:105:28
+-- src/lib.rt:105:28
 mul-share-10 : tie.Need-mul-share-10
 mul-share-10 c = omega (arith, (c .before .before .before .before .before .before .before .before .before .before .before .before .before .before .held12) .ensures, (c .before .before .before .before .before .before .before .before .before .before .before .before .before .before .before .before .before .before .before .before .before .before .before .before .before .before .before .before .before .before .before .before .pre) .0)
 
--- src/main.rt:105:21
+-- src/lib.rt:105:21
 add-share-12 : tie.Need-add-share-12
 add-share-12 c = omega (arith, (c .before .before .before .before .before .before .before .before .before .before .before .before .before .before .held12) .ensures, (c .before .before .before .before .before .before .before .before .before .before .before .before .before .before .before .before .before .before .before .before .before .before .before .before .before .before .before .before .before .before .before .before .pre) .0)
 
--- src/main.rt:105:9
+-- src/lib.rt:105:9
 sub-share-12 : tie.Need-sub-share-12
 sub-share-12 c = omega (arith, (c .before .before .before .before .before .before .before .before .before .before .before .before .before .before .held12) .ensures, (c .before .before .before .before .before .before .before .before .before .before .before .before .before .before .before .before .before .before .before .before .before .before .before .before .before .before .before .before .before .before .before .before .pre) .0)
 
--- src/main.rt:105:9
+-- src/lib.rt:105:9
 part-share-start-12 : tie.Need-part-share-start-12
 part-share-start-12 c = omega (arith, (c .before .before .before .before .before .before .before .before .before .before .before .before .before .before .held12) .ensures, (c .before .before .before .before .before .before .before .before .before .before .before .before .before .before .before .before .before .before .before .before .before .before .before .before .before .before .before .before .before .before .before .before .pre) .0)
 
--- src/main.rt:105:9
+-- src/lib.rt:105:9
 part-share-end-12 : tie.Need-part-share-end-12
 part-share-end-12 c = omega (arith, (c .before .before .before .before .before .before .before .before .before .before .before .before .before .before .held12) .ensures, (c .before .before .before .before .before .before .before .before .before .before .before .before .before .before .before .before .before .before .before .before .before .before .before .before .before .before .before .before .before .before .before .before .pre) .0)
 
--- src/main.rt:90:5
+-- src/lib.rt:90:5
 share-requires : tie.Need-share-requires
 share-requires c κs = search needs
 
--- src/main.rt:68:1
+-- src/lib.rt:68:1
 same-length : tie.Need-same-length
 same-length c = search needs
 
--- src/main.rt:68:1
+-- src/lib.rt:68:1
 same-length-2 : tie.Need-same-length-2
 same-length-2 c = search needs
 
--- src/main.rt:68:1
+-- src/lib.rt:68:1
 same-length-3 : tie.Need-same-length-3
 same-length-3 c = search needs
 
--- src/main.rt:68:1
+-- src/lib.rt:68:1
 same-length-4 : tie.Need-same-length-4
 same-length-4 c = search needs
 
--- src/main.rt:68:1
+-- src/lib.rt:68:1
 returns : tie.Need-returns
 returns c = search needs
 

@@ -7,8 +7,8 @@ use lib.ListN.{length, length-take}
 use lib.Dec.{lit≤}
 use Rattle.text.proofs.EndLaws.{ready-start, ready-less, ready-fed}
 use Rattle.text.specs.Read.{Ready}
-use Rattle.plan.proofs.input.Statement.{statement}
-use Rattle.plan.proofs.input.Tie as tie
+use Rattle.reading.proofs.input.Statement.{statement}
+use Rattle.reading.proofs.input.Tie as tie
 
 abbrev Inv-loop : tie.InvT-loop
 Inv-loop rows₀ counts₀ line₀ fields₀ piece₀ s₀ turn₀ rows counts line fields piece s turn = (length fields ≡ 7) × (length piece ≡ 4096) × Ready (s .reader) (s .len) line rows counts (4096 * (2251799813685248 - turn))
