@@ -151,7 +151,7 @@ uint64_t slots_crowded(
     const uint32_t *cells, size_t cells_len, const uint32_t *items, size_t items_len, uint32_t locals, uint32_t *out, size_t out_len);
 /* Items less cells. */
 uint64_t slots_saved(const uint32_t *cells, size_t cells_len, const uint32_t *items, size_t items_len, uint32_t locals);
-/* Lowers the alignment of the first `count` cells to `most`. 0, or 1 for a list that is no whole rows or has fewer cells. */
+/* Lowers the alignment of the first `count` cells to `most`. Refuses with 1 a list that is no whole rows or has fewer cells, and a count over 4,096. */
 uint64_t slots_cap(uint32_t *cells, size_t cells_len, uint32_t count, uint32_t most);
 /* The plan in which nothing is shared: a cell for each item, in order, and no areas. Refuses with 1 and 7. */
 uint64_t slots_apart(
