@@ -8,6 +8,7 @@ mod carry;
 mod cases;
 mod entries;
 mod fits;
+mod functions;
 mod graphs;
 mod jobs;
 #[allow(dead_code)]

@@ -82,7 +82,7 @@ fn time(job: &Job) -> String {
     let areas = wanted(&lent.func, Some(&lent.reached()), &lent.allocation, &lent.locals, &job.slots);
     let ranges: usize = areas.iter().flatten().map(Vec::len).sum();
     let items = areas.len();
-    let room = (2 * ranges).clamp(64, 65_536);
+    let room = (2 * ranges).max(job.ranges).clamp(64, 65_536);
     let mut lists =
         Lists { cells: vec![0; 2 * items], items: vec![0; 4 * items], areas: vec![0; 2 * room], counts: [0; 3], work: vec![0; job.space(room)] };
     let answer = entries::share(job, &mut lists);
