@@ -89,7 +89,7 @@ module _ (cells items areas : List ℕ) (locals : ℕ) where
         ∙ ap (sharedBy (slotsOf locals cells items areas)) (not-there locals (itemAt areas items) i h)
 
     module _ (h : i < locals) where
-      shared-at : shared (slotsOf locals cells items areas) i
+      pub shared-at : shared (slotsOf locals cells items areas) i
           ≡ cond (ltb 1 (membersIn items (getD items (4 * i) 0))) (partOf (areasOf areas) (field 4 items i 1) (field 4 items i 2) (field 4 items i 3)) none
       shared-at =
           ap (λ (l : List Item). sharedBy (slotsOf locals cells items areas) (getElem? l i)) (locals-are areas cells items locals S)

@@ -263,6 +263,13 @@ module _ {text line rows counts : List ℕ} {r : Reader} {n : ℕ} (d : Reading 
         rows-are = λ k h. ap (λ (ls : List (List ℕ)). part (groupAt k .base) (groupAt k .width * countOf k ls) rows) (lines-done e) ∙ held .rows-are k h ∙ ap (λ (ls : List (List ℕ)). flat (rowsIn k ls)) (sym (lines-done e));
       }
 
+-- an accepted text has its head
+pub head-counted : (ls : List (List ℕ)) → linesVerdict ls ≡ Fine → 0 < countOf 0 ls
+head-counted [] e = not-fine (sym e ∙ verdict-none)
+head-counted (l ∷ ls) e =
+    let c : countOf 0 (l ∷ ls) ≡ suc (countOf 0 ls) = ap length (head-rows l ls (sym (verdict-some (l ∷ ls) (omega arith)) ∙ e)) in
+    omega arith
+
 -- a refusal is no answer
 pub absent : {A : Type 0} {q : Refusal} {i : ℕ} → _≡_ {A = Verdict} (Bad q i) Fine → A
 absent e = absurd (let z : _≡_ {A = ℕ} 0 1 = cc in omega arith)

@@ -1,4 +1,4 @@
--- `input` is safe: as much more can be read as turns are left.
+-- `input` meets its contract: as much more can be read as turns are left, and what was read is some text.
 use native.Mathlib.Omega.{arith}
 use borrow.Author.Needs.{needs}
 use Prim.Native.Nat.{_-_, _*_}
@@ -7,6 +7,7 @@ use lib.ListN.{length, length-take}
 use lib.Dec.{lit≤}
 use Rattle.text.proofs.EndLaws.{ready-start, ready-less, ready-fed}
 use Rattle.text.specs.Read.{Ready}
+use Rattle.planning.proofs.AnswerLaws.{read-of}
 use Rattle.reading.proofs.input.Statement.{statement}
 use Rattle.reading.proofs.input.Tie as tie
 
@@ -41,7 +42,7 @@ same-length-2 : tie.Need-same-length-2 Inv-loop μ-loop
 same-length-2 c = (c .before .before .before .before .before .before .before .loop) .inv .2 .reading .held .taken .counts-length ∙ sym ((c .before .before .before .before .before .before .before .before .before .before .before .before .before .before .before .before .before .before .before .pre) .1)
 
 returns : tie.Need-returns Inv-loop μ-loop
-returns c = omega arith
+returns c = read-of ((c .before .before .before .before .before .before .before .loop) .inv .2) ((c .finish) .ensures)
 
 sub-feed : tie.Need-sub-feed Inv-loop μ-loop
 sub-feed c = omega arith
@@ -80,7 +81,7 @@ same-length-4 : tie.Need-same-length-4 Inv-loop μ-loop
 same-length-4 c = (c .before .before .before .loop) .inv .2 .reading .held .taken .counts-length ∙ sym ((c .before .before .before .before .before .before .before .before .before .before .before .before .before .before .before .pre) .1)
 
 returns-2 : tie.Need-returns-2 Inv-loop μ-loop
-returns-2 c = omega arith
+returns-2 c = read-of ((c .before .before .before .loop) .inv .2) ((c .finish2) .ensures)
 
 pub input-spec : {M : Type 1} → statement M
 input-spec =

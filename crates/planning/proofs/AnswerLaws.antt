@@ -1,0 +1,314 @@
+-- From what each function leaves to what the program prints.
+use Prim.Native.Nat.{ℕ, zero, suc, _+_, _-_, _*_, _/_, _≤_, _<_}
+use native.Mathlib.Omega.{arith}
+use native.Mathlib.Nat.{not-suc-le-zero, zero-add}
+use native.Mathlib.Decide.{ℕ-discrete}
+use mathlib.Core.Path.{_≡_, refl, ap, sym, subst, _∙_}
+use mathlib.Core.Bool.{Bool, true, false, cond, _||_}
+use mathlib.Core.Option.{Option}
+use mathlib.Core.List.{List, [], _∷_, _++_}
+use lib.ListN.{length, getD, take, drop, length-append}
+use lib.Seq.{take-append-seam}
+use lib.Dec.{ltb, leb, lit<, lit≤, leb→le}
+use borrow.Author.Tests.{le-ltb, ltb-false}
+use Rattle.refusals.specs.declared.Verdict.{Verdict}
+use Rattle.refusals.specs.declared.Verdict.the-variants.{Fine, Bad}
+use Rattle.refusals.specs.declared.Refusal.{Refusal}
+use Rattle.refusals.specs.declared.Refusal.the-variants.{Count, Space}
+use Rattle.refusals.specs.Verdicts.{numberOf, first, check}
+use Rattle.refusals.specs.Outcomes.{Outcome, given, refused, unless, after}
+use Rattle.refusals.proofs.Laws.{first-left, first-right}
+use Rattle.words.specs.Rows.{rowCount, tabulate, flat}
+use Rattle.words.specs.Regions.{part}
+use Rattle.words.proofs.RegionLaws.{getD-part, length-part}
+use Rattle.words.proofs.RowLaws.{length-records}
+use Rattle.ranges.specs.declared.Range.{Range}
+use Rattle.ranges.proofs.PointLaws.{or-none}
+use Rattle.areas.specs.Job.{Job, Local, itemCount, itemArea, listVerdict}
+use Rattle.fitting.specs.Plan.{Plan, depthOf}
+use Rattle.queries.specs.Shares.{sharedVerdict}
+use Rattle.wants.specs.Entry.{Tally, tallied, tallyOf, cellRows}
+use Rattle.area_entries.specs.Entry.{areaRows}
+use Rattle.soundness.specs.Demand.{jobPlan}
+use Rattle.job.specs.declared.Shared.{Shared}
+use Rattle.job.specs.declared.Shared.the-variants.{Plan as Planned, Refused}
+use Rattle.job.specs.Entry.{answered, itemRows, lentVerdict, verdictOf, SharedAs}
+use Rattle.job.proofs.CheckLaws.{check-told}
+use Rattle.grammar.specs.Groups.{groupAt, none, rowNumbers}
+use Rattle.grammar.specs.Lines.{linesOf}
+use Rattle.grammar.specs.Text.{countOf, crowded, tooMany, linesVerdict, readVerdict, registers as registersIn}
+use Rattle.grammar.proofs.TableLaws.{at}
+use Rattle.job_rows.specs.declared.Reader.{Reader}
+use Rattle.text.specs.Read.{Ready, Records, Finishes}
+use Rattle.text.proofs.EndLaws.{head-counted}
+use Rattle.plan_text.specs.declared.Written.{Written}
+use Rattle.plan_text.specs.declared.Written.the-variants.{Bytes, Refused as WrittenRefused}
+use Rattle.plan_text.specs.Printed.{printed, refusalText, printVerdict, writtenOf, PrintedTo, planText, noText}
+use Rattle.plan_text.proofs.LineLaws.{line-length}
+use Rattle.planning.specs.Program.{told, jobText, points, registers, budget, job, refusal, printedFor, numbersIn, programText}
+use Rattle.planning.specs.Answer.{Finished, Read, numbersAt, Few, SharedFor, Stands, Answers, roomFor}
+use Rattle.planning.proofs.GroupLaws.{same-printed}
+use Rattle.planning.proofs.PrintLaws.{Printable, cells-long, items-long, areas-long, plan-fine, text-before, text-short}
+use Rattle.planning.proofs.JobLaws.{job-printable}
+
+-- ---- a text that was written
+
+pub stands-of : {o : Outcome (List ℕ)} {out : List ℕ} {w : Written} {out′ : List ℕ} {n : ℕ} (text : List ℕ) → o ≡ given text → PrintedTo o out w out′
+    → ((m : ℕ) → writtenOf w ≡ given m → n ≡ m) → Stands text out n out′
+stands-of {o} {out} {w} {out′} {n} text e p f =
+    let q = subst (λ (x : Outcome (List ℕ)). PrintedTo x out w out′) e p in
+    record { count = f (length text) (q .answer); in-out = q .in-out }
+
+abbrev number-in : Outcome ℕ → ℕ
+number-in (given n) = n
+number-in (refused n i) = 0
+
+pub bytes-known : {w : Written} {n : ℕ} → w ≡ Bytes n → (m : ℕ) → writtenOf w ≡ given m → n ≡ m
+bytes-known e m f = ap number-in (ap writtenOf (sym e) ∙ f)
+
+pub bytes-refused : {w : Written} {r : Refusal} {i : ℕ} → w ≡ WrittenRefused r i → (m : ℕ) → writtenOf w ≡ given m → 0 ≡ m
+bytes-refused {w} {r} {i} e m f =
+    let g : refused (numberOf r) i ≡ given m = ap writtenOf (sym e) ∙ f in
+    absurd (let z : _≡_ {A = ℕ} 0 1 = cc in omega arith)
+
+pub refusal-given : (number index room : ℕ) → roomFor ≤ room → noText number index room ≡ given (refusalText number index)
+refusal-given number index room h =
+    let l = line-length 78 (number ∷ index ∷ []) (lit≤ tt) in
+    ap (λ (t : Bool). unless (check Space t) (refusalText number index)) (le-ltb room (length (refusalText number index)) (omega arith))
+
+module _ (cells items areas : List ℕ) (locals probes depth room : ℕ) where
+  pub plan-given : sharedVerdict cells items areas locals ≡ Fine → length (printed cells items areas locals probes depth) ≤ room
+      → planText cells items areas locals probes depth room ≡ given (printed cells items areas locals probes depth)
+  unfolding printVerdict first
+  plan-given e h =
+      ap (λ (v : Verdict). unless (first v (check Space (ltb room (length (printed cells items areas locals probes depth))))) (printed cells items areas locals probes depth)) e
+      ∙ ap (λ (t : Bool). unless (check Space t) (printed cells items areas locals probes depth)) (le-ltb room (length (printed cells items areas locals probes depth)) h)
+
+-- ---- an accepted text has few records of each group
+
+not-crowded : (ls : List (List ℕ)) (n k : ℕ) → crowded n ls ≡ false → k < n → countOf k ls ≤ groupAt k .room
+unfolding crowded
+not-crowded ls zero k e h = absurd (not-suc-le-zero h)
+not-crowded ls (suc n) k e h =
+    let p = or-none (crowded n ls) (ltb (groupAt n .room) (countOf n ls)) e in
+    elim (ℕ-discrete k n) [
+      | yes q ↦ rw q (ltb-false (groupAt n .room) (countOf n ls) (p .1))
+      | no d ↦ not-crowded ls n k (p .0) (below d)
+    ]
+  where
+    below : (k ≡ n → ⊥) → k < n
+    below d = elim (ℕ-discrete k n) [ yes q ↦ absurd (d q) | no q ↦ omega arith ]
+
+rooms : (k : ℕ) → k < none → groupAt k .room ≤ 64
+rooms k h = leb→le (groupAt k .room) 64 (at none (λ j. leb (groupAt j .room) 64) tt k h)
+
+pub few-of : (text rows counts : List ℕ) {w : Verdict} → w ≡ Fine → Finished text w rows counts → Few counts
+few-of text rows counts e F =
+    let R = F .records e in
+    let v = sym (F .verdict) ∙ e in
+    let t = check-told Count (tooMany (linesOf text)) (first-right (linesVerdict (linesOf text)) _ v) in
+    let c = or-none (crowded none (linesOf text)) (ltb 64 (registersIn (linesOf text))) t .0 in
+    record {
+      head = rw (R .counted 0 (lit< tt)) (head-counted (linesOf text) (first-left (linesVerdict (linesOf text)) _ v));
+      few = λ k h.
+          let a = not-crowded (linesOf text) none k c h in
+          let b = rooms k h in
+          let d = R .counted k h in
+          omega arith;
+    }
+
+-- ---- what stands is what the program prints
+
+module _ (text rows counts : List ℕ) where
+  same-numbers : Records text rows counts → (k : ℕ) → k < none → numbersAt rows counts k ≡ numbersIn text k
+  same-numbers R k h = ap (λ (n : ℕ). part (groupAt k .base) (groupAt k .width * n) rows) (R .counted k h) ∙ R .rows-are k h
+
+  pub accepted : {v : Verdict} → v ≡ Fine → Finished text v rows counts → printedFor (numbersAt rows counts) Fine ≡ programText text
+  accepted {v} e F =
+      let s = same-numbers (F .records e) in
+      ap (printedFor (numbersAt rows counts)) (sym e ∙ F .verdict)
+      ∙ same-printed (numbersAt rows counts) (numbersIn text) (readVerdict text) (s 0 (lit< tt)) (s 1 (lit< tt)) (s 2 (lit< tt)) (s 3 (lit< tt)) (s 4 (lit< tt)) (s 5 (lit< tt)) (s 6 (lit< tt))
+      (s 7 (lit< tt)) (s 8 (lit< tt)) (s 9 (lit< tt)) (s 10 (lit< tt)) (s 11 (lit< tt)) (s 12 (lit< tt))
+
+  pub turned-back : {v : Verdict} (r : Refusal) (i : ℕ) → v ≡ Bad r i → Finished text v rows counts → refusalText (numberOf r) i ≡ programText text
+  unfolding printedFor first
+  turned-back r i e F = ap (λ (x : Verdict). told (unless (first x (refusal (numbersIn text))) (jobText (job (numbersIn text)) (budget (numbersIn text))))) (sym e ∙ F .verdict)
+
+pub stands-as : {a b out : List ℕ} {n : ℕ} {out′ : List ℕ} → a ≡ b → Stands a out n out′ → Stands b out n out′
+stands-as {a} {b} {out} {n} {out′} e s = subst (λ (x : List ℕ). Stands x out n out′) e s
+
+-- ---- the records in the reader's lists
+
+-- a part of the rows, from where its group begins
+pub cut-at : (rows : List ℕ) (a b n : ℕ) → b ≡ a + n → take (b - a) (drop a rows) ≡ part a n rows
+cut-at rows a b n e = let f : b - a ≡ n = omega arith in ap (λ (k : ℕ). take k (drop a rows)) f
+
+-- the same of records of one number
+pub cut-one : (rows : List ℕ) (a b n : ℕ) → b ≡ a + n → take (b - a) (drop a rows) ≡ part a (1 * n) rows
+cut-one rows a b n e = let f : b - a ≡ 1 * n = omega arith in ap (λ (k : ℕ). take k (drop a rows)) f
+
+pub shared-same : {p p′ v v′ b b′ : ℕ} {g1 g2 g3 g4 g5 g6 g7 g8 g9 g10 g11 g12 h1 h2 h3 h4 h5 h6 h7 h8 h9 h10 h11 h12 cells items areas work : List ℕ} {r : Shared} {cells′ items′ areas′ work′ : List ℕ}
+    → p ≡ p′ → v ≡ v′ → b ≡ b′ → g1 ≡ h1 → g2 ≡ h2 → g3 ≡ h3 → g4 ≡ h4 → g5 ≡ h5 → g6 ≡ h6 → g7 ≡ h7 → g8 ≡ h8 → g9 ≡ h9 → g10 ≡ h10 → g11 ≡ h11 → g12 ≡ h12
+    → SharedAs p v b g1 g2 g3 g4 g5 g6 g7 g8 g9 g10 g11 g12 cells items areas work r cells′ items′ areas′ work′
+    → SharedAs p′ v′ b′ h1 h2 h3 h4 h5 h6 h7 h8 h9 h10 h11 h12 cells items areas work r cells′ items′ areas′ work′
+shared-same e0 e1 e2 e3 e4 e5 e6 e7 e8 e9 e10 e11 e12 e13 e14 E = rw (sym e0, sym e1, sym e2, sym e3, sym e4, sym e5, sym e6, sym e7, sym e8, sym e9, sym e10, sym e11, sym e12, sym e13, sym e14) E
+
+pub head-at : (rows counts : List ℕ) → Few counts → (i : ℕ) → i < 3 → getD rows i 0 ≡ getD (numbersAt rows counts 0) i 0
+head-at rows counts F i h =
+    let n = F .head in
+    ap (λ (k : ℕ). getD rows k 0) (sym (zero-add i)) ∙ sym (getD-part 0 (3 * getD counts 0 0) rows i (omega arith))
+
+pub sum-is : {a b x y : ℕ} → a ≡ x → b ≡ y → a + b ≡ x + y
+sum-is e f = omega arith
+
+-- ---- the answer of the whole job, as text
+
+told-refused : (v : Verdict) (p : Plan) (n i : ℕ) → refused n i ≡ tallyOf (unless v p) → (t : List ℕ) → refusalText n i ≡ told (unless v t)
+told-refused Fine p n i e t = absurd (let z : _≡_ {A = ℕ} 0 1 = cc in omega arith)
+told-refused (Bad r k) p n i e t =
+    let a : n ≡ numberOf r = cc in
+    let b : i ≡ k = cc in
+    rw (a, b) refl
+
+told-given : (v : Verdict) (p : Plan) (x : Tally) → given x ≡ tallyOf (unless v p) → v ≡ Fine
+told-given Fine p x e = refl
+told-given (Bad r k) p x e = absurd (let z : _≡_ {A = ℕ} 0 1 = cc in omega arith)
+
+take-front : (l more : List ℕ) (b : ℕ) → b ≡ length l → take (b - 0) (drop 0 (l ++ more)) ≡ l
+take-front l more b e = let f : b - 0 ≡ length l = omega arith in ap (λ (k : ℕ). take k (l ++ more)) f ∙ take-append-seam l more
+
+abbrev held-tally : Outcome Tally → Tally
+held-tally (given t) = t
+held-tally (refused n i) = record { cells = 0; probes = 0; depth = 0 }
+
+printed-same : {c c′ i i′ a a′ : List ℕ} {l l′ p p′ d d′ : ℕ} → c ≡ c′ → i ≡ i′ → a ≡ a′ → l ≡ l′ → p ≡ p′ → d ≡ d′ → printed c i a l p d ≡ printed c′ i′ a′ l′ p′ d′
+printed-same e f g h k m = rw (e, f, g, h, k, m) refl
+
+fine-same : (a : List ℕ) {c c′ i i′ : List ℕ} {l l′ : ℕ} → c ≡ c′ → i ≡ i′ → l ≡ l′ → sharedVerdict c′ i′ a l′ ≡ Fine → sharedVerdict c i a l ≡ Fine
+fine-same a e f g h = rw (e, f, g) h
+
+abbrev makeLocal : (ℕ → ℕ) → Local
+makeLocal f = record { size = f 0; align = f 1 }
+
+module _ (rows counts : List ℕ) (long : length rows ≡ rowNumbers) (F : Few counts) where
+  abbrev group : ℕ → List ℕ
+  group = numbersAt rows counts
+
+  abbrev J : Job
+  J = job group
+
+  local-count : length (J .locals) ≡ getD counts 6 0
+  local-count =
+      let f = F .few 6 (lit< tt) in
+      let l = length-part 1091 (2 * getD counts 6 0) rows (omega arith) in
+      length-records 2 makeLocal (group 6) ∙ (let z : length (group 6) / 2 ≡ getD counts 6 0 = omega arith in z)
+
+  slot-count : length (J .slots) ≡ getD counts 7 0
+  slot-count =
+      let f = F .few 7 (lit< tt) in
+      let l = length-part 1219 (1 * getD counts 7 0) rows (omega arith) in
+      (let z : length (group 7) ≡ getD counts 7 0 = omega arith in z)
+
+  -- the plan that the records get
+  abbrev P : Plan
+  P = jobPlan J (budget group)
+
+  module _ (cells items areas work : List ℕ) (r : Shared) (cells′ items′ areas′ work′ : List ℕ) (E : SharedFor group cells items areas work r cells′ items′ areas′ work′)
+      (lc : length cells ≡ 256) (li : length items ≡ 512) (la : length areas ≡ 128) (lw : length work ≡ 8192) where
+    verdict-is : verdictOf (points group) (registers group) (budget group) (group 1) (group 2) (group 3) (group 4) (group 5) (group 6) (group 7) (group 8) (group 9) (group 10) (group 11) (group 12)
+        (length cells) (length items) (length areas) (length work) ≡ refusal group
+    verdict-is = rw (lc, li, la, lw) refl
+
+    answer-is : answered r ≡ tallyOf (unless (refusal group) P)
+    answer-is = E .lists .answer ∙ ap (λ (v : Verdict). tallyOf (unless v P)) verdict-is
+
+    -- a refusal
+    pub plan-refused : (q : Refusal) (i : ℕ) → r ≡ Refused q i → refusalText (numberOf q) i ≡ printedFor group Fine
+    unfolding printedFor first
+    plan-refused q i e = told-refused (refusal group) P (numberOf q) i (ap answered (sym e) ∙ answer-is) (jobText J (budget group))
+
+    -- a plan
+    module _ (c p d : ℕ) (re : r ≡ Planned c p d) where
+      none-refused : refusal group ≡ Fine
+      none-refused = told-given (refusal group) P (record { cells = c; probes = p; depth = d }) (ap answered (sym re) ∙ answer-is)
+
+      printable : Printable (itemCount J) (length (J .locals)) (itemArea J) P
+      printable =
+          job-printable J (budget group) (let a = local-count in let f = F .few 6 (lit< tt) in omega arith) (let a = slot-count in let f = F .few 7 (lit< tt) in omega arith)
+          (first-right (lentVerdict (points group) (registers group) (budget group) (group 1) (group 2) (group 3) (group 4) (group 5) (group 6) (group 7) (group 8) (group 9) (group 10) (group 11) (group 12) 256 512 128 8192) (listVerdict J 64) none-refused)
+
+      tally-is : record { cells = c; probes = p; depth = d } ≡ tallied P
+      tally-is = ap held-tally (ap answered (sym re) ∙ answer-is ∙ ap (λ (v : Verdict). tallyOf (unless v P)) none-refused)
+
+      cells-are : cells′ ≡ cellRows P ++ drop (length (cellRows P)) cells
+      cells-are = E .lists .in-cells ∙ ap (λ (v : Verdict). after (unless v P) cellRows cells) (verdict-is ∙ none-refused)
+
+      items-are : items′ ≡ itemRows (itemCount J) (itemArea J) P ++ drop (length (itemRows (itemCount J) (itemArea J) P)) items
+      items-are = E .lists .in-items ∙ ap (λ (v : Verdict). after (unless v P) (itemRows (itemCount J) (itemArea J)) items) (verdict-is ∙ none-refused)
+
+      areas-are : areas′ ≡ areaRows (itemCount J) (itemArea J) ++ drop (length (areaRows (itemCount J) (itemArea J))) areas
+      areas-are = E .lists .in-areas ∙ ap (λ (v : Verdict). after (unless v P) (λ _. areaRows (itemCount J) (itemArea J)) areas) (verdict-is ∙ none-refused)
+
+      -- the cells have room in their list
+      pub cells-in : c ≤ 128
+      cells-in =
+          let e : c ≡ length (P .cells) = ap (λ (t : Tally). t .cells) tally-is in
+          omega (arith, printable .few, printable .few-slots, printable .few-locals, printable .locals-in)
+
+      module _ (n : ℕ) (n-is : n ≡ getD counts 6 0 + getD counts 7 0) (kept : length areas′ ≡ 128) where
+        abbrev cs : List ℕ
+        cs = take (2 * c - 0) (drop 0 cells′)
+
+        abbrev is : List ℕ
+        is = take (4 * n - 0) (drop 0 items′)
+
+        cs-is : cs ≡ cellRows P
+        cs-is =
+            ap (λ (l : List ℕ). take (2 * c - 0) (drop 0 l)) cells-are
+            ∙ take-front (cellRows P) (drop (length (cellRows P)) cells) (2 * c) (ap (λ (t : Tally). 2 * t .cells) tally-is ∙ sym (cells-long (P .cells)))
+
+        is-is : is ≡ itemRows (itemCount J) (itemArea J) P
+        is-is =
+            ap (λ (l : List ℕ). take (4 * n - 0) (drop 0 l)) items-are
+            ∙ take-front (itemRows (itemCount J) (itemArea J) P) (drop (length (itemRows (itemCount J) (itemArea J) P)) items) (4 * n)
+            (let x = local-count in let y = slot-count in let z = items-long (itemCount J) (itemArea J) P in omega arith)
+
+        text-is : printed cs is areas′ (getD counts 6 0) p d ≡ jobText J (budget group)
+        unfolding jobText
+        text-is =
+            printed-same cs-is is-is areas-are (sym local-count) (ap (λ (t : Tally). t .probes) tally-is) (ap (λ (t : Tally). t .depth) tally-is)
+            ∙ text-before printable (drop (length (areaRows (itemCount J) (itemArea J))) areas)
+
+        text-room : length (jobText J (budget group)) ≤ roomFor
+        unfolding jobText
+        text-room = text-short printable
+
+        pub print-ready : (room : ℕ) → roomFor ≤ room → (sharedVerdict cs is areas′ (getD counts 6 0) ≡ Fine) × (length (printed cs is areas′ (getD counts 6 0) p d) ≤ room)
+        print-ready room h =
+            let s = text-room in
+            let e : length (printed cs is areas′ (getD counts 6 0) p d) ≡ length (jobText J (budget group)) = ap length text-is in
+            (fine-same areas′ cs-is is-is (sym local-count) (plan-fine printable areas′ kept), omega arith)
+
+        pub plan-printed : printed cs is areas′ (getD counts 6 0) p d ≡ printedFor group Fine
+        unfolding printedFor first
+        plan-printed = text-is ∙ ap (λ (v : Verdict). told (unless v (jobText J (budget group)))) (sym none-refused)
+
+-- ---- for the program
+
+-- what its reader left
+pub read-of : {r : Reader} {n : ℕ} {line rows counts : List ℕ} {m : ℕ} {v : Verdict} → Ready r n line rows counts m → Finishes r n rows v → Read v rows counts
+read-of {line = line} {counts = counts} y f = record {
+  text = y .text;
+  finished = record { verdict = f .answer (y .text) line counts (y .reading); records = f .records (y .text) line counts (y .reading) };
+  rows-length = y .reading .held .taken .rows-length;
+  counts-length = y .reading .held .taken .counts-length;
+}
+
+-- the bytes stand in the list
+pub answer-in : {v : Verdict} {rows counts out : List ℕ} {n : ℕ} {out′ : List ℕ} → Read v rows counts → Answers v rows counts out n out′ → n ≤ length out′
+answer-in {out = out} {out′ = out′} y a =
+    let s = a (y .text) (y .finished) in
+    let e : length out′ ≡ length (programText (y .text) ++ drop (length (programText (y .text))) out) = ap length (s .in-out) in
+    let l = length-append (programText (y .text)) (drop (length (programText (y .text))) out) in
+    let c = s .count in
+    omega arith
