@@ -1,0 +1,93 @@
+// Draws the plan of a job: its text on standard input, an SVG on standard output. Blocks lie along one axis, and each cell has a row with the areas of its items. A
+// refusal is drawn as a line that says it.
+ghost use mathlib.Core.Path.{_≡_};
+ghost use Prim.Native.Nat.{_*_, _≤_};
+ghost use lib.ListN.{length};
+ghost use Rattle.grammar.specs.Groups.{none, rowNumbers};
+use drawing::Axis;
+use drawing::axis_of;
+use drawing::height;
+use drawing::ranges;
+use job::Shared;
+use reading::held;
+use reading::input;
+use reading::planned;
+use refusals::Verdict;
+
+mod frame; // frame.rt: what stands around the rows, and the refusal
+mod items; // items.rt: the items of a cell
+mod line; // line.rt: the blocks
+mod rows; // rows.rt: the cells
+mod svg; // svg.rt: pieces of text
+
+// A plan of `n` items in `m` cells, along an axis.
+fn draw(
+    a: Axis,
+    blocks: &[u32],
+    cells: &[u32],
+    items: &[u32],
+    areas: &[u32],
+    locals: u32,
+    m: u32,
+    n: u32,
+)
+    requires { ⌜ (2 * m ≤ length (now cells)) × (4 * n ≤ length (now items)) ⌝ }
+{
+    let h = height(m);
+    line::blocks(a, blocks, h - 460);
+    rows::cells(a, cells, items, areas, locals, m, n);
+    frame::close(h);
+}
+
+// The axis of the blocks and of the ranges that the items have.
+fn axis(blocks: &[u32], items: &[u32], areas: &[u32]) -> Axis {
+    let n = ranges(items, areas.len() / 2);
+    axis_of(blocks, &areas[0..2 * n])
+}
+
+fn show(blocks: &[u32], cells: &[u32], items: &[u32], areas: &[u32], locals: u32, m: u32, n: u32)
+    requires { ⌜ (2 * m ≤ length (now cells)) × (4 * n ≤ length (now items)) ⌝ }
+{
+    let a = axis(blocks, items, areas);
+    draw(a, blocks, cells, items, areas, locals, m, n);
+}
+
+// The plan of the records that were read, or its refusal.
+fn plan(rows: &[u32], counts: &[u32])
+    requires { ⌜ (length (now rows) ≡ rowNumbers) × (length (now counts) ≡ none) ⌝ }
+{
+    let mut cells = [0u32; 256];
+    let mut items = [0u32; 512];
+    let mut areas = [0u32; 128];
+    let mut work = [0u64; 8192];
+    let n = held(counts, 6) + held(counts, 7);
+    let b = held(counts, 1);
+    let r = planned(rows, counts, &mut cells, &mut items, &mut areas, &mut work);
+    match r {
+        Shared::Plan(c, probes, depth) => {
+            if c <= 128 {
+                frame::open(c as u32, n as u32, probes, depth);
+                show(
+                    &rows[3..3 + 3 * b],
+                    &cells,
+                    &items[0..4 * n],
+                    &areas,
+                    counts[6],
+                    c as u32,
+                    n as u32,
+                );
+            }
+        }
+        Shared::Refused(r, i) => frame::refuse(r, i),
+    }
+}
+
+fn main() {
+    let mut rows = [0; 2115];
+    let mut counts = [0; 13];
+    let v = input(&mut rows, &mut counts);
+    match v {
+        Verdict::Fine => plan(&rows, &counts),
+        Verdict::Bad(r, i) => frame::refuse(r, i),
+    }
+}
