@@ -4,14 +4,15 @@ ghost use mathlib.Core.Path.{_≡_};
 ghost use Prim.Native.Nat.{_*_, _≤_};
 ghost use lib.ListN.{length};
 ghost use Rattle.grammar.specs.Groups.{none, rowNumbers};
+ghost use Rattle.planning.specs.Answer.{Few};
 use drawing::Axis;
 use drawing::axis_of;
 use drawing::height;
 use drawing::ranges;
 use job::Shared;
-use reading::held;
+use planning::held;
+use planning::planned;
 use reading::input;
-use reading::planned;
 use refusals::Verdict;
 
 mod frame; // frame.rt: what stands around the rows, and the refusal
@@ -54,7 +55,7 @@ fn show(blocks: &[u32], cells: &[u32], items: &[u32], areas: &[u32], locals: u32
 
 // The plan of the records that were read, or its refusal.
 fn plan(rows: &[u32], counts: &[u32])
-    requires { ⌜ (length (now rows) ≡ rowNumbers) × (length (now counts) ≡ none) ⌝ }
+    requires { ⌜ (length (now rows) ≡ rowNumbers) × (length (now counts) ≡ none) × Few (now counts) ⌝ }
 {
     let mut cells = [0u32; 256];
     let mut items = [0u32; 512];
