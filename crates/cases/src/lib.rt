@@ -1,6 +1,10 @@
 // What the test programs share. A case is a line: its name, a blank, and columns of numbers, a comma after each number and a bar after each column.
 ghost use Prim.Native.Nat.{_≤_};
 ghost use lib.ListN.{length};
+ghost use mathlib.Core.Path.{_≡_};
+ghost use mathlib.Core.Bool.{true};
+ghost use Rattle.cases.specs.Columns.{Rising};
+ghost use Rattle.cases.specs.Cuts.{Ordered};
 use refusals::Refusal;
 use refusals::number;
 
@@ -100,5 +104,89 @@ pub fn read(case: &[u8], numbers: &mut [u32], ends: &mut [usize]) {
                 x = (x * 10 + (b % 16) as u64) % 0x1_0000_0000;
             }
         }
+    }
+}
+
+// Whether each column ends where or after the one before does, and all within so many numbers.
+fn rising(ends: &[usize], most: usize) -> bool
+    ensures { λ r. ⌜ (r ≡ true → Rising (now (ends .entry)) most) ⌝ }
+{
+    let mut i = 0;
+    let mut last = 0;
+    while i < ends.len() {
+        let end = ends[i];
+        if end < last {
+            return false;
+        }
+        if most < end {
+            return false;
+        }
+        last = end;
+        i += 1;
+    }
+    true
+}
+
+// Where thirteen columns end.
+pub struct Cuts {
+    pub c0: usize,
+    pub c1: usize,
+    pub c2: usize,
+    pub c3: usize,
+    pub c4: usize,
+    pub c5: usize,
+    pub c6: usize,
+    pub c7: usize,
+    pub c8: usize,
+    pub c9: usize,
+    pub c10: usize,
+    pub c11: usize,
+    pub c12: usize,
+}
+
+fn cut(ends: &[usize], most: usize) -> Cuts
+    requires { ⌜ (length (now ends) ≡ 13) × Rising (now ends) most ⌝ }
+    ensures { λ r. ⌜ Ordered r most ⌝ }
+{
+    Cuts {
+        c0: ends[0],
+        c1: ends[1],
+        c2: ends[2],
+        c3: ends[3],
+        c4: ends[4],
+        c5: ends[5],
+        c6: ends[6],
+        c7: ends[7],
+        c8: ends[8],
+        c9: ends[9],
+        c10: ends[10],
+        c11: ends[11],
+        c12: ends[12],
+    }
+}
+
+// Where the thirteen columns of a case end, in order and within so many numbers: of what is no such case, all at 0.
+pub fn columns(ends: &[usize], most: usize) -> Cuts
+    ensures { λ r. ⌜ Ordered r most ⌝ }
+{
+    if ends.len() == 13 {
+        if rising(ends, most) {
+            return cut(ends, most);
+        }
+    }
+    Cuts {
+        c0: 0,
+        c1: 0,
+        c2: 0,
+        c3: 0,
+        c4: 0,
+        c5: 0,
+        c6: 0,
+        c7: 0,
+        c8: 0,
+        c9: 0,
+        c10: 0,
+        c11: 0,
+        c12: 0,
     }
 }

@@ -125,14 +125,18 @@ fn random(r: &mut Random) -> Job {
     job
 }
 
-/// A large job of a seed, its areas, and lists: one in four has a range too few.
+/// A large job of a seed, its areas, and lists: one in four has a range too few. Of the jobs with more ranges than an area list may have, one in four is taken.
 pub fn large(seed: u64) -> (Job, Areas, Lent) {
     let mut r = Random::seeded(seed);
-    let job = random(&mut r);
-    let areas = areas(&job);
-    let n = ranges(&areas);
-    let lent = exact(&job, if r.one_in(4) { n.saturating_sub(1) } else { n + r.below(2) as usize }.min(RANGES));
-    (job, areas, lent)
+    loop {
+        let job = random(&mut r);
+        let areas = areas(&job);
+        let n = ranges(&areas);
+        if n <= RANGES || r.one_in(4) {
+            let lent = exact(&job, if r.one_in(4) { n.saturating_sub(1) } else { n + r.below(2) as usize }.min(RANGES));
+            return (job, areas, lent);
+        }
+    }
 }
 
 /// Jobs from a seed on until so many seconds have passed.

@@ -95,16 +95,14 @@ fn held(job: &Job, lent: &Lent, seed: u64, known: Option<&Areas>) -> Result<usiz
         return Err(format!("the entry answers {}, expected {}", told(answer), told(expected.answer)));
     }
     let e = &expected.lists;
-    for (name, same) in [("cells", lists.cells == e.cells), ("items", lists.items == e.items), ("areas", lists.areas == e.areas), ("counts", lists.counts == e.counts), ("work", lists.work == e.work)] {
-        if !same {
-            let (got, wanted) = match name {
-                "cells" => (format!("{:?}", lists.cells), format!("{:?}", e.cells)),
-                "items" => (format!("{:?}", lists.items), format!("{:?}", e.items)),
-                "areas" => (format!("{:?}", lists.areas), format!("{:?}", e.areas)),
-                "counts" => (format!("{:?}", lists.counts), format!("{:?}", e.counts)),
-                _ => (String::new(), String::new()),
-            };
-            return Err(format!("{} is answered, and {name} is left as {got}, expected {wanted}", told(answer)));
+    for (name, left, wanted) in [("cells", &lists.cells, &e.cells), ("items", &lists.items, &e.items), ("areas", &lists.areas, &e.areas)] {
+        if left != wanted {
+            return Err(format!("{} is answered, and {name} left as {left:?}, expected {wanted:?}", told(answer)));
+        }
+    }
+    for (name, left, wanted) in [("counts", &lists.counts, &e.counts), ("work space", &lists.work, &e.work)] {
+        if let Some(at) = (0..left.len()).find(|&at| left[at] != wanted[at]) {
+            return Err(format!("{} is answered, and word {at} of the {name} is left as {}, expected {}", told(answer), left[at], wanted[at]));
         }
     }
     Ok((answer >> 32) as usize)

@@ -1,0 +1,172 @@
+-- `planned` is safe: the columns are in order and within the numbers.
+use native.Mathlib.Omega.{arith}
+use borrow.Author.Needs.{needs}
+use Rattle.job_tests.proofs.planned.Statement.{statement}
+use Rattle.job_tests.proofs.planned.Tie as tie
+
+mul-share : tie.Need-mul-share
+mul-share c = omega (arith, (c .before .before .before .before .before .pre) .in0 .0, (c .before .before .before .before .before .pre) .in0 .1)
+
+sub-share : tie.Need-sub-share
+sub-share c = omega (arith, (c .before .before .before .before .before .pre) .in0 .0, (c .before .before .before .before .before .pre) .in0 .1)
+
+part-share-start : tie.Need-part-share-start
+part-share-start c = omega (arith, (c .before .before .before .before .before .pre) .in0 .0, (c .before .before .before .before .before .pre) .in0 .1)
+
+part-share-end : tie.Need-part-share-end
+part-share-end c = omega (arith, (c .before .before .before .before .before .pre) .in0 .0, (c .before .before .before .before .before .pre) .in0 .1)
+
+mul-share-2 : tie.Need-mul-share-2
+mul-share-2 c = omega (arith, (c .before .before .before .before .before .before .pre) .in1 .0, (c .before .before .before .before .before .before .pre) .in1 .1)
+
+sub-share-2 : tie.Need-sub-share-2
+sub-share-2 c = omega (arith, (c .before .before .before .before .before .before .pre) .in1 .0, (c .before .before .before .before .before .before .pre) .in1 .1)
+
+part-share-start-2 : tie.Need-part-share-start-2
+part-share-start-2 c = omega (arith, (c .before .before .before .before .before .before .pre) .in1 .0, (c .before .before .before .before .before .before .pre) .in1 .1)
+
+part-share-end-2 : tie.Need-part-share-end-2
+part-share-end-2 c = omega (arith, (c .before .before .before .before .before .before .pre) .in1 .0, (c .before .before .before .before .before .before .pre) .in1 .1)
+
+mul-share-3 : tie.Need-mul-share-3
+mul-share-3 c = omega (arith, (c .before .before .before .before .before .before .before .pre) .in2 .0, (c .before .before .before .before .before .before .before .pre) .in2 .1)
+
+sub-share-3 : tie.Need-sub-share-3
+sub-share-3 c = omega (arith, (c .before .before .before .before .before .before .before .pre) .in2 .0, (c .before .before .before .before .before .before .before .pre) .in2 .1)
+
+part-share-start-3 : tie.Need-part-share-start-3
+part-share-start-3 c = omega (arith, (c .before .before .before .before .before .before .before .pre) .in2 .0, (c .before .before .before .before .before .before .before .pre) .in2 .1)
+
+part-share-end-3 : tie.Need-part-share-end-3
+part-share-end-3 c = omega (arith, (c .before .before .before .before .before .before .before .pre) .in2 .0, (c .before .before .before .before .before .before .before .pre) .in2 .1)
+
+mul-share-4 : tie.Need-mul-share-4
+mul-share-4 c = omega (arith, (c .before .before .before .before .before .before .before .before .pre) .in3 .0, (c .before .before .before .before .before .before .before .before .pre) .in3 .1)
+
+sub-share-4 : tie.Need-sub-share-4
+sub-share-4 c = omega (arith, (c .before .before .before .before .before .before .before .before .pre) .in3 .0, (c .before .before .before .before .before .before .before .before .pre) .in3 .1)
+
+part-share-start-4 : tie.Need-part-share-start-4
+part-share-start-4 c = omega (arith, (c .before .before .before .before .before .before .before .before .pre) .in3 .0, (c .before .before .before .before .before .before .before .before .pre) .in3 .1)
+
+part-share-end-4 : tie.Need-part-share-end-4
+part-share-end-4 c = omega (arith, (c .before .before .before .before .before .before .before .before .pre) .in3 .0, (c .before .before .before .before .before .before .before .before .pre) .in3 .1)
+
+mul-share-5 : tie.Need-mul-share-5
+mul-share-5 c = omega (arith, (c .before .before .before .before .before .before .before .before .before .pre) .in4 .0, (c .before .before .before .before .before .before .before .before .before .pre) .in4 .1)
+
+sub-share-5 : tie.Need-sub-share-5
+sub-share-5 c = omega (arith, (c .before .before .before .before .before .before .before .before .before .pre) .in4 .0, (c .before .before .before .before .before .before .before .before .before .pre) .in4 .1)
+
+part-share-start-5 : tie.Need-part-share-start-5
+part-share-start-5 c = omega (arith, (c .before .before .before .before .before .before .before .before .before .pre) .in4 .0, (c .before .before .before .before .before .before .before .before .before .pre) .in4 .1)
+
+part-share-end-5 : tie.Need-part-share-end-5
+part-share-end-5 c = omega (arith, (c .before .before .before .before .before .before .before .before .before .pre) .in4 .0, (c .before .before .before .before .before .before .before .before .before .pre) .in4 .1)
+
+mul-share-6 : tie.Need-mul-share-6
+mul-share-6 c = omega (arith, (c .before .before .before .before .before .before .before .before .before .before .pre) .in5 .0, (c .before .before .before .before .before .before .before .before .before .before .pre) .in5 .1)
+
+sub-share-6 : tie.Need-sub-share-6
+sub-share-6 c = omega (arith, (c .before .before .before .before .before .before .before .before .before .before .pre) .in5 .0, (c .before .before .before .before .before .before .before .before .before .before .pre) .in5 .1)
+
+part-share-start-6 : tie.Need-part-share-start-6
+part-share-start-6 c = omega (arith, (c .before .before .before .before .before .before .before .before .before .before .pre) .in5 .0, (c .before .before .before .before .before .before .before .before .before .before .pre) .in5 .1)
+
+part-share-end-6 : tie.Need-part-share-end-6
+part-share-end-6 c = omega (arith, (c .before .before .before .before .before .before .before .before .before .before .pre) .in5 .0, (c .before .before .before .before .before .before .before .before .before .before .pre) .in5 .1)
+
+mul-share-7 : tie.Need-mul-share-7
+mul-share-7 c = omega (arith, (c .before .before .before .before .before .before .before .before .before .before .before .pre) .in6 .0, (c .before .before .before .before .before .before .before .before .before .before .before .pre) .in6 .1)
+
+sub-share-7 : tie.Need-sub-share-7
+sub-share-7 c = omega (arith, (c .before .before .before .before .before .before .before .before .before .before .before .pre) .in6 .0, (c .before .before .before .before .before .before .before .before .before .before .before .pre) .in6 .1)
+
+part-share-start-7 : tie.Need-part-share-start-7
+part-share-start-7 c = omega (arith, (c .before .before .before .before .before .before .before .before .before .before .before .pre) .in6 .0, (c .before .before .before .before .before .before .before .before .before .before .before .pre) .in6 .1)
+
+part-share-end-7 : tie.Need-part-share-end-7
+part-share-end-7 c = omega (arith, (c .before .before .before .before .before .before .before .before .before .before .before .pre) .in6 .0, (c .before .before .before .before .before .before .before .before .before .before .before .pre) .in6 .1)
+
+mul-share-8 : tie.Need-mul-share-8
+mul-share-8 c = omega (arith, (c .before .before .before .before .before .before .before .before .before .before .before .before .pre) .in7 .0, (c .before .before .before .before .before .before .before .before .before .before .before .before .pre) .in7 .1)
+
+sub-share-8 : tie.Need-sub-share-8
+sub-share-8 c = omega (arith, (c .before .before .before .before .before .before .before .before .before .before .before .before .pre) .in7 .0, (c .before .before .before .before .before .before .before .before .before .before .before .before .pre) .in7 .1)
+
+part-share-start-8 : tie.Need-part-share-start-8
+part-share-start-8 c = omega (arith, (c .before .before .before .before .before .before .before .before .before .before .before .before .pre) .in7 .0, (c .before .before .before .before .before .before .before .before .before .before .before .before .pre) .in7 .1)
+
+part-share-end-8 : tie.Need-part-share-end-8
+part-share-end-8 c = omega (arith, (c .before .before .before .before .before .before .before .before .before .before .before .before .pre) .in7 .0, (c .before .before .before .before .before .before .before .before .before .before .before .before .pre) .in7 .1)
+
+mul-share-9 : tie.Need-mul-share-9
+mul-share-9 c = omega (arith, (c .before .before .before .before .before .before .before .before .before .before .before .before .before .pre) .in8 .0, (c .before .before .before .before .before .before .before .before .before .before .before .before .before .pre) .in8 .1)
+
+sub-share-9 : tie.Need-sub-share-9
+sub-share-9 c = omega (arith, (c .before .before .before .before .before .before .before .before .before .before .before .before .before .pre) .in8 .0, (c .before .before .before .before .before .before .before .before .before .before .before .before .before .pre) .in8 .1)
+
+part-share-start-9 : tie.Need-part-share-start-9
+part-share-start-9 c = omega (arith, (c .before .before .before .before .before .before .before .before .before .before .before .before .before .pre) .in8 .0, (c .before .before .before .before .before .before .before .before .before .before .before .before .before .pre) .in8 .1)
+
+part-share-end-9 : tie.Need-part-share-end-9
+part-share-end-9 c = omega (arith, (c .before .before .before .before .before .before .before .before .before .before .before .before .before .pre) .in8 .0, (c .before .before .before .before .before .before .before .before .before .before .before .before .before .pre) .in8 .1)
+
+mul-share-10 : tie.Need-mul-share-10
+mul-share-10 c = omega (arith, (c .before .before .before .before .before .before .before .before .before .before .before .before .before .before .pre) .in9 .0, (c .before .before .before .before .before .before .before .before .before .before .before .before .before .before .pre) .in9 .1)
+
+sub-share-10 : tie.Need-sub-share-10
+sub-share-10 c = omega (arith, (c .before .before .before .before .before .before .before .before .before .before .before .before .before .before .pre) .in9 .0, (c .before .before .before .before .before .before .before .before .before .before .before .before .before .before .pre) .in9 .1)
+
+part-share-start-10 : tie.Need-part-share-start-10
+part-share-start-10 c = omega (arith, (c .before .before .before .before .before .before .before .before .before .before .before .before .before .before .pre) .in9 .0, (c .before .before .before .before .before .before .before .before .before .before .before .before .before .before .pre) .in9 .1)
+
+part-share-end-10 : tie.Need-part-share-end-10
+part-share-end-10 c = omega (arith, (c .before .before .before .before .before .before .before .before .before .before .before .before .before .before .pre) .in9 .0, (c .before .before .before .before .before .before .before .before .before .before .before .before .before .before .pre) .in9 .1)
+
+mul-share-11 : tie.Need-mul-share-11
+mul-share-11 c = omega (arith, (c .before .before .before .before .before .before .before .before .before .before .before .before .before .before .before .pre) .in10 .0, (c .before .before .before .before .before .before .before .before .before .before .before .before .before .before .before .pre) .in10 .1)
+
+sub-share-11 : tie.Need-sub-share-11
+sub-share-11 c = omega (arith, (c .before .before .before .before .before .before .before .before .before .before .before .before .before .before .before .pre) .in10 .0, (c .before .before .before .before .before .before .before .before .before .before .before .before .before .before .before .pre) .in10 .1)
+
+part-share-start-11 : tie.Need-part-share-start-11
+part-share-start-11 c = omega (arith, (c .before .before .before .before .before .before .before .before .before .before .before .before .before .before .before .pre) .in10 .0, (c .before .before .before .before .before .before .before .before .before .before .before .before .before .before .before .pre) .in10 .1)
+
+part-share-end-11 : tie.Need-part-share-end-11
+part-share-end-11 c = omega (arith, (c .before .before .before .before .before .before .before .before .before .before .before .before .before .before .before .pre) .in10 .0, (c .before .before .before .before .before .before .before .before .before .before .before .before .before .before .before .pre) .in10 .1)
+
+mul-share-12 : tie.Need-mul-share-12
+mul-share-12 c = omega (arith, (c .before .before .before .before .before .before .before .before .before .before .before .before .before .before .before .before .pre) .in11 .0, (c .before .before .before .before .before .before .before .before .before .before .before .before .before .before .before .before .pre) .in11 .1)
+
+sub-share-12 : tie.Need-sub-share-12
+sub-share-12 c = omega (arith, (c .before .before .before .before .before .before .before .before .before .before .before .before .before .before .before .before .pre) .in11 .0, (c .before .before .before .before .before .before .before .before .before .before .before .before .before .before .before .before .pre) .in11 .1)
+
+part-share-start-12 : tie.Need-part-share-start-12
+part-share-start-12 c = omega (arith, (c .before .before .before .before .before .before .before .before .before .before .before .before .before .before .before .before .pre) .in11 .0, (c .before .before .before .before .before .before .before .before .before .before .before .before .before .before .before .before .pre) .in11 .1)
+
+part-share-end-12 : tie.Need-part-share-end-12
+part-share-end-12 c = omega (arith, (c .before .before .before .before .before .before .before .before .before .before .before .before .before .before .before .before .pre) .in11 .0, (c .before .before .before .before .before .before .before .before .before .before .before .before .before .before .before .before .pre) .in11 .1)
+
+share-requires : tie.Need-share-requires
+share-requires c κs = tt
+
+same-length : tie.Need-same-length
+same-length c = search needs
+
+same-length-2 : tie.Need-same-length-2
+same-length-2 c = search needs
+
+same-length-3 : tie.Need-same-length-3
+same-length-3 c = search needs
+
+same-length-4 : tie.Need-same-length-4
+same-length-4 c = search needs
+
+returns : tie.Need-returns
+returns c = tt
+
+pub planned-spec : {M : Type 1} → statement M
+planned-spec =
+    tie.close
+    (tie.spec mul-share sub-share part-share-start part-share-end mul-share-2 sub-share-2 part-share-start-2 part-share-end-2 mul-share-3 sub-share-3 part-share-start-3 part-share-end-3 mul-share-4 sub-share-4 part-share-start-4 part-share-end-4 mul-share-5 sub-share-5 part-share-start-5 part-share-end-5 mul-share-6 sub-share-6 part-share-start-6 part-share-end-6 mul-share-7 sub-share-7 part-share-start-7 part-share-end-7 mul-share-8 sub-share-8 part-share-start-8 part-share-end-8 mul-share-9 sub-share-9 part-share-start-9 part-share-end-9 mul-share-10 sub-share-10 part-share-start-10 part-share-end-10 mul-share-11 sub-share-11 part-share-start-11 part-share-end-11 mul-share-12 sub-share-12 part-share-start-12 part-share-end-12 share-requires same-length same-length-2 same-length-3 same-length-4 returns)
