@@ -15,7 +15,7 @@ use Rattle.refusals.specs.Verdicts.{first, check}
 use Rattle.refusals.proofs.Laws.{first-fine, first-bad, first-left, first-right}
 use Rattle.ranges.proofs.PointLaws.{or-none}
 use Rattle.graph.specs.Checks.{graphVerdict}
-use Rattle.graph.proofs.Refusals.{passed}
+use Rattle.line_checks.proofs.Refusals.{passed}
 use Rattle.insts.specs.Counts.{badRows, rowsVerdict, mostVerdict}
 use Rattle.area_entries.specs.declared.layout.Sizes.{Sizes}
 use Rattle.area_entries.specs.Layout.{spaceFor, Small}

@@ -62,7 +62,7 @@ pub fn refusal(
     if let Verdict::Bad(r, i) = v {
         return Verdict::Bad(r, i);
     }
-    let v = graph::checks::check(blocks, edges, points);
+    let v = line_checks::check(blocks, edges, points);
     if let Verdict::Bad(r, i) = v {
         return Verdict::Bad(r, i);
     }

@@ -19,8 +19,8 @@ use Rattle.graph.specs.Work.{Within}
 use Rattle.graph.proofs.Within.{within-trans, region-within}
 use Rattle.graph.proofs.RoundLaws.{reached, reaching}
 use Rattle.graph.proofs.RoundLaws.{arriving as arriving-row}
-use Rattle.flow.proofs.Moved.{reaching-as}
-use Rattle.spread.proofs.Turns.{arrives-as}
+use Rattle.flow_rows.proofs.Moved.{reaching-as}
+use Rattle.spread_rows.proofs.Turns.{arrives-as}
 use Rattle.ranges.specs.declared.Range.{Range}
 use Rattle.areas.specs.Blocks.{Graph, touched, leaves, passes}
 use Rattle.areas.specs.Pieces.{beforeRow, afterRow, arrivesRow}

@@ -13,22 +13,22 @@ use Rattle.graph.specs.Flow.{Reaching}
 use Rattle.graph.specs.Work.{EdgeRows, Neighbours}
 use Rattle.graph.proofs.RoundLaws.{reached, reaching}
 use Rattle.graph.proofs.RoundLaws.{arriving as arriving-row}
-use Rattle.components.specs.Components.{Walkable, Found}
-use Rattle.flow.specs.declared.Flow.{Flow}
+use Rattle.tarjan.specs.Components.{Walkable, Found}
+use Rattle.flow_rows.specs.declared.Flow.{Flow}
 use Rattle.flow.specs.declared.Over.{Over}
 use Rattle.flow.specs.declared.Over.the-variants.{Predecessors, Successors}
-use Rattle.flow.specs.Flowed.{order, Flowed}
-use Rattle.flow.specs.Flowed.{Laid as FlowLaid}
+use Rattle.flow_rows.specs.Flowed.{order, Flowed}
+use Rattle.flow_rows.specs.Flowed.{Laid as FlowLaid}
 use Rattle.flow.specs.Entry.{FlowsTo, wayOf}
-use Rattle.flow.proofs.Routes.{reached-turned}
+use Rattle.flow_rows.proofs.Routes.{reached-turned}
 use Rattle.graph.proofs.Within.{rows-moved}
-use Rattle.flow.proofs.Moved.{reaching-as}
-use Rattle.spread.specs.declared.Layout.{Layout}
+use Rattle.flow_rows.proofs.Moved.{reaching-as}
+use Rattle.spread_rows.specs.declared.Layout.{Layout}
 use Rattle.postorder.specs.Settling.{Settling, Ordered}
 use Rattle.postorder.specs.Settling.{Walkable as Orderable}
-use Rattle.spread.specs.Spread.{Arrived}
-use Rattle.spread.specs.Spread.{Laid as SpreadLaid}
-use Rattle.spread.proofs.Turns.{arrives-as}
+use Rattle.spread_rows.specs.Spread.{Arrived}
+use Rattle.spread_rows.specs.Spread.{Laid as SpreadLaid}
+use Rattle.spread_rows.proofs.Turns.{arrives-as}
 use Rattle.area_flow.specs.declared.Grid.{Grid}
 use Rattle.area_flow.specs.Grid.{rowBit, arriving, Laid, Outside}
 use Rattle.area_flow.specs.Inner.{Linked, FlowedOver, ArrivedAt, Flowing}

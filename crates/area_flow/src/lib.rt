@@ -9,10 +9,10 @@ ghost use Rattle.components.specs.Entry.{edgesIn};
 ghost use Rattle.flow.specs.Entry.{wayOf};
 ghost use Rattle.area_flow.specs.Grid.{Laid, Unmarked, Quiet, AreaRows};
 ghost use Rattle.area_flow.specs.Inner.{Linked, FlowedOver, ArrivedAt, Flowing, Still, Blocked};
-use flow::Flow;
 use flow::Over;
+use flow_rows::Flow;
 use row_turns::Turn;
-use spread::Layout;
+use spread_rows::Layout;
 
 // Where the rows of n places stand in the work space: edge columns and edge rows from `base` on, Tarjan's arrays from `tarjan` on; rows of `words` words, a bit a local,
 // that are touched, left and passed, what is written and read, what waits and arrives; rows of `width` words, a bit a place, of `locals` locals from `to` on.
@@ -49,8 +49,8 @@ fn lay(over: Over, blocks: &[u32], edges: &[u32], work: &mut [u64], base: usize)
     ensures { λ _. ⌜ Neighbours (wayOf over (edgesIn (now (blocks .entry)) (now (edges .entry)))) (length (now (blocks .entry)) / 3) (length (now (edges .entry)) / 2) base (now (work .entry)) (now (work .exit)) ⌝ }
 {
     match over {
-        Over::Predecessors => graph::rows::predecessors(blocks, edges, work, base),
-        Over::Successors => graph::rows::successors(blocks, edges, work, base),
+        Over::Predecessors => edge_rows::predecessors(blocks, edges, work, base),
+        Over::Successors => edge_rows::successors(blocks, edges, work, base),
     }
 }
 
@@ -64,8 +64,8 @@ fn flow_over(over: Over, blocks: &[u32], edges: &[u32], work: &mut [u64], g: Gri
     let e = edges.len() / 2;
     let at = g.base + e + e;
     lay(over, blocks, edges, work, g.base);
-    components::tarjan::components(work, n, at, g.tarjan);
-    flow::rows::flowed(
+    tarjan::components(work, n, at, g.tarjan);
+    flow_rows::flowed(
         work,
         Flow {
             n: n,
@@ -86,7 +86,7 @@ fn arrive(work: &mut [u64], g: Grid, n: usize, e: usize)
     let order = g.tarjan;
     let at = g.base + e + e;
     postorder::order(work, n, at, order);
-    spread::rows::spread(
+    spread_rows::spread(
         work,
         Layout {
             n: n,

@@ -19,8 +19,8 @@ use Rattle.graph.specs.Paths.{Between}
 use Rattle.graph.specs.Work.{Within, EdgeRows, Neighbours}
 use Rattle.graph.proofs.Line.{blocks-length, edges-between}
 use Rattle.graph.proofs.Within.{within-trans, within-wider}
-use Rattle.graph.proofs.Refusals.{Passed, passed, space-told}
-use Rattle.components.specs.Components.{Components, Walkable, Found}
+use Rattle.line_checks.proofs.Refusals.{Passed, passed, space-told}
+use Rattle.tarjan.specs.Components.{Components, Walkable, Found}
 use Rattle.components.specs.declared.Answer.{Answer}
 use Rattle.components.specs.declared.Answer.the-variants.{Given, Refused}
 use Rattle.components.specs.Entry.{verdictOf, edgesIn, Numbered, Turned, Answered, Solved}

@@ -1,10 +1,1 @@
-pub mod Tools
-pub mod Steps
-pub mod Leaves
-pub mod Turns
-pub mod Whole
-pub mod Lists
-pub mod Laws
-pub mod Roots
-pub mod Edges
 pub mod Entries

@@ -14,7 +14,7 @@ use Rattle.graph.specs.Paths.{Edge}
 use Rattle.graph.specs.Line.{blocksOf, jumpsOf, edgesOf}
 use Rattle.graph.specs.Checks.{graphVerdict, spaceOf, spaceVerdict}
 use Rattle.graph.specs.Work.{Within}
-use Rattle.components.specs.Components.{Components}
+use Rattle.tarjan.specs.Components.{Components}
 use Rattle.components.specs.declared.Answer.{Answer}
 use Rattle.components.specs.declared.Answer.the-variants.{Given, Refused}
 

@@ -1,6 +1,1 @@
-pub mod Graph
-pub mod Walk
-pub mod Moves
-pub mod Space
-pub mod Components
 pub mod Entry

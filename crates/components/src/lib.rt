@@ -5,9 +5,6 @@ ghost use lib.ListN.{length};
 ghost use Rattle.refusals.specs.declared.Verdict.the-variants.{Fine};
 ghost use Rattle.graph.specs.Line.{blocksOf, jumpsOf, edgeVerdict, Sound};
 ghost use Rattle.components.specs.Entry.{verdictOf, Answered, Solved};
-
-pub mod tarjan; // tarjan.rt: Tarjan's walk in the work space
-
 use refusals::Refusal;
 use refusals::Verdict;
 
@@ -21,13 +18,13 @@ pub enum Answer {
 pub fn refusal(blocks: &[u32], edges: &[u32], points: u32, answer: usize, work: usize) -> Verdict
     ensures { λ r. ⌜ r ≡ verdictOf (now (blocks .entry)) (now (edges .entry)) points answer work ⌝ }
 {
-    let v = graph::checks::check(blocks, edges, points);
+    let v = line_checks::check(blocks, edges, points);
     if let Verdict::Bad(r, i) = v {
         return Verdict::Bad(r, i);
     }
     let n = blocks.len() / 3;
     let e = edges.len() / 2;
-    graph::checks::space(answer, n, work, n, e, 0)
+    line_checks::space(answer, n, work, n, e, 0)
 }
 
 // The components of a graph that was checked: their numbers stand behind the successors' rows.
@@ -38,7 +35,7 @@ fn solve(blocks: &[u32], edges: &[u32], work: &mut [u64]) -> usize
 {
     let n = blocks.len() / 3;
     let e = edges.len() / 2;
-    graph::rows::successors(blocks, edges, work, 0);
+    edge_rows::successors(blocks, edges, work, 0);
     tarjan::components(work, n, e + e, e + e + (n + 1 + e))
 }
 

@@ -20,19 +20,19 @@ use Rattle.graph.specs.Flow.{Reached, Reaching}
 use Rattle.graph.specs.Checks.{graphVerdict, rowsVerdict, spaceOf, spaceVerdict}
 use Rattle.graph.specs.Work.{Within, EdgeRows, Neighbours}
 use Rattle.graph.proofs.Within.{within-trans, within-wider, region-within, rows-moved}
-use Rattle.graph.proofs.Refusals.{Passed, passed, rows-told, space-told}
-use Rattle.components.specs.Components.{Components, InOrder, Walkable, Found}
+use Rattle.line_checks.proofs.Refusals.{Passed, passed, rows-told, space-told}
+use Rattle.tarjan.specs.Components.{Components, InOrder, Walkable, Found}
 use Rattle.components.specs.Entry.{edgesIn}
 use Rattle.components.proofs.Entries.{cleared-same}
-use Rattle.flow.specs.declared.Flow.{Flow}
+use Rattle.flow_rows.specs.declared.Flow.{Flow}
 use Rattle.flow.specs.declared.Over.{Over}
 use Rattle.flow.specs.declared.Over.the-variants.{Predecessors, Successors}
 use Rattle.flow.specs.declared.Answer.{Answer}
 use Rattle.flow.specs.declared.Answer.the-variants.{Given, Refused}
-use Rattle.flow.specs.Flowed.{which, order, touchedBit, outBit, Laid, Flowed}
+use Rattle.flow_rows.specs.Flowed.{which, order, touchedBit, outBit, Laid, Flowed}
 use Rattle.flow.specs.Entry.{FlowsTo, wayOf, verdictOf, rowBit, Filled, Turned, Answered, baseOf, lentAt, Solved}
-use Rattle.flow.proofs.Routes.{reached-turned}
-use Rattle.flow.proofs.Moved.{components-as, order-as, reaching-as}
+use Rattle.flow_rows.proofs.Routes.{reached-turned}
+use Rattle.flow_rows.proofs.Moved.{components-as, order-as, reaching-as}
 
 bad-fine : {A : Type 0} {k : Refusal} {i : ℕ} → Bad k i ≡ Fine → A
 bad-fine e = absurd (let z : _≡_ {A = ℕ} 0 1 = cc in omega arith)

@@ -1,9 +1,1 @@
-pub mod Routes
-pub mod Joins
-pub mod Gather
-pub mod Visits
-pub mod Shares
-pub mod Runs
-pub mod Whole
-pub mod Moved
 pub mod Entries

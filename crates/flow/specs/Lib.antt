@@ -1,2 +1,1 @@
-pub mod Flowed
 pub mod Entry

@@ -7,22 +7,9 @@ ghost use Rattle.graph.specs.Line.{blocksOf, jumpsOf, edgeVerdict, Sound};
 ghost use Rattle.graph.specs.Work.{Neighbours};
 ghost use Rattle.components.specs.Entry.{edgesIn};
 ghost use Rattle.flow.specs.Entry.{wayOf, verdictOf, lentAt, Answered, Solved};
-
-pub mod rows; // rows.rt: `flowed` in the work space
-
+use flow_rows::Flow;
 use refusals::Refusal;
 use refusals::Verdict;
-
-// Where `flowed` finds and puts things in the work space, of n places: the edge rows from `at` on, the components' numbers from
-// `base` on and their order from `base + 5 * n` on; rows of `words` words, the touched ones from `touched` on, the answer's from `out` on.
-pub struct Flow {
-    pub n: usize,
-    pub at: usize,
-    pub base: usize,
-    pub words: usize,
-    pub touched: usize,
-    pub out: usize,
-}
 
 // Which edges are followed.
 pub enum Over {
@@ -49,15 +36,15 @@ pub fn refusal(
     ensures { λ r. ⌜ r ≡ verdictOf (now (blocks .entry)) (now (edges .entry)) points lent words answer work ⌝ }
 {
     let n = blocks.len() / 3;
-    let v = graph::checks::rows(lent, n, words);
+    let v = line_checks::rows(lent, n, words);
     if let Verdict::Bad(r, i) = v {
         return Verdict::Bad(r, i);
     }
-    let v = graph::checks::check(blocks, edges, points);
+    let v = line_checks::check(blocks, edges, points);
     if let Verdict::Bad(r, i) = v {
         return Verdict::Bad(r, i);
     }
-    graph::checks::space(answer, lent, work, n, edges.len() / 2, lent)
+    line_checks::space(answer, lent, work, n, edges.len() / 2, lent)
 }
 
 // The rows of the edges that are followed.
@@ -67,8 +54,8 @@ fn neighbours(over: Over, blocks: &[u32], edges: &[u32], work: &mut [u64])
     ensures { λ _. ⌜ Neighbours (wayOf over (edgesIn (now (blocks .entry)) (now (edges .entry)))) (length (now (blocks .entry)) / 3) (length (now (edges .entry)) / 2) 0 (now (work .entry)) (now (work .exit)) ⌝ }
 {
     match over {
-        Over::Predecessors => graph::rows::predecessors(blocks, edges, work, 0),
-        Over::Successors => graph::rows::successors(blocks, edges, work, 0),
+        Over::Predecessors => edge_rows::predecessors(blocks, edges, work, 0),
+        Over::Successors => edge_rows::successors(blocks, edges, work, 0),
     }
 }
 
@@ -83,9 +70,9 @@ fn solve(over: Over, blocks: &[u32], edges: &[u32], touched: &[u64], words: usiz
     let base = e + e + (n + 1 + e);
     let lent = base + n + n + n + n + n + n;
     neighbours(over, blocks, edges, work);
-    components::tarjan::components(work, n, e + e, base);
+    tarjan::components(work, n, e + e, base);
     words::copy_from(work, lent, touched, 0, touched.len());
-    rows::flowed(
+    flow_rows::flowed(
         work,
         Flow {
             n: n,

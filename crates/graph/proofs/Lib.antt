@@ -1,9 +1,5 @@
 pub mod Counting
 pub mod Line
-pub mod Tally
 pub mod Within
-pub mod RowLaws
-pub mod EdgeLaws
-pub mod Refusals
 pub mod RoundLaws
 pub mod ArriveLaws

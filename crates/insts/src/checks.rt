@@ -218,7 +218,7 @@ pub fn located(points: u32, v: u32, blocks: &[u32], insts: &[u32], operands: &[u
     requires { ⌜ (1 ≤ length (now blocks) / 3) × (length (now blocks) / 3 ≤ 4096) × AddsUp (now insts) (now operands) × (v ≤ 65535) ⌝ }
     ensures { λ r. ⌜ r ≡ first (lineVerdict (blocksOf (now (blocks .entry))) points) (instVerdict (blocksOf (now (blocks .entry))) v (instsOf (now (insts .entry)) (now (operands .entry)))) ⌝ }
 {
-    let line = graph::checks::line(blocks, points);
+    let line = line_checks::line(blocks, points);
     if let Verdict::Bad(r, i) = line {
         return Verdict::Bad(r, i);
     }

@@ -24,7 +24,7 @@ pub fn slots(
     ensures { λ r. ⌜ SlotsIn points (now (blocks .entry)) (now (insts .entry)) (now (moves .entry)) (now (pieces .entry)) (now (assigned .entry)) p keys held o first total (now (work .entry)) (now (work .exit)) r ⌝ }
 {
     slot_spots::held(assigned, work, held, p.slots);
-    graph::rows::table(blocks, work, p.table);
+    edge_rows::table(blocks, work, p.table);
     slot_spots::chains(moves, work, p);
     slot_measure::slots::measure_slots(
         points,

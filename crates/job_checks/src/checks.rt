@@ -84,11 +84,11 @@ fn located(
     requires { ⌜ (1 ≤ length (now blocks) / 3) × (length (now blocks) / 3 ≤ 4096) × AddsUp (now insts) (now operands) × (v ≤ 65535) ⌝ }
     ensures { λ r. ⌜ r ≡ placeVerdict points v (now (blocks .entry)) (now (edges .entry)) (now (insts .entry)) (now (operands .entry)) ⌝ }
 {
-    let line = graph::checks::line(blocks, points);
+    let line = line_checks::line(blocks, points);
     if let Verdict::Bad(r, block) = line {
         return Verdict::Bad(r, block);
     }
-    let a = graph::checks::edge(edges, blocks.len() / 3);
+    let a = line_checks::edge(edges, blocks.len() / 3);
     let b = insts::checks::inst(blocks, v, insts, operands);
     refusals::earlier(a, b)
 }

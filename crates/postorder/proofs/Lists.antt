@@ -10,7 +10,7 @@ use Rattle.words.proofs.Points.{same}
 use Rattle.graph.specs.Paths.{Edge, Between}
 use Rattle.graph.specs.Work.{Within, EdgeRows}
 use Rattle.graph.proofs.Within.{within-refl, within-set, rows-kept}
-use Rattle.components.specs.Moves.{left as sumLeft}
+use Rattle.tarjan.specs.Moves.{left as sumLeft}
 use Rattle.postorder.specs.Walk.{State, begins, ends, target, Walks}
 use Rattle.postorder.specs.Space.{view, Held, toCome, pushList}
 use Rattle.postorder.proofs.Steps.{Pushed, Looked, Left}

@@ -8,10 +8,10 @@ use lib.ListN.{length, getD}
 use Rattle.words.proofs.Points.{cut, same}
 use Rattle.graph.specs.Paths.{Edge, Link, Route, one, Between}
 use Rattle.graph.specs.Work.{EdgeRows}
-use Rattle.components.specs.Walk.{seen}
-use Rattle.components.specs.Moves.{upd}
-use Rattle.components.proofs.Tools.{upd-case, upd-at, upd-off, seen-same, seen-upd, seen-le, seen-lt}
-use Rattle.components.proofs.Whole.{zero-seen, all-seen}
+use Rattle.tarjan.specs.Walk.{seen}
+use Rattle.tarjan.specs.Moves.{upd}
+use Rattle.tarjan.proofs.Tools.{upd-case, upd-at, upd-off, seen-same, seen-upd, seen-le, seen-lt}
+use Rattle.tarjan.proofs.Whole.{zero-seen, all-seen}
 use Rattle.postorder.specs.Settling.{Settling}
 use Rattle.postorder.specs.Walk.{State, begins, ends, target, Stacked, Ranked, Walks}
 

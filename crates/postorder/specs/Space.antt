@@ -5,7 +5,7 @@ use mathlib.Core.List.{List}
 use lib.ListN.{length, getD, set}
 use Rattle.graph.specs.Paths.{Edge, Between}
 use Rattle.graph.specs.Work.{Within, EdgeRows}
-use Rattle.components.specs.Moves.{left}
+use Rattle.tarjan.specs.Moves.{left}
 use Rattle.postorder.specs.Walk.{State, begins, ends, Walks}
 
 -- the state in a list: four regions of n numbers from base on

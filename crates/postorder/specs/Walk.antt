@@ -7,7 +7,7 @@ use mathlib.Core.Logic.{_≢_, _⊎_}
 use mathlib.Core.List.{List}
 use lib.ListN.{getD}
 use Rattle.graph.specs.Paths.{Edge, Link, Route}
-use Rattle.components.specs.Walk.{seen}
+use Rattle.tarjan.specs.Walk.{seen}
 
 pub record State : Type 0 where
   pub order : ℕ → ℕ

@@ -96,9 +96,6 @@ module _ {w₀ : List ℕ} {at items n end k cells top : ℕ} (left : ℕ) (R : 
       rest = λ x l. F .rest x l ∙ else-is v r (headAt w₀ items n r) word (getD w₀ (items + i) 0) (omega (arith, cells-lt)) e x l;
     }
 
-pub linked-below : {w : List ℕ} {at items n top k : ℕ} → Linked w at items n top k → (m : ℕ) → m ≤ k → Linked w at items n top m
-linked-below l m h = record { lent = l .lent; low = l .low; top-le = l .top-le; k-le = omega (arith, l .k-le); falls = λ q f. l .falls q (omega arith); lists = λ q f. l .lists q (omega arith) }
-
 -- ---- the order
 
 length-insert : (ws : List Want) (i : ℕ) (l : List ℕ) → length (insert ws i l) ≡ suc (length l)

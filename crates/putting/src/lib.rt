@@ -2,89 +2,12 @@
 ghost use mathlib.Core.Path.{_≡_};
 ghost use Prim.Native.Nat.{ℕ, _+_, _-_, _*_, _/_, _%_, _<_, _≤_, max, min};
 ghost use lib.ListN.{length};
-ghost use Rattle.words.specs.Regions.{part};
-ghost use Rattle.ranges.specs.Points.{Apart};
-ghost use Rattle.ranges.specs.Forms.{unpacked};
-ghost use Rattle.fitting.specs.Plan.{joinable};
 ghost use Rattle.order.specs.Keys.{sizeOf, alignOf};
-ghost use Rattle.cell_tables.specs.Tables.{Proper, areaIn};
-ghost use Rattle.cell_tables.specs.Inner.{chain, allow, nextAt, headAt, areaAt, itemAt, Linked, Probed, Sure, enteredIn, Ready, Stepped};
+ghost use Rattle.cell_tables.specs.Inner.{itemAt, Sure, enteredIn, Ready, Stepped};
 use cell_tables::Progress;
 use cell_tables::larger;
 
 const HALF: u64 = 0x1_0000_0000;
-
-// Whether a list, by its word, is there and does not clash with the `count` ranges from `from` on.
-fn free(w: &[u64], at: usize, top: usize, x: u64, from: usize, count: usize) -> bool
-    requires { ⌜ (0 < x → Proper (now w) at top x) × (top ≤ length (now w)) × (from + count ≤ length (now w)) × Apart (unpacked (part from count (now w))) ⌝ }
-    ensures { λ r. ⌜ r ≡ joinable (areaIn (now (w .entry)) at x) (unpacked (part from count (now (w .entry)))) ⌝ }
-{
-    if x < 1 {
-        return false;
-    }
-    let first = at + ((x - 1) / HALF) as usize;
-    let end = first + ((x - 1) % HALF) as usize;
-    let to = from + count;
-    !packed_pairs::clash(&w[first..end], &w[from..to])
-}
-
-// Whether every list that a link leads to is there and does not clash.
-fn joins(
-    w: &[u64],
-    at: usize,
-    items: usize,
-    n: usize,
-    top: usize,
-    link: u64,
-    from: usize,
-    count: usize,
-) -> bool
-    requires { ⌜ Linked (now w) at items n top link × (from + count ≤ length (now w)) × Apart (unpacked (part from count (now w))) ⌝ }
-    ensures { λ r. ⌜ r ≡ allow (areaAt (now (w .entry)) at items n) (chain (nextAt (now (w .entry)) items n) link) (unpacked (part from count (now (w .entry)))) ⌝ }
-{
-    let mut m = link as usize;
-    while 0 < m {
-        let q = m - 1;
-        if !free(w, at, top, w[items + 7 * n + q], from, count) {
-            return false;
-        }
-        m = w[items + 4 * n + q] as usize;
-    }
-    true
-}
-
-// The first of `most` cells that has an area and does not clash, else `most`. A sample point in common is a clash.
-fn probe(
-    w: &[u64],
-    at: usize,
-    items: usize,
-    n: usize,
-    top: usize,
-    k: usize,
-    most: usize,
-    from: usize,
-    count: usize,
-    base: usize,
-    width: usize,
-    own: u64,
-) -> usize
-    requires { ⌜ Linked (now w) at items n top k × (most ≤ k) × ((c : ℕ) → c < most → headAt (now w) items n c ≤ k) × (from + count ≤ length (now w)) × Apart (unpacked (part from count (now w)))
-        × Sure (now w) at items n base width own most (unpacked (part from count (now w))) ⌝ }
-    ensures { λ r. ⌜ Probed (now (w .entry)) at items n most (unpacked (part from count (now (w .entry)))) r ⌝ }
-{
-    let mut c = 0;
-    while c < most {
-        if samples::hit(w, base, width, c, own) {
-            c += 1;
-        } else {
-            if joins(w, at, items, n, top, w[items + 3 * n + c], from, count) {
-                return c;
-            }
-            c += 1;
-        }
-    }
-    c
-}
 
 // The larger size and the larger alignment of two words.
 fn wider(x: u64, y: u64) -> u64
@@ -159,7 +82,7 @@ pub fn put(
     let most = least(cells, left);
     let from = at + ((x - 1) / HALF) as usize;
     let count = ((x - 1) % HALF) as usize;
-    let c = probe(w, at, items, n, top, k, most, from, count, base, width, own);
+    let c = probing::probe(w, at, items, n, top, k, most, from, count, base, width, own);
     if c < most {
         let link = w[items + 3 * n + c];
         let wide = wider(w[items + 5 * n + c], word);

@@ -34,8 +34,8 @@ pub fn position(
     match kind {
         0 => Spot::At(insts[9 * number as usize + 2]),
         1 => Spot::At(insts[9 * number as usize + 3]),
-        2 => Spot::At(blocks[3 * graph::rows::place_of(work, table, Block(number)).0 + 1]),
-        3 => Spot::At(blocks[3 * graph::rows::place_of(work, table, Block(number)).0 + 2]),
+        2 => Spot::At(blocks[3 * edge_rows::place_of(work, table, Block(number)).0 + 1]),
+        3 => Spot::At(blocks[3 * edge_rows::place_of(work, table, Block(number)).0 + 2]),
         _ => Spot::Nowhere,
     }
 }
@@ -224,7 +224,7 @@ pub fn moved(
     if let Verdict::Bad(r, i) = verdict {
         return Answer::Refused(r, i);
     }
-    graph::rows::table(blocks, work, 0);
+    edge_rows::table(blocks, work, 0);
     let n = all(points, blocks, insts, moves, slot, work, out);
     let w = needed(blocks, insts, operands, moves);
     words::clear(work, w);

@@ -20,18 +20,18 @@ use Rattle.graph.specs.Flow.{Arrives}
 use Rattle.graph.specs.Checks.{rowsVerdict, spaceOf}
 use Rattle.graph.specs.Work.{Within, EdgeRows, Neighbours}
 use Rattle.graph.proofs.Within.{within-trans, within-wider, region-within, rows-moved}
-use Rattle.graph.proofs.Refusals.{rows-told}
+use Rattle.line_checks.proofs.Refusals.{rows-told}
 use Rattle.components.specs.Entry.{edgesIn, verdictOf as orderVerdict}
 use Rattle.components.proofs.Entries.{cleared-same}
 use Rattle.postorder.specs.Settling.{Settling, Walkable, Ordered as InOrder}
 use Rattle.flow.specs.Entry.{rowBit, baseOf, verdictOf as rowVerdict}
 use Rattle.flow.proofs.Entries.{Known as RowsKnown, known as rows-known}
-use Rattle.spread.specs.declared.Layout.{Layout}
+use Rattle.spread_rows.specs.declared.Layout.{Layout}
 use Rattle.spread.specs.declared.Answer.{Answer}
 use Rattle.spread.specs.declared.Answer.the-variants.{Given, Refused}
-use Rattle.spread.specs.Spread.{leaveBit, passBit, outBit, Laid, Arrived}
+use Rattle.spread_rows.specs.Spread.{leaveBit, passBit, outBit, Laid, Arrived}
 use Rattle.spread.specs.Entry.{Turned, Ordered, Settled, verdictOf, Filled, Answered, Prepared, lentAt, answerAt, Solved}
-use Rattle.spread.proofs.Turns.{arrives-as}
+use Rattle.spread_rows.proofs.Turns.{arrives-as}
 
 bad-fine : {A : Type 0} {k : Refusal} {i : ℕ} → Bad k i ≡ Fine → A
 bad-fine e = absurd (let z : _≡_ {A = ℕ} 0 1 = cc in omega arith)

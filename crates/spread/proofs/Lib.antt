@@ -1,5 +1,1 @@
-pub mod Sums
-pub mod Kept
-pub mod Pushes
-pub mod Turns
 pub mod Entries

@@ -5,25 +5,9 @@ ghost use lib.ListN.{length};
 ghost use Rattle.refusals.specs.declared.Verdict.the-variants.{Fine};
 ghost use Rattle.graph.specs.Line.{blocksOf, jumpsOf, edgeVerdict, Sound};
 ghost use Rattle.spread.specs.Entry.{verdictOf, Settled, Answered, Prepared, Solved};
-
-pub mod rows; // rows.rt: `spread` in the work space
-
 use refusals::Refusal;
 use refusals::Verdict;
-
-// Where `spread` finds and puts things in the work space, of n places: the edge rows from `at` on, the order in which places are looked at
-// from `order` on and each place's rank in it from `rank` on; rows of `words` words, the leaving bits from `leaves` on and the passing ones
-// from `passes` on; from `wait` on a row of bits over the ranks, of n / 64 + 1 words, and behind it the rows of what arrives.
-pub struct Layout {
-    pub n: usize,
-    pub at: usize,
-    pub order: usize,
-    pub rank: usize,
-    pub words: usize,
-    pub leaves: usize,
-    pub passes: usize,
-    pub wait: usize,
-}
+use spread_rows::Layout;
 
 // The answer is in the answer list, or a refusal with the index of the first offending record.
 pub enum Answer {
@@ -40,7 +24,7 @@ fn prepare(blocks: &[u32], edges: &[u32], work: &mut [u64])
     let n = blocks.len() / 3;
     let e = edges.len() / 2;
     let base = e + e + (n + 1 + e);
-    graph::rows::successors(blocks, edges, work, 0);
+    edge_rows::successors(blocks, edges, work, 0);
     postorder::order(work, n, e + e, base);
 }
 
@@ -79,7 +63,7 @@ fn refusal(
 ) -> Verdict
     ensures { λ r. ⌜ r ≡ verdictOf (now (blocks .entry)) (now (edges .entry)) points leaving passing words answer work ⌝ }
 {
-    let v = graph::checks::rows(passing, blocks.len() / 3, words);
+    let v = line_checks::rows(passing, blocks.len() / 3, words);
     if let Verdict::Bad(r, i) = v {
         return Verdict::Bad(r, i);
     }
@@ -107,7 +91,7 @@ fn solve(
     prepare(blocks, edges, work);
     words::copy_from(work, lent, leaves, 0, leaves.len());
     words::copy_from(work, lent + leaves.len(), passes, 0, leaves.len());
-    rows::spread(
+    spread_rows::spread(
         work,
         Layout {
             n: n,

@@ -6,7 +6,7 @@ use borrow.Author.Needs.{needs}
 use Rattle.components.proofs.refusal.Statement.{statement}
 use denote.Ref.{now}
 use Rattle.components.proofs.Entries.{graph-bad, space-last}
-use Rattle.graph.proofs.Refusals.{passed}
+use Rattle.line_checks.proofs.Refusals.{passed}
 use Rattle.components.proofs.refusal.Tie as tie
 
 check-requires : tie.Need-check-requires

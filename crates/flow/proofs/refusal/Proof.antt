@@ -6,7 +6,7 @@ use borrow.Author.Needs.{needs}
 use Rattle.flow.proofs.refusal.Statement.{statement}
 use denote.Ref.{now}
 use Rattle.flow.proofs.Entries.{rows-refused, graph-refused, space-last}
-use Rattle.graph.proofs.Refusals.{passed}
+use Rattle.line_checks.proofs.Refusals.{passed}
 use Rattle.flow.proofs.refusal.Tie as tie
 
 rows-requires : tie.Need-rows-requires

@@ -1,0 +1,4 @@
+pub mod Sums
+pub mod Kept
+pub mod Pushes
+pub mod Turns

@@ -1,0 +1,65 @@
+-- `spread::rows::begin` meets its contract: the first r ranks wait.
+use native.Mathlib.Omega.{arith}
+use Prim.Native.Nat.{_-_}
+use lib.ListN.{set}
+use Rattle.spread_rows.proofs.begin.Statement.{statement}
+use Rattle.spread_rows.proofs.Turns.{Beginning, begin-start, begin-more, begin-done}
+use mathlib.Core.Path.{_∙_}
+use Rattle.spread_rows.proofs.begin.Tie as tie
+
+abbrev Inv-loop : tie.InvT-loop
+Inv-loop work₀ n wait words r₀ work r = Beginning n wait words work₀ work r
+
+abbrev μ-loop : tie.MeasureT-loop
+μ-loop work₀ n wait words r₀ work r = n - r
+
+add-fill : tie.Need-add-fill Inv-loop μ-loop
+add-fill c = omega (arith, c .before .before .pre .out-fits, c .before .before .pre .few)
+
+mul-fill : tie.Need-mul-fill Inv-loop μ-loop
+mul-fill c = omega (arith, c .before .before .pre .out-fits, c .before .before .pre .few)
+
+add-fill-2 : tie.Need-add-fill-2 Inv-loop μ-loop
+add-fill-2 c = omega (arith, c .before .before .pre .out-fits, c .before .before .pre .few)
+
+fill-requires : tie.Need-fill-requires Inv-loop μ-loop
+fill-requires c κs = omega (arith, c .before .before .pre .out-fits, c .before .before .pre .few)
+
+loop-holds : tie.Need-loop-holds Inv-loop μ-loop
+loop-holds c = begin-start _ _ _ _ _ (c .before .before .before .before .before .pre .out-fits) (c .before .before .fill .ensures)
+
+set-requires : tie.Need-set-requires Inv-loop μ-loop
+set-requires c κs = omega (arith, c .before .before .loop .inv .fits, c .before .before .loop .inv .kept .len)
+
+add-r : tie.Need-add-r Inv-loop μ-loop
+add-r c = omega arith
+
+loop-less : tie.Need-loop-less Inv-loop μ-loop
+loop-less c = omega arith
+
+loop-again : tie.Need-loop-again Inv-loop μ-loop
+loop-again c = begin-more (c .before .before .before .before .before .loop .inv) (omega arith) (c .before .before .set .ensures)
+
+same-length : tie.Need-same-length Inv-loop μ-loop
+same-length c = c .before .loop .inv .kept .len ∙ c .before .before .before .before .fill .ensures .len
+
+returns : tie.Need-returns Inv-loop μ-loop
+returns c = begin-done (c .before .before .before .before .fill .ensures) (c .before .loop .inv) (omega arith)
+
+pub begin-spec : {M : Type 1} → statement M
+begin-spec =
+    tie.close
+    (tie.spec
+    Inv-loop
+    μ-loop
+    add-fill
+    mul-fill
+    add-fill-2
+    fill-requires
+    loop-holds
+    set-requires
+    add-r
+    loop-less
+    loop-again
+    same-length
+    returns)

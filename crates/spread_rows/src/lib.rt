@@ -1,0 +1,84 @@
+// `spread` in the work space: a place is looked at again only when its row grew, the lowest rank first.
+ghost use mathlib.Core.Path.{_≡_};
+ghost use mathlib.Core.Bool.{Bool, true};
+ghost use Prim.Native.Nat.{ℕ, _+_, _*_, _/_, _≤_, _<_};
+ghost use lib.ListN.{length, getD};
+ghost use Rattle.spread_rows.specs.Spread.{Laid, Pushed, Begun, Arrived};
+
+// Where `spread` finds and puts things in the work space, of n places: the edge rows from `at` on, the order in which places are looked at
+// from `order` on and each place's rank in it from `rank` on; rows of `words` words, the leaving bits from `leaves` on and the passing ones
+// from `passes` on; from `wait` on a row of bits over the ranks, of n / 64 + 1 words, and behind it the rows of what arrives.
+pub struct Layout {
+    pub n: usize,
+    pub at: usize,
+    pub order: usize,
+    pub rank: usize,
+    pub words: usize,
+    pub leaves: usize,
+    pub passes: usize,
+    pub wait: usize,
+}
+
+// Gives each place that u has an edge to what arrives at u and passes, and what leaves u; those whose row grew wait.
+fn push(work: &mut [u64], s: Layout, u: usize)
+    requires { ⌜ Laid s (now work) × (u < s .n) ⌝ }
+    ensures { λ _. ⌜ Pushed s u (now (work .entry)) (now (work .exit)) ⌝ }
+{
+    let n = s.n;
+    let at = s.at;
+    let words = s.words;
+    let wait = s.wait;
+    let rank = s.rank;
+    let to = at + n + 1;
+    let out = wait + (n / 64 + 1);
+    let from = out + u * words;
+    let pass = s.passes + u * words;
+    let leave = s.leaves + u * words;
+    let end = work[at + u + 1] as usize;
+    let mut k = work[at + u] as usize;
+    while k < end {
+        let v = work[to + k] as usize;
+        if bits::row_pass(work, out + v * words, from, pass, leave, s.words) {
+            let r = work[rank + v] as usize;
+            bits::set(work, wait, r);
+            k += 1;
+        } else {
+            k += 1;
+        }
+    }
+}
+
+// Nothing arrives yet, and each place waits.
+fn begin(work: &mut [u64], s: Layout)
+    requires { ⌜ Laid s (now work) ⌝ }
+    ensures { λ _. ⌜ Begun s (now (work .entry)) (now (work .exit)) ⌝ }
+{
+    let n = s.n;
+    let wait = s.wait;
+    let words = s.words;
+    words::fill(work, wait, n / 64 + 1 + n * words, 0);
+    let mut r = 0;
+    while r < n {
+        bits::set(work, wait, r);
+        r += 1;
+    }
+}
+
+// What arrives at each place: any predecessor's arriving bits that pass, or its leaving bits. It ends, since at each turn a row gains a bit
+// that it had not, or one place fewer waits.
+pub fn spread(work: &mut [u64], s: Layout)
+    requires { ⌜ Laid s (now work) ⌝ }
+    ensures { λ _. ⌜ Arrived s (now (work .entry)) (now (work .exit)) ⌝ }
+{
+    begin(work, s);
+    let n = s.n;
+    let wait = s.wait;
+    let order = s.order;
+    let mut r = bits::first_from(work, wait, n / 64 + 1, 0);
+    while r < n {
+        bits::unset(work, wait, r);
+        let u = work[order + r] as usize;
+        push(work, s, u);
+        r = bits::first_from(work, wait, n / 64 + 1, 0);
+    }
+}

@@ -1,0 +1,5 @@
+pub mod Graph
+pub mod Walk
+pub mod Moves
+pub mod Space
+pub mod Components

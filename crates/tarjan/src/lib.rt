@@ -1,0 +1,208 @@
+// Tarjan's walk in the work space, with stacks of its own.
+// w[at..at + n + 1] is where each row starts, w[to + k] the target of edge k, and from base on six regions of n numbers:
+// num, stk, fr, lw, nxt and ord (specs/Walk.antt).
+ghost use mathlib.Core.Path.{_≡_};
+ghost use Prim.Native.Nat.{ℕ, suc, _+_, _-_, _≤_, _<_, min};
+ghost use lib.ListN.{length, getD, set};
+ghost use Rattle.tarjan.specs.Space.{Ready, Turned, Walked, Given, Begun, Numbered, Closes, Closed, pushList, Pieced};
+ghost use Rattle.tarjan.specs.Components.{Walkable, Found};
+
+// The counts of a walk: held nodes, frames, pieces, closed nodes.
+pub struct Counts {
+    s: usize,
+    d: usize,
+    c: usize,
+    e: usize,
+}
+
+// Takes v up: s nodes are held, in d frames.
+fn push(w: &mut [u64], n: usize, base: usize, v: usize, s: usize, d: usize)
+    requires { ⌜ (v < n) × (s < n) × (d < n) × (base + n + n + n + n ≤ length (now w)) ⌝ }
+    ensures { λ _. ⌜ now (w .exit) ≡ pushList n base v s d (now (w .entry)) ⌝ }
+{
+    let stk = base + n;
+    let fr = stk + n;
+    let lw = fr + n;
+    w[base + v] = (s + 1) as u64;
+    w[stk + s] = v as u64;
+    w[fr + d] = s as u64;
+    w[lw + d] = s as u64;
+}
+
+// The number at i becomes q, if that is less.
+fn lower(w: &mut [u64], i: usize, q: u64)
+    requires { ⌜ i < length (now w) ⌝ }
+    ensures { λ _. ⌜ now (w .exit) ≡ set (now (w .entry)) i (min (getD (now (w .entry)) i 0) q) ⌝ }
+{
+    if q < w[i] {
+        w[i] = q;
+    }
+}
+
+// Closes the nodes from place p of the stack on, as x.
+fn close(w: &mut [u64], n: usize, base: usize, p: usize, s: usize, x: u64, e: usize)
+    requires { ⌜ Closes n base (now w) p s e ⌝ }
+    ensures { λ _. ⌜ Closed n base (now (w .entry)) p x e s (now (w .exit)) ⌝ }
+{
+    let stk = base + n;
+    let ord = stk + n + n + n + n + e;
+    let mut i = p;
+    while i < s {
+        let v = w[stk + i];
+        let to = base + v as usize;
+        w[to] = x;
+        w[ord + (i - p)] = v;
+        i += 1;
+    }
+}
+
+// One turn of the walk.
+fn turn(w: &mut [u64], n: usize, at: usize, to: usize, base: usize, z: Counts) -> Counts
+    requires { ⌜ 0 < z .d ⌝ }
+    requires { ⌜ Ready n at to base (now w) (z .s) (z .d) (z .c) (z .e) ⌝ }
+    ensures { λ r. ⌜ Turned n at to base (now (w .entry)) (z .s) (z .d) (z .c) (z .e) (now (w .exit)) (r .s) (r .d) (r .c) (r .e) ⌝ }
+{
+    let s = z.s;
+    let d = z.d;
+    let c = z.c;
+    let e = z.e;
+    let f = d - 1;
+    let stk = base + n;
+    let fr = stk + n;
+    let lw = fr + n;
+    let nxt = lw + n;
+    let p = w[fr + f] as usize;
+    let u = w[stk + p] as usize;
+    let k = w[nxt + u] as usize;
+    let end = w[at + u + 1] as usize;
+    if k < end {
+        let v = w[to + k] as usize;
+        let m = w[base + v] as usize;
+        w[nxt + u] = (k + 1) as u64;
+        if m == 0 {
+            push(w, n, base, v, s, d);
+            return Counts {
+                s: s + 1,
+                d: d + 1,
+                c: c,
+                e: e,
+            };
+        }
+        if m <= n {
+            lower(w, lw + f, (m - 1) as u64);
+            return Counts {
+                s: s,
+                d: d,
+                c: c,
+                e: e,
+            };
+        }
+        return Counts {
+            s: s,
+            d: d,
+            c: c,
+            e: e,
+        };
+    }
+    let l = w[lw + f];
+    if l < p as u64 {
+        lower(w, lw + (f - 1), l);
+        return Counts {
+            s: s,
+            d: f,
+            c: c,
+            e: e,
+        };
+    }
+    close(w, n, base, p, s, (n + 1 + c) as u64, e);
+    Counts {
+        s: p,
+        d: f,
+        c: c + 1,
+        e: e + (s - p),
+    }
+}
+
+// The walk from a node that was not seen.
+fn walk(
+    w: &mut [u64],
+    n: usize,
+    at: usize,
+    to: usize,
+    base: usize,
+    root: usize,
+    c: usize,
+    e: usize,
+) -> Counts
+    requires { ⌜ (root < n) × (getD (now w) (base + root) 0 ≡ 0) ⌝ }
+    requires { ⌜ Ready n at to base (now w) 0 0 c e ⌝ }
+    ensures { λ r. ⌜ Walked n at to base root (now (w .entry)) c e (now (w .exit)) (r .c) (r .e) ⌝ }
+{
+    push(w, n, base, root, 0, 0);
+    let mut z = Counts {
+        s: 1,
+        d: 1,
+        c: c,
+        e: e,
+    };
+    while 0 < z.d {
+        z = turn(w, n, at, to, base, z);
+    }
+    z
+}
+
+// Nothing is seen, and each node's edges are to be looked at.
+fn begin(w: &mut [u64], n: usize, at: usize, base: usize)
+    requires { ⌜ (base + n + n + n + n + n + n ≤ length (now w)) × (at + n < base) ⌝ }
+    ensures { λ _. ⌜ Begun n at base (now (w .entry)) n (now (w .exit)) ⌝ }
+{
+    let nxt = base + n + n + n + n;
+    let mut v = 0;
+    while v < n {
+        w[base + v] = 0;
+        w[nxt + v] = w[at + v];
+        v += 1;
+    }
+}
+
+// The pieces' numbers.
+fn number(w: &mut [u64], n: usize, base: usize)
+    requires { ⌜ (base + n + n ≤ length (now w)) × ((v : ℕ) → v < n → n < getD (now w) (base + v) 0) ⌝ }
+    ensures { λ _. ⌜ Numbered n base (now (w .entry)) n (now (w .exit)) ⌝ }
+{
+    let mut v = 0;
+    while v < n {
+        w[base + v] = w[base + v] - (n + 1) as u64;
+        v += 1;
+    }
+}
+
+// The components of the graph whose row starts stand from `at` on and whose targets from `to` on: how many there are.
+fn walk_all(w: &mut [u64], n: usize, at: usize, to: usize, base: usize) -> usize
+    requires { ⌜ Given n at to base (now w) ⌝ }
+    ensures { λ r. ⌜ Pieced n at to base (now (w .entry)) (now (w .exit)) r ⌝ }
+{
+    begin(w, n, at, base);
+    let mut c = 0;
+    let mut e = 0;
+    let mut root = 0;
+    while root < n {
+        if w[base + root] == 0 {
+            let z = walk(w, n, at, to, base, root, c, e);
+            c = z.c;
+            e = z.e;
+        }
+        root += 1;
+    }
+    number(w, n, base);
+    c
+}
+
+// The components of the graph of n places whose rows stand from `at` on: how many there are. Their numbers stand from `base` on,
+// one to a place, and from `base + 5 * n` on the places in the components' order. Linear in places and edges.
+pub fn components(work: &mut [u64], n: usize, at: usize, base: usize) -> usize
+    requires { ⌜ Walkable n at base (now work) ⌝ }
+    ensures { λ r. ⌜ Found n at base (now (work .entry)) (now (work .exit)) r ⌝ }
+{
+    walk_all(work, n, at, at + n + 1, base)
+}
