@@ -28,7 +28,7 @@ fn each(
     let mut top = items + 8 * n;
     let mut k = 0;
     while k < n {
-        let own = samples::draw(w, at, items, n, k, rows + cells * width, width, step);
+        let own = sample_rows::draw(w, at, items, n, k, rows + cells * width, width, step);
         let s = putting::put(
             w,
             at,

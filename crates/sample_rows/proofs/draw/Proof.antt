@@ -1,13 +1,13 @@
 -- `draw` meets its contract: the row is cleared, then its points are set.
 use denote.Ref.{now}
 use mathlib.Core.Logic.{inl, inr}
-use Rattle.samples.proofs.MarkLaws.{drawn-none, drawn-points}
+use Rattle.sample_rows.proofs.DrawLaws.{drawn-none, drawn-points}
 use native.Mathlib.Omega.{arith}
 use Prim.Native.Nat.{ℕ, suc, _+_, _-_, _*_, _≤_, _<_}
 use mathlib.Core.Path.{_≡_, refl, sym, ap, _∙_}
 use lib.ListN.{length, take, drop, getD, set, length-set}
-use Rattle.samples.proofs.draw.Statement.{statement}
-use Rattle.samples.proofs.draw.Tie as tie
+use Rattle.sample_rows.proofs.draw.Statement.{statement}
+use Rattle.sample_rows.proofs.draw.Tie as tie
 
 mul-i : tie.Need-mul-i
 mul-i c = omega (arith, (c .before .pre) .1, (c .before .pre) .2, (c .before .pre) .3, (c .before .pre) .4)

@@ -1,11 +1,11 @@
 -- `mark` meets its contract.
-use Rattle.samples.proofs.MarkLaws.{marked-bit, marked-word}
+use Rattle.sample_rows.proofs.DrawLaws.{marked-bit, marked-word}
 use native.Mathlib.Omega.{arith}
 use Prim.Native.Nat.{ℕ, suc, _+_, _-_, _*_, _≤_, _<_}
 use mathlib.Core.Path.{_≡_, refl, sym, ap, _∙_}
 use lib.ListN.{length, take, drop, getD, set, length-set}
-use Rattle.samples.proofs.mark.Statement.{statement}
-use Rattle.samples.proofs.mark.Tie as tie
+use Rattle.sample_rows.proofs.mark.Statement.{statement}
+use Rattle.sample_rows.proofs.mark.Tie as tie
 
 mul-if2 : tie.Need-mul-if2
 mul-if2 c = omega arith

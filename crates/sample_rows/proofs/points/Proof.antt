@@ -3,14 +3,14 @@ use denote.Ref.{now}
 use Rattle.words.specs.Regions.{part}
 use Rattle.ranges.specs.Forms.{unpacked}
 use Rattle.cell_tables.specs.Inner.{Pointed}
-use Rattle.samples.proofs.MarkLaws.{pointed-start, pointed-more, point-at, pointed-range, product-fits, product-small}
+use Rattle.sample_rows.proofs.DrawLaws.{pointed-start, pointed-more, point-at, pointed-range, product-fits, product-small}
 use native.Mathlib.Omega.{arith}
 use Prim.Native.Nat.{ℕ, suc, _+_, _-_, _*_, _≤_, _<_}
 use mathlib.Core.Path.{_≡_, refl, sym, ap, _∙_}
 use lib.ListN.{length, take, drop, getD, set, length-set}
 use borrow.Author.Needs.{needs}
-use Rattle.samples.proofs.points.Statement.{statement}
-use Rattle.samples.proofs.points.Tie as tie
+use Rattle.sample_rows.proofs.points.Statement.{statement}
+use Rattle.sample_rows.proofs.points.Tie as tie
 
 abbrev Inv-loop : tie.InvT-loop
 Inv-loop w₀ row width step from count first t₀ i₀ last₀ w t i last = (i ≤ count) × Pointed w₀ w row width step (unpacked (part from count w₀)) last
