@@ -18,11 +18,14 @@ use Rattle.components.proofs.Entries.{cleared-same}
 use Rattle.area_measure.specs.Locals.{areaFor, Listed}
 use Rattle.area_entries.specs.declared.Answer.{Answer}
 use Rattle.area_entries.specs.declared.Answer.the-variants.{Refused}
-use Rattle.area_entries.specs.declared.solve.Found.{Found}
-use Rattle.area_entries.specs.declared.solve.Found.the-variants.{Inverted, Ranges}
-use Rattle.area_entries.specs.Layout.{spaceFor}
-use Rattle.area_entries.specs.Entry.{listVerdict, areaVerdict, sizesOf, lentVerdict, graphFor, AnsweredBy, LocalAreas}
-use Rattle.area_entries.specs.Inner.{listing, FoundAs, Held, HeldList}
+use Rattle.lent_areas.specs.declared.Found.{Found}
+use Rattle.lent_areas.specs.declared.Found.the-variants.{Inverted, Ranges}
+use Rattle.area_layout.specs.Layout.{spaceFor}
+use Rattle.area_tables.specs.Tables.{listVerdict}
+use Rattle.area_entries.specs.Entry.{areaVerdict, AnsweredBy, LocalAreas}
+use Rattle.lent_areas.specs.Areas.{graphFor, listing, FoundAs}
+use Rattle.area_checks.specs.Checks.{sizesOf, lentVerdict}
+use Rattle.area_entries.specs.Inner.{Held, HeldList}
 
 module _ (locals room : ℕ) (areas items w : List ℕ) (f : Found) where
   pub tell-inverted : f ≡ Inverted → (bad : Bool) (A : ℕ → Option (List Range)) → FoundAs bad A locals room w f

@@ -1,5 +1,2 @@
-pub mod FitLaws
-pub mod CheckLaws
 pub mod TableLaws
-pub mod SolveLaws
 pub mod EntryLaws

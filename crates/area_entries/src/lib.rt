@@ -8,16 +8,13 @@ ghost use Rattle.refusals.specs.Verdicts.{first, check};
 ghost use Rattle.refusals.specs.declared.Refusal.the-variants.{Inverted};
 ghost use Rattle.ranges.specs.declared.Range.{Range};
 ghost use Rattle.area_measure.specs.Locals.{Listed};
-ghost use Rattle.area_entries.specs.Entry.{listVerdict, AnsweredBy, LocalAreas};
-ghost use Rattle.area_entries.specs.Inner.{listing, FoundAs, Held, HeldList};
+ghost use Rattle.area_tables.specs.Tables.{listVerdict};
+ghost use Rattle.area_entries.specs.Entry.{AnsweredBy, LocalAreas};
+ghost use Rattle.lent_areas.specs.Areas.{listing, FoundAs};
+ghost use Rattle.area_entries.specs.Inner.{Held, HeldList};
+use lent_areas::Found;
 use refusals::Refusal;
 use refusals::Verdict;
-use solve::Found;
-
-pub mod layout; // layout.rt: where the regions stand in the work space
-mod checks; // checks.rt: refusals 1, 2, 3 and 7
-mod solve; // solve.rt: the areas in the work space
-pub mod tables; // tables.rt: from the work space into the answer lists
 
 // How many ranges all areas have, or a refusal with the index of the first offending record.
 pub enum Answer {
@@ -35,8 +32,8 @@ fn list(n: usize, areas: &mut [u32], items: &mut [u32], work: &[u64], locals: us
     if room < n {
         return Answer::Refused(Refusal::List, 0);
     }
-    tables::write_rows(areas, work, 0, n, 0);
-    tables::write_rows(items, work, room, locals, 1);
+    area_tables::write_rows(areas, work, 0, n, 0);
+    area_tables::write_rows(items, work, room, locals, 1);
     Answer::Given(n)
 }
 
@@ -71,7 +68,7 @@ pub fn local_areas(
     ensures { λ r. ⌜ LocalAreas (now (blocks .entry)) (now (edges .entry)) points (now (kinds .entry)) (now (touches .entry)) (now (ends .entry))
         (now (areas .entry)) (now (items .entry)) (now (work .entry)) r (now (areas .exit)) (now (items .exit)) (now (work .exit)) ⌝ }
 {
-    let v = checks::refusal(
+    let v = area_checks::refusal(
         blocks,
         edges,
         points,
@@ -85,7 +82,7 @@ pub fn local_areas(
     if let Verdict::Bad(r, i) = v {
         return Answer::Refused(r, i);
     }
-    let w = checks::needed(layout::Sizes {
+    let w = area_checks::needed(area_layout::Sizes {
         blocks: blocks.len() / 3,
         edges: edges.len() / 2,
         locals: kinds.len(),
@@ -93,7 +90,7 @@ pub fn local_areas(
         ends: ends.len() / 2,
         room: areas.len() / 2,
     });
-    let f = solve::solve(blocks, edges, kinds, touches, ends, work, areas.len());
+    let f = lent_areas::solve(blocks, edges, kinds, touches, ends, work, areas.len());
     let r = tell(f, areas, items, work, kinds.len());
     words::clear(work, w);
     r

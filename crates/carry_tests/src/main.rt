@@ -1,10 +1,8 @@
 // Runs `reach` on each case of standard input, and `carried` for each of its locals and for one past the end, and prints what they answer and leave: held to
 // the file `stdout`. Answer list and work space have 7s at first, so that what is written past an answer, or by a refusal, shows.
 // The columns of a case: points, V, the length of the answer list and of the work space; blocks, instructions, operands, crossings, locals, addresses, ends.
-use carry_entries::Answer;
-use carry_entries::Carrying;
-use carry_entries::kinds;
-use carry_entries::registers;
+use carried_registers::Carrying;
+use local_kinds::Answer;
 
 struct Head {
     points: u32,
@@ -40,7 +38,7 @@ fn reach_into(
     answer: &mut [u32],
     work: &mut [u64],
 ) {
-    let a = kinds::reach(
+    let a = local_kinds::reach(
         h.points,
         h.v,
         blocks,
@@ -104,7 +102,7 @@ fn carried_into(
     answer: &mut [u32],
     work: &mut [u64],
 ) {
-    let a = registers::carried(
+    let a = carried_registers::carried(
         h.points,
         h.v,
         blocks,

@@ -17,7 +17,7 @@ use Rattle.words.specs.Rows.{rowCount}
 use Rattle.words.proofs.RowLaws.{length-records}
 use Rattle.ranges.specs.declared.Range.{Range}
 use Rattle.areas.specs.Job.{itemCount, itemArea, listVerdict}
-use Rattle.area_entries.specs.Entry.{listVerdict as listVerdictOf}
+use Rattle.area_tables.specs.Tables.{listVerdict as listVerdictOf}
 use Rattle.area_measure.specs.Locals.{wordOf, ListedBy}
 use Rattle.job_checks.specs.declared.Sizes.{Sizes}
 use Rattle.job_checks.specs.Job.{jobOf, sizesOf, spaceOf}

@@ -21,9 +21,8 @@ use Rattle.words.proofs.PasteLaws.{Filling, fill-more}
 use Rattle.ranges.specs.declared.Range.{Range}
 use Rattle.areas.specs.Job.{rangesIn, rangesOf}
 use Rattle.area_measure.specs.Locals.{wordOf, ListedBy}
-use Rattle.area_entries.specs.Entry.{listVerdict, areaRows}
-use Rattle.area_entries.specs.Inner.{rowsIn}
-use Rattle.area_entries.proofs.TableLaws.{ranges-below, rows-areas, rows-long}
+use Rattle.area_tables.specs.Tables.{listVerdict, areaRows, rowsIn}
+use Rattle.area_tables.proofs.RowLaws.{ranges-below, rows-areas, rows-long}
 use Rattle.job_areas.specs.Areas.{listing}
 use Rattle.item_areas.specs.declared.Answer.the-variants.{Given, Refused}
 use Rattle.item_areas.specs.Entry.{itemRow, itemRows, AnsweredBy}

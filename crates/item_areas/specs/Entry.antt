@@ -14,7 +14,7 @@ use Rattle.words.specs.Rows.{tabulate, flat}
 use Rattle.ranges.specs.declared.Range.{Range}
 use Rattle.insts.specs.Counts.{rowsVerdict}
 use Rattle.areas.specs.Job.{Job, itemCount, itemArea, rangesOf, listVerdict}
-use Rattle.area_entries.specs.Entry.{areaRows}
+use Rattle.area_tables.specs.Tables.{areaRows}
 use Rattle.job_checks.specs.declared.Sizes.{Sizes}
 use Rattle.job_checks.specs.Job.{jobOf, recordsVerdict, sizesOf, spaceOf}
 use Rattle.item_areas.specs.declared.Answer.{Answer}

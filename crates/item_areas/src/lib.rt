@@ -5,7 +5,7 @@ ghost use Prim.Native.Nat.{ℕ, _+_, _*_, _/_, _≤_};
 ghost use lib.ListN.{length};
 ghost use Rattle.refusals.specs.Verdicts.{check};
 ghost use Rattle.ranges.specs.declared.Range.{Range};
-ghost use Rattle.area_entries.specs.Entry.{listVerdict};
+ghost use Rattle.area_tables.specs.Tables.{listVerdict};
 ghost use Rattle.area_measure.specs.Locals.{wordOf, ListedBy};
 ghost use Rattle.job_areas.specs.Areas.{listing};
 ghost use Rattle.item_areas.specs.Entry.{AnsweredBy, ItemAreas};
@@ -32,7 +32,7 @@ fn list(n: usize, areas: &mut [u32], items: &mut [u32], work: &[u64], count: usi
     if room < n {
         return Answer::Refused(Refusal::List, 0);
     }
-    area_entries::tables::write_rows(areas, work, 0, n, 0);
+    area_tables::write_rows(areas, work, 0, n, 0);
     tables::write_items(items, work, room, count);
     Answer::Given(n)
 }

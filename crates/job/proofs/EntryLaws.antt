@@ -24,7 +24,7 @@ use Rattle.areas.specs.Job.{Job, Local, localsOf, itemCount, itemArea, listVerd
 use Rattle.areas.proofs.ApartLaws.{areas-apart}
 use Rattle.fitting.specs.Wants.{Want, orderOf}
 use Rattle.fitting.specs.Plan.{Plan, planOf}
-use Rattle.area_entries.specs.Entry.{listVerdict as listVerdictOf}
+use Rattle.area_tables.specs.Tables.{listVerdict as listVerdictOf}
 use Rattle.area_measure.specs.Locals.{wordOf, ListedBy}
 use Rattle.job_checks.specs.declared.Sizes.{Sizes}
 use Rattle.job_checks.specs.Job.{jobOf, sizesOf, spaceOf, Small}

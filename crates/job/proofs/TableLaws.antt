@@ -19,11 +19,10 @@ use Rattle.order.specs.Keys.{sizeOf, alignOf}
 use Rattle.cell_tables.specs.declared.Counts.{Counts}
 use Rattle.areas.specs.Job.{rangesIn, rangesOf}
 use Rattle.area_measure.specs.Locals.{wordOf, ListedBy}
-use Rattle.area_entries.specs.Entry.{listVerdict, areaRows}
-use Rattle.area_entries.specs.Inner.{rowsIn}
-use Rattle.area_entries.proofs.TableLaws.{ranges-below, rows-areas, rows-long}
+use Rattle.area_tables.specs.Tables.{listVerdict, areaRows, rowsIn}
+use Rattle.area_tables.proofs.RowLaws.{ranges-below, rows-areas, rows-long}
 use Rattle.wants.specs.Entry.{tallied, cellRow, cellRows}
-use Rattle.wants.specs.Inner.{cellRowsIn}
+use Rattle.want_tables.specs.Tables.{cellRowsIn}
 use Rattle.wants.proofs.EntryLaws.{rows-cells}
 use Rattle.item_areas.specs.Entry.{itemRow}
 use Rattle.item_areas.proofs.TableLaws.{word-row, row-long, list-full, list-fine}

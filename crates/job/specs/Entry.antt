@@ -15,7 +15,7 @@ use Rattle.ranges.specs.declared.Range.{Range}
 use Rattle.areas.specs.Job.{Job, itemCount, itemArea, rangesOf, listVerdict}
 use Rattle.fitting.specs.Plan.{Plan}
 use Rattle.wants.specs.Entry.{Tally, tallyOf, cellRows}
-use Rattle.area_entries.specs.Entry.{areaRows}
+use Rattle.area_tables.specs.Tables.{areaRows}
 use Rattle.job_checks.specs.declared.Sizes.{Sizes}
 use Rattle.job_checks.specs.Job.{jobOf, recordsVerdict, sizesOf, spaceOf}
 use Rattle.item_areas.specs.Entry.{itemRow}

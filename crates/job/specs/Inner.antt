@@ -7,8 +7,8 @@ use lib.ListN.{length, getD, drop}
 use Rattle.words.specs.Rows.{tabulate, flat}
 use Rattle.ranges.specs.declared.Range.{Range}
 use Rattle.ranges.specs.Points.{Apart}
-use Rattle.wants.specs.Inner.{cellRowsIn}
-use Rattle.area_entries.specs.Inner.{rowsIn}
+use Rattle.want_tables.specs.Tables.{cellRowsIn}
+use Rattle.area_tables.specs.Tables.{rowsIn}
 use Rattle.item_areas.specs.Inner.{rowOf as partOf}
 use Rattle.area_measure.specs.Locals.{wordOf, ListedBy}
 use Rattle.job_areas.specs.Areas.{listing}

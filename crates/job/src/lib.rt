@@ -7,7 +7,7 @@ ghost use Rattle.words.specs.Rows.{rowCount};
 ghost use Rattle.graph.specs.Work.{Within};
 ghost use Rattle.ranges.specs.declared.Range.{Range};
 ghost use Rattle.area_measure.specs.Locals.{wordOf, ListedBy};
-ghost use Rattle.area_entries.specs.Entry.{listVerdict};
+ghost use Rattle.area_tables.specs.Tables.{listVerdict};
 ghost use Rattle.job_areas.specs.Areas.{listing};
 ghost use Rattle.job_fit.specs.Wants.{countOf, planFor};
 ghost use Rattle.job.specs.Entry.{AnsweredBy, SharedAs};

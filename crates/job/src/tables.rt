@@ -45,7 +45,7 @@ pub fn write(
     ensures { λ _. ⌜ Written (now (cells .entry)) (now (items .entry)) (now (areas .entry)) (now (w .entry)) n used total (now (cells .exit)) (now (items .exit)) (now (areas .exit)) ⌝ }
 {
     let room = areas.len() / 2;
-    wants::tables::write_cells(cells, w, room + 5 * n, used);
+    want_tables::write_cells(cells, w, room + 5 * n, used);
     write_items(items, w, room, room + 6 * n, n);
-    area_entries::tables::write_rows(areas, w, 0, total, 0);
+    area_tables::write_rows(areas, w, 0, total, 0);
 }

@@ -20,7 +20,7 @@ use Rattle.reach.specs.declared.Lay.{Lay}
 use Rattle.reach.specs.Prepared.{codeOf}
 use Rattle.spots.specs.Spots.{lineOf}
 use Rattle.area_flow.specs.declared.Grid.{Grid}
-use Rattle.area_entries.specs.Layout.{Gridded, markOf}
+use Rattle.area_layout.specs.Layout.{Gridded, markOf}
 use Rattle.area_pieces.specs.Local.{Upright}
 use Rattle.live.specs.Live.{InOrder}
 use Rattle.slot_spots.specs.declared.Places.{Places as SlotPlaces}

@@ -19,7 +19,7 @@ use Rattle.carrying.proofs.ListLaws.{member-getD}
 use Rattle.graph.specs.Line.{blocksOf}
 use Rattle.carrying.specs.Carried.{piecesOf}
 use Rattle.areas.specs.Slots.{Assigned, assignedOf, movesOf, spilled, slotArea}
-use Rattle.spills.proofs.MovedEntry.{moved-whatever}
+use Rattle.spill_checks.proofs.OperandLaws.{moved-whatever}
 use Rattle.areas.specs.Job.{Job, localsOf, localArea, slotAreaIn, itemCount, itemArea}
 use Rattle.live.specs.Live.{PutInOrder}
 use Rattle.slot_spots.specs.declared.Places.{Places}

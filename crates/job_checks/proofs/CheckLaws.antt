@@ -20,9 +20,9 @@ use Rattle.areas.specs.Slots.{assignedOf, movesOf, moveVerdict, pieceVerdict, a
 use Rattle.areas.specs.Job.{checks}
 use Rattle.insts.specs.Counts.{rowsVerdict, mostVerdict}
 use Rattle.insts.proofs.CheckLaws.{most-few, rows-few}
-use Rattle.carry_entries.specs.Checks.{carryCounts, strayVerdict as mentionVerdict}
-use Rattle.carry_entries.proofs.CheckLaws.{counted, Counted, stray-whatever, addresses-found, ends-found}
-use Rattle.spills.proofs.MovedEntry.{moves-whatever}
+use Rattle.carry_checks.specs.Checks.{carryCounts, strayVerdict as mentionVerdict}
+use Rattle.carry_checks.proofs.CheckLaws.{counted, Counted, stray-whatever, addresses-found, ends-found}
+use Rattle.spill_checks.proofs.OperandLaws.{moves-whatever}
 use Rattle.job_checks.specs.Job.{jobOf, otherCounts, countVerdict, recordsVerdict, sizesOf, Small, Passed}
 use Rattle.job_checks.specs.Inner.{placeVerdict, strayVerdict, liveVerdict}
 

@@ -8,7 +8,7 @@ use Rattle.carrying.specs.Insts.{instsOf}
 use Rattle.carrying.specs.Carried.{piecesOf}
 use Rattle.carrying.specs.Checks.{instVerdict}
 use Rattle.areas.specs.Slots.{assignedOf, movesOf, moveVerdict, pieceVerdict, assignedVerdict}
-use Rattle.carry_entries.specs.Checks.{strayVerdict as mentionVerdict}
+use Rattle.carry_checks.specs.Checks.{strayVerdict as mentionVerdict}
 
 -- numbers 2, 3 and 4 of the blocks, the edges and the instructions
 abbrev pub placeVerdict : ℕ → ℕ → List ℕ → List ℕ → List ℕ → List ℕ → Verdict

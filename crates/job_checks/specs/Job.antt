@@ -16,7 +16,7 @@ use Rattle.areas.specs.Job.{Job, localsOf, checks, Checked}
 use Rattle.insts.specs.Counts.{rowsVerdict, mostVerdict}
 use Rattle.insts.specs.Rows.{AddsUp}
 use Rattle.reach.specs.Prepared.{wordsOf, codeOf}
-use Rattle.carry_entries.specs.Checks.{carryCounts}
+use Rattle.carry_checks.specs.Checks.{carryCounts}
 use Rattle.job_checks.specs.declared.Sizes.{Sizes}
 
 -- the records of the rows, in the job text's group order

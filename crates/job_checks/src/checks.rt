@@ -51,7 +51,7 @@ fn counts(
 ) -> Verdict
     ensures { λ r. ⌜ r ≡ countVerdict v (now (blocks .entry)) (now (edges .entry)) (now (insts .entry)) (now (operands .entry)) (now (crossings .entry)) (now (locals .entry)) (now (slots .entry)) (now (addresses .entry)) (now (ends .entry)) (now (pieces .entry)) (now (assigned .entry)) (now (moves .entry)) areas ⌝ }
 {
-    let a = carry_entries::checks::counts(
+    let a = carry_checks::checks::counts(
         v,
         blocks,
         insts,
@@ -106,8 +106,8 @@ fn stray(
     requires { ⌜ v ≤ 65535 ⌝ }
     ensures { λ r. ⌜ r ≡ strayVerdict v (now (blocks .entry)) (now (insts .entry)) [] (now (crossings .entry)) (now (addresses .entry)) (now (ends .entry)) (now (moves .entry)) ⌝ }
 {
-    let a = carry_entries::checks::stray(v, insts, crossings, addresses, ends);
-    let b = spills::checks::moves(blocks, insts, moves);
+    let a = carry_checks::checks::stray(v, insts, crossings, addresses, ends);
+    let b = spill_checks::moves(blocks, insts, moves);
     refusals::earlier(a, b)
 }
 
@@ -116,8 +116,8 @@ fn live(v: u32, blocks: &[u32], pieces: &[u32], assigned: &[u32]) -> Verdict
     requires { ⌜ 1 ≤ length (now blocks) / 3 ⌝ }
     ensures { λ r. ⌜ r ≡ liveVerdict v (now (blocks .entry)) (now (pieces .entry)) (now (assigned .entry)) ⌝ }
 {
-    let a = spills::checks::pieces(blocks, v, pieces);
-    let b = spills::checks::assigned(v, assigned);
+    let a = spill_checks::pieces(blocks, v, pieces);
+    let b = spill_checks::assigned(v, assigned);
     refusals::earlier(a, b)
 }
 

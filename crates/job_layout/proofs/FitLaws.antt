@@ -9,9 +9,9 @@ use Rattle.reach.specs.declared.Lay.{Lay}
 use Rattle.reach.specs.Prepared.{wordsOf, Laid as CarryLaid}
 use Rattle.area_flow.specs.declared.Grid.{Grid}
 use Rattle.area_flow.specs.Grid.{Laid as GridLaid}
-use Rattle.area_entries.specs.Layout.{wordsFor, Gridded, markOf}
-use Rattle.area_entries.specs.Layout.{Small as GridSmall}
-use Rattle.area_entries.proofs.FitLaws.{rows-fit}
+use Rattle.area_layout.specs.Layout.{wordsFor, Gridded, markOf}
+use Rattle.area_layout.specs.Layout.{Small as GridSmall}
+use Rattle.area_layout.proofs.FitLaws.{rows-fit}
 use Rattle.slot_spots.specs.declared.Places.{Places}
 use Rattle.slot_spots.specs.Slots.{Laid as SlotLaid}
 use Rattle.job_checks.specs.declared.Sizes.{Sizes}

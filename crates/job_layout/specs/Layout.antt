@@ -5,11 +5,11 @@ use mathlib.Core.List.{List}
 use lib.ListN.{length}
 use Rattle.reach.specs.declared.Lay.{Lay}
 use Rattle.reach.specs.Prepared.{wordsOf, Laid as CarryLaid}
-use Rattle.carry_entries.specs.Entry.{usedOf}
+use Rattle.carry_checks.specs.Layout.{usedOf}
 use Rattle.area_flow.specs.declared.Grid.{Grid}
 use Rattle.area_flow.specs.Grid.{Laid as GridLaid}
-use Rattle.area_entries.specs.declared.layout.Sizes.{Sizes as GridSizes}
-use Rattle.area_entries.specs.Layout.{markOf}
+use Rattle.area_layout.specs.declared.Sizes.{Sizes as GridSizes}
+use Rattle.area_layout.specs.Layout.{markOf}
 use Rattle.slot_spots.specs.declared.Places.{Places}
 use Rattle.slot_spots.specs.Slots.{Laid as SlotLaid}
 use Rattle.job_checks.specs.declared.Sizes.{Sizes}

@@ -3,7 +3,7 @@
 ghost use mathlib.Core.Path.{_≡_};
 ghost use Prim.Native.Nat.{_*_, _≤_};
 ghost use Rattle.job_checks.specs.Job.{Small};
-ghost use Rattle.area_entries.specs.Layout.{Gridded, markOf};
+ghost use Rattle.area_layout.specs.Layout.{Gridded, markOf};
 ghost use Rattle.job_layout.specs.Layout.{gridSizes, Placed, LaidFrom, SlotsFrom};
 use area_flow::Grid;
 use job_checks::Sizes;
@@ -81,8 +81,8 @@ pub fn grid(z: Sizes, base: usize) -> Grid
     requires { ⌜ Small z × (base ≤ 1048576) ⌝ }
     ensures { λ r. ⌜ Gridded (gridSizes z) base r ⌝ }
 {
-    area_entries::layout::grid(
-        area_entries::layout::Sizes {
+    area_layout::grid(
+        area_layout::Sizes {
             blocks: z.blocks,
             edges: z.edges,
             locals: z.locals,

@@ -19,10 +19,11 @@ use Rattle.refusals.specs.Outcomes.{Outcome, given, refused, unless}
 use Rattle.words.specs.Rows.{rowCount, wholeRows}
 use Rattle.ranges.specs.declared.Range.{Range}
 use Rattle.fitting.specs.Queries.{slotsOf, shared, areasOf}
-use Rattle.queries.specs.Shares.{SharedBy, shareOf, badAreas, sharedVerdict}
+use Rattle.queries.specs.Shares.{SharedBy, shareOf}
+use Rattle.query_checks.specs.Checks.{badAreas, sharedVerdict}
 use Rattle.queries.specs.declared.Share.{Share}
 use Rattle.queries.specs.declared.Share.the-variants.{Part, Absent, Refused}
-use Rattle.queries.proofs.ShareLaws.{parts-areas, shared-sound}
+use Rattle.query_checks.proofs.CheckLaws.{parts-areas, shared-sound}
 use Rattle.printing.specs.Puts.{Puts}
 use Rattle.plan_text.specs.declared.Written.the-variants.{Bytes, Refused as WrittenRefused}
 use Rattle.plan_text.specs.Printed.{cellLine, cellLines, itemLine, itemLines, printed, refusalText, printVerdict, Alike, PrintedTo, planText, noText}

@@ -13,7 +13,8 @@ use Rattle.words.proofs.RowLaws.{take-tabulate, drop-tabulate, map-tabulate}
 use Rattle.ranges.specs.declared.Range.{Range}
 use Rattle.ranges.specs.Points.{range}
 use Rattle.fitting.specs.Queries.{slotsOf, shared, areasOf}
-use Rattle.queries.specs.Shares.{SharedBy, shareOf, Inside, sharedVerdict}
+use Rattle.queries.specs.Shares.{SharedBy, shareOf, Inside}
+use Rattle.query_checks.specs.Checks.{sharedVerdict}
 use Rattle.queries.specs.declared.Share.{Share}
 use Rattle.queries.specs.declared.Share.the-variants.{Part, Absent, Refused}
 use Rattle.plan_text.specs.Printed.{rangeLine, rowLine, areaLines}

@@ -12,7 +12,7 @@ use Rattle.refusals.specs.declared.Refusal.the-variants.{Space}
 use Rattle.words.specs.Rows.{tabulate, rowCount, field, flat}
 use Rattle.ranges.specs.declared.Range.{Range}
 use Rattle.fitting.specs.Queries.{slotsOf, shared}
-use Rattle.queries.specs.Shares.{sharedVerdict}
+use Rattle.query_checks.specs.Checks.{sharedVerdict}
 use Rattle.printing.specs.Lines.{lineText}
 use Rattle.plan_text.specs.declared.Written.{Written}
 use Rattle.plan_text.specs.declared.Written.the-variants.{Bytes, Refused as WrittenRefused}

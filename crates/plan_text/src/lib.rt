@@ -4,7 +4,7 @@ ghost use Prim.Native.Nat.{_+_, _-_, _≤_, _<_};
 ghost use lib.ListN.{length};
 ghost use Rattle.refusals.specs.declared.Verdict.the-variants.{Fine};
 ghost use Rattle.words.specs.Rows.{rowCount, tabulate, flat};
-ghost use Rattle.queries.specs.Shares.{sharedVerdict};
+ghost use Rattle.query_checks.specs.Checks.{sharedVerdict};
 ghost use Rattle.printing.specs.Puts.{Puts};
 ghost use Rattle.plan_text.specs.Printed.{cellLines, itemLines, rowLine, sharedLines, printed, Alike, PrintedTo, planText, noText};
 use printing::put_line;

@@ -26,9 +26,9 @@ use Rattle.ranges.specs.declared.Range.{Range}
 use Rattle.ranges.proofs.PointLaws.{or-none}
 use Rattle.areas.specs.Job.{Job, Local, itemCount, itemArea, listVerdict}
 use Rattle.fitting.specs.Plan.{Plan, depthOf}
-use Rattle.queries.specs.Shares.{sharedVerdict}
+use Rattle.query_checks.specs.Checks.{sharedVerdict}
 use Rattle.wants.specs.Entry.{Tally, tallied, tallyOf, cellRows}
-use Rattle.area_entries.specs.Entry.{areaRows}
+use Rattle.area_tables.specs.Tables.{areaRows}
 use Rattle.soundness.specs.Demand.{jobPlan}
 use Rattle.job.specs.declared.Shared.{Shared}
 use Rattle.job.specs.declared.Shared.the-variants.{Plan as Planned, Refused}

@@ -22,15 +22,14 @@ use Rattle.ranges.specs.Points.{range}
 use Rattle.carrying.specs.Lists.{gather}
 use Rattle.areas.specs.Job.{rangesIn, rangesOf}
 use Rattle.area_measure.specs.Locals.{listed}
-use Rattle.area_entries.specs.Entry.{areaRows}
-use Rattle.area_entries.proofs.TableLaws.{ranges-below}
+use Rattle.area_tables.specs.Tables.{areaRows}
+use Rattle.area_tables.proofs.RowLaws.{ranges-below}
 use Rattle.fitting.specs.Plan.{Plan, Cell, depthOf}
 use Rattle.fitting.specs.Queries.{areasOf, partOf, slotsOf, shared}
 use Rattle.members.specs.Members.{membersIn}
-use Rattle.queries.specs.Entry.{badCount}
-use Rattle.queries.specs.Shares.{badAreas, outside, badItem, partsVerdict, sharedVerdict}
-use Rattle.queries.proofs.QueryLaws.{Sound}
-use Rattle.queries.proofs.ShareLaws.{item-named, out-absent, out-present, parts-fine, shared-sound, shared-at}
+use Rattle.query_checks.specs.Checks.{badCount, badAreas, outside, badItem, partsVerdict, sharedVerdict}
+use Rattle.query_checks.proofs.CheckLaws.{Sound, item-named, out-absent, out-present, parts-fine, shared-sound}
+use Rattle.queries.proofs.ShareLaws.{shared-at}
 use Rattle.wants.specs.Entry.{cellRow, cellRows}
 use Rattle.item_areas.specs.Entry.{itemRow}
 use Rattle.item_areas.proofs.TableLaws.{row-long}

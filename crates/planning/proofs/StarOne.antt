@@ -18,8 +18,8 @@ use Rattle.insts.specs.Counts.{instCounts, codeCounts}
 use Rattle.areas.specs.Job.{Job, checks, itemArea, rangesOf, listVerdict}
 use Rattle.fitting.specs.Plan.{Plan}
 use Rattle.wants.specs.Entry.{cellRows}
-use Rattle.area_entries.specs.Entry.{areaRows}
-use Rattle.carry_entries.specs.Checks.{carryCounts}
+use Rattle.area_tables.specs.Tables.{areaRows}
+use Rattle.carry_checks.specs.Checks.{carryCounts}
 use Rattle.job_checks.specs.Job.{otherCounts, countVerdict, recordsVerdict}
 use Rattle.soundness.specs.Demand.{jobPlan}
 use Rattle.soundness.proofs.StarOne.{star-1-job, star-1-checked, star-1-areas, star-1 as star-1-plan}

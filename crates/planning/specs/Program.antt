@@ -11,7 +11,7 @@ use Rattle.ranges.specs.declared.Range.{Range}
 use Rattle.areas.specs.Job.{Job, itemCount, itemArea}
 use Rattle.fitting.specs.Plan.{Plan, depthOf}
 use Rattle.wants.specs.Entry.{cellRows}
-use Rattle.area_entries.specs.Entry.{areaRows}
+use Rattle.area_tables.specs.Tables.{areaRows}
 use Rattle.job_checks.specs.Job.{jobOf}
 use Rattle.soundness.specs.Demand.{jobPlan}
 use Rattle.job.specs.Entry.{itemRows, verdictOf}

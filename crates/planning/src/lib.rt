@@ -6,7 +6,7 @@ ghost use Rattle.refusals.specs.declared.Verdict.the-variants.{Fine};
 ghost use Rattle.refusals.specs.Verdicts.{numberOf};
 ghost use Rattle.refusals.specs.Outcomes.{given};
 ghost use Rattle.grammar.specs.Groups.{rowNumbers, none};
-ghost use Rattle.queries.specs.Shares.{sharedVerdict};
+ghost use Rattle.query_checks.specs.Checks.{sharedVerdict};
 ghost use Rattle.plan_text.specs.Printed.{printed, refusalText, writtenOf};
 ghost use Rattle.planning.specs.Program.{printedFor};
 ghost use Rattle.planning.specs.Answer.{numbersAt, Few, SharedFor, Read, Stands, Answers, roomFor};

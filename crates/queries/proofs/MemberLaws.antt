@@ -12,7 +12,8 @@ use Rattle.words.proofs.RowLaws.{tabulate-suc, length-tabulate}
 use Rattle.words.proofs.Points.{same}
 use Rattle.fitting.specs.Queries.{Item, Slots, slotsOf, itemsOf, areasOf, countIn, crowd, crowdedFrom, crowded}
 use Rattle.members.specs.Members.{members, membersIn, picks, crowdedSlot, crowdedSlots}
-use Rattle.queries.proofs.QueryLaws.{Sound, itemAt, slots-are}
+use Rattle.query_checks.proofs.CheckLaws.{Sound}
+use Rattle.queries.proofs.QueryLaws.{itemAt, slots-are}
 
 -- ---- the definition's count
 

@@ -1,19 +1,15 @@
--- What `shared` and `crowded` answer and refuse: document 01, numbers 1, 7 and 10.
+-- What `shared` and `crowded` answer.
 use Prim.Native.Nat.{ℕ, _+_, _-_, _≤_}
 use mathlib.Core.Path.{_≡_}
-use mathlib.Core.Bool.{Bool, false, cond, not, _||_}
 use mathlib.Core.Option.{Option, some, none}
-use mathlib.Core.List.{List, [], _∷_}
+use mathlib.Core.List.{List, []}
 use lib.ListN.{length, take, drop}
-use lib.Dec.{ltb, eqb}
-use Rattle.refusals.specs.declared.Verdict.{Verdict}
-use Rattle.refusals.specs.declared.Refusal.the-variants.{Count, Space, Want as WantRefused}
-use Rattle.refusals.specs.Verdicts.{numberOf, inOrder, scan, check}
+use Rattle.refusals.specs.Verdicts.{numberOf}
 use Rattle.refusals.specs.Outcomes.{Outcome, given, refused, unless, after}
-use Rattle.words.specs.Rows.{rowCount, wholeRows, field}
+use Rattle.words.specs.Rows.{rowCount}
 use Rattle.ranges.specs.declared.Range.{Range}
 use Rattle.fitting.specs.Queries.{areasOf, slotsOf, shared, crowded}
-use Rattle.queries.specs.Entry.{badCount, noCell, surplus, planVerdict}
+use Rattle.query_checks.specs.Checks.{sharedVerdict, crowdedVerdict}
 use Rattle.queries.specs.declared.Share.{Share}
 use Rattle.queries.specs.declared.Share.the-variants.{Part, Absent, Refused as ShareRefused}
 use Rattle.queries.specs.declared.Crowd.{Crowd}
@@ -33,24 +29,6 @@ Inside ranges (Part first count) = first + count ≤ ranges
 Inside ranges Absent = Unit {0}
 Inside ranges (ShareRefused r i) = Unit {0}
 
--- number 1: an area list that is no whole rows, or over its limit
-abbrev pub badAreas : List ℕ → Bool
-badAreas areas = not (wholeRows 2 areas) || ltb 65536 (rowCount 2 areas)
-
--- number 10: "a part outside the area list"; an absent area's part is not read
-abbrev pub outside : ℕ → ℕ → ℕ → ℕ → Bool
-outside ranges present first count = cond (eqb present 0) false (ltb ranges (first + count))
-
-abbrev pub badItem : List ℕ → List ℕ → ℕ → ℕ → Bool
-badItem cells items ranges i = noCell cells items i || outside ranges (field 4 items i 1) (field 4 items i 2) (field 4 items i 3)
-
-abbrev pub partsVerdict : List ℕ → List ℕ → ℕ → Verdict
-partsVerdict cells items ranges = scan WantRefused (badItem cells items ranges) (rowCount 4 items)
-
-unfoldable pub sharedVerdict : List ℕ → List ℕ → List ℕ → ℕ → Verdict
-sharedVerdict cells items areas locals =
-    inOrder (check Count (badCount cells items locals || badAreas areas) ∷ partsVerdict cells items (rowCount 2 areas) ∷ surplus cells items ∷ [])
-
 pub record SharedBy (cells items areas : List ℕ) (locals i : ℕ) (r : Share) : Type 0 where
   pub answer : shareOf (areasOf areas) r ≡ unless (sharedVerdict cells items areas locals) (shared (slotsOf locals cells items areas) i)
   pub inside : Inside (rowCount 2 areas) r
@@ -60,11 +38,6 @@ pub record SharedBy (cells items areas : List ℕ) (locals i : ℕ) (r : Share) 
 abbrev pub crowdOf : Crowd → Outcome ℕ
 crowdOf (SlotsGiven n) = given n
 crowdOf (CrowdRefused r i) = refused (numberOf r) i
-
--- numbers 1, 7 and 10: an answer list under the slots is 7
-unfoldable pub crowdedVerdict : List ℕ → List ℕ → ℕ → ℕ → Verdict
-crowdedVerdict cells items locals room =
-    inOrder (check Count (badCount cells items locals) ∷ check Space (ltb room (rowCount 4 items - locals)) ∷ planVerdict cells items locals ∷ [])
 
 abbrev pub crowdedOf : List ℕ → List ℕ → ℕ → ℕ → Outcome (List ℕ)
 crowdedOf cells items locals room = unless (crowdedVerdict cells items locals room) (crowded (slotsOf locals cells items []))

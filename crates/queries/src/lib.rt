@@ -7,8 +7,6 @@ ghost use Rattle.queries.specs.Shares.{SharedBy, crowdedOf, CrowdedBy};
 use refusals::Refusal;
 use refusals::Verdict;
 
-mod checks; // checks.rt: refusals 1, 7 and 10
-
 // An item's cell; or there is no such item; or a refusal.
 pub enum Place {
     At(usize),
@@ -39,7 +37,7 @@ pub enum Crowd {
 pub fn local(cells: &[u32], items: &[u32], locals: u32, i: u32) -> Place
     ensures { λ r. ⌜ placeOf r ≡ localOf (now (cells .entry)) (now (items .entry)) locals i ⌝ }
 {
-    let v = checks::plan(cells, items, locals);
+    let v = query_checks::plan(cells, items, locals);
     if let Verdict::Bad(r, k) = v {
         return Place::Refused(r, k);
     }
@@ -53,7 +51,7 @@ pub fn local(cells: &[u32], items: &[u32], locals: u32, i: u32) -> Place
 pub fn slot(cells: &[u32], items: &[u32], locals: u32, i: u32) -> Place
     ensures { λ r. ⌜ placeOf r ≡ slotOf (now (cells .entry)) (now (items .entry)) locals i ⌝ }
 {
-    let v = checks::plan(cells, items, locals);
+    let v = query_checks::plan(cells, items, locals);
     if let Verdict::Bad(r, k) = v {
         return Place::Refused(r, k);
     }
@@ -68,7 +66,7 @@ pub fn slot(cells: &[u32], items: &[u32], locals: u32, i: u32) -> Place
 pub fn saved(cells: &[u32], items: &[u32], locals: u32) -> Saving
     ensures { λ r. ⌜ savedOf r ≡ savedBy (now (cells .entry)) (now (items .entry)) locals ⌝ }
 {
-    let v = checks::plan(cells, items, locals);
+    let v = query_checks::plan(cells, items, locals);
     if let Verdict::Bad(r, k) = v {
         return Saving::Refused(r, k);
     }
@@ -79,7 +77,7 @@ pub fn saved(cells: &[u32], items: &[u32], locals: u32) -> Saving
 pub fn shared(cells: &[u32], items: &[u32], areas: &[u32], locals: u32, i: u32) -> Share
     ensures { λ r. ⌜ SharedBy (now (cells .entry)) (now (items .entry)) (now (areas .entry)) locals i r ⌝ }
 {
-    let v = checks::parts(cells, items, areas, locals);
+    let v = query_checks::parts(cells, items, areas, locals);
     if let Verdict::Bad(r, k) = v {
         return Share::Refused(r, k);
     }
@@ -100,7 +98,7 @@ pub fn shared(cells: &[u32], items: &[u32], areas: &[u32], locals: u32, i: u32) 
 pub fn crowded(cells: &[u32], items: &[u32], locals: u32, out: &mut [u32]) -> Crowd
     ensures { λ r. ⌜ CrowdedBy (crowdedOf (now (cells .entry)) (now (items .entry)) locals (length (now (out .entry)))) (now (out .entry)) r (now (out .exit)) ⌝ }
 {
-    let v = checks::crowd(cells, items, locals, out.len());
+    let v = query_checks::crowd(cells, items, locals, out.len());
     if let Verdict::Bad(r, k) = v {
         return Crowd::Refused(r, k);
     }

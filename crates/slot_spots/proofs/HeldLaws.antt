@@ -10,7 +10,7 @@ use Rattle.words.specs.Rows.{tabulate}
 use Rattle.words.specs.Regions.{Region}
 use Rattle.words.proofs.Points.{stored}
 use Rattle.areas.specs.Slots.{Assigned, spilled}
-use Rattle.spills.proofs.SpilledLaws.{next-same, next-other}
+use Rattle.spill_checks.proofs.AssignedLaws.{next-same, next-other}
 use Rattle.slot_spots.specs.Slots.{heldWord}
 
 module _ (g : ℕ → Assigned) (at n : ℕ) where

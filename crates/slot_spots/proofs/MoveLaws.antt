@@ -25,9 +25,9 @@ use Rattle.carrying.specs.Insts.{Inst, instsOf}
 use Rattle.areas.specs.Slots.{Move, movesOf, moved, badMove}
 use Rattle.areas.proofs.PermuteLaws.{perm-refl, perm-front, perm-append, perm-exchange}
 use Rattle.reach.specs.Prepared.{latest}
-use Rattle.spills.specs.declared.Spot.the-variants.{At}
-use Rattle.spills.specs.Moved.{positionAt, moveRow}
-use Rattle.spills.proofs.MovedLaws.{point-is}
+use Rattle.move_points.specs.declared.Spot.the-variants.{At}
+use Rattle.move_points.specs.Moves.{positionAt, moveRow}
+use Rattle.move_points.proofs.MoveLaws.{point-is}
 use Rattle.chains.specs.Chains.{Chain, Linked, Walkable, wordsOf, Walked}
 use Rattle.chains.proofs.ChainLaws.{chain-kept}
 use Rattle.chains.proofs.WalkLaws.{words-are}

@@ -11,10 +11,10 @@ ghost use Rattle.graph.specs.Line.{blocksOf, Sound};
 ghost use Rattle.graph.specs.Work.{Table};
 ghost use Rattle.carrying.specs.Insts.{instsOf};
 ghost use Rattle.areas.specs.Slots.{assignedOf, spilled, movesOf, moveVerdict};
-ghost use Rattle.spills.specs.Moved.{moveRow};
+ghost use Rattle.move_points.specs.Moves.{moveRow};
 ghost use Rattle.chains.specs.Chains.{Walkable, Walked};
 ghost use Rattle.slot_spots.specs.Slots.{heldWord, coverOf, Laid, Chains, Chained, Fetched};
-use spills::Spot;
+use move_points::Spot;
 
 // Where the moves of `slots` slots are kept, each region past the one before: from `table` on the place of each block, by its number; from `heads` on each
 // slot's last move to it, then each slot's last move from it; from `nexts` on for each move the one before it to the same slot, then the one before it from the
@@ -87,12 +87,12 @@ fn cover(
     requires { ⌜ (i < length (now moves) / 4) × (moveVerdict (blocksOf (now blocks)) (instsOf (now insts) []) (movesOf (now moves)) ≡ Fine) ⌝ }
     ensures { λ r. ⌜ r ≡ pack (coverOf points (blocksOf (now (blocks .entry))) (instsOf (now (insts .entry)) []) (moveRow (now (moves .entry)) i)) ⌝ }
 {
-    let at = spills::moved::position(blocks, insts, work, table, moves[4 * i], moves[4 * i + 1]);
+    let at = move_points::position(blocks, insts, work, table, moves[4 * i], moves[4 * i + 1]);
     let Spot::At(p) = at else {
         return 0;
     };
-    let start = spills::moved::preceding(p);
-    let end = spills::moved::beyond(p, points);
+    let start = move_points::preceding(p);
+    let end = move_points::beyond(p, points);
     packed::pack(start, end)
 }
 

@@ -11,8 +11,10 @@ use Rattle.refusals.specs.Outcomes.{Outcome, given, refused, unless}
 use Rattle.words.specs.Rows.{rowCount, field}
 use Rattle.words.proofs.Points.{cut}
 use Rattle.fitting.specs.Queries.{slotsOf, local, slot, saved}
-use Rattle.queries.specs.Entry.{planVerdict, localOf, slotOf, savedBy}
-use Rattle.queries.proofs.QueryLaws.{sound, named, cell-at, local-at, local-none, slot-at, slot-none, saved-is}
+use Rattle.queries.specs.Entry.{localOf, slotOf, savedBy}
+use Rattle.query_checks.specs.Checks.{planVerdict}
+use Rattle.queries.proofs.QueryLaws.{cell-at, local-at, local-none, slot-at, slot-none, saved-is}
+use Rattle.query_checks.proofs.CheckLaws.{sound, named}
 
 -- a cell, if there is one
 abbrev cellOf : Outcome (Option ℕ) → ℕ

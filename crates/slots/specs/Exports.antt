@@ -13,7 +13,8 @@ use Rattle.spread.specs.declared.Answer.{Answer as SpreadAnswer}
 use Rattle.spread.specs.Entry.{Answered as Spread, outcomeOf as spreadOutcome}
 use Rattle.fitting.specs.Plan.{Plan}
 use Rattle.fitting.specs.Queries.{Slots}
-use Rattle.wants.specs.Entry.{tallyOf, spaceOf, zeroed, cellRows, itemRows}
+use Rattle.wants.specs.Entry.{tallyOf, zeroed, cellRows, itemRows}
+use Rattle.want_checks.specs.Checks.{spaceOf}
 use Rattle.queries.specs.declared.Share.{Share}
 use Rattle.queries.specs.Shares.{SharedBy, counted}
 use Rattle.capping.specs.Cap.{capVerdict, capRows}

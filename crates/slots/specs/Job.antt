@@ -7,7 +7,7 @@ use Rattle.refusals.specs.Outcomes.{Outcome, unless, after}
 use Rattle.areas.specs.Job.{itemCount, itemArea}
 use Rattle.fitting.specs.Plan.{Plan}
 use Rattle.wants.specs.Entry.{tallyOf, cellRows}
-use Rattle.area_entries.specs.Entry.{areaRows}
+use Rattle.area_tables.specs.Tables.{areaRows}
 use Rattle.job_checks.specs.Job.{jobOf, sizesOf, spaceOf}
 use Rattle.soundness.specs.Demand.{jobPlan}
 use Rattle.job.specs.Entry.{verdictOf, lentVerdict, itemRows}

@@ -2,7 +2,7 @@
 // Answer lists and work space have 7s at first, so that what is written past an answer, or by a refusal, shows.
 // A case's name is that of its entry. The columns of `spilled`: V, slots, the length of the answer list; assignments. Of `moved`: points, V, the slot, the
 // lengths of the answer list and of the work space; blocks, instructions, operands, moves.
-use spills::Answer;
+use spill_checks::Answer;
 
 struct Head {
     points: u32,
@@ -20,7 +20,7 @@ fn given(a: Answer) {
 }
 
 fn spilled_into(v: u32, slots: usize, assigned: &[u32], answer: &mut [u32]) {
-    let a = spills::spilled::spilled(v, slots, assigned, answer);
+    let a = spilled_registers::spilled(v, slots, assigned, answer);
     given(a);
     cases::show(answer);
     cases::text(b"\n");
@@ -43,7 +43,7 @@ fn moved_into(
     answer: &mut [u32],
     work: &mut [u64],
 ) {
-    let a = spills::moved::moved(
+    let a = moved_ranges::moved(
         h.points,
         h.v,
         blocks,

@@ -1,30 +1,21 @@
--- The entry: what a verdict of fine gives, and the answer put together.
-use Prim.Native.Nat.{ℕ, suc, _+_, _-_, _*_, _/_, _%_, _^_, _≤_, _<_}
+-- The entry: the answer put together.
+use Prim.Native.Nat.{ℕ, _+_, _-_, _*_, _^_, _≤_, _<_}
 use native.Mathlib.Omega.{arith}
 use mathlib.Core.Path.{_≡_, refl, ap, sym, _∙_, subst}
-use mathlib.Core.Logic.{_⊎_, inl, inr}
-use mathlib.Core.Bool.{Bool, true, false, cond, not, _||_}
+use mathlib.Core.Logic.{inr}
 use mathlib.Core.Option.{none}
 use mathlib.Core.List.{List, [], _∷_, _++_, map}
-use lib.ListN.{length, getD, take, drop, replicate, length-drop}
+use lib.ListN.{length, getD, drop, replicate, length-drop}
 use lib.Seq.{ext-getD, getD-drop}
-use lib.Dec.{ltb, eqb}
-use borrow.Author.Tests.{ltb-false, lt-ltb, le-ltb, eq-eqb, ne-eqb}
 use Rattle.refusals.specs.declared.Verdict.{Verdict}
 use Rattle.refusals.specs.declared.Verdict.the-variants.{Fine, Bad}
 use Rattle.refusals.specs.declared.Refusal.{Refusal}
-use Rattle.refusals.specs.declared.Refusal.the-variants.{Count, Space, Want as WantRefused}
-use Rattle.refusals.specs.Verdicts.{inOrder, scan, check}
-use Rattle.refusals.specs.Outcomes.{Outcome, given, refused, unless, after}
-use Rattle.refusals.proofs.Laws.{three-first, three-second, three-third, scan-fine}
-use Rattle.words.specs.Rows.{rowCount, wholeRows, field, tabulate, flat}
+use Rattle.refusals.specs.Outcomes.{given, unless}
+use Rattle.words.specs.Rows.{rowCount, field, tabulate, flat}
 use Rattle.words.specs.Regions.{cleared}
 use Rattle.words.proofs.RowLaws.{length-tabulate, tabulate-getD, map-tabulate, tabulate-eq}
-use Rattle.ranges.proofs.PointLaws.{or-none}
-use Rattle.ranges.specs.declared.Range.{Range}
 use Rattle.fitting.specs.Wants.{Want, orderOf}
 use Rattle.fitting.specs.Plan.{Cell, cellAt, Plan, planOf, depthOf}
-use Rattle.ranges.specs.Lent.{faulty}
 use Rattle.fitting.specs.Queries.{areasOf}
 use Rattle.fitting.proofs.OrderLaws.{order-names}
 use Rattle.fitting.proofs.PlanLaws.{facts}
@@ -32,75 +23,11 @@ use Rattle.order.specs.Keys.{sizeOf, alignOf}
 use Rattle.cell_tables.specs.declared.Counts.{Counts}
 use Rattle.cell_tables.specs.Tables.{wantIn, wantsIn, planIn, Shown, Fitted}
 use Rattle.wants.specs.declared.Fitted.the-variants.{Plan as Planned, Refused}
-use Rattle.wants.specs.Entry.{wantsOf, badPart, badWant, wantsVerdict, overLimit, badCount, badSpace, spaceOf, planFor, verdict, outcome, tallied, tallyOf, answerOf, cellRow, cellRows, itemRow, itemRows, zeroed, FittedAlone}
-use Rattle.wants.specs.Inner.{Loaded, cellRowsIn, itemRowsIn, Granted, Answered}
-use Rattle.wants.proofs.PartLaws.{part-present, areas-length}
+use Rattle.wants.specs.Entry.{wantsOf, planFor, tallied, cellRow, cellRows, itemRows, FittedAlone}
+use Rattle.want_tables.specs.Tables.{itemRow, Loaded, cellRowsIn, itemRowsIn}
+use Rattle.wants.specs.Inner.{Answered}
+use Rattle.want_tables.proofs.TableLaws.{item-wide}
 use Rattle.words.proofs.FlatLaws.{flat-length}
-
--- ---- the checks
-
-pub part-outside : (s : List ℕ) (present first count : ℕ) → (present ≡ 0 → ⊥) → rowCount 2 s < first + count → true ≡ badPart (areasOf s) present first count
-part-outside s present first count d h =
-    part-present (areasOf s) present first count true d
-    (sym (ap (λ (t : Bool). t || faulty (take count (drop first (areasOf s)))) (lt-ltb (length (areasOf s)) (first + count) (rw (areas-length s) h))))
-
-pub part-inside : (s : List ℕ) (present first count : ℕ) (r : Bool) → (present ≡ 0 → ⊥) → first + count ≤ rowCount 2 s → r ≡ faulty (take count (drop first (areasOf s)))
-    → r ≡ badPart (areasOf s) present first count
-part-inside s present first count r d h e =
-    part-present (areasOf s) present first count r d
-    (e ∙ sym (ap (λ (t : Bool). t || faulty (take count (drop first (areasOf s)))) (le-ltb (length (areasOf s)) (first + count) (rw (areas-length s) h))))
-
--- counts within their limits
-pub limits : (wants ranges locals budget : ℕ) → overLimit wants ranges locals budget ≡ false → (wants ≤ 4096) × (ranges ≤ 65536)
-limits wants ranges locals budget e =
-    let (a, b) = or-none (ltb wants locals) _ e in
-    let (c, d) = or-none (ltb 2048 locals) _ b in
-    let (f, g) = or-none (ltb 2048 (wants - locals)) _ d in
-    let (h, k) = or-none (ltb 65536 ranges) _ g in
-    (omega (arith, ltb-false wants locals a, ltb-false 2048 locals c, ltb-false 2048 (wants - locals) f), ltb-false 65536 ranges h)
-
-pub count-fine : (wants areas : List ℕ) (locals budget cells items : ℕ) → badCount wants areas locals budget cells items ≡ false → (rowCount 5 wants ≤ 4096) × (rowCount 2 areas ≤ 65536)
-count-fine wants areas locals budget cells items e =
-    let (a, b) = or-none (not (wholeRows 5 wants)) _ e in
-    let (c, d) = or-none (not (wholeRows 2 areas)) _ b in
-    let (f, g) = or-none (not (eqb (cells % 2) 0)) _ d in
-    let (h, k) = or-none (not (eqb (items % 4) 0)) _ g in
-    limits (rowCount 5 wants) (rowCount 2 areas) locals budget k
-
-three-fine : (r q : Refusal) (b t : Bool) (v : Verdict) → inOrder (check r b ∷ check q t ∷ v ∷ []) ≡ Fine → (b ≡ false) × (t ≡ false) × (v ≡ Fine)
-three-fine r q true t v e = let f = three-first r q true t v refl in let z : _≡_ {A = ℕ} 0 1 = cc in absurd (omega arith)
-three-fine r q false true v e = let f = three-second r q false true v refl refl in let z : _≡_ {A = ℕ} 0 1 = cc in absurd (omega arith)
-three-fine r q false false v e = (refl, refl, three-third r q false false v refl refl ∙ e)
-
--- the three ways out of the checks
-module _ (wants areas : List ℕ) (locals budget cells items work : ℕ) where
-  pub verdict-count : badCount wants areas locals budget cells items ≡ true → Bad Count 0 ≡ verdict wants areas locals budget cells items work
-  unfolding verdict
-  verdict-count e = three-first Count Space (badCount wants areas locals budget cells items) (badSpace wants areas cells items work) (wantsVerdict areas wants) e
-
-  pub verdict-space : badCount wants areas locals budget cells items ≡ false → badSpace wants areas cells items work ≡ true → Bad Space 0 ≡ verdict wants areas locals budget cells items work
-  unfolding verdict
-  verdict-space e f = three-second Count Space (badCount wants areas locals budget cells items) (badSpace wants areas cells items work) (wantsVerdict areas wants) e f
-
-  pub verdict-wants : badCount wants areas locals budget cells items ≡ false → badSpace wants areas cells items work ≡ false → wantsVerdict areas wants ≡ verdict wants areas locals budget cells items work
-  unfolding verdict
-  verdict-wants e f = three-third Count Space (badCount wants areas locals budget cells items) (badSpace wants areas cells items work) (wantsVerdict areas wants) e f
-
-  pub granted : verdict wants areas locals budget cells items work ≡ Fine → Granted wants areas cells items work
-  unfolding verdict
-  granted e =
-      let (a, b, c) = three-fine Count Space (badCount wants areas locals budget cells items) (badSpace wants areas cells items work) (wantsVerdict areas wants) e in
-      let (few′, short′) = count-fine wants areas locals budget cells items a in
-      let (f, g) = or-none (ltb work (spaceOf wants areas)) _ b in
-      let (h, k) = or-none (ltb (cells / 2) (rowCount 5 wants)) _ g in
-      record {
-        few = few′;
-        short = short′;
-        space = ltb-false work (spaceOf wants areas) f;
-        in-cells = omega (arith, ltb-false (cells / 2) (rowCount 5 wants) h);
-        in-items = omega (arith, ltb-false (items / 4) (rowCount 5 wants) k);
-        fine = scan-fine WantRefused (badWant (areasOf areas) wants) (rowCount 5 wants) c;
-      }
 
 -- ---- a refusal
 
@@ -118,22 +45,6 @@ pub rows-cells : (cs : List Cell) → flat (map cellRow cs) ≡ flat (tabulate (
 rows-cells cs =
     let d : Cell = record { size = 0; align = 0; area = none } in
     ap flat (ap (map cellRow) (sym (tabulate-getD cs d)) ∙ map-tabulate cellRow (length cs) (λ i. getD cs i d))
-
-item-wide : (c p f k : ℕ) → length (itemRow c p f k) ≡ 4
-item-wide c p f k = go (eqb p 0)
-  where
-    go : (t : Bool) → length (cond t (c ∷ 0 ∷ 0 ∷ 0 ∷ []) (c ∷ 1 ∷ f ∷ k ∷ [])) ≡ 4
-    go true = refl
-    go false = refl
-
-pub row-absent : (c p f k : ℕ) → p ≡ 0 → itemRow c p f k ≡ c ∷ 0 ∷ 0 ∷ 0 ∷ []
-row-absent c p f k e = ap (λ (t : Bool). cond t (c ∷ 0 ∷ 0 ∷ 0 ∷ []) (c ∷ 1 ∷ f ∷ k ∷ [])) (eq-eqb p 0 e)
-
-pub row-present : (c p f k : ℕ) → (p ≡ 0 → ⊥) → itemRow c p f k ≡ c ∷ 1 ∷ f ∷ k ∷ []
-row-present c p f k d = ap (λ (t : Bool). cond t (c ∷ 0 ∷ 0 ∷ 0 ∷ []) (c ∷ 1 ∷ f ∷ k ∷ [])) (ne-eqb p 0 d)
-
-pub item-row-wide : (w wants : List ℕ) (at i : ℕ) → length (itemRow (getD w (at + i) 0) (field 5 wants i 2) (field 5 wants i 3) (field 5 wants i 4)) ≡ 4
-item-row-wide w wants at i = item-wide (getD w (at + i) 0) (field 5 wants i 2) (field 5 wants i 3) (field 5 wants i 4)
 
 -- a cell's number is small
 pub cell-small : {w₁ w₂ : List ℕ} {ranges n end budget : ℕ} {r : Counts} → Fitted w₁ w₂ 0 ranges n end budget r → n ≤ 4096 → (i : ℕ) → i < n → getD w₂ (ranges + 6 * n + i) 0 < 2 ^ 32

@@ -1,59 +1,30 @@
 -- The loaded tables hold the wants that were lent.
-use Prim.Native.Nat.{ℕ, suc, _+_, _-_, _*_, _/_, _%_, _^_, _≤_, _<_}
+use Prim.Native.Nat.{ℕ, _+_, _-_, _*_, _^_, _≤_, _<_}
 use native.Mathlib.Omega.{arith}
-use native.Mathlib.Nat.{add-zero}
 use native.Mathlib.Decide.{ℕ-discrete}
-use mathlib.Core.Path.{_≡_, refl, ap, sym, _∙_, subst}
-use mathlib.Core.Logic.{_⊎_, inl, inr}
-use mathlib.Core.Bool.{Bool, true, false, cond}
-use mathlib.Core.Option.{Option, some, none}
-use mathlib.Core.List.{List, [], _∷_}
+use mathlib.Core.Path.{_≡_, ap, sym, _∙_}
+use mathlib.Core.Bool.{Bool, false, cond}
+use mathlib.Core.Option.{some, none}
+use mathlib.Core.List.{List}
 use lib.ListN.{length, getD, take, drop}
 use lib.Seq.{ext-getD}
-use lib.Dec.{eqb}
 use borrow.Author.Tests.{eq-eqb, ne-eqb}
-use Rattle.words.specs.Rows.{rowCount, field, records, tabulate}
-use Rattle.words.specs.Regions.{Region, part}
+use Rattle.words.specs.Rows.{rowCount, field}
+use Rattle.words.specs.Regions.{part}
 use Rattle.words.proofs.RegionLaws.{length-part, getD-part}
 use Rattle.words.proofs.RowLaws.{tabulate-eq}
-use Rattle.ranges.specs.declared.Range.{Range}
 use Rattle.ranges.specs.Points.{range, rangeAt, Apart}
 use Rattle.ranges.specs.Forms.{unpack, unpacked}
 use Rattle.ranges.proofs.FormLaws.{unpacked-length, unpacked-at, unpack-pack}
-use Rattle.fitting.specs.Wants.{Want}
 use Rattle.fitting.specs.Queries.{areasOf, partOf}
 use Rattle.order.specs.Keys.{sizeOf, alignOf}
 use Rattle.cell_tables.specs.Tables.{firstOf, countOf, rangesAt, areaIn, wantIn, wantsIn, Proper, Lent}
 use Rattle.cell_tables.proofs.TableLaws.{area-none, area-some}
-use Rattle.wants.specs.Entry.{wantsOf, badPart, badWant}
-use Rattle.wants.specs.Inner.{itemWord, areaWordAt, itemWordAt, wantWordAt, Loaded}
-use Rattle.wants.proofs.PartLaws.{part-length, part-at, part-fine, areas-length}
-
--- ---- words
-
-pub word-none : (present first count : ℕ) → present ≡ 0 → itemWord present first count ≡ 0
-word-none present first count e = ap (λ (t : Bool). cond t 0 (first * 2 ^ 32 + count + 1)) (eq-eqb present 0 e)
-
-pub word-some : (present first count : ℕ) → (present ≡ 0 → ⊥) → itemWord present first count ≡ first * 2 ^ 32 + count + 1
-word-some present first count d = ap (λ (t : Bool). cond t 0 (first * 2 ^ 32 + count + 1)) (ne-eqb present 0 d)
-
-pub area-word : (s : List ℕ) (i : ℕ) → getD s (2 * i) 0 * 2 ^ 32 + getD s (2 * i + 1) 0 ≡ areaWordAt s i
-area-word s i = ap (λ (k : ℕ). getD s k 0 * 2 ^ 32 + getD s (2 * i + 1) 0) (sym (add-zero (2 * i)))
-
-pub want-word : (s : List ℕ) (i : ℕ) → getD s (5 * i) 0 * 2 ^ 32 + getD s (5 * i + 1) 0 ≡ wantWordAt s i
-want-word s i = ap (λ (k : ℕ). getD s k 0 * 2 ^ 32 + getD s (5 * i + 1) 0) (sym (add-zero (5 * i)))
-
--- ---- the three passes
-
-pub loaded : {w₀ w₁ w₂ w₃ wants areas : List ℕ} {n ranges : ℕ} → Region w₀ w₁ 0 ranges (areaWordAt areas) → Region w₁ w₂ ranges n (itemWordAt wants) → Region w₂ w₃ (ranges + n) n (wantWordAt wants)
-    → Loaded w₀ w₃ wants areas n ranges
-loaded {w₀} {w₁} {w₂} {w₃} {wants} {areas} {n} {ranges} a b c = record {
-  len = c .len ∙ b .len ∙ a .len;
-  area = λ i h. c .before i (omega arith) ∙ b .before i h ∙ a .inside i i (omega arith) h;
-  item = λ i h. c .before (ranges + i) (omega arith) ∙ b .inside (ranges + i) i refl h;
-  want = λ i h. c .inside (ranges + n + i) i refl h;
-  rest = λ x h. c .after x (omega arith) ∙ b .after x (omega arith) ∙ a .after x (omega arith);
-}
+use Rattle.wants.specs.Entry.{wantsOf}
+use Rattle.want_checks.specs.Checks.{badWant}
+use Rattle.want_tables.specs.Tables.{itemWordAt, Loaded}
+use Rattle.want_tables.proofs.TableLaws.{word-none, word-some, area-word}
+use Rattle.want_checks.proofs.PartLaws.{part-length, part-at, part-fine, areas-length}
 
 -- a part that is in the area list begins no later than its end
 pub first-small : (wants areas : List ℕ) → rowCount 2 areas ≤ 65536 → ((i : ℕ) → i < rowCount 5 wants → badWant (areasOf areas) wants i ≡ false)

@@ -2,12 +2,10 @@
 ghost use mathlib.Core.Path.{_≡_};
 ghost use lib.ListN.{length};
 ghost use Rattle.wants.specs.Entry.{planFor, outcome, FittedAlone};
-ghost use Rattle.wants.specs.Inner.{Granted, Answered};
+ghost use Rattle.want_checks.specs.Checks.{Granted};
+ghost use Rattle.wants.specs.Inner.{Answered};
 use refusals::Refusal;
 use refusals::Verdict;
-
-mod checks; // checks.rt: refusals 1, 7 and 10
-pub mod tables; // tables.rt: from the lent rows into the work space, and back
 
 // A plan's cells, the probes spent and its depth, or a refusal.
 pub enum Fitted {
@@ -33,7 +31,7 @@ pub fn fit_wants(
         (outcome (now (wants .entry)) (now (areas .entry)) locals budget (length (now (cells .entry))) (length (now (items .entry))) (length (now (work .entry))))
         (now (cells .entry)) (now (items .entry)) (now (work .entry)) r (now (cells .exit)) (now (items .exit)) (now (work .exit)) ⌝ }
 {
-    let v = checks::refusal(
+    let v = want_checks::refusal(
         wants,
         areas,
         locals,
@@ -64,11 +62,11 @@ fn answer(
 {
     let n = wants.len() / 5;
     let ranges = areas.len() / 2;
-    tables::load(work, wants, areas, n, ranges);
+    want_tables::load(work, wants, areas, n, ranges);
     let end = 8 * (n + ranges);
     let f = fit::fit(work, 0, ranges, n, end, budget as u64);
-    tables::write_cells(cells, work, ranges + 5 * n, f.cells);
-    tables::write_items(items, work, wants, ranges + 6 * n, n);
+    want_tables::write_cells(cells, work, ranges + 5 * n, f.cells);
+    want_tables::write_items(items, work, wants, ranges + 6 * n, n);
     words::clear(work, end);
     f
 }

@@ -5,7 +5,7 @@ use mathlib.Core.Path.{sym, _∙_}
 use lib.ListN.{length}
 use denote.Ref.{now}
 use borrow.Author.Needs.{needs}
-use Rattle.area_entries.proofs.CheckLaws.{lent}
+use Rattle.area_checks.proofs.CheckLaws.{lent}
 use Rattle.area_entries.proofs.EntryLaws.{refused-entry, answered-entry}
 use Rattle.area_entries.proofs.local_areas.Statement.{statement}
 use Rattle.area_entries.proofs.local_areas.Tie as tie

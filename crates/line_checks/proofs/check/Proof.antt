@@ -1,4 +1,4 @@
--- `graph::checks::check` meets its contract: the three checks in their order.
+-- `check` meets its contract: the three checks in their order.
 use Prim.Native.Nat.{ℕ, _-_}
 use mathlib.Core.Path.{sym, ap, _∙_}
 use lib.ListN.{length}

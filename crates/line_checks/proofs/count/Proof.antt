@@ -1,4 +1,4 @@
--- `graph::checks::count` meets its contract: a law for each way out.
+-- `count` meets its contract: a law for each way out.
 use native.Mathlib.Omega.{arith}
 use Prim.Native.Nat.{_-_}
 use Rattle.line_checks.proofs.count.Statement.{statement}

@@ -1,4 +1,4 @@
--- `graph::checks::edge` meets its contract: no edge before i is refused.
+-- `edge` meets its contract: no edge before i is refused.
 use native.Mathlib.Omega.{arith}
 use Prim.Native.Nat.{_-_, _≤_, _/_}
 use mathlib.Core.Path.{_≡_, sym}

@@ -1,4 +1,4 @@
--- `graph::checks::follows` meets its contract.
+-- `follows` meets its contract.
 use native.Mathlib.Omega.{arith}
 use Prim.Native.Nat.{ℕ, _+_, _-_, _<_}
 use mathlib.Core.Path.{_≡_, sym, _∙_}

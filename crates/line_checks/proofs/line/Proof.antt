@@ -1,4 +1,4 @@
--- `graph::checks::line` meets its contract: no block before i is refused, and the bits are the numbers used so far.
+-- `line` meets its contract: no block before i is refused, and the bits are the numbers used so far.
 use native.Mathlib.Omega.{arith}
 use Prim.Native.Nat.{ℕ, _-_, _≤_, _<_, _/_}
 use mathlib.Core.Path.{_≡_, refl, sym, ap, _∙_}

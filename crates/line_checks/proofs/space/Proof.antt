@@ -1,4 +1,4 @@
--- `graph::checks::space` meets its contract: a law for each way out.
+-- `space` meets its contract: a law for each way out.
 use native.Mathlib.Omega.{arith}
 use Prim.Native.Nat.{_-_}
 use borrow.Author.Needs.{needs}

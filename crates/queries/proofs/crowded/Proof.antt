@@ -1,6 +1,7 @@
 -- `crowded` meets its contract: refused, or the slots listed.
-use Rattle.queries.proofs.ShareLaws.{crowded-refused, crowd-passed, crowded-told}
-use Rattle.queries.proofs.QueryLaws.{sound, named}
+use Rattle.queries.proofs.ShareLaws.{crowded-refused, crowded-told}
+use Rattle.query_checks.proofs.CheckLaws.{crowd-passed}
+use Rattle.query_checks.proofs.CheckLaws.{sound, named}
 use denote.Ref.{now}
 use native.Mathlib.Omega.{arith}
 use Prim.Native.Nat.{_-_}

@@ -1,5 +1,6 @@
 -- `shared` meets its contract: refused, none, or the part.
-use Rattle.queries.proofs.ShareLaws.{shared-sound, share-refused, share-none, share-some, shared-past, shared-absent, shared-lone, shared-part, part-inside}
+use Rattle.query_checks.proofs.CheckLaws.{shared-sound, part-inside}
+use Rattle.queries.proofs.ShareLaws.{share-refused, share-none, share-some, shared-past, shared-absent, shared-lone, shared-part}
 use denote.Ref.{now}
 use native.Mathlib.Omega.{arith}
 use Prim.Native.Nat.{_+_, _-_, _*_}

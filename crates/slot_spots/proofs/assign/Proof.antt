@@ -4,7 +4,7 @@ use native.Mathlib.Nat.{add-zero}
 use Prim.Native.Nat.{ℕ, _+_, _-_, _*_, _/_, _≤_}
 use mathlib.Core.Path.{_≡_, refl, sym, ap}
 use lib.ListN.{length, getD}
-use Rattle.spills.proofs.SpilledLaws.{assignedAt}
+use Rattle.spill_checks.proofs.AssignedLaws.{assignedAt}
 use Rattle.slot_spots.proofs.HeldLaws.{Holding, held-start, held-put, held-skip, held-done}
 use Rattle.slot_spots.proofs.assign.Statement.{statement}
 use Rattle.slot_spots.proofs.assign.Tie as tie

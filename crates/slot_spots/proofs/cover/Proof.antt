@@ -9,8 +9,8 @@ use borrow.Author.Needs.{needs}
 use Rattle.graph.specs.Line.{blocksOf}
 use Rattle.carrying.specs.Insts.{instsOf}
 use Rattle.areas.specs.Slots.{badMove}
-use Rattle.spills.specs.Moved.{positionAt, moveRow}
-use Rattle.spills.proofs.MovedLaws.{move-fine, not-nowhere}
+use Rattle.move_points.specs.Moves.{positionAt, moveRow}
+use Rattle.move_points.proofs.MoveLaws.{move-fine, not-nowhere}
 use Rattle.slot_spots.proofs.MoveLaws.{cover-is}
 use Rattle.slot_spots.proofs.cover.Statement.{statement}
 use Rattle.slot_spots.proofs.cover.Tie as tie

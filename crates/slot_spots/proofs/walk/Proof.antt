@@ -8,7 +8,7 @@ use Rattle.words.specs.Rows.{rowCount, field}
 use Rattle.ranges.specs.Forms.{pack}
 use Rattle.graph.specs.Line.{blocksOf}
 use Rattle.carrying.specs.Insts.{instsOf}
-use Rattle.spills.specs.Moved.{moveRow}
+use Rattle.move_points.specs.Moves.{moveRow}
 use Rattle.chains.proofs.WalkLaws.{Walking, walk-start, walk-row, walk-back, walk-less, walk-more, walk-done}
 use Rattle.slot_spots.specs.Slots.{coverOf}
 use Rattle.slot_spots.proofs.MoveLaws.{table-kept}

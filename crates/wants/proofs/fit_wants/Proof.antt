@@ -1,6 +1,8 @@
 -- `fit_wants` meets its contract: refused, or answered.
-use Rattle.wants.specs.Entry.{planFor, verdict}
-use Rattle.wants.proofs.EntryLaws.{granted, refused-alone, answered-alone}
+use Rattle.wants.specs.Entry.{planFor}
+use Rattle.want_checks.specs.Checks.{verdict}
+use Rattle.want_checks.proofs.CheckLaws.{granted}
+use Rattle.wants.proofs.EntryLaws.{refused-alone, answered-alone}
 use denote.Ref.{now}
 use mathlib.Core.Path.{sym, _∙_}
 use lib.ListN.{length}

@@ -1,0 +1,21 @@
+-- `short` meets its contract: one law for each way out.
+use native.Mathlib.Omega.{arith}
+use Prim.Native.Nat.{_-_}
+use Rattle.area_checks.proofs.CheckLaws.{short-work, short-items, enough}
+use Rattle.area_checks.proofs.short.Statement.{statement}
+use Rattle.area_checks.proofs.short.Tie as tie
+
+needed-requires : tie.Need-needed-requires
+needed-requires c κs = (c .pre)
+
+returns : tie.Need-returns
+returns c = short-work ((c .before .before .args) .z) ((c .before .before .args) .items) ((c .before .before .args) .work) (omega (arith, (c .before .needed) .ensures))
+
+returns-2 : tie.Need-returns-2
+returns-2 c = short-items ((c .before .before .before .before .args) .z) ((c .before .before .before .before .args) .items) ((c .before .before .before .before .args) .work) (omega (arith, (c .before .before .before .needed) .ensures)) (omega arith)
+
+returns-3 : tie.Need-returns-3
+returns-3 c = enough ((c .before .before .before .before .args) .z) ((c .before .before .before .before .args) .items) ((c .before .before .before .before .args) .work) (omega (arith, (c .before .before .before .needed) .ensures)) (omega arith)
+
+pub short-spec : {M : Type 1} → statement M
+short-spec = tie.close (tie.spec needed-requires returns returns-2 returns-3)

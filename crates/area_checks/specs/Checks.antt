@@ -1,0 +1,43 @@
+-- Areas of touches and ends lent by themselves: what is refused before anything is measured (numbers 1, 2, 3 and 7), and W.
+use Prim.Native.Nat.{ℕ, _/_, _-_, _≤_}
+use mathlib.Core.Path.{_≡_}
+use mathlib.Core.Bool.{_||_}
+use mathlib.Core.List.{List}
+use lib.ListN.{length}
+use lib.Dec.{ltb}
+use Rattle.refusals.specs.declared.Verdict.{Verdict}
+use Rattle.refusals.specs.declared.Refusal.the-variants.{Space}
+use Rattle.refusals.specs.Verdicts.{first, check}
+use Rattle.words.specs.Rows.{rowCount}
+use Rattle.graph.specs.Checks.{graphVerdict}
+use Rattle.insts.specs.Counts.{rowsVerdict, mostVerdict}
+use Rattle.area_layout.specs.declared.Sizes.{Sizes}
+use Rattle.area_layout.specs.Layout.{spaceFor, Small}
+use Rattle.refusals.specs.declared.Verdict.the-variants.{Fine}
+use Rattle.graph.specs.Line.{blocksOf, jumpsOf, edgeVerdict, Sound}
+
+-- number 1: "locals 2,048; ends and the area list 65,536", and as many touches; an answer list that is no whole rows
+unfoldable pub rowCounts : ℕ → ℕ → ℕ → ℕ → ℕ → Verdict
+rowCounts kinds touches ends areas items =
+    first (mostVerdict 2048 kinds) (first (rowsVerdict 3 65536 touches) (first (rowsVerdict 2 65536 ends) (first (rowsVerdict 2 65536 areas) (rowsVerdict 2 items items))))
+
+-- how many records are lent, and how many ranges the area list holds; the other lists are given by their lengths
+abbrev pub sizesOf : List ℕ → List ℕ → ℕ → ℕ → ℕ → ℕ → Sizes
+sizesOf blocks edges kinds touches ends areas =
+    record { blocks = rowCount 3 blocks; edges = rowCount 2 edges; locals = kinds; touches = touches / 3; ends = ends / 2; room = areas / 2 }
+
+-- number 7: work space under W, item list under the item count
+abbrev pub spaceVerdict : Sizes → ℕ → ℕ → Verdict
+spaceVerdict z items work = check Space (ltb work (spaceFor z) || ltb (items / 2) (z .locals))
+
+-- numbers 1, 2, 3 and 7: what is refused before anything is measured
+unfoldable pub lentVerdict : List ℕ → List ℕ → ℕ → ℕ → ℕ → ℕ → ℕ → ℕ → ℕ → Verdict
+lentVerdict blocks edges points kinds touches ends areas items work =
+    first (rowCounts kinds touches ends areas items) (first (graphVerdict blocks edges points) (spaceVerdict (sizesOf blocks edges kinds touches ends areas) items work))
+
+-- what no refusal before measuring says of the lists, the area list by its length
+pub record Lent (blocks edges kinds touches ends : List ℕ) (areas : ℕ) (w : List ℕ) : Type 0 where
+  pub small : Small (sizesOf blocks edges (length kinds) (length touches) (length ends) areas)
+  pub sound : Sound (blocksOf blocks)
+  pub edges-fine : edgeVerdict (blocksOf blocks) (jumpsOf edges) ≡ Fine
+  pub space : spaceFor (sizesOf blocks edges (length kinds) (length touches) (length ends) areas) ≤ length w

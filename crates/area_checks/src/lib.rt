@@ -1,0 +1,81 @@
+// The refusals that come before the areas are measured: numbers 1, 2, 3 and 7, in linear time and without work space.
+ghost use mathlib.Core.Path.{_≡_};
+ghost use Rattle.area_layout.specs.Layout.{spaceFor, Small};
+ghost use Rattle.area_checks.specs.Checks.{rowCounts, spaceVerdict, lentVerdict};
+use area_layout::Sizes;
+use refusals::Refusal;
+use refusals::Verdict;
+
+// Refusal 1 of the locals, the touches, the ends, the area list and the list of items, by their lengths.
+fn counts(kinds: usize, touches: usize, ends: usize, areas: usize, items: usize) -> Verdict
+    ensures { λ r. ⌜ r ≡ rowCounts kinds touches ends areas items ⌝ }
+{
+    let a = insts::counts::most(kinds, 2048);
+    let b = insts::counts::rows(touches, 3, 65536);
+    let c = insts::counts::rows(ends, 2, 65536);
+    let d = insts::counts::rows(areas, 2, 65536);
+    let e = insts::counts::rows(items, 2, items);
+    refusals::earlier(
+        a,
+        refusals::earlier(b, refusals::earlier(c, refusals::earlier(d, e))),
+    )
+}
+
+// W, the words of work space that are needed.
+pub fn needed(z: Sizes) -> usize
+    requires { ⌜ Small z ⌝ }
+    ensures { λ r. ⌜ r ≡ spaceFor z ⌝ }
+{
+    let rows = z.blocks * ((z.locals + 63) / 64);
+    8 * (z.blocks + z.edges + z.locals + z.touches + z.ends + rows + z.room)
+}
+
+// Refusal 7: work space under W, or an item list under the locals.
+fn short(z: Sizes, items: usize, work: usize) -> Verdict
+    requires { ⌜ Small z ⌝ }
+    ensures { λ r. ⌜ r ≡ spaceVerdict z items work ⌝ }
+{
+    if work < needed(z) {
+        return Verdict::Bad(Refusal::Space, 0);
+    }
+    if items / 2 < z.locals {
+        return Verdict::Bad(Refusal::Space, 0);
+    }
+    Verdict::Fine
+}
+
+// Of the entry, by the lent blocks and edges and the lengths of the other lists.
+pub fn refusal(
+    blocks: &[u32],
+    edges: &[u32],
+    points: u32,
+    kinds: usize,
+    touches: usize,
+    ends: usize,
+    areas: usize,
+    items: usize,
+    work: usize,
+) -> Verdict
+    ensures { λ r. ⌜ r ≡ lentVerdict (now (blocks .entry)) (now (edges .entry)) points kinds touches ends areas items work ⌝ }
+{
+    let v = counts(kinds, touches, ends, areas, items);
+    if let Verdict::Bad(r, i) = v {
+        return Verdict::Bad(r, i);
+    }
+    let v = line_checks::check(blocks, edges, points);
+    if let Verdict::Bad(r, i) = v {
+        return Verdict::Bad(r, i);
+    }
+    short(
+        Sizes {
+            blocks: blocks.len() / 3,
+            edges: edges.len() / 2,
+            locals: kinds,
+            touches: touches / 3,
+            ends: ends / 2,
+            room: areas / 2,
+        },
+        items,
+        work,
+    )
+}

@@ -1,0 +1,56 @@
+-- The entry `carried`: the registers that carry one local's address.
+use Prim.Native.Nat.{ℕ, _+_, _/_, _≤_, _<_, min}
+use mathlib.Core.Path.{_≡_}
+use mathlib.Core.Bool.{cond}
+use mathlib.Core.Option.{Option, some, none}
+use mathlib.Core.List.{List, []}
+use lib.ListN.{length, getD, replicate}
+use lib.Dec.{ltb}
+use Rattle.refusals.specs.declared.Verdict.{Verdict}
+use Rattle.refusals.specs.Verdicts.{numberOf}
+use Rattle.refusals.specs.Outcomes.{Outcome, given, refused, unless, after}
+use Rattle.words.specs.Rows.{rowCount}
+use Rattle.words.specs.Regions.{Region}
+use Rattle.graph.specs.Work.{Within}
+use Rattle.carrying.specs.Carried.{Code, carried}
+use Rattle.reach.specs.Prepared.{codeOf}
+use Rattle.carried_registers.specs.declared.Carrying.{Carrying}
+use Rattle.carried_registers.specs.declared.Carrying.the-variants.{Listed, Absent, Refused}
+use Rattle.carry_checks.specs.Checks.{carryVerdict, carrySpace}
+
+-- what each case of an answer stands for: how many registers, none for a local that is absent, or the refusal
+abbrev pub told : Carrying → Outcome (Option ℕ)
+told (Listed n) = given (some n)
+told Absent = given none
+told (Refused r i) = refused (numberOf r) i
+
+-- the most there can be: each is numbered, and the def of an instruction
+abbrev pub mostOf : ℕ → List ℕ → ℕ
+mostOf v insts = min v (rowCount 9 insts)
+
+-- "a local number past the end" is absent
+abbrev pub countOf : Code → ℕ → ℕ → Option ℕ
+countOf C locals l = cond (ltb l locals) (some (length (carried C l))) none
+
+abbrev pub registersOf : Code → ℕ → ℕ → List ℕ
+registersOf C locals l = cond (ltb l locals) (carried C l) []
+
+-- the carried registers of a local at the front of the answer, with changes in the first words of the work space only
+pub record Registers (C : Code) (l used n : ℕ) (answer₀ answer w₀ w : List ℕ) : Type 0 where
+  pub kept : Within 0 used w₀ w
+  pub count : n ≡ length (carried C l)
+  pub room : n ≤ length answer₀
+  pub list : Region answer₀ answer 0 n (λ k. getD (carried C l) k 0)
+
+abbrev pub verdictOf : ℕ → ℕ → List ℕ → List ℕ → List ℕ → List ℕ → List ℕ → List ℕ → List ℕ → ℕ → ℕ → Verdict
+verdictOf points v blocks insts operands crossings locals addresses ends lent work =
+    carryVerdict points v blocks insts operands crossings locals addresses ends lent (mostOf v insts) work
+
+-- the answer of `carried`, its list and the work space afterwards
+pub record CarriedTo (points v : ℕ) (blocks insts operands crossings locals addresses ends : List ℕ) (l : ℕ) (answer₀ work₀ : List ℕ) (r : Carrying) (answer work : List ℕ) : Type 0 where
+  pub outcome : told r ≡ unless (verdictOf points v blocks insts operands crossings locals addresses ends (length answer₀) (length work₀))
+      (countOf (codeOf v insts operands crossings addresses ends) (rowCount 2 locals) l)
+  pub list : answer ≡ after (unless (verdictOf points v blocks insts operands crossings locals addresses ends (length answer₀) (length work₀))
+      (registersOf (codeOf v insts operands crossings addresses ends) (rowCount 2 locals) l)) (λ rs. rs) answer₀
+  pub space : work ≡ after (unless (verdictOf points v blocks insts operands crossings locals addresses ends (length answer₀) (length work₀))
+      (carrySpace v blocks insts operands crossings locals addresses ends)) (λ n. replicate n 0) work₀

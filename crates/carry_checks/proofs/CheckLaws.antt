@@ -1,0 +1,182 @@
+-- The checks of the entries: their order, and what no refusal says.
+use Prim.Native.Nat.{ℕ, zero, suc, _+_, _-_, _*_, _/_, _≤_, _<_}
+use native.Mathlib.Omega.{arith}
+use native.Mathlib.Nat.{add-zero}
+use mathlib.Core.Path.{_≡_, refl, sym, ap, _∙_}
+use mathlib.Core.Bool.{Bool, true, false, cond, not, _||_, true≢false, false≢true}
+use mathlib.Core.List.{List, []}
+use lib.ListN.{length, getD}
+use lib.Dec.{eqb, leb, ltb}
+use borrow.Author.Tests.{lt-ltb, le-ltb, le-leb}
+use Rattle.refusals.specs.declared.Verdict.{Verdict}
+use Rattle.refusals.specs.declared.Verdict.the-variants.{Fine, Bad}
+use Rattle.refusals.specs.declared.Refusal.{Refusal}
+use Rattle.refusals.specs.declared.Refusal.the-variants.{Space, Stray}
+use Rattle.refusals.specs.Verdicts.{first, check}
+use Rattle.refusals.proofs.Laws.{first-fine, first-bad, first-left, first-right, scan-fine}
+use Rattle.words.specs.Rows.{rowCount}
+use Rattle.words.proofs.Points.{cut}
+use Rattle.graph.specs.Line.{blocksOf, lineVerdict}
+use Rattle.carrying.specs.Insts.{instsOf, instAt, isSet}
+use Rattle.carrying.specs.Carried.{Mention, mentionsOf}
+use Rattle.carrying.specs.Checks.{instVerdict, crossingVerdict, addressVerdict, endVerdict, absent, mentionAt}
+use Rattle.insts.specs.Counts.{rowsVerdict, mostVerdict, blockCounts, instCounts, codeCounts}
+use Rattle.insts.specs.Rows.{AddsUp}
+use Rattle.insts.proofs.DealtLaws.{insts-length}
+use Rattle.insts.proofs.CheckLaws.{bad-fine, most-few, rows-few, blocks-few, blocks-some, insts-counted, inst-is, address-whatever, end-whatever}
+use Rattle.reach.specs.Prepared.{wordsOf}
+use Rattle.reach.proofs.ReadyLaws.{mentions-count}
+use Rattle.carry_checks.specs.Checks.{carryCounts, placeVerdict, strayVerdict, carrySpace, roomVerdict, carryVerdict}
+use Rattle.carry_checks.specs.Layout.{usedOf, Checked}
+
+-- ---- number 7
+
+module _ (lent most work words : ℕ) where
+  pub room-answer : lent < most → Bad Space 0 ≡ roomVerdict lent most work words
+  room-answer h = simp (lt-ltb lent most h)
+
+  pub room-work : most ≤ lent → work < words → Bad Space 0 ≡ roomVerdict lent most work words
+  room-work h l = simp (le-ltb lent most h, lt-ltb work words l)
+
+  pub room-fine : most ≤ lent → words ≤ work → Fine ≡ roomVerdict lent most work words
+  room-fine h l = simp (le-ltb lent most h, le-ltb work words l)
+
+  room-told : roomVerdict lent most work words ≡ Fine → (most ≤ lent) × (words ≤ work)
+  room-told e =
+      let p = cut {A = most ≤ lent} most lent (λ h. h) (λ h. absurd (bad-fine (room-answer h ∙ e))) in
+      (p, cut words work (λ h. h) (λ h. absurd (bad-fine (room-work p h ∙ e))))
+
+-- ---- number 1
+
+module _ (v : ℕ) (blocks insts operands crossings locals addresses ends : List ℕ) where
+  pub counts-chain : {a b r : Verdict} → a ≡ blockCounts blocks → b ≡ codeCounts v insts operands crossings locals addresses ends → r ≡ first a b
+      → r ≡ carryCounts v blocks insts operands crossings locals addresses ends
+  unfolding carryCounts
+  counts-chain ea eb er = cc
+
+  pub record Counted : Type 0 where
+    pub registers : v ≤ 65535
+    pub some : 1 ≤ length blocks / 3
+    pub few : length blocks / 3 ≤ 4096
+    pub few-insts : length insts / 9 ≤ 65536
+    pub few-operands : length operands / 2 ≤ 262144
+    pub few-crossings : length crossings ≤ 65536
+    pub few-locals : length locals / 2 ≤ 2048
+    pub few-addresses : length addresses / 2 ≤ 65536
+    pub few-ends : length ends / 2 ≤ 65536
+    pub adds : AddsUp insts operands
+
+  pub counted : carryCounts v blocks insts operands crossings locals addresses ends ≡ Fine → Counted
+  unfolding carryCounts codeCounts
+  counted e =
+      let b = first-left (blockCounts blocks) _ e in
+      let c = first-right (blockCounts blocks) _ e in
+      let d = first-right (mostVerdict 65535 v) _ c in
+      let i = insts-counted insts operands (first-left (instCounts insts operands) _ d) in
+      let f = first-right (instCounts insts operands) _ d in
+      let g = first-right (mostVerdict 65536 (length crossings)) _ f in
+      let h = first-right (rowsVerdict 2 2048 (length locals)) _ g in
+      record {
+        registers = most-few 65535 v (first-left _ _ c);
+        some = blocks-some blocks b;
+        few = blocks-few blocks b;
+        few-insts = i .few;
+        few-operands = i .few-operands;
+        few-crossings = most-few 65536 (length crossings) (first-left _ _ f);
+        few-locals = rows-few 2 2048 (length locals) (first-left _ _ g);
+        few-addresses = rows-few 2 65536 (length addresses) (first-left _ _ h);
+        few-ends = rows-few 2 65536 (length ends) (first-right (rowsVerdict 2 65536 (length addresses)) _ h);
+        adds = i .adds;
+      }
+
+-- ---- numbers 4 and 5
+
+module _ (v : ℕ) (insts operands crossings addresses ends : List ℕ) where
+  pub stray-chain : {a b c d r : Verdict} → a ≡ crossingVerdict v crossings → b ≡ addressVerdict (instsOf insts []) (mentionsOf addresses)
+      → c ≡ endVerdict (instsOf insts []) (mentionsOf ends) → d ≡ first b c → r ≡ first a d → r ≡ strayVerdict v insts [] crossings addresses ends
+  stray-chain ea eb ec ed er = cc
+
+  pub stray-whatever : strayVerdict v insts [] crossings addresses ends ≡ strayVerdict v insts operands crossings addresses ends
+  stray-whatever =
+      ap (λ (x : Verdict). first (crossingVerdict v crossings) (first x (endVerdict (instsOf insts []) (mentionsOf ends)))) (address-whatever insts operands addresses)
+      ∙ ap (λ (x : Verdict). first (crossingVerdict v crossings) (first (addressVerdict (instsOf insts operands) (mentionsOf addresses)) x)) (end-whatever insts operands ends)
+
+  present : (n : ℕ) → absent (instsOf insts operands) n ≡ false → n < length insts / 9
+  present n e = cut (length insts / 9) n
+      (λ h. absurd (true≢false (sym (le-leb (length (instsOf insts operands)) n (let q = insts-length insts operands in omega arith)) ∙ e)))
+      (λ h. h)
+
+  or-first : (a b : Bool) → (a || b) ≡ false → a ≡ false
+  or-first true b e = absurd (true≢false e)
+  or-first false b e = refl
+
+  pub addresses-found : strayVerdict v insts operands crossings addresses ends ≡ Fine → (a : ℕ) → a < length addresses / 2 → getD addresses (2 * a) 0 < length insts / 9
+  addresses-found e a h =
+      let f = first-left (addressVerdict (instsOf insts operands) (mentionsOf addresses)) _ (first-right (crossingVerdict v crossings) _ e) in
+      let t = scan-fine Stray (λ n. absent (instsOf insts operands) (mentionAt (mentionsOf addresses) n .inst) || not (isSet (instAt (instsOf insts operands) (mentionAt (mentionsOf addresses) n .inst) .placed)))
+      (length (mentionsOf addresses)) f a (let q = mentions-count addresses in omega arith) in
+      let z = inst-is insts operands addresses a h in
+      let g = present (mentionAt (mentionsOf addresses) a .inst) (or-first _ _ t) in
+      omega arith
+
+  pub ends-found : strayVerdict v insts operands crossings addresses ends ≡ Fine → (k : ℕ) → k < length ends / 2 → getD ends (2 * k) 0 < length insts / 9
+  ends-found e k h =
+      let f = first-right (addressVerdict (instsOf insts operands) (mentionsOf addresses)) _ (first-right (crossingVerdict v crossings) _ e) in
+      let t = scan-fine Stray (λ n. absent (instsOf insts operands) (mentionAt (mentionsOf ends) n .inst)) (length (mentionsOf ends)) f k (let q = mentions-count ends in omega arith) in
+      let z = inst-is insts operands ends k h in
+      let g = present (mentionAt (mentionsOf ends) k .inst) t in
+      omega arith
+
+-- ---- in order
+
+module _ (points v : ℕ) (blocks insts operands crossings locals addresses ends : List ℕ) (lent most work : ℕ) where
+  pub by-counts : (r : Refusal) (i : ℕ) → carryCounts v blocks insts operands crossings locals addresses ends ≡ Bad r i
+      → Bad r i ≡ carryVerdict points v blocks insts operands crossings locals addresses ends lent most work
+  unfolding carryVerdict
+  by-counts r i e = sym (first-bad _ _ r i e)
+
+  pub by-place : (r : Refusal) (i : ℕ) → carryCounts v blocks insts operands crossings locals addresses ends ≡ Fine → placeVerdict points v blocks insts operands ≡ Bad r i
+      → Bad r i ≡ carryVerdict points v blocks insts operands crossings locals addresses ends lent most work
+  unfolding carryVerdict
+  by-place r i e f = sym (first-fine _ _ e ∙ first-bad _ _ r i f)
+
+  pub by-rest : {a b r : Verdict} → carryCounts v blocks insts operands crossings locals addresses ends ≡ Fine → placeVerdict points v blocks insts operands ≡ Fine
+      → a ≡ strayVerdict v insts [] crossings addresses ends → b ≡ roomVerdict lent most work (carrySpace v blocks insts operands crossings locals addresses ends)
+      → r ≡ first a b → r ≡ carryVerdict points v blocks insts operands crossings locals addresses ends lent most work
+  unfolding carryVerdict
+  by-rest {a} {b} {r} e f p q z =
+      z ∙ ap (λ (x : Verdict). first x b) (p ∙ stray-whatever v insts operands crossings addresses ends)
+      ∙ ap (first (strayVerdict v insts operands crossings addresses ends)) q
+      ∙ sym (first-fine _ _ e ∙ first-fine _ _ f)
+
+  pub record Fit : Type 0 where
+    pub counts : Counted v blocks insts operands crossings locals addresses ends
+    pub checked : Checked v insts operands locals addresses ends work
+    pub answer : most ≤ lent
+    pub space : carrySpace v blocks insts operands crossings locals addresses ends ≤ work
+
+  pub fit : carryVerdict points v blocks insts operands crossings locals addresses ends lent most work ≡ Fine → Fit
+  unfolding carryVerdict
+  fit e =
+      let a = first-left (carryCounts v blocks insts operands crossings locals addresses ends) _ e in
+      let b = first-right (carryCounts v blocks insts operands crossings locals addresses ends) _ e in
+      let d = first-right (placeVerdict points v blocks insts operands) _ b in
+      let k = counted v blocks insts operands crossings locals addresses ends a in
+      let s = first-left (strayVerdict v insts operands crossings addresses ends) _ d in
+      let r = room-told lent most work (carrySpace v blocks insts operands crossings locals addresses ends) (first-right (strayVerdict v insts operands crossings addresses ends) _ d) in
+      record {
+        counts = k;
+        checked = record {
+          adds = k .adds;
+          few-insts = k .few-insts;
+          few-operands = k .few-operands;
+          few-locals = k .few-locals;
+          few-addresses = k .few-addresses;
+          registers = k .registers;
+          found = addresses-found v insts operands crossings addresses ends s;
+          ended = ends-found v insts operands crossings addresses ends s;
+          room = (let q = r .1 in omega arith);
+        };
+        answer = r .0;
+        space = r .1;
+      }

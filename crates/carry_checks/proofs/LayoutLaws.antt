@@ -1,0 +1,49 @@
+-- The regions as they are laid are ready for a walk once prepared; the work space after an answer.
+use Prim.Native.Nat.{ℕ, _+_, _-_, _*_, _/_, _≤_, _<_}
+use native.Mathlib.Omega.{arith}
+use mathlib.Core.Path.{_≡_, refl, sym, ap, _∙_}
+use mathlib.Core.List.{List, _++_}
+use lib.ListN.{length, getD, drop, replicate, length-replicate, length-drop}
+use lib.Seq.{ext-getD, getD-drop}
+use Rattle.words.specs.Regions.{cleared}
+use Rattle.graph.specs.Work.{Within}
+use Rattle.reach.specs.declared.Lay.{Lay}
+use Rattle.reach.specs.Prepared.{Laid, wordsOf, codeOf, Readied}
+use Rattle.follow.specs.declared.Sizes.{Sizes}
+use Rattle.follow.specs.Followed.{Ready}
+use Rattle.follow.proofs.KeptLaws.{made-ready}
+use Rattle.carry_checks.specs.Layout.{usedOf, Checked}
+
+pub laid-longer : {lay : Lay} {v i o l a n : ℕ} → Laid lay v i o l a n → (m : ℕ) → n ≤ m → Laid lay v i o l a m
+laid-longer d m h = record {
+  escapes-fits = d .escapes-fits;
+  dead-fits = d .dead-fits;
+  seen-fits = d .seen-fits;
+  defs-fits = d .defs-fits;
+  firsts-fits = d .firsts-fits;
+  edges-fits = d .edges-fits;
+  heads-fits = d .heads-fits;
+  nexts-fits = d .nexts-fits;
+  ended-fits = d .ended-fits;
+  queue-fits = (let q = d .queue-fits in omega arith);
+}
+
+module _ (v : ℕ) (insts operands crossings locals addresses ends : List ℕ) (lay : Lay) (n : ℕ) {w₀ w₁ : List ℕ}
+    (c : Checked v insts operands locals addresses ends (length w₀))
+    (a : Laid lay v (length insts / 9) (length operands / 2) (length locals / 2) (length addresses / 2) (usedOf (wordsOf v) (length insts / 9) (length operands / 2) (length locals / 2) (length addresses / 2)))
+    (b : Readied (codeOf v insts operands crossings addresses ends) lay (length operands / 2) (length locals / 2) n w₀ w₁) where
+  pub measure-ready : Ready lay (record { v = v; insts = length insts / 9; locals = length locals / 2; edges = n }) insts addresses w₁
+  measure-ready =
+      made-ready insts operands crossings addresses ends lay (record { v = v; insts = length insts / 9; locals = length locals / 2; edges = n }) (length operands / 2) b refl
+      (laid-longer a (length w₀) (c .room)) (c .registers) (c .few-insts) (c .found)
+
+drop-same : (n : ℕ) (l m : List ℕ) → length m ≡ length l → ((i : ℕ) → n ≤ i → getD m i 0 ≡ getD l i 0) → drop n m ≡ drop n l
+drop-same n l m e h =
+    ext-getD 0 (drop n m) (drop n l) (length-drop n m ∙ ap (λ (k : ℕ). k - n) e ∙ sym (length-drop n l))
+    (λ i q. getD-drop n m i 0 ∙ h (n + i) (omega arith) ∙ sym (getD-drop n l i 0))
+
+-- the work space after an answer
+pub cleared-all : (words used : ℕ) (w₀ w₁ : List ℕ) → used ≤ words → Within 0 used w₀ w₁ → cleared words w₁ ≡ replicate words 0 ++ drop (length {A = ℕ} (replicate words 0)) w₀
+cleared-all words used w₀ w₁ h k =
+    ap (λ (t : List ℕ). replicate words 0 ++ t) (drop-same words w₀ w₁ (k .len) (λ i g. k .past i (omega arith)))
+    ∙ ap (λ (x : ℕ). replicate words 0 ++ drop x w₀) (sym (length-replicate words 0))

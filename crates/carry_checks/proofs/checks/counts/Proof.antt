@@ -1,0 +1,25 @@
+-- `carry_checks::checks::counts` meets its contract: the checks in their order.
+use native.Mathlib.Omega.{arith}
+use Prim.Native.Nat.{ℕ, suc, _+_, _-_, _*_, _≤_, _<_}
+use mathlib.Core.Path.{_≡_, refl, sym, ap, _∙_}
+use lib.ListN.{length, take, drop, getD, set, length-set}
+use borrow.Author.Needs.{needs}
+use Rattle.carry_checks.proofs.CheckLaws.{room-answer, room-work, room-fine, counts-chain, counted, stray-chain, by-counts, by-place, by-rest, fit}
+use Rattle.carry_checks.specs.Checks.{roomVerdict}
+use Rattle.carry_checks.proofs.checks.counts.Statement.{statement}
+use Rattle.carry_checks.proofs.checks.counts.Tie as tie
+
+blocks-requires : tie.Need-blocks-requires
+blocks-requires c κs = search needs
+
+code-requires : tie.Need-code-requires
+code-requires c κs = search needs
+
+earlier-requires : tie.Need-earlier-requires
+earlier-requires c κs = search needs
+
+returns : tie.Need-returns
+returns c = counts-chain ((c .before .before .before .before .before .before .before .before .before .before .args) .v) ((c .before .before .before .before .before .before .before .before .before .before .args) .blocks .now) ((c .before .before .before .before .before .before .before .before .before .before .args) .insts .now) ((c .before .before .before .before .before .before .before .before .before .before .args) .operands .now) ((c .before .before .before .before .before .before .before .before .before .before .args) .crossings .now) ((c .before .before .before .before .before .before .before .before .before .before .args) .locals .now) ((c .before .before .before .before .before .before .before .before .before .before .args) .addresses .now) ((c .before .before .before .before .before .before .before .before .before .before .args) .ends .now) ((c .before .before .blocks2) .ensures) ((c .before .code) .ensures) ((c .earlier) .ensures)
+
+pub counts-spec : {M : Type 1} → statement M
+counts-spec = tie.close (tie.spec blocks-requires code-requires earlier-requires returns)

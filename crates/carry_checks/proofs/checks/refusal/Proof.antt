@@ -1,0 +1,67 @@
+-- `carry_checks::checks::refusal` meets its contract: the checks in their order.
+use native.Mathlib.Omega.{arith}
+use Prim.Native.Nat.{ℕ, suc, _+_, _-_, _*_, _≤_, _<_}
+use mathlib.Core.Path.{_≡_, refl, sym, ap, _∙_}
+use lib.ListN.{length, take, drop, getD, set, length-set}
+use borrow.Author.Needs.{needs}
+use Rattle.carry_checks.proofs.CheckLaws.{room-answer, room-work, room-fine, counts-chain, counted, stray-chain, by-counts, by-place, by-rest, fit}
+use Rattle.carry_checks.specs.Checks.{roomVerdict}
+use Rattle.carry_checks.proofs.checks.refusal.Statement.{statement}
+use Rattle.carry_checks.proofs.checks.refusal.Tie as tie
+
+counts-requires : tie.Need-counts-requires
+counts-requires c κs = search needs
+
+enum-known-number : tie.Need-enum-known-number
+enum-known-number c = search needs
+
+returns : tie.Need-returns
+returns c = by-counts ((c .before .before .before .before .before .before .before .before .before .before .before .args) .points) ((c .before .before .before .before .before .before .before .before .before .before .before .args) .v) ((c .before .before .before .before .before .before .before .before .before .before .before .args) .blocks .now) ((c .before .before .before .before .before .before .before .before .before .before .before .args) .insts .now) ((c .before .before .before .before .before .before .before .before .before .before .before .args) .operands .now) ((c .before .before .before .before .before .before .before .before .before .before .before .args) .crossings .now) ((c .before .before .before .before .before .before .before .before .before .before .before .args) .locals .now) ((c .before .before .before .before .before .before .before .before .before .before .before .args) .addresses .now) ((c .before .before .before .before .before .before .before .before .before .before .before .args) .ends .now) ((c .before .before .before .before .before .before .before .before .before .before .before .args) .lent) ((c .before .before .before .before .before .before .before .before .before .before .before .args) .most) ((c .before .before .before .before .before .before .before .before .before .before .before .args) .work) _ _ (sym ((c .before .before .before .counts) .ensures) ∙ ((c .before .number)) .given .1)
+
+enum-told : tie.Need-enum-told
+enum-told c = search needs
+
+located-requires : tie.Need-located-requires
+located-requires c κs = let k = counted ((c .before .before .before .before .before .before .before .before .before .before .args) .v) ((c .before .before .before .before .before .before .before .before .before .before .args) .blocks .now) ((c .before .before .before .before .before .before .before .before .before .before .args) .insts .now) ((c .before .before .before .before .before .before .before .before .before .before .args) .operands .now) ((c .before .before .before .before .before .before .before .before .before .before .args) .crossings .now) ((c .before .before .before .before .before .before .before .before .before .before .args) .locals .now) ((c .before .before .before .before .before .before .before .before .before .before .args) .addresses .now) ((c .before .before .before .before .before .before .before .before .before .before .args) .ends .now) (sym ((c .before .before .counts) .ensures) ∙ ((c .enum-told)) .given .1) in (k .some, k .few, k .adds, k .registers)
+
+enum-known-place : tie.Need-enum-known-place
+enum-known-place c = search needs
+
+returns-2 : tie.Need-returns-2
+returns-2 c = by-place ((c .before .before .before .before .before .before .before .before .before .before .before .before .before .before .args) .points) ((c .before .before .before .before .before .before .before .before .before .before .before .before .before .before .args) .v) ((c .before .before .before .before .before .before .before .before .before .before .before .before .before .before .args) .blocks .now) ((c .before .before .before .before .before .before .before .before .before .before .before .before .before .before .args) .insts .now) ((c .before .before .before .before .before .before .before .before .before .before .before .before .before .before .args) .operands .now) ((c .before .before .before .before .before .before .before .before .before .before .before .before .before .before .args) .crossings .now) ((c .before .before .before .before .before .before .before .before .before .before .before .before .before .before .args) .locals .now) ((c .before .before .before .before .before .before .before .before .before .before .before .before .before .before .args) .addresses .now) ((c .before .before .before .before .before .before .before .before .before .before .before .before .before .before .args) .ends .now) ((c .before .before .before .before .before .before .before .before .before .before .before .before .before .before .args) .lent) ((c .before .before .before .before .before .before .before .before .before .before .before .before .before .before .args) .most) ((c .before .before .before .before .before .before .before .before .before .before .before .before .before .before .args) .work) _ _ (sym ((c .before .before .before .before .before .before .counts) .ensures) ∙ ((c .before .before .before .before .enum-told)) .given .1) (sym ((c .before .before .before .located) .ensures) ∙ ((c .before .place)) .given .1)
+
+enum-told-2 : tie.Need-enum-told-2
+enum-told-2 c = search needs
+
+stray-requires : tie.Need-stray-requires
+stray-requires c κs = counted ((c .before .before .before .before .before .before .before .before .before .before .before .before .before .args) .v) ((c .before .before .before .before .before .before .before .before .before .before .before .before .before .args) .blocks .now) ((c .before .before .before .before .before .before .before .before .before .before .before .before .before .args) .insts .now) ((c .before .before .before .before .before .before .before .before .before .before .before .before .before .args) .operands .now) ((c .before .before .before .before .before .before .before .before .before .before .before .before .before .args) .crossings .now) ((c .before .before .before .before .before .before .before .before .before .before .before .before .before .args) .locals .now) ((c .before .before .before .before .before .before .before .before .before .before .before .before .before .args) .addresses .now) ((c .before .before .before .before .before .before .before .before .before .before .before .before .before .args) .ends .now) (sym ((c .before .before .before .before .before .counts) .ensures) ∙ ((c .before .before .before .enum-told)) .given .1) .registers
+
+needed-requires : tie.Need-needed-requires
+needed-requires c κs = let k = counted ((c .before .before .before .before .before .before .before .before .before .before .before .before .before .before .args) .v) ((c .before .before .before .before .before .before .before .before .before .before .before .before .before .before .args) .blocks .now) ((c .before .before .before .before .before .before .before .before .before .before .before .before .before .before .args) .insts .now) ((c .before .before .before .before .before .before .before .before .before .before .before .before .before .before .args) .operands .now) ((c .before .before .before .before .before .before .before .before .before .before .before .before .before .before .args) .crossings .now) ((c .before .before .before .before .before .before .before .before .before .before .before .before .before .before .args) .locals .now) ((c .before .before .before .before .before .before .before .before .before .before .before .before .before .before .args) .addresses .now) ((c .before .before .before .before .before .before .before .before .before .before .before .before .before .before .args) .ends .now) (sym ((c .before .before .before .before .before .before .counts) .ensures) ∙ ((c .before .before .before .before .enum-told)) .given .1) in (k .few, k .few-insts, k .few-operands, k .few-crossings, k .few-locals, k .few-addresses, k .few-ends)
+
+room-requires : tie.Need-room-requires
+room-requires c κs = search needs
+
+earlier-requires : tie.Need-earlier-requires
+earlier-requires c κs = search needs
+
+returns-3 : tie.Need-returns-3
+returns-3 c = by-rest ((c .before .before .before .before .before .before .before .before .before .before .before .before .before .before .before .before .before .args) .points) ((c .before .before .before .before .before .before .before .before .before .before .before .before .before .before .before .before .before .args) .v) ((c .before .before .before .before .before .before .before .before .before .before .before .before .before .before .before .before .before .args) .blocks .now) ((c .before .before .before .before .before .before .before .before .before .before .before .before .before .before .before .before .before .args) .insts .now) ((c .before .before .before .before .before .before .before .before .before .before .before .before .before .before .before .before .before .args) .operands .now) ((c .before .before .before .before .before .before .before .before .before .before .before .before .before .before .before .before .before .args) .crossings .now) ((c .before .before .before .before .before .before .before .before .before .before .before .before .before .before .before .before .before .args) .locals .now) ((c .before .before .before .before .before .before .before .before .before .before .before .before .before .before .before .before .before .args) .addresses .now) ((c .before .before .before .before .before .before .before .before .before .before .before .before .before .before .before .before .before .args) .ends .now) ((c .before .before .before .before .before .before .before .before .before .before .before .before .before .before .before .before .before .args) .lent) ((c .before .before .before .before .before .before .before .before .before .before .before .before .before .before .before .before .before .args) .most) ((c .before .before .before .before .before .before .before .before .before .before .before .before .before .before .before .before .before .args) .work) (sym ((c .before .before .before .before .before .before .before .before .before .counts) .ensures) ∙ ((c .before .before .before .before .before .before .before .enum-told)) .given .1) (sym ((c .before .before .before .before .before .before .located) .ensures) ∙ ((c .before .before .before .before .enum-told2)) .given .1) ((c .before .before .before .stray) .ensures) ((c .before .room) .ensures ∙ ap (roomVerdict ((c .before .before .before .before .before .before .before .before .before .before .before .before .before .before .before .before .before .args) .lent) ((c .before .before .before .before .before .before .before .before .before .before .before .before .before .before .before .before .before .args) .most) ((c .before .before .before .before .before .before .before .before .before .before .before .before .before .before .before .before .before .args) .work)) ((c .before .before .needed) .ensures)) ((c .earlier) .ensures)
+
+pub refusal-spec : {M : Type 1} → statement M
+refusal-spec =
+    tie.close
+    (tie.spec
+    counts-requires
+    enum-known-number
+    returns
+    enum-told
+    located-requires
+    enum-known-place
+    returns-2
+    enum-told-2
+    stray-requires
+    needed-requires
+    room-requires
+    earlier-requires
+    returns-3)

@@ -1,0 +1,40 @@
+-- `carry_checks::checks::stray` meets its contract: the checks in their order.
+use native.Mathlib.Omega.{arith}
+use Prim.Native.Nat.{ℕ, suc, _+_, _-_, _*_, _≤_, _<_}
+use mathlib.Core.Path.{_≡_, refl, sym, ap, _∙_}
+use lib.ListN.{length, take, drop, getD, set, length-set}
+use borrow.Author.Needs.{needs}
+use Rattle.carry_checks.proofs.CheckLaws.{room-answer, room-work, room-fine, counts-chain, counted, stray-chain, by-counts, by-place, by-rest, fit}
+use Rattle.carry_checks.specs.Checks.{roomVerdict}
+use mathlib.Core.List.{[]}
+use Rattle.carry_checks.proofs.checks.stray.Statement.{statement}
+use Rattle.carry_checks.proofs.checks.stray.Tie as tie
+
+crossing-requires : tie.Need-crossing-requires
+crossing-requires c κs = search needs
+
+address-requires : tie.Need-address-requires
+address-requires c κs = search needs
+
+end-requires : tie.Need-end-requires
+end-requires c κs = search needs
+
+earlier-requires : tie.Need-earlier-requires
+earlier-requires c κs = search needs
+
+earlier-requires-2 : tie.Need-earlier-requires-2
+earlier-requires-2 c κs = search needs
+
+returns : tie.Need-returns
+returns c = stray-chain ((c .before .before .before .before .before .before .before .before .before .args) .v) ((c .before .before .before .before .before .before .before .before .before .args) .insts .now) [] ((c .before .before .before .before .before .before .before .before .before .args) .crossings .now) ((c .before .before .before .before .before .before .before .before .before .args) .addresses .now) ((c .before .before .before .before .before .before .before .before .before .args) .ends .now) ((c .before .before .before .before .crossing) .ensures) ((c .before .before .before .address) .ensures) ((c .before .before .end) .ensures) ((c .before .earlier) .ensures) ((c .earlier2) .ensures)
+
+pub stray-spec : {M : Type 1} → statement M
+stray-spec =
+    tie.close
+    (tie.spec
+    crossing-requires
+    address-requires
+    end-requires
+    earlier-requires
+    earlier-requires-2
+    returns)

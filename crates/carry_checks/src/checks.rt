@@ -1,0 +1,125 @@
+// The refusals of the entries of carrying, in linear time and without work space.
+ghost use mathlib.Core.Path.{_≡_};
+ghost use mathlib.Core.List.{[]};
+ghost use Prim.Native.Nat.{_+_, _*_, _/_, _≤_, _<_};
+ghost use lib.ListN.{length};
+ghost use Rattle.refusals.specs.Verdicts.{first};
+ghost use Rattle.carry_checks.specs.Checks.{carryCounts, strayVerdict, carrySpace, roomVerdict, carryVerdict};
+use refusals::Refusal;
+use refusals::Verdict;
+
+fn wide(x: u32) -> usize
+    ensures { λ r. ⌜ r ≡ x ⌝ }
+{
+    x as usize
+}
+
+// Refusal 1.
+pub fn counts(
+    v: u32,
+    blocks: &[u32],
+    insts: &[u32],
+    operands: &[u32],
+    crossings: &[u32],
+    locals: &[u32],
+    addresses: &[u32],
+    ends: &[u32],
+) -> Verdict
+    ensures { λ r. ⌜ r ≡ carryCounts v (now (blocks .entry)) (now (insts .entry)) (now (operands .entry)) (now (crossings .entry)) (now (locals .entry)) (now (addresses .entry)) (now (ends .entry)) ⌝ }
+{
+    let a = insts::counts::blocks(blocks);
+    let b = insts::counts::code(v, insts, operands, crossings, locals, addresses, ends);
+    refusals::earlier(a, b)
+}
+
+// Refusal 4 of the crossings, refusal 5 of the addresses and the ends, whatever the operands.
+pub fn stray(v: u32, insts: &[u32], crossings: &[u32], addresses: &[u32], ends: &[u32]) -> Verdict
+    requires { ⌜ v ≤ 65535 ⌝ }
+    ensures { λ r. ⌜ r ≡ strayVerdict v (now (insts .entry)) [] (now (crossings .entry)) (now (addresses .entry)) (now (ends .entry)) ⌝ }
+{
+    let a = insts::checks::crossing(v, crossings);
+    let b = insts::checks::address(insts, addresses);
+    let c = insts::checks::end(insts, ends);
+    refusals::earlier(a, refusals::earlier(b, c))
+}
+
+// The work space that the entries need: 8 words for each record lent and for each 64 registers.
+pub fn needed(
+    v: u32,
+    blocks: &[u32],
+    insts: &[u32],
+    operands: &[u32],
+    crossings: &[u32],
+    locals: &[u32],
+    addresses: &[u32],
+    ends: &[u32],
+) -> usize
+    requires { ⌜ (length (now blocks) / 3 ≤ 4096) × (length (now insts) / 9 ≤ 65536) × (length (now operands) / 2 ≤ 262144) × (length (now crossings) ≤ 65536) × (length (now locals) / 2 ≤ 2048) × (length (now addresses) / 2 ≤ 65536) × (length (now ends) / 2 ≤ 65536) ⌝ }
+    ensures { λ r. ⌜ r ≡ carrySpace v (now (blocks .entry)) (now (insts .entry)) (now (operands .entry)) (now (crossings .entry)) (now (locals .entry)) (now (addresses .entry)) (now (ends .entry)) ⌝ }
+{
+    let a = blocks.len() / 3 + insts.len() / 9 + operands.len() / 2 + crossings.len();
+    let b = locals.len() / 2 + addresses.len() / 2 + ends.len() / 2 + (wide(v) + 63) / 64;
+    8 * (a + b)
+}
+
+// Refusal 7.
+fn room(lent: usize, most: usize, work: usize, words: usize) -> Verdict
+    ensures { λ r. ⌜ r ≡ roomVerdict lent most work words ⌝ }
+{
+    if lent < most {
+        return Verdict::Bad(Refusal::Space, 0);
+    }
+    if work < words {
+        return Verdict::Bad(Refusal::Space, 0);
+    }
+    Verdict::Fine
+}
+
+// Refusals 1, 2, 4, 5 and 7, for an answer list of `lent` numbers where `most` may be needed, and `work` words of work space.
+pub fn refusal(
+    points: u32,
+    v: u32,
+    blocks: &[u32],
+    insts: &[u32],
+    operands: &[u32],
+    crossings: &[u32],
+    locals: &[u32],
+    addresses: &[u32],
+    ends: &[u32],
+    lent: usize,
+    most: usize,
+    work: usize,
+) -> Verdict
+    ensures { λ r. ⌜ r ≡ carryVerdict points v (now (blocks .entry)) (now (insts .entry)) (now (operands .entry)) (now (crossings .entry)) (now (locals .entry)) (now (addresses .entry)) (now (ends .entry)) lent most work ⌝ }
+{
+    let number = counts(
+        v,
+        blocks,
+        insts,
+        operands,
+        crossings,
+        locals,
+        addresses,
+        ends,
+    );
+    if let Verdict::Bad(r, i) = number {
+        return Verdict::Bad(r, i);
+    }
+    let place = insts::checks::located(points, v, blocks, insts, operands);
+    if let Verdict::Bad(r, i) = place {
+        return Verdict::Bad(r, i);
+    }
+    let astray = stray(v, insts, crossings, addresses, ends);
+    let w = needed(
+        v,
+        blocks,
+        insts,
+        operands,
+        crossings,
+        locals,
+        addresses,
+        ends,
+    );
+    let short = room(lent, most, work, w);
+    refusals::earlier(astray, short)
+}

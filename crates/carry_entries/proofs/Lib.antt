@@ -1,4 +1,0 @@
-pub mod CheckLaws
-pub mod EntryLaws
-pub mod UpLaws
-pub mod CarriedLaws

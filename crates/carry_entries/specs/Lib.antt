@@ -1,3 +1,0 @@
-pub mod Checks
-pub mod Entry
-pub mod Carried

@@ -1,0 +1,275 @@
+-- The areas in the work space: the regions fit, and each phase leaves what the next one asks.
+use Prim.Native.Nat.{ℕ, zero, suc, _+_, _*_, _/_, _%_, _^_, _≤_, _<_}
+use native.Mathlib.Nat.{mul-le-mul-right}
+use native.Mathlib.Omega.{arith}
+use mathlib.Core.Path.{_≡_, refl, sym, ap, _∙_}
+use mathlib.Core.Logic.{inl, inr}
+use mathlib.Core.Bool.{Bool, true, false}
+use mathlib.Core.List.{List, []}
+use lib.ListN.{length, getD}
+use Rattle.words.specs.Rows.{rowCount, tabulate}
+use Rattle.words.proofs.RowLaws.{mem-tabulate}
+use Rattle.bits.specs.Bits.{bitOf}
+use Rattle.bits.proofs.DigitLaws.{bit-zero}
+use Rattle.graph.specs.Paths.{Edge}
+use Rattle.components.specs.Entry.{edgesIn}
+use Rattle.carrying.specs.Lists.{any}
+use Rattle.carrying.proofs.ListLaws.{any-false}
+use Rattle.areas.specs.Blocks.{Graph, inverted}
+use Rattle.spots.specs.Spots.{lineOf}
+use Rattle.area_flow.specs.declared.Grid.{Grid}
+use Rattle.area_flow.specs.Grid.{Laid as GridLaid}
+use Rattle.local_spots.specs.declared.Places.{Places}
+use Rattle.local_spots.specs.Locals.{kindFor, touchesFor, endsFor, Laid, Chained}
+use Rattle.local_marks.specs.Marks.{someInverted, MarkedAll, Ready as MarkReady}
+use Rattle.local_marks.specs.Rows.{RowsBy}
+use Rattle.local_marks.proofs.RowLaws.{rows-by}
+use Rattle.area_measure.specs.Locals.{areaFor, Fits, Ready, RowsOf, MeasuredAll}
+use Rattle.area_measure.proofs.MeasureLaws.{plain-kind, ending-kind}
+use Rattle.area_measure.proofs.ListLaws.{listed-start}
+use Rattle.area_measure.proofs.LocalLaws.{chains-kept}
+use Rattle.area_layout.specs.declared.Sizes.{Sizes}
+use Rattle.lent_areas.specs.declared.Found.the-variants.{Inverted, Ranges}
+use Rattle.area_layout.specs.Layout.{spaceFor, Placed, Gridded, markOf}
+use Rattle.area_checks.specs.Checks.{sizesOf, Lent}
+use Rattle.lent_areas.specs.Areas.{graphFor, listing, Markable, Marking, Rowed, Solved}
+use Rattle.area_layout.proofs.FitLaws.{rows-small, layout-fits}
+
+pub positive : (n : ℕ) → (n ≡ 0 → ⊥) → 0 < n
+positive zero d = absurd (d refl)
+positive (suc n) d = omega arith
+
+-- ---- the marks
+
+module _ (p : Places) (g : Grid) (blocks kinds touches ends : List ℕ) {w₀ w₁ : List ℕ} (M : Markable p g blocks kinds touches ends w₀) (C : Chained p touches ends w₀ w₁) where
+  pub mark-ready : MarkReady p g blocks touches ends w₁
+  mark-ready =
+      let L = M .laid in
+      record {
+        line = M .line;
+        laid = record { heads-fit = L .heads-fit; nexts-fit = L .nexts-fit; at-fits = L .at-fits; ends-fit = omega (arith, L .ends-fit, C .kept .len) };
+        chains = C .chains;
+        counted = M .counted;
+        long = M .long;
+        apart = M .apart;
+        touched-fits = M .touched-fits;
+        leaves-fit = M .leaves-fit;
+        passes-fit = omega (arith, M .passes-fit, C .kept .len);
+      }
+
+  pub mark-done : {w : List ℕ} {r : Bool} → ((es : List Edge) → MarkedAll (lineOf blocks es) kinds touches ends p g (rowCount 3 blocks) w₁ w r) → Marking p g blocks kinds touches ends w₀ w r
+  mark-done {w} {r} A =
+      let L = M .laid in
+      record {
+        kept = record {
+          len = A [] .kept .len ∙ C .kept .len;
+          below = λ i h. A [] .kept .below i (omega (arith, L .heads-fit, L .nexts-fit)) ∙ C .kept .below i h;
+          past = λ i h. A [] .kept .past i h ∙ C .kept .past i (omega (arith, L .nexts-fit, L .at-fits, M .apart, M .touched-fits, M .leaves-fit));
+        };
+        chains = chains-kept touches ends p (mark-ready .laid) (λ i a b. A [] .kept .below i b) (C .chains);
+        answer = λ es. A es .answer;
+        marks = λ es. A es .marks;
+      }
+
+-- ---- where it all stands
+
+module _ (blocks edges kinds touches ends : List ℕ) (areas : ℕ) (p : Places) (g : Grid) {w₀ : List ℕ} (N : Lent blocks edges kinds touches ends areas w₀) (some : 0 < length kinds)
+    (P : Placed (sizesOf blocks edges (length kinds) (length touches) (length ends) areas) p)
+    (G : Gridded (sizesOf blocks edges (length kinds) (length touches) (length ends) areas) (p .ends + rowCount 2 ends) g) where
+  abbrev n : ℕ
+  n = rowCount 3 blocks
+
+  abbrev z : Sizes
+  z = sizesOf blocks edges (length kinds) (length touches) (length ends) areas
+
+  fit : markOf g + g .width + n + (3 * rowCount 3 touches + n) ≤ spaceFor z
+  fit = layout-fits z p g (N .small) some P G
+
+  -- the regions in their order
+  pub record Order : Type 0 where
+    pub heads : p .heads ≡ areas / 2 + length kinds
+    pub ends-by : p .ends + rowCount 2 ends ≤ g .touched
+    pub base-by : g .base ≡ p .ends + rowCount 2 ends
+    pub rows-by : g .written + n * g .words ≤ g .read
+    pub touched-by : g .touched + n * g .words ≤ g .leaves
+    pub leaves-by : g .leaves + n * g .words ≤ g .passes
+    pub passes-by : g .passes + n * g .words ≤ g .written
+    pub read-by : g .read + n * g .words ≤ g .wait
+    pub wait-by : g .wait + (n / 64 + 1) + n * g .words ≤ g .to
+    pub mark-by : markOf g + g .width + n + (3 * rowCount 3 touches + n) ≤ length w₀
+
+  pub order : Order
+  order = record {
+    heads = P .heads-at;
+    ends-by = omega (arith, G .tarjan-at, G .touched-at);
+    base-by = G .base-is;
+    rows-by = omega (arith, G .read-at);
+    touched-by = omega (arith, G .leaves-at);
+    leaves-by = omega (arith, G .passes-at);
+    passes-by = omega (arith, G .written-at);
+    read-by = omega (arith, G .wait-at);
+    wait-by = omega (arith, G .to-at);
+    mark-by = omega (arith, fit, N .space);
+  }
+
+  pub places-laid : {w : List ℕ} → length w ≡ length w₀ → Laid p (rowCount 3 touches) (rowCount 2 ends) w
+  places-laid e =
+      let o = order in
+      record {
+        heads-fit = omega (arith, P .nexts-at, P .locals-are);
+        nexts-fit = omega (arith, P .touches-at);
+        at-fits = omega (arith, P .ends-at);
+        ends-fit = omega (arith, o .ends-by, o .touched-by, o .leaves-by, o .passes-by, o .rows-by, o .read-by, o .wait-by, o .mark-by);
+      }
+
+  pub long : g .locals ≤ g .words * 64
+  long = omega (arith, G .words-are, G .locals-are)
+
+  pub markable : Markable p g blocks kinds touches ends w₀
+  markable =
+      let o = order in
+      record {
+        line = N .sound;
+        laid = places-laid refl;
+        counted = G .locals-are ∙ sym (P .locals-are);
+        kinds-lent = omega (arith, P .locals-are);
+        long = long;
+        apart = o .ends-by;
+        touched-fits = o .touched-by;
+        leaves-fit = o .leaves-by;
+        passes-fit = omega (arith, o .passes-by, o .rows-by, o .read-by, o .wait-by, o .mark-by);
+      }
+
+  pub grid-laid : {w : List ℕ} → length w ≡ length w₀ → GridLaid g n (rowCount 2 edges) w
+  grid-laid e =
+      let o = order in
+      record {
+        few = N .small .few-blocks;
+        edges-fit = omega (arith, G .base-is, G .tarjan-at);
+        tarjan-fits = omega (arith, G .touched-at);
+        touched-fits = o .touched-by;
+        leaves-fit = o .leaves-by;
+        passes-fit = o .passes-by;
+        written-fits = o .rows-by;
+        read-fits = o .read-by;
+        wait-fits = o .wait-by;
+        to-fits = omega (arith, o .mark-by);
+        wide = omega (arith, G .width-is);
+        long = long;
+      }
+
+  pub mark-room : {w : List ℕ} {r : Bool} → Marking p g blocks kinds touches ends w₀ w r → markOf g + g .width ≤ length w
+  mark-room M = omega (arith, order .mark-by, M .kept .len)
+
+  -- no sum is too long
+  pub from-small : markOf g + g .width + n < 2 ^ 64
+  from-small =
+      let s = N .small in
+      let r = rows-small s in
+      omega (arith, fit, s .few-blocks, s .few-edges, s .few-locals, s .few-touches, s .few-ends, s .few-ranges)
+
+  few : length kinds * (3 * rowCount 3 touches + n) < 2 ^ 32
+  few =
+      let s = N .small in
+      let a : length kinds * (3 * rowCount 3 touches + n) ≤ 2048 * (3 * rowCount 3 touches + n) = mul-le-mul-right (3 * rowCount 3 touches + n) (s .few-locals) in
+      omega (arith, s .few-touches, s .few-blocks)
+
+  measure-fits : {w : List ℕ} → length w ≡ length w₀ → Fits blocks kinds touches ends p g (markOf g) (listing (areas / 2)) w
+  measure-fits e =
+      let o = order in
+      let x : g .locals * g .width ≡ length kinds * g .width = ap (λ (k : ℕ). k * g .width) (G .locals-are) in
+      record {
+        locals-are = P .locals-are;
+        areas-fit = omega arith;
+        items-fit = omega (arith, o .heads);
+        spots = places-laid e;
+        spots-fit = omega (arith, o .ends-by, o .touched-by, o .leaves-by, o .passes-by);
+        written-fits = o .rows-by;
+        read-fits = omega (arith, o .read-by, o .wait-by);
+        to-fits = omega (arith, x);
+        fits = omega (arith, o .mark-by);
+        small = from-small;
+        wide = omega (arith, G .width-is);
+        narrow = omega (arith, G .width-is, N .small .few-blocks);
+        long = omega (arith, long, G .locals-are);
+        few = few;
+      }
+
+  -- ---- the rows of the locals
+
+  abbrev es : List Edge
+  es = edgesIn blocks edges
+
+  module _ {w₁ w₂ : List ℕ} {r : Bool} (M : Marking p g blocks kinds touches ends w₀ w₁ r) (fine : r ≡ false) (R : Rowed es g n (markOf g) w₁ w₂) where
+    module _ (l : ℕ) (h : l < length kinds) where
+      rows-for : RowsBy (graphFor blocks edges) (kindFor kinds l) (touchesFor touches l) (endsFor ends l) g n l w₂
+      rows-for = rows-by blocks w₂ (grid-laid (M .kept .len)) (M .marks es fine) (R .area) (λ i x. R .zero .before i x) l (omega (arith, G .locals-are))
+
+      pub rows-are : RowsOf blocks kinds touches ends g (markOf g) w₂ es l
+      rows-are = record {
+        plain = λ e. record { written = rows-for .written (plain-kind (getD kinds l 0) e); read = rows-for .read (plain-kind (getD kinds l 0) e) };
+        ending = λ e. record { arriving = rows-for .arrives (ending-kind (getD kinds l 0) e) };
+      }
+
+    -- number 8 was ruled out
+    upright : (l : ℕ) → l < length kinds → (e : List Edge) → any (inverted (lineOf blocks e)) (touchesFor touches l) ≡ false
+    upright l h e =
+        any-false (λ (m : ℕ). any (inverted (lineOf blocks e)) (touchesFor touches m)) (tabulate (p .locals) (λ m. m)) (sym (M .answer e) ∙ fine) l (mem-tabulate (p .locals) (λ m. m) l (omega (arith, P .locals-are)))
+
+    chained : (i : ℕ) → p .heads ≤ i → i < p .at → getD w₂ i 0 ≡ getD w₁ i 0
+    chained i a b =
+        let o = order in
+        let L = places-laid {w = w₀} refl in
+        R .zero .before i (omega (arith, L .at-fits, o .ends-by, o .touched-by, o .leaves-by, o .passes-by, o .rows-by, o .read-by, o .wait-by))
+        ∙ R .area .kept .same i (inl (omega (arith, L .at-fits, o .base-by))) (inl (omega (arith, L .at-fits, o .ends-by, o .touched-by, o .leaves-by, o .passes-by)))
+
+    length-is : length w₂ ≡ length w₀
+    length-is = R .zero .len ∙ R .area .kept .len ∙ M .kept .len
+
+    pub ready : Ready blocks kinds touches ends p g (markOf g) (listing (areas / 2)) w₂
+    ready = record {
+      laid = measure-fits length-is;
+      chains = chains-kept touches ends p (places-laid (M .kept .len)) chained (M .chains);
+      unmarked = λ c h. ap (λ (y : ℕ). bitOf y (c % 64)) (R .zero .inside (markOf g + c / 64) (c / 64) refl (omega arith)) ∙ bit-zero (c % 64);
+      rest = λ l b h m q. rows-for l h .rest b m q;
+      both = λ l k h e m. rows-for l h .both (plain-kind (getD kinds l 0) e) k m;
+      upright = upright;
+    }
+
+    pub solved : {w : List ℕ} {t : ℕ} → MeasuredAll blocks kinds touches ends p g (markOf g) (listing (areas / 2)) w₂ w t → Solved blocks edges kinds touches ends areas w₀ w (Ranges t)
+    solved {w} {t} D =
+        let o = order in
+        record {
+          kept = record {
+            len = D .spared .len ∙ length-is;
+            below = λ i h. absurd (omega arith);
+            past = λ i h.
+                D .spared .past i (omega (arith, fit)) ∙ R .zero .after i (omega (arith, fit))
+                ∙ R .area .kept .same i (inr (omega (arith, fit, G .touched-at, o .touched-by, o .leaves-by, o .passes-by, o .rows-by, o .read-by, o .wait-by))) (inr (omega (arith, fit)))
+                ∙ M .kept .past i (omega (arith, fit, o .passes-by, o .rows-by, o .read-by, o .wait-by));
+          };
+          found = (ap (λ (k : ℕ). someInverted (graphFor blocks edges) touches k) (sym (P .locals-are)) ∙ sym (M .answer es) ∙ fine, D .listed .is es rows-are);
+        }
+
+  pub inverted-found : {w : List ℕ} {r : Bool} → Marking p g blocks kinds touches ends w₀ w r → r ≡ true → Solved blocks edges kinds touches ends areas w₀ w Inverted
+  inverted-found {w} {r} M e =
+      let o = order in
+      record {
+        kept = record {
+          len = M .kept .len;
+          below = λ i h. absurd (omega arith);
+          past = λ i h. M .kept .past i (omega (arith, fit, o .passes-by, o .rows-by, o .read-by, o .wait-by));
+        };
+        found = ap (λ (k : ℕ). someInverted (graphFor blocks edges) touches k) (sym (P .locals-are)) ∙ sym (M .answer es) ∙ e;
+      }
+
+-- without locals
+none-inverted : (G : Graph) (touches : List ℕ) → someInverted G touches 0 ≡ false
+unfolding any tabulate
+none-inverted G touches = refl
+
+pub solved-none : (blocks edges kinds touches ends : List ℕ) (areas : ℕ) (w : List ℕ) → length kinds ≡ 0 → Solved blocks edges kinds touches ends areas w w (Ranges 0)
+solved-none blocks edges kinds touches ends areas w e = record {
+  kept = record { len = refl; below = λ i h. refl; past = λ i h. refl };
+  found = (ap (λ (k : ℕ). someInverted (graphFor blocks edges) touches k) e ∙ none-inverted (graphFor blocks edges) touches, rw e (listed-start (listing (areas / 2)) (areaFor (graphFor blocks edges) kinds touches ends) w));
+}

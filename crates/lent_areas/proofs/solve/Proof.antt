@@ -1,0 +1,51 @@
+-- `solve` meets its contract: the regions are laid out, the locals marked, the rows made, and the areas measured.
+use native.Mathlib.Omega.{arith}
+use Prim.Native.Nat.{_-_}
+use denote.Ref.{now}
+use borrow.Author.Needs.{needs}
+use mathlib.Core.List.{[]}
+use Rattle.lent_areas.proofs.SolveLaws.{positive, markable, grid-laid, mark-room, from-small, ready, solved, inverted-found, solved-none}
+use Rattle.lent_areas.proofs.solve.Statement.{statement}
+use Rattle.lent_areas.proofs.solve.Tie as tie
+
+returns : tie.Need-returns
+returns c = let a = (c .before .before .before .before .before .before .before .args) in solved-none (now (a .blocks)) (now (a .edges)) (now (a .kinds)) (now (a .touches)) (now (a .ends)) (a .areas) _ (omega arith)
+
+places-requires : tie.Need-places-requires
+places-requires c κs = (c .before .before .before .before .before .before .before .pre) .small
+
+add-grid : tie.Need-add-grid
+add-grid c = let s = (c .before .before .before .before .before .before .before .before .before .before .pre) .small in let p = (c .before .before .places) .ensures in omega (arith, s .few-locals, s .few-touches, s .few-ends, s .few-ranges, p .heads-at, p .nexts-at, p .touches-at, p .ends-at)
+
+grid-requires : tie.Need-grid-requires
+grid-requires c κs = let s = (c .before .before .before .before .before .before .before .before .before .before .pre) .small in let p = (c .before .before .places) .ensures in (s, omega (arith, s .few-locals, s .few-touches, s .few-ends, s .few-ranges, p .heads-at, p .nexts-at, p .touches-at, p .ends-at))
+
+mul-from : tie.Need-mul-from
+mul-from c = let a = (c .before .before .before .before .before .before .before .before .before .before .before .before .args) in omega (arith, from-small (now (a .blocks)) (now (a .edges)) (now (a .kinds)) (now (a .touches)) (now (a .ends)) (a .areas) _ _ (c .before .before .before .before .before .before .before .before .before .before .before .before .pre) (positive _ ((c .before .before .before .before .before .if1) .left)) ((c .before .before .before .before .places) .ensures) ((c .before .grid) .ensures))
+
+add-from : tie.Need-add-from
+add-from c = let a = (c .before .before .before .before .before .before .before .before .before .before .before .before .before .args) in omega (arith, from-small (now (a .blocks)) (now (a .edges)) (now (a .kinds)) (now (a .touches)) (now (a .ends)) (a .areas) _ _ (c .before .before .before .before .before .before .before .before .before .before .before .before .before .pre) (positive _ ((c .before .before .before .before .before .before .if1) .left)) ((c .before .before .before .before .before .places) .ensures) ((c .before .before .grid) .ensures))
+
+mark-requires : tie.Need-mark-requires
+mark-requires c κs = let a = (c .before .before .before .before .before .before .before .before .before .before .before .before .before .before .args) in markable (now (a .blocks)) (now (a .edges)) (now (a .kinds)) (now (a .touches)) (now (a .ends)) (a .areas) _ _ (c .before .before .before .before .before .before .before .before .before .before .before .before .before .before .pre) (positive _ ((c .before .before .before .before .before .before .before .if1) .left)) ((c .before .before .before .before .before .before .places) .ensures) ((c .before .before .before .grid) .ensures)
+
+same-length : tie.Need-same-length
+same-length c = search needs
+
+returns-2 : tie.Need-returns-2
+returns-2 c = let a = (c .before .before .before .before .before .before .before .before .before .before .before .before .before .before .before .before .before .before .args) in inverted-found (now (a .blocks)) (now (a .edges)) (now (a .kinds)) (now (a .touches)) (now (a .ends)) (a .areas) _ _ (c .before .before .before .before .before .before .before .before .before .before .before .before .before .before .before .before .before .before .pre) (positive _ ((c .before .before .before .before .before .before .before .before .before .before .before .if1) .left)) ((c .before .before .before .before .before .before .before .before .before .before .places) .ensures) ((c .before .before .before .before .before .before .before .grid) .ensures) ((c .before .before .before .mark) .ensures) ((c .if2) .taken)
+
+rows-requires : tie.Need-rows-requires
+rows-requires c κs = let a = (c .before .before .before .before .before .before .before .before .before .before .before .before .before .before .before .before .before .before .before .args) in (((c .before .before .before .before .before .before .before .before .before .before .before .before .before .before .before .before .before .before .before .pre) .sound, (c .before .before .before .before .before .before .before .before .before .before .before .before .before .before .before .before .before .before .before .pre) .edges-fine, grid-laid (now (a .blocks)) (now (a .edges)) (now (a .kinds)) (now (a .touches)) (now (a .ends)) (a .areas) _ _ (c .before .before .before .before .before .before .before .before .before .before .before .before .before .before .before .before .before .before .before .pre) (positive _ ((c .before .before .before .before .before .before .before .before .before .before .before .before .if1) .left)) ((c .before .before .before .before .before .before .before .before .before .before .before .places) .ensures) ((c .before .before .before .before .before .before .before .before .grid) .ensures) ((c .before .before .before .before .mark) .ensures .kept .len)), ((c .before .before .before .before .mark) .ensures .marks [] ((c .before .if2) .left) .quiet, mark-room (now (a .blocks)) (now (a .edges)) (now (a .kinds)) (now (a .touches)) (now (a .ends)) (a .areas) _ _ (c .before .before .before .before .before .before .before .before .before .before .before .before .before .before .before .before .before .before .before .pre) (positive _ ((c .before .before .before .before .before .before .before .before .before .before .before .before .if1) .left)) ((c .before .before .before .before .before .before .before .before .before .before .before .places) .ensures) ((c .before .before .before .before .before .before .before .before .grid) .ensures) ((c .before .before .before .before .mark) .ensures)))
+
+measure-all-requires : tie.Need-measure-all-requires
+measure-all-requires c κs = let a = (c .before .before .before .before .before .before .before .before .before .before .before .before .before .before .before .before .before .before .before .before .before .before .before .args) in ((c .before .before .before .before .before .before .before .before .before .before .before .before .before .before .before .before .before .before .before .before .before .before .before .pre) .sound, ready (now (a .blocks)) (now (a .edges)) (now (a .kinds)) (now (a .touches)) (now (a .ends)) (a .areas) _ _ (c .before .before .before .before .before .before .before .before .before .before .before .before .before .before .before .before .before .before .before .before .before .before .before .pre) (positive _ ((c .before .before .before .before .before .before .before .before .before .before .before .before .before .before .before .before .if1) .left)) ((c .before .before .before .before .before .before .before .before .before .before .before .before .before .before .before .places) .ensures) ((c .before .before .before .before .before .before .before .before .before .before .before .before .grid) .ensures) ((c .before .before .before .before .before .before .before .before .mark) .ensures) ((c .before .before .before .before .before .if2) .left) ((c .before .before .before .rows) .ensures))
+
+same-length-2 : tie.Need-same-length-2
+same-length-2 c = search needs
+
+returns-3 : tie.Need-returns-3
+returns-3 c = let a = (c .before .before .before .before .before .before .before .before .before .before .before .before .before .before .before .before .before .before .before .before .before .before .before .before .before .before .args) in solved (now (a .blocks)) (now (a .edges)) (now (a .kinds)) (now (a .touches)) (now (a .ends)) (a .areas) _ _ (c .before .before .before .before .before .before .before .before .before .before .before .before .before .before .before .before .before .before .before .before .before .before .before .before .before .before .pre) (positive _ ((c .before .before .before .before .before .before .before .before .before .before .before .before .before .before .before .before .before .before .before .if1) .left)) ((c .before .before .before .before .before .before .before .before .before .before .before .before .before .before .before .before .before .before .places) .ensures) ((c .before .before .before .before .before .before .before .before .before .before .before .before .before .before .before .grid) .ensures) ((c .before .before .before .before .before .before .before .before .before .before .before .mark) .ensures) ((c .before .before .before .before .before .before .before .before .if2) .left) ((c .before .before .before .before .before .before .rows) .ensures) ((c .before .before .measure-all) .ensures)
+
+pub solve-spec : {M : Type 1} → statement M
+solve-spec = tie.close (tie.spec returns places-requires add-grid grid-requires mul-from add-from mark-requires same-length returns-2 rows-requires measure-all-requires same-length-2 returns-3)

@@ -1,0 +1,54 @@
+-- What the entry `reach` answers.
+use Prim.Native.Nat.{ℕ, _+_}
+use mathlib.Core.Path.{_≡_}
+use mathlib.Core.List.{List}
+use lib.ListN.{length, replicate}
+use Rattle.refusals.specs.Verdicts.{numberOf}
+use Rattle.refusals.specs.Outcomes.{Outcome, given, refused, unless, after}
+use Rattle.words.specs.Rows.{tabulate, rowCount}
+use Rattle.words.specs.Regions.{Region}
+use Rattle.graph.specs.Work.{Within}
+use Rattle.carrying.specs.declared.Kind.{Kind}
+use Rattle.carrying.specs.declared.Kind.the-variants.{Unfollowed, Plain, Ending}
+use Rattle.carrying.specs.Carried.{Code, kindOf}
+use Rattle.reach.specs.declared.Lay.{Lay}
+use Rattle.reach.specs.Prepared.{codeOf, Prepared}
+use Rattle.follow.specs.declared.Sizes.{Sizes}
+use Rattle.local_kinds.specs.declared.Answer.{Answer}
+use Rattle.local_kinds.specs.declared.Answer.the-variants.{Given, Refused}
+use Rattle.carry_checks.specs.Checks.{carryVerdict, carrySpace}
+
+-- what each case of an answer stands for
+abbrev pub answered : Answer → Outcome ℕ
+answered (Given n) = given n
+answered (Refused r i) = refused (numberOf r) i
+
+-- the number of each kind in an answer list
+abbrev pub kindNumber : Kind → ℕ
+kindNumber Unfollowed = 0
+kindNumber Plain = 1
+kindNumber Ending = 2
+
+-- the kinds of the first n locals
+abbrev pub kindsOf : Code → ℕ → List ℕ
+kindsOf C n = tabulate n (λ l. kindNumber (kindOf C l))
+
+-- the kinds of all locals are in the answer list, and only the queue has changed
+pub record Kinds (insts addresses : List ℕ) (lay : Lay) (z : Sizes) (answer₀ answer w₀ w : List ℕ) : Type 0 where
+  pub kept : Within (lay .queue) (lay .queue + z .insts) w₀ w
+  pub len : length answer ≡ length answer₀
+  pub kinds : (operands crossings ends : List ℕ) → Prepared (codeOf (z .v) insts operands crossings addresses ends) lay w₀ (z .locals) (z .edges)
+      → Region answer₀ answer 0 (z .locals) (λ l. kindNumber (kindOf (codeOf (z .v) insts operands crossings addresses ends) l))
+
+-- the kinds of the l locals, with changes in the first words of the work space only
+pub record Measured (C : Code) (l used : ℕ) (answer₀ answer w₀ w : List ℕ) : Type 0 where
+  pub kept : Within 0 used w₀ w
+  pub kinds : Region answer₀ answer 0 l (λ m. kindNumber (kindOf C m))
+
+-- the answer of `reach`, its list and the work space afterwards
+pub record ReachTo (points v : ℕ) (blocks insts operands crossings locals addresses ends answer₀ work₀ : List ℕ) (r : Answer) (answer work : List ℕ) : Type 0 where
+  pub outcome : answered r ≡ unless (carryVerdict points v blocks insts operands crossings locals addresses ends (length answer₀) (rowCount 2 locals) (length work₀)) (rowCount 2 locals)
+  pub list : answer ≡ after (unless (carryVerdict points v blocks insts operands crossings locals addresses ends (length answer₀) (rowCount 2 locals) (length work₀)) (rowCount 2 locals))
+      (kindsOf (codeOf v insts operands crossings addresses ends)) answer₀
+  pub space : work ≡ after (unless (carryVerdict points v blocks insts operands crossings locals addresses ends (length answer₀) (rowCount 2 locals) (length work₀))
+      (carrySpace v blocks insts operands crossings locals addresses ends)) (λ n. replicate n 0) work₀

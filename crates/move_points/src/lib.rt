@@ -1,0 +1,60 @@
+// Where a move stands, and the points either side of it.
+ghost use mathlib.Core.Path.{_≡_};
+ghost use mathlib.Core.Bool.{false};
+ghost use mathlib.Core.List.{[]};
+ghost use Prim.Native.Nat.{_+_, _-_, _*_, _/_, _≤_, _<_, min};
+ghost use lib.ListN.{length};
+ghost use Rattle.graph.specs.Line.{blocksOf, Sound};
+ghost use Rattle.graph.specs.Work.{Table};
+ghost use Rattle.carrying.specs.Insts.{instsOf};
+ghost use Rattle.areas.specs.Slots.{badMove};
+ghost use Rattle.move_points.specs.Moves.{positionAt};
+use graph::Block;
+
+// Where a move stands, or that its kind is none.
+pub enum Spot {
+    At(u32),
+    Nowhere,
+}
+
+// The point of a move by its kind: early or late of an instruction, start or end of a block. The table of places stands from `table` on.
+pub fn position(
+    blocks: &[u32],
+    insts: &[u32],
+    work: &[u64],
+    table: usize,
+    kind: u32,
+    number: u32,
+) -> Spot
+    requires { ⌜ Sound (blocksOf (now blocks)) × Table (blocksOf (now blocks)) table (now work) × (table + length (now blocks) / 3 ≤ length (now work)) ⌝ }
+    requires { ⌜ badMove (blocksOf (now blocks)) (instsOf (now insts) []) kind number ≡ false ⌝ }
+    ensures { λ r. ⌜ r ≡ positionAt (blocksOf (now (blocks .entry))) (instsOf (now (insts .entry)) []) kind number ⌝ }
+{
+    match kind {
+        0 => Spot::At(insts[9 * number as usize + 2]),
+        1 => Spot::At(insts[9 * number as usize + 3]),
+        2 => Spot::At(blocks[3 * edge_rows::place_of(work, table, Block(number)).0 + 1]),
+        3 => Spot::At(blocks[3 * edge_rows::place_of(work, table, Block(number)).0 + 2]),
+        _ => Spot::Nowhere,
+    }
+}
+
+// The point before `p`, or 0.
+pub fn preceding(p: u32) -> u32
+    ensures { λ r. ⌜ r ≡ p - 1 ⌝ }
+{
+    if p == 0 {
+        return 0;
+    }
+    p - 1
+}
+
+// The point after `p`, at most `points`.
+pub fn beyond(p: u32, points: u32) -> u32
+    ensures { λ r. ⌜ r ≡ min (p + 1) points ⌝ }
+{
+    if p < points {
+        return p + 1;
+    }
+    points
+}

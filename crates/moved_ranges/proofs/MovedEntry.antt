@@ -1,0 +1,166 @@
+-- The entry `moved`: what a verdict without refusal says, and its two ways out.
+use Prim.Native.Nat.{ℕ, _+_, _-_, _*_, _/_, _≤_, _<_}
+use native.Mathlib.Omega.{arith}
+use mathlib.Core.Path.{_≡_, refl, sym, ap, _∙_}
+use mathlib.Core.Bool.{Bool, _||_}
+use mathlib.Core.List.{List, [], _∷_, _++_}
+use lib.ListN.{length, getD, drop, replicate, length-replicate, length-drop, List·getD-eq-default}
+use lib.Seq.{ext-getD, getD-drop}
+use borrow.Author.Tests.{lt-ltb, le-ltb}
+use Rattle.refusals.specs.declared.Verdict.{Verdict}
+use Rattle.refusals.specs.declared.Verdict.the-variants.{Fine, Bad}
+use Rattle.refusals.specs.declared.Refusal.{Refusal}
+use Rattle.refusals.specs.declared.Refusal.the-variants.{Space, Stray}
+use Rattle.refusals.specs.Verdicts.{first}
+use Rattle.refusals.specs.Outcomes.{Outcome, given}
+use Rattle.refusals.proofs.Laws.{first-fine, first-bad, first-left, first-right}
+use Rattle.words.specs.Rows.{rowCount}
+use Rattle.words.specs.Regions.{cleared}
+use Rattle.words.proofs.Points.{cut}
+use Rattle.ranges.specs.declared.Range.{Range}
+use Rattle.graph.specs.Line.{Stretch, blocksOf, lineVerdict, Sound}
+use Rattle.graph.specs.Work.{Within}
+use Rattle.graph.proofs.Line.{blocks-length, line-sound}
+use Rattle.carrying.specs.Insts.{Inst, instsOf}
+use Rattle.carrying.specs.Checks.{instVerdict}
+use Rattle.insts.specs.Counts.{rowsVerdict, mostVerdict, blockCounts, instCounts}
+use Rattle.insts.specs.Rows.{AddsUp}
+use Rattle.insts.proofs.CheckLaws.{bad-fine, most-few, rows-few, blocks-few, blocks-some, insts-counted}
+use Rattle.areas.specs.Slots.{Move, movesOf, moved, moveVerdict}
+use Rattle.spill_checks.specs.declared.Answer.{Answer}
+use Rattle.spill_checks.specs.declared.Answer.the-variants.{Given, Refused}
+use Rattle.moved_ranges.specs.Moved.{rowsOf, Wrote, movedCounts, movedSpace, movedRoom, movedVerdict, movedOf, MovedTo}
+use Rattle.moved_ranges.proofs.MovedLaws.{rows-length}
+use Rattle.spill_checks.proofs.OperandLaws.{moves-whatever, moved-whatever}
+
+-- ---- the checks
+
+pub space-answer : (lent moves work words : ℕ) → lent < 4 * moves → Bad Space 0 ≡ movedRoom lent moves work words
+space-answer lent moves work words h = simp (lt-ltb lent (4 * moves) h)
+
+pub space-work : (lent moves work words : ℕ) → 4 * moves ≤ lent → work < words → Bad Space 0 ≡ movedRoom lent moves work words
+space-work lent moves work words h l = simp (le-ltb lent (4 * moves) h, lt-ltb work words l)
+
+pub space-fine : (lent moves work words : ℕ) → 4 * moves ≤ lent → words ≤ work → Fine ≡ movedRoom lent moves work words
+space-fine lent moves work words h l = simp (le-ltb lent (4 * moves) h, le-ltb work words l)
+
+module _ (v : ℕ) (blocks insts operands moves : List ℕ) where
+  pub counts-chain : {a b c d e f r : Verdict} → a ≡ mostVerdict 65535 v → b ≡ blockCounts blocks → c ≡ instCounts insts operands → d ≡ rowsVerdict 4 65536 (length moves)
+      → e ≡ first c d → f ≡ first b e → r ≡ first a f → r ≡ movedCounts v blocks insts operands moves
+  unfolding movedCounts
+  counts-chain ea eb ec ed ee ef er = cc
+
+  pub record Counted : Type 0 where
+    pub registers : v ≤ 65535
+    pub some : 1 ≤ length blocks / 3
+    pub few : length blocks / 3 ≤ 4096
+    pub few-insts : length insts / 9 ≤ 65536
+    pub few-operands : length operands / 2 ≤ 262144
+    pub few-moves : length moves / 4 ≤ 65536
+    pub adds : AddsUp insts operands
+
+  pub counted : movedCounts v blocks insts operands moves ≡ Fine → Counted
+  unfolding movedCounts
+  counted e =
+      let a = first-left (mostVerdict 65535 v) _ e in
+      let b = first-right (mostVerdict 65535 v) _ e in
+      let c = first-left (blockCounts blocks) _ b in
+      let d = first-right (blockCounts blocks) _ b in
+      let i = insts-counted insts operands (first-left (instCounts insts operands) _ d) in
+      record {
+        registers = most-few 65535 v a;
+        some = blocks-some blocks c;
+        few = blocks-few blocks c;
+        few-insts = i .few;
+        few-operands = i .few-operands;
+        few-moves = rows-few 4 65536 (length moves) (first-right (instCounts insts operands) _ d);
+        adds = i .adds;
+      }
+
+module _ (points v : ℕ) (blocks insts operands moves : List ℕ) (lent work : ℕ) where
+  abbrev Located : Verdict
+  Located = first (lineVerdict (blocksOf blocks) points) (instVerdict (blocksOf blocks) v (instsOf insts operands))
+
+  pub by-counts : (r : Refusal) (i : ℕ) → movedCounts v blocks insts operands moves ≡ Bad r i → Bad r i ≡ movedVerdict points v blocks insts operands moves lent work
+  unfolding movedVerdict
+  by-counts r i e = sym (first-bad _ _ r i e)
+
+  pub by-place : (r : Refusal) (i : ℕ) → movedCounts v blocks insts operands moves ≡ Fine → Located ≡ Bad r i → Bad r i ≡ movedVerdict points v blocks insts operands moves lent work
+  unfolding movedVerdict
+  by-place r i e f = sym (first-fine _ _ e ∙ first-bad _ _ r i f)
+
+  pub by-moves : {a b r : Verdict} → movedCounts v blocks insts operands moves ≡ Fine → Located ≡ Fine
+      → a ≡ moveVerdict (blocksOf blocks) (instsOf insts []) (movesOf moves) → b ≡ movedRoom lent (rowCount 4 moves) work (movedSpace blocks insts operands moves)
+      → r ≡ first a b → r ≡ movedVerdict points v blocks insts operands moves lent work
+  unfolding movedVerdict
+  by-moves {a} {b} {r} e f p q z =
+      z ∙ ap (λ (x : Verdict). first x b) (p ∙ moves-whatever (blocksOf blocks) insts operands moves)
+      ∙ ap (first (moveVerdict (blocksOf blocks) (instsOf insts operands) (movesOf moves))) q
+      ∙ sym (first-fine _ _ e ∙ first-fine _ _ f)
+
+  -- what no refusal says
+  pub record Fit : Type 0 where
+    pub counts : Counted v blocks insts operands moves
+    pub sound : Sound (blocksOf blocks)
+    pub moves-fine : moveVerdict (blocksOf blocks) (instsOf insts []) (movesOf moves) ≡ Fine
+    pub answer : 4 * rowCount 4 moves ≤ lent
+    pub space : movedSpace blocks insts operands moves ≤ work
+
+  pub fit : movedVerdict points v blocks insts operands moves lent work ≡ Fine → Fit
+  unfolding movedVerdict
+  fit e =
+      let a = first-left (movedCounts v blocks insts operands moves) _ e in
+      let b = first-right (movedCounts v blocks insts operands moves) _ e in
+      let c = first-left Located _ b in
+      let d = first-right Located _ b in
+      let k = counted v blocks insts operands moves a in
+      let m = first-left (moveVerdict (blocksOf blocks) (instsOf insts operands) (movesOf moves)) _ d in
+      let s = first-right (moveVerdict (blocksOf blocks) (instsOf insts operands) (movesOf moves)) (movedRoom lent (rowCount 4 moves) work (movedSpace blocks insts operands moves)) d in
+      let p = cut {A = 4 * rowCount 4 moves ≤ lent} (4 * rowCount 4 moves) lent (λ h. h) (λ h. absurd (bad-fine (space-answer lent (rowCount 4 moves) work (movedSpace blocks insts operands moves) h ∙ s))) in
+      record {
+        counts = k;
+        sound = line-sound (blocksOf blocks) points (let n = blocks-length blocks in let q = k .some in omega arith) (first-left _ _ c);
+        moves-fine = moves-whatever (blocksOf blocks) insts operands moves ∙ m;
+        answer = p;
+        space = cut (movedSpace blocks insts operands moves) work (λ h. h)
+            (λ h. absurd (bad-fine (space-work lent (rowCount 4 moves) work (movedSpace blocks insts operands moves) p h ∙ s)));
+      }
+
+-- ---- the two ways out
+
+rows-none : (o : List ℕ) → o ≡ rowsOf [] ++ drop (2 * 0) o
+unfolding rowsOf
+rows-none o = refl
+
+drop-same : (n : ℕ) (l m : List ℕ) → length m ≡ length l → ((i : ℕ) → n ≤ i → getD m i 0 ≡ getD l i 0) → drop n m ≡ drop n l
+drop-same n l m e h =
+    ext-getD 0 (drop n m) (drop n l) (length-drop n m ∙ ap (λ (k : ℕ). k - n) e ∙ sym (length-drop n l))
+    (λ i q. getD-drop n m i 0 ∙ h (n + i) (omega arith) ∙ sym (getD-drop n l i 0))
+
+module _ (points v : ℕ) (blocks insts operands moves : List ℕ) (slot : ℕ) (out₀ work₀ : List ℕ) where
+  pub moved-refused : (r : Refusal) (i : ℕ) → movedVerdict points v blocks insts operands moves (length out₀) (length work₀) ≡ Bad r i
+      → MovedTo points v blocks insts operands moves slot out₀ work₀ (Refused r i) out₀ work₀
+  moved-refused r i e = record { outcome = rw e; list = rw e; space = rw e }
+
+  pub moved-given : {out work₁ work : List ℕ} {n : ℕ} → movedVerdict points v blocks insts operands moves (length out₀) (length work₀) ≡ Fine
+      → Within 0 (0 + length (blocksOf blocks)) work₀ work₁ → Wrote out₀ out 0 n (moved points (blocksOf blocks) (instsOf insts []) (movesOf moves) slot)
+      → (words : ℕ) → words ≡ movedSpace blocks insts operands moves → work ≡ cleared words work₁ → MovedTo points v blocks insts operands moves slot out₀ work₀ (Given n) out work
+  moved-given {out} {work₁} {work} {n} e k w words d c =
+      let same : moved points (blocksOf blocks) (instsOf insts []) (movesOf moves) slot ≡ movedOf points blocks insts operands moves slot
+      = moved-whatever (blocksOf blocks) insts operands points slot (movesOf moves) in
+      let l = w .count in
+      let f : n ≡ length (movedOf points blocks insts operands moves slot) = (let z : n ≡ length (moved points (blocksOf blocks) (instsOf insts []) (movesOf moves) slot) = omega arith in z ∙ ap length same) in
+      let g : 2 * n ≡ length (rowsOf (movedOf points blocks insts operands moves slot)) = ap (λ (x : ℕ). 2 * x) f ∙ sym (rows-length (movedOf points blocks insts operands moves slot)) in
+      record {
+        outcome = rw e (ap given f);
+        list = rw e (w .list [] out₀ refl refl (nothing out₀) ∙ ap (λ (rs : List Range). rowsOf rs ++ drop (2 * n) out₀) same
+            ∙ ap (λ (x : ℕ). rowsOf (movedOf points blocks insts operands moves slot) ++ drop x out₀) g);
+        space = rw e (c ∙ ap (λ (x : ℕ). cleared x work₁) d ∙ ap (λ (t : List ℕ). replicate (movedSpace blocks insts operands moves) 0 ++ t) rest
+            ∙ ap (λ (x : ℕ). replicate (movedSpace blocks insts operands moves) 0 ++ drop x work₀) (sym (length-replicate (movedSpace blocks insts operands moves) 0)));
+      }
+    where
+      nothing : (o : List ℕ) → o ≡ rowsOf [] ++ drop (2 * 0) o
+      nothing o = rows-none o
+
+      rest : drop (movedSpace blocks insts operands moves) work₁ ≡ drop (movedSpace blocks insts operands moves) work₀
+      rest = drop-same (movedSpace blocks insts operands moves) work₀ work₁ (k .len) (λ i h. k .past i (let n = blocks-length blocks in omega arith))

@@ -1,0 +1,62 @@
+-- `moved_ranges::all` meets its contract: what the moves passed cover.
+use native.Mathlib.Omega.{arith}
+use Prim.Native.Nat.{ℕ, suc, _+_, _-_, _*_, _/_, _%_, _≤_, _<_}
+use mathlib.Core.Path.{_≡_, refl, sym, ap, _∙_}
+use mathlib.Core.Bool.{Bool, true, false}
+use lib.ListN.{length, getD}
+use denote.Ref.{now}
+use borrow.Author.Needs.{needs}
+use Rattle.moved_ranges.proofs.MovedLaws.{wrote-none, wrote-then, gather-next, gather-none}
+use Rattle.move_points.proofs.MoveLaws.{covers-two}
+use mathlib.Core.List.{List, [], _++_}
+use Rattle.ranges.specs.declared.Range.{Range}
+use Rattle.words.specs.Rows.{tabulate}
+use Rattle.carrying.specs.Lists.{gather}
+use Rattle.graph.specs.Line.{blocksOf}
+use Rattle.carrying.specs.Insts.{instsOf}
+use Rattle.areas.specs.Slots.{covering}
+use Rattle.moved_ranges.specs.Moved.{Wrote}
+use Rattle.move_points.specs.Moves.{moveRow}
+use Rattle.moved_ranges.proofs.all.Statement.{statement}
+use Rattle.moved_ranges.proofs.all.Tie as tie
+
+abbrev Inv-loop : tie.InvT-loop
+Inv-loop points blocks insts moves slot work out₀ m k₀ i₀ out k i = (m ≡ length moves / 4) × (i ≤ m) × (k ≤ 2 * i) × Wrote out₀ out 0 k (gather (covering points (blocksOf blocks) (instsOf insts []) slot) (tabulate i (moveRow moves)))
+
+abbrev μ-loop : tie.MeasureT-loop
+μ-loop points blocks insts moves slot work out₀ m k₀ i₀ out k i = m - i
+
+loop-holds : tie.Need-loop-holds Inv-loop μ-loop
+loop-holds c = (omega arith, omega arith, omega arith, rw (gather-none (covering ((c .before .before .before .before .before .args) .points) (blocksOf (((c .before .before .before .before .before .args) .blocks .now))) (instsOf (((c .before .before .before .before .before .args) .insts .now)) []) ((c .before .before .before .before .before .args) .slot)) (moveRow (((c .before .before .before .before .before .args) .moves .now)))) (wrote-none _ _))
+
+covers-requires : tie.Need-covers-requires Inv-loop μ-loop
+covers-requires c κs = ((c .before .before .before .before .before .before .before .before .pre) .0, (omega arith, (c .before .before .before .before .before .before .before .before .pre) .1 .0, let l = (c .before .before .loop) .inv .3 .len in let q = (c .before .before .before .before .before .before .before .before .pre) .1 .1 in omega arith))
+
+add-i : tie.Need-add-i Inv-loop μ-loop
+add-i c = omega arith
+
+loop-less : tie.Need-loop-less Inv-loop μ-loop
+loop-less c = omega arith
+
+loop-again : tie.Need-loop-again Inv-loop μ-loop
+loop-again c = (omega arith, omega arith, (let q = covers-two ((c .before .before .before .before .before .before .before .before .before .before .before .args) .points) (blocksOf (((c .before .before .before .before .before .before .before .before .before .before .before .args) .blocks .now))) (instsOf (((c .before .before .before .before .before .before .before .before .before .before .before .args) .insts .now)) []) ((c .before .before .before .before .before .before .before .before .before .before .before .args) .slot) (moveRow (((c .before .before .before .before .before .before .before .before .before .before .before .args) .moves .now)) ((c .before .before .before .before .before .loop) .i)) in let e = (c .before .before .covers) .ensures .count in omega arith), rw (gather-next (covering ((c .before .before .before .before .before .before .before .before .before .before .before .args) .points) (blocksOf (((c .before .before .before .before .before .before .before .before .before .before .before .args) .blocks .now))) (instsOf (((c .before .before .before .before .before .before .before .before .before .before .before .args) .insts .now)) []) ((c .before .before .before .before .before .before .before .before .before .before .before .args) .slot)) (moveRow (((c .before .before .before .before .before .before .before .before .before .before .before .args) .moves .now))) ((c .before .before .before .before .before .loop) .i)) (wrote-then ((c .before .before .before .before .before .loop) .inv .3) ((c .before .before .covers) .ensures)))
+
+same-length : tie.Need-same-length Inv-loop μ-loop
+same-length c = (c .before .loop) .inv .3 .len
+
+returns : tie.Need-returns Inv-loop μ-loop
+returns c = let q : (c .before .loop) .i ≡ length (((c .before .before .before .before .before .before .before .args) .moves .now)) / 4 = omega arith in rw q at ((c .before .loop) .inv .3)
+
+pub all-spec : {M : Type 1} → statement M
+all-spec =
+    tie.close
+    (tie.spec
+    Inv-loop
+    μ-loop
+    loop-holds
+    covers-requires
+    add-i
+    loop-less
+    loop-again
+    same-length
+    returns)

@@ -1,0 +1,48 @@
+-- `moved_ranges::counts` meets its contract: each check, the first that refuses.
+use native.Mathlib.Omega.{arith}
+use Prim.Native.Nat.{ℕ, suc, _+_, _-_, _*_, _/_, _%_, _≤_, _<_}
+use mathlib.Core.Path.{_≡_, refl, sym, ap, _∙_}
+use mathlib.Core.Bool.{Bool, true, false}
+use lib.ListN.{length, getD}
+use denote.Ref.{now}
+use borrow.Author.Needs.{needs}
+use Rattle.moved_ranges.proofs.MovedEntry.{counts-chain}
+use Rattle.moved_ranges.proofs.counts.Statement.{statement}
+use Rattle.moved_ranges.proofs.counts.Tie as tie
+
+most-requires : tie.Need-most-requires
+most-requires c κs = search needs
+
+blocks-requires : tie.Need-blocks-requires
+blocks-requires c κs = search needs
+
+insts-requires : tie.Need-insts-requires
+insts-requires c κs = search needs
+
+rows-requires : tie.Need-rows-requires
+rows-requires c κs = search needs
+
+earlier-requires : tie.Need-earlier-requires
+earlier-requires c κs = search needs
+
+earlier-requires-2 : tie.Need-earlier-requires-2
+earlier-requires-2 c κs = search needs
+
+earlier-requires-3 : tie.Need-earlier-requires-3
+earlier-requires-3 c κs = search needs
+
+returns : tie.Need-returns
+returns c = counts-chain ((c .before .before .before .before .before .before .before .before .before .before .before .args) .v) (((c .before .before .before .before .before .before .before .before .before .before .before .args) .blocks .now)) (((c .before .before .before .before .before .before .before .before .before .before .before .args) .insts .now)) (((c .before .before .before .before .before .before .before .before .before .before .before .args) .operands .now)) (((c .before .before .before .before .before .before .before .before .before .before .before .args) .moves .now)) ((c .before .before .before .before .before .before .most) .ensures) ((c .before .before .before .before .before .blocks2) .ensures) ((c .before .before .before .before .insts) .ensures) ((c .before .before .before .rows) .ensures) ((c .before .before .earlier) .ensures) ((c .before .earlier2) .ensures) ((c .earlier3) .ensures)
+
+pub counts-spec : {M : Type 1} → statement M
+counts-spec =
+    tie.close
+    (tie.spec
+    most-requires
+    blocks-requires
+    insts-requires
+    rows-requires
+    earlier-requires
+    earlier-requires-2
+    earlier-requires-3
+    returns)

@@ -1,0 +1,62 @@
+-- The entry `moved`: what it refuses (numbers 1, 2, 4, 5 and 7) and what it answers.
+use Prim.Native.Nat.{ℕ, _+_, _*_}
+use mathlib.Core.Path.{_≡_}
+use mathlib.Core.Bool.{_||_}
+use mathlib.Core.List.{List, [], _∷_, _++_}
+use lib.ListN.{length, drop}
+use lib.Dec.{ltb}
+use Rattle.refusals.specs.declared.Verdict.{Verdict}
+use Rattle.refusals.specs.declared.Refusal.the-variants.{Space}
+use Rattle.refusals.specs.Verdicts.{first, check}
+use Rattle.refusals.specs.Outcomes.{unless, after}
+use Rattle.words.specs.Rows.{rowCount}
+use lib.ListN.{replicate}
+use Rattle.ranges.specs.declared.Range.{Range}
+use Rattle.graph.specs.Line.{blocksOf, lineVerdict}
+use Rattle.carrying.specs.Insts.{instsOf}
+use Rattle.carrying.specs.Checks.{instVerdict}
+use Rattle.insts.specs.Counts.{rowsVerdict, mostVerdict, blockCounts, instCounts}
+use Rattle.areas.specs.Slots.{movesOf, moved, moveVerdict}
+use Rattle.spill_checks.specs.declared.Answer.{Answer}
+use Rattle.spill_checks.specs.Answer.{answered}
+
+-- ranges as rows of two numbers
+unfoldable pub rowsOf : List Range → List ℕ
+rowsOf [] = []
+rowsOf (r ∷ rs) = r .start ∷ r .end ∷ rowsOf rs
+
+-- ranges appended to the k that stand at the front of an answer list o, so that there are n
+pub record Wrote (out₀ out : List ℕ) (k n : ℕ) (rs : List Range) : Type 0 where
+  pub len : length out ≡ length out₀
+  pub count : n ≡ k + length rs
+  pub list : (xs : List Range) (o : List ℕ) → length xs ≡ k → length o ≡ length out₀ → out₀ ≡ rowsOf xs ++ drop (2 * k) o → out ≡ rowsOf (xs ++ rs) ++ drop (2 * n) o
+
+-- number 1: "B 1 to 4,096; instructions 65,536; operands 262,144; V 65,535; moves 65,536"
+unfoldable pub movedCounts : ℕ → List ℕ → List ℕ → List ℕ → List ℕ → Verdict
+movedCounts v blocks insts operands moves =
+    first (mostVerdict 65535 v) (first (blockCounts blocks) (first (instCounts insts operands) (rowsVerdict 4 65536 (length moves))))
+
+-- W: 8 × the records lent
+abbrev pub movedSpace : List ℕ → List ℕ → List ℕ → List ℕ → ℕ
+movedSpace blocks insts operands moves = 8 * (rowCount 3 blocks + rowCount 9 insts + rowCount 2 operands + rowCount 4 moves)
+
+-- number 7: an answer list under two ranges for each move, the most there can be, or work space under W
+abbrev pub movedRoom : ℕ → ℕ → ℕ → ℕ → Verdict
+movedRoom lent moves work space = check Space (ltb lent (4 * moves) || ltb work space)
+
+unfoldable pub movedVerdict : ℕ → ℕ → List ℕ → List ℕ → List ℕ → List ℕ → ℕ → ℕ → Verdict
+movedVerdict points v blocks insts operands moves lent work =
+    first (movedCounts v blocks insts operands moves)
+    (first (first (lineVerdict (blocksOf blocks) points) (instVerdict (blocksOf blocks) v (instsOf insts operands)))
+    (first (moveVerdict (blocksOf blocks) (instsOf insts operands) (movesOf moves))
+    (movedRoom lent (rowCount 4 moves) work (movedSpace blocks insts operands moves))))
+
+-- the answer: the ranges that the slot's moves cover, in the moves' order
+abbrev pub movedOf : ℕ → List ℕ → List ℕ → List ℕ → List ℕ → ℕ → List Range
+movedOf points blocks insts operands moves slot = moved points (blocksOf blocks) (instsOf insts operands) (movesOf moves) slot
+
+-- the answer, its list and the work space afterwards
+pub record MovedTo (points v : ℕ) (blocks insts operands moves : List ℕ) (slot : ℕ) (out₀ work₀ : List ℕ) (r : Answer) (out work : List ℕ) : Type 0 where
+  pub outcome : answered r ≡ unless (movedVerdict points v blocks insts operands moves (length out₀) (length work₀)) (length (movedOf points blocks insts operands moves slot))
+  pub list : out ≡ after (unless (movedVerdict points v blocks insts operands moves (length out₀) (length work₀)) (movedOf points blocks insts operands moves slot)) rowsOf out₀
+  pub space : work ≡ after (unless (movedVerdict points v blocks insts operands moves (length out₀) (length work₀)) (movedSpace blocks insts operands moves)) (λ n. replicate n 0) work₀

@@ -1,0 +1,187 @@
+// What the moves of a slot cover: the point of each, and the points either side of it.
+ghost use mathlib.Core.Path.{_≡_};
+ghost use mathlib.Core.List.{[], _∷_};
+ghost use Prim.Native.Nat.{_+_, _-_, _*_, _/_, _≤_, _<_, min};
+ghost use lib.ListN.{length};
+ghost use Rattle.refusals.specs.declared.Verdict.the-variants.{Fine};
+ghost use Rattle.graph.specs.Line.{blocksOf, Sound};
+ghost use Rattle.graph.specs.Work.{Table};
+ghost use Rattle.carrying.specs.Insts.{instsOf};
+ghost use Rattle.areas.specs.Slots.{movesOf, moveVerdict, around, covering, moved};
+ghost use Rattle.move_points.specs.Moves.{positionAt, moveRow};
+ghost use Rattle.moved_ranges.specs.Moved.{Wrote, movedCounts, movedRoom, movedSpace, movedVerdict, MovedTo};
+use move_points::Spot;
+use refusals::Refusal;
+use refusals::Verdict;
+use spill_checks::Answer;
+
+// Appends what a move at `p` covers to the first `k` ranges of the answer.
+fn cover(out: &mut [u32], k: usize, points: u32, p: u32) -> usize
+    requires { ⌜ 2 * k + 2 ≤ length (now out) ⌝ }
+    ensures { λ r. ⌜ Wrote (now (out .entry)) (now (out .exit)) k r (around points p ∷ []) ⌝ }
+{
+    let start = move_points::preceding(p);
+    let end = move_points::beyond(p, points);
+    out[2 * k] = start;
+    out[2 * k + 1] = end;
+    k + 1
+}
+
+// Appends what move `i` covers of the slot: it may go to it, come from it, or both.
+fn covers(
+    points: u32,
+    blocks: &[u32],
+    insts: &[u32],
+    moves: &[u32],
+    slot: u32,
+    work: &[u64],
+    out: &mut [u32],
+    k: usize,
+    i: usize,
+) -> usize
+    requires { ⌜ Sound (blocksOf (now blocks)) × Table (blocksOf (now blocks)) 0 (now work) × (length (now blocks) / 3 ≤ length (now work)) ⌝ }
+    requires { ⌜ (i < length (now moves) / 4) × (moveVerdict (blocksOf (now blocks)) (instsOf (now insts) []) (movesOf (now moves)) ≡ Fine) × (2 * k + 4 ≤ length (now out)) ⌝ }
+    ensures { λ r. ⌜ Wrote (now (out .entry)) (now (out .exit)) k r (covering points (blocksOf (now (blocks .entry))) (instsOf (now (insts .entry)) []) slot (moveRow (now (moves .entry)) i)) ⌝ }
+{
+    let at = move_points::position(blocks, insts, work, 0, moves[4 * i], moves[4 * i + 1]);
+    let Spot::At(p) = at else {
+        return k;
+    };
+    let to = moves[4 * i + 2];
+    let from = moves[4 * i + 3];
+    if to == slot {
+        let k = cover(out, k, points, p);
+        if from == slot {
+            return cover(out, k, points, p);
+        }
+        return k;
+    }
+    if from == slot {
+        return cover(out, k, points, p);
+    }
+    k
+}
+
+// What all moves cover of the slot.
+fn all(
+    points: u32,
+    blocks: &[u32],
+    insts: &[u32],
+    moves: &[u32],
+    slot: u32,
+    work: &[u64],
+    out: &mut [u32],
+) -> usize
+    requires { ⌜ Sound (blocksOf (now blocks)) × Table (blocksOf (now blocks)) 0 (now work) × (length (now blocks) / 3 ≤ length (now work)) ⌝ }
+    requires { ⌜ (moveVerdict (blocksOf (now blocks)) (instsOf (now insts) []) (movesOf (now moves)) ≡ Fine) × (4 * (length (now moves) / 4) ≤ length (now out)) ⌝ }
+    ensures { λ r. ⌜ Wrote (now (out .entry)) (now (out .exit)) 0 r (moved points (blocksOf (now (blocks .entry))) (instsOf (now (insts .entry)) []) (movesOf (now (moves .entry))) slot) ⌝ }
+{
+    let m = moves.len() / 4;
+    let mut k = 0;
+    let mut i = 0;
+    while i < m {
+        k = covers(points, blocks, insts, moves, slot, work, out, k, i);
+        i += 1;
+    }
+    k
+}
+
+// Refusal 1 of `moved`.
+fn counts(v: u32, blocks: &[u32], insts: &[u32], operands: &[u32], moves: &[u32]) -> Verdict
+    ensures { λ r. ⌜ r ≡ movedCounts v (now (blocks .entry)) (now (insts .entry)) (now (operands .entry)) (now (moves .entry)) ⌝ }
+{
+    let a = insts::counts::most(v as usize, 65535);
+    let b = insts::counts::blocks(blocks);
+    let c = insts::counts::insts(insts, operands);
+    let d = insts::counts::rows(moves.len(), 4, 65536);
+    let d = refusals::earlier(c, d);
+    let d = refusals::earlier(b, d);
+    refusals::earlier(a, d)
+}
+
+// Refusal 7 of `moved`.
+fn space(lent: usize, moves: usize, work: usize, words: usize) -> Verdict
+    requires { ⌜ moves ≤ 65536 ⌝ }
+    ensures { λ r. ⌜ r ≡ movedRoom lent moves work words ⌝ }
+{
+    if lent < 4 * moves {
+        return Verdict::Bad(Refusal::Space, 0);
+    }
+    if work < words {
+        return Verdict::Bad(Refusal::Space, 0);
+    }
+    Verdict::Fine
+}
+
+// The work space that `moved` needs: 8 words for each record lent.
+pub fn needed(blocks: &[u32], insts: &[u32], operands: &[u32], moves: &[u32]) -> usize
+    requires { ⌜ (length (now blocks) / 3 ≤ 4096) × (length (now insts) / 9 ≤ 65536) × (length (now operands) / 2 ≤ 262144) × (length (now moves) / 4 ≤ 65536) ⌝ }
+    ensures { λ r. ⌜ r ≡ movedSpace (now (blocks .entry)) (now (insts .entry)) (now (operands .entry)) (now (moves .entry)) ⌝ }
+{
+    let n = blocks.len() / 3 + insts.len() / 9;
+    let m = operands.len() / 2 + moves.len() / 4;
+    8 * (n + m)
+}
+
+// Refusals 1, 2, 4, 5 and 7 of `moved`.
+fn refusal(
+    points: u32,
+    v: u32,
+    blocks: &[u32],
+    insts: &[u32],
+    operands: &[u32],
+    moves: &[u32],
+    lent: usize,
+    work: usize,
+) -> Verdict
+    ensures { λ r. ⌜ r ≡ movedVerdict points v (now (blocks .entry)) (now (insts .entry)) (now (operands .entry)) (now (moves .entry)) lent work ⌝ }
+{
+    let number = counts(v, blocks, insts, operands, moves);
+    if let Verdict::Bad(r, i) = number {
+        return Verdict::Bad(r, i);
+    }
+    let place = insts::checks::located(points, v, blocks, insts, operands);
+    if let Verdict::Bad(r, i) = place {
+        return Verdict::Bad(r, i);
+    }
+    let stray = spill_checks::moves(blocks, insts, moves);
+    let w = needed(blocks, insts, operands, moves);
+    let short = space(lent, moves.len() / 4, work, w);
+    refusals::earlier(stray, short)
+}
+
+// What the moves of a slot cover, in the moves' order, as rows of start and end: the point of a move and the points either side of it.
+// Refuses counts outside their limits (1), blocks out of line (2), a bad instruction (4), a stray move (5), an answer under two ranges for each move
+// or work space under 8 words for each record lent (7).
+pub fn moved(
+    points: u32,
+    v: u32,
+    blocks: &[u32],
+    insts: &[u32],
+    operands: &[u32],
+    moves: &[u32],
+    slot: u32,
+    out: &mut [u32],
+    work: &mut [u64],
+) -> Answer
+    ensures { λ r. ⌜ MovedTo points v (now (blocks .entry)) (now (insts .entry)) (now (operands .entry)) (now (moves .entry)) slot (now (out .entry)) (now (work .entry)) r (now (out .exit)) (now (work .exit)) ⌝ }
+{
+    let verdict = refusal(
+        points,
+        v,
+        blocks,
+        insts,
+        operands,
+        moves,
+        out.len(),
+        work.len(),
+    );
+    if let Verdict::Bad(r, i) = verdict {
+        return Answer::Refused(r, i);
+    }
+    edge_rows::table(blocks, work, 0);
+    let n = all(points, blocks, insts, moves, slot, work, out);
+    let w = needed(blocks, insts, operands, moves);
+    words::clear(work, w);
+    Answer::Given(n)
+}

@@ -1,0 +1,57 @@
+-- What the queries of a lent plan refuse: document 01, numbers 1, 7 and 10.
+use Prim.Native.Nat.{ℕ, _-_, _+_}
+use mathlib.Core.Bool.{Bool, cond, not, _||_, false}
+use mathlib.Core.List.{List, [], _∷_}
+use lib.Dec.{leb, ltb, eqb}
+use Rattle.refusals.specs.declared.Verdict.{Verdict}
+use Rattle.refusals.specs.declared.Verdict.the-variants.{Fine, Bad}
+use Rattle.refusals.specs.Verdicts.{inOrder, scan, check}
+use Rattle.words.specs.Rows.{rowCount, wholeRows, field}
+use Rattle.refusals.specs.declared.Refusal.the-variants.{Count, Space, Want}
+
+-- number 1: a list that is no whole rows, locals over the items, or a count over its limit
+abbrev pub badCount : List ℕ → List ℕ → ℕ → Bool
+badCount cells items locals =
+    not (wholeRows 2 cells) || (not (wholeRows 4 items) || (ltb (rowCount 4 items) locals || (ltb 2048 locals || ltb 2048 (rowCount 4 items - locals))))
+
+-- number 10: "an item naming no cell"
+abbrev pub noCell : List ℕ → List ℕ → ℕ → Bool
+noCell cells items i = leb (rowCount 2 cells) (field 4 items i 0)
+
+abbrev pub itemsVerdict : List ℕ → List ℕ → Verdict
+itemsVerdict cells items = scan Want (noCell cells items) (rowCount 4 items)
+
+-- number 10: "or more cells than items": "surplus cells give the item count"
+abbrev pub surplus : List ℕ → List ℕ → Verdict
+surplus cells items = cond (ltb (rowCount 4 items) (rowCount 2 cells)) (Bad Want (rowCount 4 items)) Fine
+
+unfoldable pub planVerdict : List ℕ → List ℕ → ℕ → Verdict
+planVerdict cells items locals =
+    inOrder (check Count (badCount cells items locals) ∷ itemsVerdict cells items ∷ surplus cells items ∷ [])
+
+-- ---- `shared`
+
+-- number 1: an area list that is no whole rows, or over its limit
+abbrev pub badAreas : List ℕ → Bool
+badAreas areas = not (wholeRows 2 areas) || ltb 65536 (rowCount 2 areas)
+
+-- number 10: "a part outside the area list"; an absent area's part is not read
+abbrev pub outside : ℕ → ℕ → ℕ → ℕ → Bool
+outside ranges present first count = cond (eqb present 0) false (ltb ranges (first + count))
+
+abbrev pub badItem : List ℕ → List ℕ → ℕ → ℕ → Bool
+badItem cells items ranges i = noCell cells items i || outside ranges (field 4 items i 1) (field 4 items i 2) (field 4 items i 3)
+
+abbrev pub partsVerdict : List ℕ → List ℕ → ℕ → Verdict
+partsVerdict cells items ranges = scan Want (badItem cells items ranges) (rowCount 4 items)
+
+unfoldable pub sharedVerdict : List ℕ → List ℕ → List ℕ → ℕ → Verdict
+sharedVerdict cells items areas locals =
+    inOrder (check Count (badCount cells items locals || badAreas areas) ∷ partsVerdict cells items (rowCount 2 areas) ∷ surplus cells items ∷ [])
+
+-- ---- `crowded`
+
+-- numbers 1, 7 and 10: an answer list under the slots is 7
+unfoldable pub crowdedVerdict : List ℕ → List ℕ → ℕ → ℕ → Verdict
+crowdedVerdict cells items locals room =
+    inOrder (check Count (badCount cells items locals) ∷ check Space (ltb room (rowCount 4 items - locals)) ∷ planVerdict cells items locals ∷ [])

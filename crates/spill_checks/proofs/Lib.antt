@@ -1,0 +1,3 @@
+pub mod CheckLaws
+pub mod OperandLaws
+pub mod AssignedLaws

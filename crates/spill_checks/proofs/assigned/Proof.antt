@@ -1,0 +1,29 @@
+-- `spill_checks::assigned` meets its contract: rows of two numbers.
+use native.Mathlib.Omega.{arith}
+use Prim.Native.Nat.{ℕ, suc, _+_, _-_, _*_, _/_, _%_, _≤_, _<_}
+use mathlib.Core.Path.{_≡_, refl, sym, ap, _∙_}
+use mathlib.Core.Bool.{Bool, true, false}
+use lib.ListN.{length, getD}
+use denote.Ref.{now}
+use borrow.Author.Needs.{needs}
+use Rattle.refusals.specs.Verdicts.{scan}
+use Rattle.refusals.specs.declared.Verdict.the-variants.{Fine, Bad}
+use Rattle.refusals.specs.declared.Refusal.the-variants.{Stray, Piece as PieceWord}
+use Rattle.refusals.proofs.Laws.{scan-none, scan-miss, scan-hit, scan-end}
+use Rattle.words.specs.Rows.{rowCount, field}
+use Rattle.spill_checks.proofs.CheckLaws.{assigned-is}
+use lib.Dec.{leb}
+use Rattle.spill_checks.proofs.assigned.Statement.{statement}
+use Rattle.spill_checks.proofs.assigned.Tie as tie
+
+wide-requires : tie.Need-wide-requires
+wide-requires c κs = omega arith
+
+below-requires : tie.Need-below-requires
+below-requires c κs = omega arith
+
+returns : tie.Need-returns
+returns c = c .below .ensures ∙ ap (λ (x : ℕ). scan PieceWord (λ n. leb x (field 2 (((c .before .before .before .args) .assigned .now)) n 0)) (rowCount 2 (((c .before .before .before .args) .assigned .now)))) ((c .before .wide) .ensures) ∙ assigned-is ((c .before .before .before .args) .v) (((c .before .before .before .args) .assigned .now))
+
+pub assigned-spec : {M : Type 1} → statement M
+assigned-spec = tie.close (tie.spec wide-requires below-requires returns)

@@ -1,0 +1,95 @@
+// Refusal 5 about moves and refusal 6 about live pieces and assignments, in linear time and without work space.
+ghost use mathlib.Core.Path.{_≡_};
+ghost use mathlib.Core.List.{[]};
+ghost use Prim.Native.Nat.{_+_, _*_, _/_, _≤_, _<_};
+ghost use lib.ListN.{length};
+ghost use Rattle.graph.specs.Line.{blocksOf, Sound};
+ghost use Rattle.carrying.specs.Insts.{instsOf};
+ghost use Rattle.carrying.specs.Carried.{piecesOf};
+ghost use Rattle.areas.specs.Slots.{assignedOf, movesOf, badMove, moveVerdict, badPiece, pieceVerdict, assignedVerdict};
+ghost use Rattle.spill_checks.specs.Rows.{pieceAt};
+use refusals::Refusal;
+use refusals::Verdict;
+
+// How many answers were given, or the refusal.
+pub enum Answer {
+    Given(usize),
+    Refused(Refusal, usize),
+}
+
+fn wide(x: u32) -> usize
+    ensures { λ r. ⌜ r ≡ x ⌝ }
+{
+    x as usize
+}
+
+// Whether a move of this kind is at an absent or unplaced instruction or an absent block, or the kind is none.
+fn bad_move(blocks: &[u32], insts: &[u32], kind: u32, number: u32) -> bool
+    ensures { λ r. ⌜ r ≡ badMove (blocksOf (now (blocks .entry))) (instsOf (now (insts .entry)) []) kind number ⌝ }
+{
+    match kind {
+        0 => insts::checks::unplaced(insts, number),
+        1 => insts::checks::unplaced(insts, number),
+        2 => blocks.len() / 3 <= wide(number),
+        3 => blocks.len() / 3 <= wide(number),
+        _ => true,
+    }
+}
+
+// Refusal 5: the first move that is refused, whatever the operands of instructions.
+pub fn moves(blocks: &[u32], insts: &[u32], moves: &[u32]) -> Verdict
+    ensures { λ r. ⌜ r ≡ moveVerdict (blocksOf (now (blocks .entry))) (instsOf (now (insts .entry)) []) (movesOf (now (moves .entry))) ⌝ }
+{
+    let n = moves.len() / 4;
+    let mut i = 0;
+    while i < n {
+        if bad_move(blocks, insts, moves[4 * i], moves[4 * i + 1]) {
+            return Verdict::Bad(Refusal::Stray, i);
+        }
+        i += 1;
+    }
+    Verdict::Fine
+}
+
+// Whether live piece `i` is reversed, not wholly in the blocks, or of a register that is not numbered.
+fn bad_piece(blocks: &[u32], v: u32, pieces: &[u32], i: usize) -> bool
+    requires { ⌜ (1 ≤ length (now blocks) / 3) × (i < length (now pieces) / 3) ⌝ }
+    ensures { λ r. ⌜ r ≡ badPiece (blocksOf (now (blocks .entry))) v (pieceAt (now (pieces .entry)) i) ⌝ }
+{
+    let start = pieces[3 * i + 1];
+    let end = pieces[3 * i + 2];
+    if end < start {
+        return true;
+    }
+    if start < blocks[1] {
+        return true;
+    }
+    let last = blocks.len() / 3 - 1;
+    if blocks[3 * last + 2] < end {
+        return true;
+    }
+    v <= pieces[3 * i]
+}
+
+// Refusal 6: the first live piece that is refused.
+pub fn pieces(blocks: &[u32], v: u32, pieces: &[u32]) -> Verdict
+    requires { ⌜ 1 ≤ length (now blocks) / 3 ⌝ }
+    ensures { λ r. ⌜ r ≡ pieceVerdict (blocksOf (now (blocks .entry))) v (piecesOf (now (pieces .entry))) ⌝ }
+{
+    let n = pieces.len() / 3;
+    let mut i = 0;
+    while i < n {
+        if bad_piece(blocks, v, pieces, i) {
+            return Verdict::Bad(Refusal::Piece, i);
+        }
+        i += 1;
+    }
+    Verdict::Fine
+}
+
+// Refusal 6: the first assignment of a register that is not numbered.
+pub fn assigned(v: u32, assigned: &[u32]) -> Verdict
+    ensures { λ r. ⌜ r ≡ assignedVerdict v (assignedOf (now (assigned .entry))) ⌝ }
+{
+    insts::checks::below(assigned, 2, 0, wide(v), Refusal::Piece)
+}

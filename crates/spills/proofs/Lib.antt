@@ -1,4 +1,0 @@
-pub mod CheckLaws
-pub mod SpilledLaws
-pub mod MovedLaws
-pub mod MovedEntry

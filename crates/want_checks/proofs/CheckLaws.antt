@@ -1,0 +1,84 @@
+-- The three ways out of the checks, and what a verdict of fine gives.
+use Prim.Native.Nat.{ℕ, _+_, _-_, _/_, _%_, _≤_, _<_}
+use native.Mathlib.Omega.{arith}
+use mathlib.Core.Path.{_≡_, refl, ap, sym, _∙_}
+use mathlib.Core.Bool.{Bool, true, false, not, _||_}
+use mathlib.Core.List.{List, [], _∷_}
+use lib.ListN.{length, take, drop}
+use lib.Dec.{ltb, eqb}
+use borrow.Author.Tests.{ltb-false, lt-ltb, le-ltb}
+use Rattle.refusals.specs.declared.Verdict.{Verdict}
+use Rattle.refusals.specs.declared.Verdict.the-variants.{Fine, Bad}
+use Rattle.refusals.specs.declared.Refusal.{Refusal}
+use Rattle.refusals.specs.declared.Refusal.the-variants.{Count, Space, Want as WantRefused}
+use Rattle.refusals.specs.Verdicts.{inOrder, check}
+use Rattle.refusals.proofs.Laws.{three-first, three-second, three-third, scan-fine}
+use Rattle.words.specs.Rows.{rowCount, wholeRows}
+use Rattle.ranges.proofs.PointLaws.{or-none}
+use Rattle.ranges.specs.Lent.{faulty}
+use Rattle.fitting.specs.Queries.{areasOf}
+use Rattle.want_checks.specs.Checks.{badPart, badWant, wantsVerdict, overLimit, badCount, badSpace, spaceOf, verdict, Granted}
+use Rattle.want_checks.proofs.PartLaws.{part-present, areas-length}
+
+pub part-outside : (s : List ℕ) (present first count : ℕ) → (present ≡ 0 → ⊥) → rowCount 2 s < first + count → true ≡ badPart (areasOf s) present first count
+part-outside s present first count d h =
+    part-present (areasOf s) present first count true d
+    (sym (ap (λ (t : Bool). t || faulty (take count (drop first (areasOf s)))) (lt-ltb (length (areasOf s)) (first + count) (rw (areas-length s) h))))
+
+pub part-inside : (s : List ℕ) (present first count : ℕ) (r : Bool) → (present ≡ 0 → ⊥) → first + count ≤ rowCount 2 s → r ≡ faulty (take count (drop first (areasOf s)))
+    → r ≡ badPart (areasOf s) present first count
+part-inside s present first count r d h e =
+    part-present (areasOf s) present first count r d
+    (e ∙ sym (ap (λ (t : Bool). t || faulty (take count (drop first (areasOf s)))) (le-ltb (length (areasOf s)) (first + count) (rw (areas-length s) h))))
+
+-- counts within their limits
+pub limits : (wants ranges locals budget : ℕ) → overLimit wants ranges locals budget ≡ false → (wants ≤ 4096) × (ranges ≤ 65536)
+limits wants ranges locals budget e =
+    let (a, b) = or-none (ltb wants locals) _ e in
+    let (c, d) = or-none (ltb 2048 locals) _ b in
+    let (f, g) = or-none (ltb 2048 (wants - locals)) _ d in
+    let (h, k) = or-none (ltb 65536 ranges) _ g in
+    (omega (arith, ltb-false wants locals a, ltb-false 2048 locals c, ltb-false 2048 (wants - locals) f), ltb-false 65536 ranges h)
+
+pub count-fine : (wants areas : List ℕ) (locals budget cells items : ℕ) → badCount wants areas locals budget cells items ≡ false → (rowCount 5 wants ≤ 4096) × (rowCount 2 areas ≤ 65536)
+count-fine wants areas locals budget cells items e =
+    let (a, b) = or-none (not (wholeRows 5 wants)) _ e in
+    let (c, d) = or-none (not (wholeRows 2 areas)) _ b in
+    let (f, g) = or-none (not (eqb (cells % 2) 0)) _ d in
+    let (h, k) = or-none (not (eqb (items % 4) 0)) _ g in
+    limits (rowCount 5 wants) (rowCount 2 areas) locals budget k
+
+three-fine : (r q : Refusal) (b t : Bool) (v : Verdict) → inOrder (check r b ∷ check q t ∷ v ∷ []) ≡ Fine → (b ≡ false) × (t ≡ false) × (v ≡ Fine)
+three-fine r q true t v e = let f = three-first r q true t v refl in let z : _≡_ {A = ℕ} 0 1 = cc in absurd (omega arith)
+three-fine r q false true v e = let f = three-second r q false true v refl refl in let z : _≡_ {A = ℕ} 0 1 = cc in absurd (omega arith)
+three-fine r q false false v e = (refl, refl, three-third r q false false v refl refl ∙ e)
+
+-- the three ways out of the checks
+module _ (wants areas : List ℕ) (locals budget cells items work : ℕ) where
+  pub verdict-count : badCount wants areas locals budget cells items ≡ true → Bad Count 0 ≡ verdict wants areas locals budget cells items work
+  unfolding verdict
+  verdict-count e = three-first Count Space (badCount wants areas locals budget cells items) (badSpace wants areas cells items work) (wantsVerdict areas wants) e
+
+  pub verdict-space : badCount wants areas locals budget cells items ≡ false → badSpace wants areas cells items work ≡ true → Bad Space 0 ≡ verdict wants areas locals budget cells items work
+  unfolding verdict
+  verdict-space e f = three-second Count Space (badCount wants areas locals budget cells items) (badSpace wants areas cells items work) (wantsVerdict areas wants) e f
+
+  pub verdict-wants : badCount wants areas locals budget cells items ≡ false → badSpace wants areas cells items work ≡ false → wantsVerdict areas wants ≡ verdict wants areas locals budget cells items work
+  unfolding verdict
+  verdict-wants e f = three-third Count Space (badCount wants areas locals budget cells items) (badSpace wants areas cells items work) (wantsVerdict areas wants) e f
+
+  pub granted : verdict wants areas locals budget cells items work ≡ Fine → Granted wants areas cells items work
+  unfolding verdict
+  granted e =
+      let (a, b, c) = three-fine Count Space (badCount wants areas locals budget cells items) (badSpace wants areas cells items work) (wantsVerdict areas wants) e in
+      let (few′, short′) = count-fine wants areas locals budget cells items a in
+      let (f, g) = or-none (ltb work (spaceOf wants areas)) _ b in
+      let (h, k) = or-none (ltb (cells / 2) (rowCount 5 wants)) _ g in
+      record {
+        few = few′;
+        short = short′;
+        space = ltb-false work (spaceOf wants areas) f;
+        in-cells = omega (arith, ltb-false (cells / 2) (rowCount 5 wants) h);
+        in-items = omega (arith, ltb-false (items / 4) (rowCount 5 wants) k);
+        fine = scan-fine WantRefused (badWant (areasOf areas) wants) (rowCount 5 wants) c;
+      }

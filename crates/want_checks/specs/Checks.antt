@@ -1,0 +1,56 @@
+-- Document 01, "Fitting alone, over given wants": what the entry refuses (numbers 1, 7 and 10), and W.
+use Prim.Native.Nat.{ℕ, _+_, _-_, _*_, _/_, _%_, _≤_, _<_}
+use mathlib.Core.Path.{_≡_}
+use mathlib.Core.Bool.{Bool, false, cond, not, _||_}
+use mathlib.Core.List.{List, [], _∷_}
+use lib.ListN.{length, take, drop}
+use lib.Dec.{ltb, eqb}
+use Rattle.refusals.specs.declared.Verdict.{Verdict}
+use Rattle.refusals.specs.declared.Refusal.the-variants.{Count, Space, Want as WantRefused}
+use Rattle.refusals.specs.Verdicts.{inOrder, scan, check}
+use Rattle.words.specs.Rows.{rowCount, wholeRows, field}
+use Rattle.ranges.specs.declared.Range.{Range}
+use Rattle.ranges.specs.Lent.{faulty}
+use Rattle.fitting.specs.Queries.{areasOf}
+
+-- number 10: "an area outside its list, reversed, unsorted or overlapping itself"; an absent want's part is not read
+abbrev pub badPart : List Range → ℕ → ℕ → ℕ → Bool
+badPart areas present first count = cond (eqb present 0) false (ltb (length areas) (first + count) || faulty (take count (drop first areas)))
+
+abbrev pub badWant : List Range → List ℕ → ℕ → Bool
+badWant areas s i = badPart areas (field 5 s i 2) (field 5 s i 3) (field 5 s i 4)
+
+-- the first want whose part is bad
+abbrev pub wantsVerdict : List ℕ → List ℕ → Verdict
+wantsVerdict areas s = scan WantRefused (badWant (areasOf areas) s) (rowCount 5 s)
+
+-- number 1: locals over the wants, or a count over its limit
+abbrev pub overLimit : ℕ → ℕ → ℕ → ℕ → Bool
+overLimit wants ranges locals budget = ltb wants locals || (ltb 2048 locals || (ltb 2048 (wants - locals) || (ltb 65536 ranges || ltb 1048576 budget)))
+
+-- number 1: a list that is no whole rows, or a count over its limit
+abbrev pub badCount : List ℕ → List ℕ → ℕ → ℕ → ℕ → ℕ → Bool
+badCount wants areas locals budget cells items =
+    not (wholeRows 5 wants) || (not (wholeRows 2 areas) || (not (eqb (cells % 2) 0) || (not (eqb (items % 4) 0) || overLimit (rowCount 5 wants) (rowCount 2 areas) locals budget)))
+
+-- W = 8 × (wants + length of the area list)
+abbrev pub spaceOf : List ℕ → List ℕ → ℕ
+spaceOf wants areas = 8 * (rowCount 5 wants + rowCount 2 areas)
+
+-- number 7: an answer list under the wants, a work space under W
+abbrev pub badSpace : List ℕ → List ℕ → ℕ → ℕ → ℕ → Bool
+badSpace wants areas cells items work = ltb work (spaceOf wants areas) || (ltb (cells / 2) (rowCount 5 wants) || ltb (items / 4) (rowCount 5 wants))
+
+unfoldable pub verdict : List ℕ → List ℕ → ℕ → ℕ → ℕ → ℕ → ℕ → Verdict
+verdict wants areas locals budget cells items work =
+    inOrder (check Count (badCount wants areas locals budget cells items) ∷ check Space (badSpace wants areas cells items work)
+    ∷ wantsVerdict areas wants ∷ [])
+
+-- what holds where nothing is refused: the counts within their limits, room in the answer lists and the work space, each want's part proper
+pub record Granted (wants areas : List ℕ) (cells items work : ℕ) : Type 0 where
+  pub few : rowCount 5 wants ≤ 4096
+  pub short : rowCount 2 areas ≤ 65536
+  pub space : 8 * (rowCount 5 wants + rowCount 2 areas) ≤ work
+  pub in-cells : 2 * rowCount 5 wants ≤ cells
+  pub in-items : 4 * rowCount 5 wants ≤ items
+  pub fine : (i : ℕ) → i < rowCount 5 wants → badWant (areasOf areas) wants i ≡ false

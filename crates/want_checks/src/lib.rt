@@ -1,0 +1,150 @@
+// The refusals of fitting alone: numbers 1, 7 and 10, in this order.
+ghost use mathlib.Core.Path.{_≡_};
+ghost use mathlib.Core.Bool.{Bool};
+ghost use Prim.Native.Nat.{ℕ, _+_, _*_, _/_, _≤_, _<_};
+ghost use lib.ListN.{length, take, drop};
+ghost use Rattle.words.specs.Rows.{rowCount};
+ghost use Rattle.ranges.specs.Lent.{faulty};
+ghost use Rattle.fitting.specs.Queries.{areasOf};
+ghost use Rattle.want_checks.specs.Checks.{badPart, wantsVerdict, overLimit, badCount, badSpace, verdict};
+use refusals::Refusal;
+use refusals::Verdict;
+
+// The most wants of locals and of slots, ranges, and probes.
+const WANTS: usize = 2048;
+
+const RANGES: usize = 65536;
+
+const BUDGET: u32 = 1048576;
+
+// Whether the `count` ranges from `first` on are reversed, unsorted or overlapping: the only place that looks at an area's form.
+fn part_faulty(areas: &[u32], first: usize, count: usize) -> bool
+    requires { ⌜ first + count ≤ rowCount 2 (now areas) ⌝ }
+    ensures { λ r. ⌜ r ≡ faulty (take count (drop first (areasOf (now (areas .entry))))) ⌝ }
+{
+    let mut i = 0;
+    while i < count {
+        let at = 2 * (first + i);
+        if areas[at + 1] < areas[at] {
+            return true;
+        }
+        if 0 < i {
+            if areas[at] <= areas[at - 1] {
+                return true;
+            }
+        }
+        i += 1;
+    }
+    false
+}
+
+// Whether a want's part is outside the area list, or faulty.
+fn bad_part(areas: &[u32], present: u32, first: u32, count: u32) -> bool
+    ensures { λ r. ⌜ r ≡ badPart (areasOf (now (areas .entry))) present first count ⌝ }
+{
+    if present == 0 {
+        return false;
+    }
+    let f = first as usize;
+    let c = count as usize;
+    if areas.len() / 2 < f + c {
+        return true;
+    }
+    part_faulty(areas, f, c)
+}
+
+// The first want whose part is bad.
+fn bad_wants(wants: &[u32], areas: &[u32]) -> Verdict
+    ensures { λ r. ⌜ r ≡ wantsVerdict (now (areas .entry)) (now (wants .entry)) ⌝ }
+{
+    let n = wants.len() / 5;
+    let mut i = 0;
+    while i < n {
+        let at = 5 * i;
+        if bad_part(areas, wants[at + 2], wants[at + 3], wants[at + 4]) {
+            return Verdict::Bad(Refusal::Want, i);
+        }
+        i += 1;
+    }
+    Verdict::Fine
+}
+
+// Whether a list is no whole rows, or a count is over its limit.
+fn bad_count(
+    wants: &[u32],
+    areas: &[u32],
+    locals: u32,
+    budget: u32,
+    cells: usize,
+    items: usize,
+) -> bool
+    ensures { λ r. ⌜ r ≡ badCount (now (wants .entry)) (now (areas .entry)) locals budget cells items ⌝ }
+{
+    if wants.len() % 5 != 0 {
+        return true;
+    }
+    if areas.len() % 2 != 0 {
+        return true;
+    }
+    if cells % 2 != 0 {
+        return true;
+    }
+    if items % 4 != 0 {
+        return true;
+    }
+    over_limit(wants.len() / 5, areas.len() / 2, locals as usize, budget)
+}
+
+fn over_limit(wants: usize, ranges: usize, locals: usize, budget: u32) -> bool
+    ensures { λ r. ⌜ r ≡ overLimit wants ranges locals budget ⌝ }
+{
+    if wants < locals {
+        return true;
+    }
+    if WANTS < locals {
+        return true;
+    }
+    if WANTS < wants - locals {
+        return true;
+    }
+    if RANGES < ranges {
+        return true;
+    }
+    BUDGET < budget
+}
+
+// Whether the work space or an answer list is too short.
+fn bad_space(wants: &[u32], areas: &[u32], cells: usize, items: usize, work: usize) -> bool
+    requires { ⌜ (rowCount 5 (now wants) ≤ 4096) × (rowCount 2 (now areas) ≤ 65536) ⌝ }
+    ensures { λ r. ⌜ r ≡ badSpace (now (wants .entry)) (now (areas .entry)) cells items work ⌝ }
+{
+    let n = wants.len() / 5;
+    if work < 8 * (n + areas.len() / 2) {
+        return true;
+    }
+    if cells / 2 < n {
+        return true;
+    }
+    items / 4 < n
+}
+
+// Of the entry, by the lent lists and the lengths of the answer lists and the work space.
+pub fn refusal(
+    wants: &[u32],
+    areas: &[u32],
+    locals: u32,
+    budget: u32,
+    cells: usize,
+    items: usize,
+    work: usize,
+) -> Verdict
+    ensures { λ r. ⌜ r ≡ verdict (now (wants .entry)) (now (areas .entry)) locals budget cells items work ⌝ }
+{
+    if bad_count(wants, areas, locals, budget, cells, items) {
+        return Verdict::Bad(Refusal::Count, 0);
+    }
+    if bad_space(wants, areas, cells, items, work) {
+        return Verdict::Bad(Refusal::Space, 0);
+    }
+    bad_wants(wants, areas)
+}

@@ -1,0 +1,28 @@
+-- `item_word` meets its contract, by the two forms of an item's word.
+use Rattle.words.proofs.RegionLaws.{Done, done-start, done-more, done-all}
+use Rattle.want_tables.specs.Tables.{areaWordAt, itemWordAt, wantWordAt}
+use Rattle.want_tables.proofs.TableLaws.{word-none, word-some, area-word, want-word, loaded}
+use denote.Ref.{now}
+use native.Mathlib.Omega.{arith}
+use mathlib.Core.Path.{sym}
+use borrow.Author.Needs.{needs}
+use Rattle.want_tables.proofs.item_word.Statement.{statement}
+use Rattle.want_tables.proofs.item_word.Tie as tie
+
+returns : tie.Need-returns
+returns c = sym (word-none _ _ _ ((c .if1) .taken))
+
+mul-result : tie.Need-mul-result
+mul-result c = search needs
+
+add-result : tie.Need-add-result
+add-result c = search needs
+
+add-result-2 : tie.Need-add-result-2
+add-result-2 c = omega (arith, (c .before .pre) (omega arith))
+
+returns-2 : tie.Need-returns-2
+returns-2 c = sym (word-some _ _ _ ((c .if1) .left))
+
+pub item-word-spec : {M : Type 1} → statement M
+item-word-spec = tie.close (tie.spec returns mul-result add-result add-result-2 returns-2)
