@@ -11,6 +11,7 @@ mod job;
 mod limits;
 mod parts;
 mod plans;
+mod queries;
 mod random;
 mod ranges;
 mod refusals;
@@ -24,7 +25,7 @@ mod whole;
 use job::{Job, Lent};
 use whole::{hold, Tally};
 
-const USAGE: &str = "parts CASES | jobs JOBS SEED | damaged JOBS SEED | small | limits JOBS | scale SECONDS SEED | texts TEXTS SEED | fits CALLS SEED | ranges | sample | record | emit JOBS SEED";
+const USAGE: &str = "parts CASES | jobs JOBS SEED | damaged JOBS SEED | small | limits JOBS | scale SECONDS SEED | texts TEXTS SEED | fits CALLS SEED | ranges | queries JOBS SEED | sample | record | emit JOBS SEED";
 
 /// Jobs from a seed on, each by a seed of its own.
 fn jobs(what: &str, made: fn(u64) -> (Job, Lent), count: u64, seed: u64) {
@@ -49,6 +50,7 @@ fn main() {
         Some("texts") => texts::compare(number(1, 5_000), number(2, 1)),
         Some("fits") => fits::compare(number(1, 100_000), number(2, 1)),
         Some("ranges") => ranges::compare(),
+        Some("queries") => queries::compare(number(1, 50_000), number(2, 1)),
         Some("sample") => sample::record(false),
         Some("record") => sample::record(true),
         Some("emit") => emit::emit(number(1, 5_000), number(2, 1)).expect("what reads the jobs reads them all"),
