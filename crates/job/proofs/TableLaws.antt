@@ -30,7 +30,8 @@ use Rattle.job_areas.specs.Areas.{listing}
 use Rattle.job_fit.specs.Wants.{countOf, wantFor, wantsFor, planFor, Ready, Holds, FittedFor}
 use Rattle.job.specs.declared.Shared.the-variants.{Plan as Planned, Refused}
 use Rattle.job.specs.Entry.{itemRows, AnsweredBy}
-use Rattle.job.specs.Inner.{rowOf, rowsOf, Listable, Written, Measured}
+use Rattle.job_tables.specs.Tables.{rowOf, rowsOf, Listable, Written}
+use Rattle.job.specs.Inner.{Measured}
 
 -- number 9
 pub refused-list : (A : ℕ → Option (List Range)) (p : Plan) (count room n : ℕ) (w : List ℕ) → ListedBy wordOf (listing room room) A count n w → room < n → (cells items areas : List ℕ)

@@ -16,7 +16,6 @@ use refusals::Refusal;
 use refusals::Verdict;
 
 mod checks; // checks.rt: refusals 1 to 7
-mod tables; // tables.rt: from the work space into the answer lists
 
 // A plan's cells, the probes spent and its depth, or a refusal with the index of the first offending record.
 pub enum Shared {
@@ -46,7 +45,7 @@ fn answer(
         return Shared::Refused(Refusal::List, 0);
     }
     let f = job_fit::fitted(locals, slots, budget, work, room, end);
-    tables::write(
+    job_tables::write(
         cells,
         items,
         areas,

@@ -1,8 +1,8 @@
 -- `write` meets its contract: three lists.
 use native.Mathlib.Omega.{arith}
 use borrow.Author.Needs.{needs}
-use Rattle.job.proofs.tables.write.Statement.{statement}
-use Rattle.job.proofs.tables.write.Tie as tie
+use Rattle.job_tables.proofs.write.Statement.{statement}
+use Rattle.job_tables.proofs.write.Tie as tie
 
 mul-write-cells : tie.Need-mul-write-cells
 mul-write-cells c = omega (arith, (c .before .before .before .before .before .pre) .few)

@@ -6,9 +6,9 @@ use lib.ListN.{getD}
 use denote.Ref.{now}
 use Rattle.words.proofs.PasteLaws.{Filling}
 use Rattle.words.proofs.FlatLaws.{flat-start, flat-done, four-more}
-use Rattle.job.specs.Inner.{rowOf, rowsOf}
-use Rattle.job.proofs.tables.write_items.Statement.{statement}
-use Rattle.job.proofs.tables.write_items.Tie as tie
+use Rattle.job_tables.specs.Tables.{rowOf, rowsOf}
+use Rattle.job_tables.proofs.write_items.Statement.{statement}
+use Rattle.job_tables.proofs.write_items.Tie as tie
 
 abbrev Inv-loop : tie.InvT-loop
 Inv-loop out₀ w from cells n i₀ out i = (i ≤ n) × Filling out₀ 0 (rowsOf w from cells n) (4 * n) out (4 * i)

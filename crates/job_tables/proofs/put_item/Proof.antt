@@ -6,8 +6,8 @@ use denote.Ref.{now}
 use Rattle.words.specs.Rows.{rowPut}
 use Rattle.item_areas.specs.declared.tables.Item.{Item}
 use borrow.Author.Needs.{needs}
-use Rattle.job.proofs.tables.put_item.Statement.{statement}
-use Rattle.job.proofs.tables.put_item.Tie as tie
+use Rattle.job_tables.proofs.put_item.Statement.{statement}
+use Rattle.job_tables.proofs.put_item.Tie as tie
 
 part-requires : tie.Need-part-requires
 part-requires c κs = search needs

@@ -5,7 +5,7 @@ ghost use Prim.Native.Nat.{ℕ, _+_, _*_, _^_, _≤_, _<_};
 ghost use lib.ListN.{length, getD, drop};
 ghost use Rattle.words.specs.Rows.{rowPut};
 ghost use Rattle.item_areas.specs.Inner.{itemOf};
-ghost use Rattle.job.specs.Inner.{rowsOf, Listable, Written};
+ghost use Rattle.job_tables.specs.Tables.{rowsOf, Listable, Written};
 
 // One item's row of four numbers: its cell, then its part of the area list by its word.
 fn put_item(out: &mut [u32], at: usize, cell: u64, word: u64)
