@@ -3,6 +3,8 @@
 // The columns of a case: points, V, the lengths of the area list, of the item list and of the work space; then the records of a job, in the job text's group order.
 ghost use Prim.Native.Nat.{_≤_};
 ghost use lib.ListN.{length};
+ghost use Rattle.cases.specs.Cuts.{Ordered};
+use cases::Cuts;
 use item_areas::Answer;
 
 struct Head {
@@ -27,61 +29,62 @@ fn show(a: Answer, areas: &[u32], items: &[u32], work: &[u64]) {
     cases::left(items, work);
 }
 
-fn areas_into(
+// The areas of the records that stand in `n`, a group from where one column ends to where the next one does.
+fn answered(
     h: Head,
-    blocks: &[u32],
-    edges: &[u32],
-    insts: &[u32],
-    operands: &[u32],
-    crossings: &[u32],
-    locals: &[u32],
-    slots: &[u32],
-    addresses: &[u32],
-    ends: &[u32],
-    pieces: &[u32],
-    assigned: &[u32],
-    moves: &[u32],
+    e: Cuts,
+    n: &[u32],
     areas: &mut [u32],
     items: &mut [u32],
     work: &mut [u64],
-) {
-    let a = item_areas::item_areas(
+) -> Answer
+    requires { ⌜ Ordered e (length (now n)) ⌝ }
+{
+    let s0 = e.c0;
+    let s1 = e.c1;
+    let s2 = e.c2;
+    let s3 = e.c3;
+    let s4 = e.c4;
+    let s5 = e.c5;
+    let s6 = e.c6;
+    let s7 = e.c7;
+    let s8 = e.c8;
+    let s9 = e.c9;
+    let s10 = e.c10;
+    let s11 = e.c11;
+    let s12 = e.c12;
+    item_areas::item_areas(
         h.points,
         h.v,
-        blocks,
-        edges,
-        insts,
-        operands,
-        crossings,
-        locals,
-        slots,
-        addresses,
-        ends,
-        pieces,
-        assigned,
-        moves,
+        &n[s0..s1],
+        &n[s1..s2],
+        &n[s2..s3],
+        &n[s3..s4],
+        &n[s4..s5],
+        &n[s5..s6],
+        &n[s6..s7],
+        &n[s7..s8],
+        &n[s8..s9],
+        &n[s9..s10],
+        &n[s10..s11],
+        &n[s11..s12],
         areas,
         items,
         work,
-    );
+    )
+}
+
+// In lists of these lengths.
+fn run(h: Head, e: Cuts, n: &[u32], areas: &mut [u32], items: &mut [u32], work: &mut [u64])
+    requires { ⌜ Ordered e (length (now n)) ⌝ }
+{
+    let a = answered(h, e, n, areas, items, work);
     show(a, areas, items, work);
 }
 
-fn areas(
-    h: Head,
-    blocks: &[u32],
-    edges: &[u32],
-    insts: &[u32],
-    operands: &[u32],
-    crossings: &[u32],
-    locals: &[u32],
-    slots: &[u32],
-    addresses: &[u32],
-    ends: &[u32],
-    pieces: &[u32],
-    assigned: &[u32],
-    moves: &[u32],
-) {
+fn case(h: Head, e: Cuts, n: &[u32])
+    requires { ⌜ Ordered e (length (now n)) ⌝ }
+{
     let mut areas = [7u32; 128];
     let mut items = [7u32; 256];
     let mut work = [7u64; 4096];
@@ -97,150 +100,7 @@ fn areas(
     if w > 4096 {
         return;
     }
-    areas_into(
-        h,
-        blocks,
-        edges,
-        insts,
-        operands,
-        crossings,
-        locals,
-        slots,
-        addresses,
-        ends,
-        pieces,
-        assigned,
-        moves,
-        &mut areas[0..a],
-        &mut items[0..i],
-        &mut work[0..w],
-    );
-}
-
-// With the last three columns: live pieces, assignments, moves.
-fn spilled(
-    h: Head,
-    blocks: &[u32],
-    edges: &[u32],
-    insts: &[u32],
-    operands: &[u32],
-    crossings: &[u32],
-    locals: &[u32],
-    slots: &[u32],
-    addresses: &[u32],
-    ends: &[u32],
-    n: &[u32],
-    a: usize,
-    b: usize,
-    c: usize,
-    d: usize,
-) {
-    if a > b {
-        return;
-    }
-    if b > c {
-        return;
-    }
-    if c > d {
-        return;
-    }
-    if d > n.len() {
-        return;
-    }
-    areas(
-        h,
-        blocks,
-        edges,
-        insts,
-        operands,
-        crossings,
-        locals,
-        slots,
-        addresses,
-        ends,
-        &n[a..b],
-        &n[b..c],
-        &n[c..d],
-    );
-}
-
-// With locals, slots, addresses and ends.
-fn items(
-    h: Head,
-    blocks: &[u32],
-    edges: &[u32],
-    insts: &[u32],
-    operands: &[u32],
-    crossings: &[u32],
-    n: &[u32],
-    e: [usize; 13],
-) {
-    let a = e[5];
-    let b = e[6];
-    let c = e[7];
-    let d = e[8];
-    let f = e[9];
-    if a > b {
-        return;
-    }
-    if b > c {
-        return;
-    }
-    if c > d {
-        return;
-    }
-    if d > f {
-        return;
-    }
-    if f > n.len() {
-        return;
-    }
-    spilled(
-        h,
-        blocks,
-        edges,
-        insts,
-        operands,
-        crossings,
-        &n[a..b],
-        &n[b..c],
-        &n[c..d],
-        &n[d..f],
-        n,
-        f,
-        e[10],
-        e[11],
-        e[12],
-    );
-}
-
-// With blocks, edges, instructions, operands and crossings.
-fn code(h: Head, n: &[u32], e: [usize; 13]) {
-    let a = e[0];
-    let b = e[1];
-    let c = e[2];
-    let d = e[3];
-    let f = e[4];
-    let g = e[5];
-    if a > b {
-        return;
-    }
-    if b > c {
-        return;
-    }
-    if c > d {
-        return;
-    }
-    if d > f {
-        return;
-    }
-    if f > g {
-        return;
-    }
-    if g > n.len() {
-        return;
-    }
-    items(h, &n[a..b], &n[b..c], &n[c..d], &n[d..f], &n[f..g], n, e);
+    run(h, e, n, &mut areas[0..a], &mut items[0..i], &mut work[0..w]);
 }
 
 fn numbers(n: &[u32]) -> Head
@@ -255,14 +115,21 @@ fn numbers(n: &[u32]) -> Head
     }
 }
 
-fn case(line: &[u8]) {
+fn checked(n: &[u32], e: &[usize]) {
+    if n.len() < 5 {
+        return;
+    }
+    let h = numbers(n);
+    let c = cases::columns(e, n.len());
+    case(h, c, n);
+}
+
+// The columns of a case.
+fn columns(line: &[u8]) {
     let mut n = [0u32; 1024];
     let mut e = [0usize; 13];
     cases::read(line, &mut n, &mut e);
-    if e[0] == 5 {
-        let h = numbers(&n);
-        code(h, &n, e);
-    }
+    checked(&n, &e);
 }
 
 // Runs the case of a line, behind its name.
@@ -270,7 +137,7 @@ fn line(s: &[u8]) {
     let at = cases::find(s, 0, b' ');
     if at < s.len() {
         cases::text(&s[0..at]);
-        case(&s[at + 1..s.len()]);
+        columns(&s[at + 1..s.len()]);
     }
 }
 
