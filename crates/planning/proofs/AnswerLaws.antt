@@ -4,8 +4,7 @@ use native.Mathlib.Omega.{arith}
 use native.Mathlib.Nat.{not-suc-le-zero, zero-add}
 use native.Mathlib.Decide.{ℕ-discrete}
 use mathlib.Core.Path.{_≡_, refl, ap, sym, subst, _∙_}
-use mathlib.Core.Bool.{Bool, true, false, cond, _||_}
-use mathlib.Core.Option.{Option}
+use mathlib.Core.Bool.{Bool, false}
 use mathlib.Core.List.{List, [], _∷_, _++_}
 use lib.ListN.{length, getD, take, drop, length-append}
 use lib.Seq.{take-append-seam}
@@ -18,14 +17,12 @@ use Rattle.refusals.specs.declared.Refusal.the-variants.{Count, Space}
 use Rattle.refusals.specs.Verdicts.{numberOf, first, check}
 use Rattle.refusals.specs.Outcomes.{Outcome, given, refused, unless, after}
 use Rattle.refusals.proofs.Laws.{first-left, first-right}
-use Rattle.words.specs.Rows.{rowCount, tabulate, flat}
 use Rattle.words.specs.Regions.{part}
 use Rattle.words.proofs.RegionLaws.{getD-part, length-part}
 use Rattle.words.proofs.RowLaws.{length-records}
-use Rattle.ranges.specs.declared.Range.{Range}
 use Rattle.ranges.proofs.PointLaws.{or-none}
 use Rattle.areas.specs.Job.{Job, Local, itemCount, itemArea, listVerdict}
-use Rattle.fitting.specs.Plan.{Plan, depthOf}
+use Rattle.fitting.specs.Plan.{Plan}
 use Rattle.query_checks.specs.Checks.{sharedVerdict}
 use Rattle.wants.specs.Entry.{Tally, tallied, tallyOf, cellRows}
 use Rattle.area_tables.specs.Tables.{areaRows}
@@ -48,7 +45,7 @@ use Rattle.plan_text.proofs.LineLaws.{line-length}
 use Rattle.planning.specs.Program.{told, jobText, points, registers, budget, job, refusal, printedFor, numbersIn, programText}
 use Rattle.planning.specs.Answer.{Finished, Read, numbersAt, Few, SharedFor, Stands, Answers, roomFor}
 use Rattle.planning.proofs.GroupLaws.{same-printed}
-use Rattle.planning.proofs.PrintLaws.{Printable, cells-long, items-long, areas-long, plan-fine, text-before, text-short}
+use Rattle.planning.proofs.PrintLaws.{Printable, cells-long, items-long, plan-fine, text-before, text-short}
 use Rattle.planning.proofs.JobLaws.{job-printable}
 
 -- ---- a text that was written

@@ -1,13 +1,11 @@
 -- From the records in the reader's lists to the text of their plan.
-use Prim.Native.Nat.{ℕ, zero, suc, _+_, _-_, _*_, _/_, _≤_, _<_}
+use Prim.Native.Nat.{ℕ, zero, suc, _+_, _-_, _≤_}
 use native.Mathlib.Omega.{arith}
-use native.Mathlib.Nat.{not-suc-le-zero}
-use mathlib.Core.Path.{_≡_, refl, ap, sym, subst, _∙_}
+use mathlib.Core.Path.{_≡_, refl, ap, _∙_}
 use mathlib.Core.Bool.{Bool, true, false, cond}
 use mathlib.Core.Option.{Option, some, none}
-use mathlib.Core.List.{List, [], _∷_, _++_}
+use mathlib.Core.List.{List, [], _∷_}
 use lib.ListN.{length, length-append, length-set}
-use lib.Dec.{ltb}
 use borrow.Author.Tests.{ltb-false}
 use Rattle.refusals.specs.declared.Verdict.the-variants.{Fine}
 use Rattle.refusals.specs.declared.Refusal.the-variants.{List as ListWord}
@@ -16,7 +14,7 @@ use Rattle.words.proofs.RowLaws.{length-tabulate}
 use Rattle.ranges.specs.declared.Range.{Range}
 use Rattle.areas.specs.Job.{Job, itemCount, itemArea, rangesOf, listVerdict}
 use Rattle.fitting.specs.Wants.{Want, wantAt, before, insert, ordered, orderOf}
-use Rattle.fitting.specs.Plan.{Plan, lowest, cellOf, settled, placedBy, put, fit, planOf, nothing}
+use Rattle.fitting.specs.Plan.{Plan, lowest, cellOf, settled, placedBy, put, fit, nothing}
 use Rattle.fitting.proofs.PlanLaws.{facts}
 use Rattle.soundness.specs.Demand.{wantOf, wantsOf, jobPlan}
 use Rattle.soundness.proofs.Demand.{job-order}

@@ -1,15 +1,15 @@
 -- The rows of a plan as the printing takes them: none is refused, areas behind the answer do not show, and the text is not long.
 use Prim.Native.Nat.{ℕ, zero, suc, _+_, _-_, _*_, _/_, _%_, _≤_, _<_}
 use native.Mathlib.Omega.{arith}
-use native.Mathlib.Nat.{add-zero, mul-suc}
-use mathlib.Core.Path.{_≡_, refl, ap, sym, subst, _∙_}
-use mathlib.Core.Bool.{Bool, true, false, cond, _||_}
+use native.Mathlib.Nat.{add-zero}
+use mathlib.Core.Path.{_≡_, refl, ap, sym, _∙_}
+use mathlib.Core.Bool.{Bool, true, false, cond}
 use mathlib.Core.Option.{Option, some, none}
 use mathlib.Core.List.{List, [], _∷_, _++_, map}
 use lib.ListN.{length, getD, take, drop, length-append, length-take, List·getD-append}
 use lib.Dec.{ltb, lit≤}
 use borrow.Author.Tests.{le-ltb, eq-eqb}
-use Rattle.refusals.specs.declared.Verdict.the-variants.{Fine, Bad}
+use Rattle.refusals.specs.declared.Verdict.the-variants.{Fine}
 use Rattle.refusals.specs.declared.Refusal.{Refusal}
 use Rattle.refusals.specs.declared.Refusal.the-variants.{Want as WantRefused}
 use Rattle.refusals.specs.Verdicts.{first, scan}
@@ -27,8 +27,8 @@ use Rattle.area_tables.proofs.RowLaws.{ranges-below}
 use Rattle.fitting.specs.Plan.{Plan, Cell, depthOf}
 use Rattle.fitting.specs.Queries.{areasOf, partOf, slotsOf, shared}
 use Rattle.members.specs.Members.{membersIn}
-use Rattle.query_checks.specs.Checks.{badCount, badAreas, outside, badItem, partsVerdict, sharedVerdict}
-use Rattle.query_checks.proofs.CheckLaws.{Sound, item-named, out-absent, out-present, parts-fine, shared-sound}
+use Rattle.query_checks.specs.Checks.{badCount, badAreas, outside, badItem, sharedVerdict}
+use Rattle.query_checks.proofs.CheckLaws.{Sound, item-named, out-absent, out-present, parts-fine}
 use Rattle.queries.proofs.ShareLaws.{shared-at}
 use Rattle.wants.specs.Entry.{cellRow, cellRows}
 use Rattle.item_areas.specs.Entry.{itemRow}

@@ -1,12 +1,12 @@
 -- ★1 from its text to the printed text: each part's own ★1, put together.
 use Prim.Native.Nat.{ℕ}
-use mathlib.Core.Path.{_≡_, refl, ap, sym, _∙_}
+use mathlib.Core.Path.{_≡_, refl, ap, _∙_}
 use mathlib.Core.Option.{Option, some, Option·some-injective}
 use mathlib.Core.List.{List, [], _∷_}
-use lib.ListN.{length, getD}
+use lib.ListN.{getD}
 use Rattle.refusals.specs.declared.Verdict.{Verdict}
 use Rattle.refusals.specs.declared.Verdict.the-variants.{Fine}
-use Rattle.refusals.specs.Verdicts.{first, inOrder, check}
+use Rattle.refusals.specs.Verdicts.{first, inOrder}
 use Rattle.refusals.specs.Outcomes.{unless}
 use Rattle.refusals.proofs.Laws.{first-fine}
 use Rattle.words.specs.Rows.{tabulate, flat}

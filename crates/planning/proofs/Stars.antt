@@ -1,7 +1,7 @@
 -- ★1 to ★9 as one table, of the definitions: ★1 from its text to the text that the program prints.
 use mathlib.Core.Path.{_≡_}
 use mathlib.Core.Bool.{true, false}
-use mathlib.Core.List.{List, [], _∷_}
+use mathlib.Core.List.{[], _∷_}
 use lib.ListN.{length}
 use Rattle.ranges.specs.Points.{range}
 use Rattle.ranges.specs.Merged.{merged, clashes}

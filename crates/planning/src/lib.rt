@@ -57,8 +57,7 @@ pub fn held(counts: &[u32], group: usize) -> usize
     requires { ⌜ (length (now counts) ≡ none) × Few (now counts) × (group < none) ⌝ }
     ensures { λ r. ⌜ (r ≡ getD (now (counts .entry)) group 0) × (r ≤ 64) ⌝ }
 {
-    let n = counts[group] as usize;
-    n
+    counts[group] as usize
 }
 
 // The plan of the records in the reader's list, each group's from its place on.

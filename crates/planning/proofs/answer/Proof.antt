@@ -1,8 +1,4 @@
 -- `answer` meets its contract, by what the reader left.
-use native.Mathlib.Omega.{arith}
-use Prim.Native.Nat.{ℕ, _+_, _*_}
-use mathlib.Core.Path.{_≡_, refl, sym, ap, _∙_}
-use lib.ListN.{length, getD}
 use denote.Ref.{now}
 use borrow.Author.Needs.{needs}
 use Rattle.planning.proofs.AnswerLaws.{few-of, accepted, turned-back, stands-as}

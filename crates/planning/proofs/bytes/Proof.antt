@@ -1,9 +1,4 @@
 -- `bytes` meets its contract, by what was written.
-use native.Mathlib.Omega.{arith}
-use Prim.Native.Nat.{ℕ, _+_, _*_}
-use mathlib.Core.Path.{_≡_, refl, sym, ap, _∙_}
-use lib.ListN.{length, getD}
-use denote.Ref.{now}
 use borrow.Author.Needs.{needs}
 use Rattle.planning.proofs.AnswerLaws.{bytes-known, bytes-refused}
 use Rattle.planning.proofs.bytes.Statement.{statement}

@@ -1,8 +1,6 @@
 -- `plan` meets its contract: the plan's rows are printed, or its refusal.
 use native.Mathlib.Omega.{arith}
-use Prim.Native.Nat.{ℕ, _+_, _*_}
-use mathlib.Core.Path.{_≡_, refl, sym, ap, _∙_}
-use lib.ListN.{length, getD}
+use mathlib.Core.Path.{refl}
 use denote.Ref.{now}
 use borrow.Author.Needs.{needs}
 use Rattle.planning.proofs.AnswerLaws.{stands-as, sum-is, plan-refused, cells-in, print-ready, plan-printed}

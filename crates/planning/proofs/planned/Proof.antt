@@ -1,18 +1,14 @@
 -- `planned` meets its contract: each slice is its group's part of the rows.
 use native.Mathlib.Omega.{arith}
-use Prim.Native.Nat.{ℕ, suc, _+_, _-_, _*_, _≤_, _<_}
-use mathlib.Core.Path.{_≡_, refl, sym, ap, _∙_}
-use lib.ListN.{length, take, drop, getD, set, length-set}
+use Prim.Native.Nat.{ℕ, _+_, _*_}
+use mathlib.Core.Path.{ap}
+use lib.ListN.{getD}
 use lib.Dec.{lit<}
 use denote.Ref.{now}
 use borrow.Author.Needs.{needs}
 use Rattle.planning.proofs.AnswerLaws.{head-at, cut-at, cut-one, shared-same}
 use Rattle.planning.proofs.planned.Statement.{statement}
 use Rattle.planning.proofs.planned.Tie as tie
-use Rattle.planning.proofs.planned.Reads as reads
-use Rattle.planning.proofs.planned.Lts as lts
-use Rattle.job.proofs.share.Reads as share-reads
-use Rattle.planning.proofs.held.Reads as held-reads
 
 held-requires : tie.Need-held-requires
 held-requires c κs = ((c .before .before .before .before .before .before .pre) .1, (c .before .before .before .before .before .before .pre) .2, omega arith)
