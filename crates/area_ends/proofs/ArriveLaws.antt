@@ -19,7 +19,7 @@ use Rattle.area_pieces.specs.Local.{ownBit, markBit}
 use Rattle.area_pieces.specs.Inner.{Listed}
 use Rattle.area_ends.specs.Inner.{arrival, arrivals, Arriving, Arrivable, Arrived}
 use Rattle.area_pieces.proofs.PushLaws.{pushed}
-use Rattle.area_pieces.proofs.SweepLaws.{stays, one-taken, Sweep, sweep-begin, sweep-in, sweep-mark, sweep-next, sweep-skip, sweep-pieces, sweep-more, sweep-done, swept-after}
+use Rattle.area_pieces.proofs.SweepLaws.{stays, next-above, one-taken, Sweep, sweep-begin, sweep-in, sweep-mark, sweep-next, sweep-skip, sweep-pieces, sweep-more, sweep-done, swept-after}
 use Rattle.area_ends.proofs.EndPieceLaws.{arrivals-row}
 use Rattle.area_ends.proofs.CoverLaws.{ends-kept, stand-kept}
 
@@ -81,16 +81,16 @@ module _ {blocks : List ℕ} {t : Spots} {s : Local} {n from : ℕ} {w₀ w : Li
     put = pushed w from r room x
 
     pub march-next : k < k′
-    march-next = let z = sweep-next (d .sweep) h (put .len) (put .before) (put .after) (omega arith) (one-taken h u) first in omega arith
+    march-next = let z = sweep-next (d .sweep) h (next-above k) (put .len) (put .before) (put .after) (omega arith) (one-taken h u) first in omega arith
 
     pub march-more : Marching blocks t s n from w₀ w₂ k′ (r + 1)
     march-more = record {
       asked = d .asked;
-      sweep = sweep-more (d .sweep) h (put .len) (put .before) (put .after) (omega arith) (one-taken h u) first;
-      pieces = λ es. ap unpacked (sweep-pieces (d .sweep) h (put .len) (put .before) (put .after) (omega arith) (one-taken h u) first) ∙ put .is
+      sweep = sweep-more (d .sweep) h (next-above k) (put .len) (put .before) (put .after) (omega arith) (one-taken h u) first;
+      pieces = λ es. ap unpacked (sweep-pieces (d .sweep) h (next-above k) (put .len) (put .before) (put .after) (omega arith) (one-taken h u) first) ∙ put .is
           ∙ ap (λ (q : Range). unpacked (part from r w) ++ (q ∷ [])) (ex ∙ ap (λ (l : List ℕ). arrival (lineOf blocks []) l k) same-ends)
           ∙ ap (λ (q : List Range). q ++ (arrival (lineOf blocks es) (endsAt t w₀) k ∷ [])) (d .pieces es ∙ ap (λ (q : ℕ). arrivals (lineOf blocks es) (endsAt t w₀) (markBit s w₀) q) least)
-          ∙ sym (passed blocks t s n w₀ es (suc k) k′ march-next (λ i q l. sweep-skip (d .sweep) h (put .len) (put .before) (put .after) (omega arith) (one-taken h u) first i (omega arith) l) kn
+          ∙ sym (passed blocks t s n w₀ es (suc k) k′ march-next (λ i q l. sweep-skip (d .sweep) h (next-above k) (put .len) (put .before) (put .after) (omega arith) (one-taken h u) first i (omega arith) l) kn
           ∙ arrivals-one (lineOf blocks es) (endsAt t w₀) (markBit s w₀) k (sweep-mark (d .sweep) h));
     }
       where

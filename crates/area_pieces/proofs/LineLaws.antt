@@ -211,7 +211,7 @@ module _ {blocks : List ℕ} {s : Local} {n from : ℕ} {w₀ w : List ℕ} {k r
   module _ {e : ℕ} (h : k < s .wide * 64) (run : Run s k e w) where
     own-marked : e ≢ k + 1 → (c : ℕ) → k ≤ c → c < e → (markBit s w₀ c ≡ true) × (ownBit s w₀ c ≡ true)
     own-marked q c i j =
-        let z = run .word q in
+        let z = run .word in
         let o : ownBit s w₀ c ≡ true = sym (own-kept s n w₀ w (d .asked .flowing) (d .sweep .before) (d .asked .row-fits) c (omega arith)) ∙ run .own q c i j in
         (d .covered .marked c (omega arith) o, o)
 
@@ -220,7 +220,7 @@ module _ {blocks : List ℕ} {s : Local} {n from : ℕ} {w₀ w : List ℕ} {k r
     run-in =
         let l = run .some in
         same e (k + 1) (λ q. let z = sweep-in (d .sweep) h in omega arith)
-        (λ q. let v = run .word q in cut e n (λ i. i)
+        (λ q. let v = run .word in cut e n (λ i. i)
         (λ i. absurd (true≢false (sym (own-marked q (e - 1) (omega arith) (omega arith) .0) ∙ d .asked .swept .past (e - 1) (omega arith) (omega arith)))))
 
     run-lines : (x : Range) → RunPiece (lineOf blocks []) s w k e x → (es : List Edge) (ts : List Range) (f g : ℕ → Bool) → Pieced (lineOf blocks es) ts f g s n w₀
@@ -239,7 +239,7 @@ module _ {blocks : List ℕ} {s : Local} {n from : ℕ} {w₀ w : List ℕ} {k r
     module _ {w₁ w₂ : List ℕ} {r′ k′ x : ℕ} (ex : RunPiece (lineOf blocks []) s w k e (unpack x)) (j : JoinedIn w w₁ from r r′ x)
         (u : Taken s k e w₁ w₂) (first : FirstSet w₂ (s .mark) (s .wide) (k / 64) k′) where
       pub line-next : k < k′
-      line-next = let z = sweep-next (d .sweep) h (j .listed .len) (j .listed .before) (j .listed .after) (j .most) u first in let l = run .some in omega arith
+      line-next = let z = sweep-next (d .sweep) h (run .some) (j .listed .len) (j .listed .before) (j .listed .after) (j .most) u first in let l = run .some in omega arith
 
       pub line-more : Lining blocks s n from w₀ w₂ k′ r′
       line-more = record {
@@ -247,11 +247,11 @@ module _ {blocks : List ℕ} {s : Local} {n from : ℕ} {w₀ w : List ℕ} {k r
         covered = d .covered;
         sound = d .sound;
         all = d .all;
-        sweep = sweep-more (d .sweep) h (j .listed .len) (j .listed .before) (j .listed .after) (j .most) u first;
+        sweep = sweep-more (d .sweep) h (run .some) (j .listed .len) (j .listed .before) (j .listed .after) (j .most) u first;
         pieces = λ es ts f g p. listed
             ∙ ap (λ (q : List Range). joined q (unpack x)) (d .pieces es ts f g p ∙ ap (λ (q : ℕ). linePieces (lineOf blocks es) ts f g q) least)
-            ∙ sym (passed blocks s n w₀ es ts f g p e k′ (sweep-next (d .sweep) h (j .listed .len) (j .listed .before) (j .listed .after) (j .most) u first)
-            (sweep-skip (d .sweep) h (j .listed .len) (j .listed .before) (j .listed .after) (j .most) u first) run-in
+            ∙ sym (passed blocks s n w₀ es ts f g p e k′ (sweep-next (d .sweep) h (run .some) (j .listed .len) (j .listed .before) (j .listed .after) (j .most) u first)
+            (sweep-skip (d .sweep) h (run .some) (j .listed .len) (j .listed .before) (j .listed .after) (j .most) u first) run-in
             ∙ run-lines (unpack x) ex es ts f g p);
       }
         where
@@ -259,7 +259,7 @@ module _ {blocks : List ℕ} {s : Local} {n from : ℕ} {w₀ w : List ℕ} {k r
           least = let q = sweep-in (d .sweep) h in omega arith
 
           listed : unpacked (part from r′ w₂) ≡ joined (unpacked (part from r w)) (unpack x)
-          listed = ap unpacked (sweep-pieces (d .sweep) h (j .listed .len) (j .listed .before) (j .listed .after) (j .most) u first) ∙ j .listed .is
+          listed = ap unpacked (sweep-pieces (d .sweep) h (run .some) (j .listed .len) (j .listed .before) (j .listed .after) (j .most) u first) ∙ j .listed .is
 
   pub line-done : s .wide * 64 ≤ k → Visited blocks s n from r w₀ w
   line-done h =

@@ -1,7 +1,7 @@
 -- Visiting the marked blocks, lowest first: each mark is taken away when its block has been visited, so that the next one is the first that is left.
 use Prim.Native.Nat.{ℕ, zero, suc, _+_, _*_, _/_, _%_, _≤_, _<_, min}
 use native.Mathlib.Omega.{arith}
-use mathlib.Core.Path.{_≡_, refl, sym, ap, _∙_}
+use mathlib.Core.Path.{_≡_, refl, sym, ap, subst, _∙_}
 use mathlib.Core.Logic.{_≢_, _⊎_, inl, inr, ⊎-elim}
 use mathlib.Core.Bool.{Bool, true, false, cond, true≢false}
 use mathlib.Core.List.{List}
@@ -42,6 +42,39 @@ one-taken {s} {k} {w₀} {w} h u = record {
   where
     other : (c : ℕ) → c ≢ k → markBit s w c ≡ markBit s w₀ c
     other c e = u .bits c ∙ ap (λ (t : Bool). cond t false (markBit s w₀ c)) (ne-eqb c k e)
+
+pub next-above : (k : ℕ) → k < k + 1
+next-above k = omega arith
+
+-- none is gone
+pub taken-none : (s : Local) (k : ℕ) (w : List ℕ) → k ≤ s .wide * 64 → Taken s k k w w
+taken-none s k w h = record {
+  len = refl;
+  some = omega arith;
+  within = h;
+  gone = λ c l q. absurd (omega arith);
+  fewer = λ c l e. e;
+  others = λ c l. refl;
+  rest = λ i q. refl;
+}
+
+-- and one more
+pub taken-more : {s : Local} {k c : ℕ} {w₀ w₁ w₂ : List ℕ} → Taken s k c w₀ w₁ → c < s .wide * 64 → PutBit w₁ w₂ (s .mark) c false → Taken s k (c + 1) w₀ w₂
+taken-more {s} {k} {c} {w₀} {w₁} {w₂} d h u =
+    let v = one-taken {s = s} {k = c} {w₀ = w₁} {w = w₂} h u in
+    let z = d .some in
+    record {
+      len = v .len ∙ d .len;
+      some = omega arith;
+      within = omega arith;
+      gone = λ i l q. cut c i (λ m. v .gone i m q) (λ m. v .fewer i m (d .gone i l m));
+      fewer = λ i l e. v .fewer i (omega arith) (d .fewer i l e);
+      others = λ i l. v .others i l ∙ d .others i (omega arith);
+      rest = λ i q. v .rest i q ∙ d .rest i q;
+    }
+
+pub taken-to : {s : Local} {k c e : ℕ} {w₀ w : List ℕ} → Taken s k c w₀ w → c ≡ e → Taken s k e w₀ w
+taken-to {s} {k} {c} {e} {w₀} {w} d q = subst (λ (x : ℕ). Taken s k x w₀ w) q d
 
 -- the marks of a word are gone
 pub word-taken : {s : Local} {k e : ℕ} (w : List ℕ) → k < s .wide * 64 → s .mark + s .wide ≤ length w → e ≡ k / 64 * 64 + 64 → Taken s k e w (set w (s .mark + k / 64) 0)
@@ -97,7 +130,7 @@ module _ {s : Local} {n from : ℕ} {w₀ w : List ℕ} {k r : ℕ} (d : Sweep s
   sweep-mark h = sym (d .rest k (omega arith) h) ∙ d .set h
 
   -- w₁: one piece more at most was put behind the others; w₂: the marks of the blocks up to e are gone
-  module _ {w₁ w₂ : List ℕ} {r′ k′ e : ℕ} (h : k < s .wide * 64) (len₁ : length w₁ ≡ length w) (before₁ : (i : ℕ) → i < from → getD w₁ i 0 ≡ getD w i 0)
+  module _ {w₁ w₂ : List ℕ} {r′ k′ e : ℕ} (h : k < s .wide * 64) (some : k < e) (len₁ : length w₁ ≡ length w) (before₁ : (i : ℕ) → i < from → getD w₁ i 0 ≡ getD w i 0)
       (after₁ : (i : ℕ) → from + r′ ≤ i → getD w₁ i 0 ≡ getD w i 0) (most : r′ ≤ r + 1) (u : Taken s k e w₁ w₂) (first : FirstSet w₂ (s .mark) (s .wide) (k / 64) k′) where
     alike : (c : ℕ) → c < s .wide * 64 → markBit s w₁ c ≡ markBit s w c
     alike c l = let m = d .asked .mark-fits in ap (λ (y : ℕ). bitOf y (c % 64)) (before₁ (s .mark + c / 64) (omega arith))
@@ -136,7 +169,7 @@ module _ {s : Local} {n from : ℕ} {w₀ w : List ℕ} {k r : ℕ} (d : Sweep s
         let z = d .r-le in
         let l = sweep-next in
         let y = sweep-in h in
-        let x = u .some in
+        let x = some in
         record {
           asked = d .asked;
           len = u .len ∙ len₁ ∙ d .len;

@@ -109,10 +109,10 @@ pieceAt G s w k =
     (range (cond (writtenBit s w k) (top G k) (unpack (getD w (s .span + k) 0) .start))
     (cond (readBit s w k) (bottom G k) (unpack (getD w (s .span + k) 0) .end)))
 
--- the blocks from k up to e: one, or those of one word of the local's own row from k on, which all have its bit
+-- the blocks from k up to e, of one word of the local's own row: one, or some that all have its bit
 pub record Run (s : Local) (k e : ℕ) (w : List ℕ) : Type 0 where
   pub some : k < e
-  pub word : e ≢ k + 1 → e ≡ k / 64 * 64 + 64
+  pub word : e ≤ k / 64 * 64 + 64
   pub own : e ≢ k + 1 → (c : ℕ) → k ≤ c → c < e → ownBit s w c ≡ true
 
 -- x is the piece of the blocks from k up to e
@@ -123,7 +123,7 @@ pub record RunPiece (G : Graph) (s : Local) (w : List ℕ) (k e : ℕ) (x : Rang
 -- the marks of the blocks from k up to e are taken away: those behind are as they were, and none before is set; nothing else has changed
 pub record Taken (s : Local) (k e : ℕ) (w₀ w : List ℕ) : Type 0 where
   pub len : length w ≡ length w₀
-  pub some : k < e
+  pub some : k ≤ e
   pub within : e ≤ s .wide * 64
   pub gone : (c : ℕ) → k ≤ c → c < e → markBit s w c ≡ false
   pub fewer : (c : ℕ) → c < k → markBit s w₀ c ≡ false → markBit s w c ≡ false

@@ -1,7 +1,6 @@
 // From the touches, the ends and the row bits of one local to its area, in the words of one work space.
 ghost use mathlib.Core.Path.{_≡_};
-ghost use mathlib.Core.Logic.{_≢_};
-ghost use mathlib.Core.Bool.{false, cond};
+ghost use mathlib.Core.Bool.{true, false, cond};
 ghost use mathlib.Core.List.{List, []};
 ghost use Prim.Native.Nat.{_+_, _-_, _*_, _/_, _≤_, _<_, _^_};
 ghost use lib.ListN.{length};
@@ -12,7 +11,7 @@ ghost use Rattle.graph.specs.Paths.{Edge};
 ghost use Rattle.graph.specs.Line.{blocksOf, Sound};
 ghost use Rattle.areas.specs.Blocks.{top, bottom, clip, inverted};
 ghost use Rattle.spots.specs.Spots.{lineOf, touchesAt};
-ghost use Rattle.area_pieces.specs.Local.{Appended, Free, Laid, Unmarked, Upright, Flowing, Both, PlainIn};
+ghost use Rattle.area_pieces.specs.Local.{ownBit, Appended, Free, Laid, Unmarked, Upright, Flowing, Both, PlainIn};
 ghost use Rattle.area_pieces.specs.Inner.{JoinedIn, Spannable, Widened, Put, Spanned, pieceAt, Run, RunPiece, Taken, Covered, Visitable, Visited, Lined};
 use spots::Spots;
 
@@ -173,13 +172,33 @@ fn piece(blocks: &[u32], work: &[u64], s: Local, k: usize) -> u64
     packed::pack(first, last)
 }
 
-// Where the blocks end that are visited at once with block k: where its word of the local's own row has every bit, that word's blocks, else block k alone.
+// Where the blocks from k on end that have the local's own bit, within the word of k.
+fn reach(work: &[u64], s: Local, k: usize) -> usize
+    requires { ⌜ (k < s .wide * 64) × (s .row + s .wide ≤ length (now work)) × (s .wide * 64 < 2 ^ 64) × (ownBit s (now work) k ≡ true) ⌝ }
+    ensures { λ r. ⌜ Run s k r (now (work .entry)) ⌝ }
+{
+    let end = k / 64 * 64 + 64;
+    let mut e = k + 1;
+    while e < end {
+        if bits::test(work, s.row, e) {
+            e += 1;
+        } else {
+            return e;
+        }
+    }
+    e
+}
+
+// Where the blocks end that are visited at once with block k: those of its word of the local's own row that have the bit, else block k alone.
 fn run(work: &[u64], s: Local, k: usize) -> usize
     requires { ⌜ (k < s .wide * 64) × (s .row + s .wide ≤ length (now work)) × (s .wide * 64 < 2 ^ 64) ⌝ }
     ensures { λ r. ⌜ Run s k r (now (work .entry)) ⌝ }
 {
     if work[s.row + k / 64] == FULL {
         return k / 64 * 64 + 64;
+    }
+    if bits::test(work, s.row, k) {
+        return reach(work, s, k);
     }
     k + 1
 }
@@ -196,16 +215,20 @@ fn stretch(blocks: &[u32], work: &[u64], s: Local, k: usize, e: usize) -> u64
     packed::pack(blocks[3 * k + 1], blocks[3 * (e - 1) + 2])
 }
 
-// Takes away the marks of the blocks from k up to e.
+// Takes away the marks of the blocks from k up to e, of one word: where e is its end, none is left in it.
 fn unmark(work: &mut [u64], s: Local, k: usize, e: usize)
-    requires { ⌜ (k < s .wide * 64) × (s .wide * 64 < 2 ^ 64) × (s .mark + s .wide ≤ length (now work)) × (e ≢ k + 1 → e ≡ k / 64 * 64 + 64) ⌝ }
+    requires { ⌜ (k < s .wide * 64) × (s .wide * 64 < 2 ^ 64) × (s .mark + s .wide ≤ length (now work)) × (k < e) × (e ≤ k / 64 * 64 + 64) ⌝ }
     ensures { λ _. ⌜ Taken s k e (now (work .entry)) (now (work .exit)) ⌝ }
 {
-    if e == k + 1 {
-        bits::unset(work, s.mark, k);
+    if e % 64 == 0 {
+        work[s.mark + k / 64] = 0;
         return;
     }
-    work[s.mark + k / 64] = 0;
+    let mut c = k;
+    while c < e {
+        bits::unset(work, s.mark, c);
+        c += 1;
+    }
 }
 
 // The pieces of the marked blocks in line order, from `from` on, joined; how many there are. The marks are taken away.

@@ -1,40 +1,44 @@
--- `run` meets its contract: a word with every bit, or one block.
-use mathlib.Core.Path.{_≡_, refl, sym, _∙_}
+-- `run` meets its contract: a word with every bit, the blocks that have the bit, or one block.
+use native.Mathlib.Omega.{arith}
+use Prim.Native.Nat.{_+_, _-_, _*_, _/_}
+use mathlib.Core.Path.{_≡_, sym, _∙_}
 use denote.Ref.{now}
 use Rattle.area_pieces.proofs.RunLaws.{run-word, run-one}
-use native.Mathlib.Omega.{arith}
-use Prim.Native.Nat.{ℕ, suc, _+_, _-_, _*_, _≤_, _<_}
-use mathlib.Core.Path.{_≡_, refl, sym, ap, _∙_}
-use lib.ListN.{length, take, drop, getD, set, length-set}
-use borrow.Author.Needs.{needs}
 use Rattle.area_pieces.proofs.run.Statement.{statement}
 use Rattle.area_pieces.proofs.run.Tie as tie
-use Rattle.area_pieces.proofs.run.Reads as reads
-use Rattle.area_pieces.proofs.run.Lts as lts
 
 add-if1 : tie.Need-add-if1
-add-if1 c = search needs
+add-if1 c = omega arith
 
 mul-if1 : tie.Need-mul-if1
-mul-if1 c = search needs
+mul-if1 c = omega arith
 
 shared-slice-read-if1 : tie.Need-shared-slice-read-if1
-shared-slice-read-if1 c = search needs
+shared-slice-read-if1 c = omega arith
 
 mul-result : tie.Need-mul-result
-mul-result c = search needs
+mul-result c = omega arith
 
 add-result : tie.Need-add-result
-add-result c = search needs
+add-result c = omega arith
 
 returns : tie.Need-returns
-returns c = run-word ((c .before .before .before .args) .s) ((c .before .before .before .args) .k) (now ((c .before .before .before .args) .work)) ((c .if1) .taken)
+returns c = run-word ((c .before .before .before .before .args) .s) ((c .before .before .before .before .args) .k) (now ((c .before .before .before .before .args) .work)) ((c .if1) .taken)
 
-add-result-2 : tie.Need-add-result-2
-add-result-2 c = search needs
+test-requires : tie.Need-test-requires
+test-requires c κs = omega arith
+
+reach-requires : tie.Need-reach-requires
+reach-requires c κs = ((c .before .before .before .before .before .before .pre) .0, (c .before .before .before .before .before .before .pre) .1, (c .before .before .before .before .before .before .pre) .2, sym ((c .before .test) .ensures) ∙ (c .if2) .taken)
 
 returns-2 : tie.Need-returns-2
-returns-2 c = run-one ((c .before .before .before .args) .s) ((c .before .before .before .args) .k) (now ((c .before .before .before .args) .work))
+returns-2 c = (c .reach) .ensures
+
+add-result-2 : tie.Need-add-result-2
+add-result-2 c = omega arith
+
+returns-3 : tie.Need-returns-3
+returns-3 c = run-one ((c .before .before .before .before .before .before .args) .s) ((c .before .before .before .before .before .before .args) .k) (now ((c .before .before .before .before .before .before .args) .work))
 
 pub run-spec : {M : Type 1} → statement M
 run-spec =
@@ -46,5 +50,8 @@ run-spec =
     mul-result
     add-result
     returns
+    test-requires
+    reach-requires
+    returns-2
     add-result-2
-    returns-2)
+    returns-3)

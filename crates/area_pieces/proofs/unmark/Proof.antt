@@ -1,57 +1,71 @@
--- `unmark` meets its contract: one bit, or a word.
-use denote.Ref.{now}
-use Prim.Native.Nat.{ℕ}
-use mathlib.Core.Path.{sym, subst}
-use Rattle.area_pieces.specs.Inner.{Taken}
-use Rattle.area_pieces.proofs.SweepLaws.{one-taken, word-taken}
+-- `unmark` meets its contract: a word, or bit by bit.
 use native.Mathlib.Omega.{arith}
-use Prim.Native.Nat.{ℕ, suc, _+_, _-_, _*_, _≤_, _<_}
-use mathlib.Core.Path.{_≡_, refl, sym, ap, _∙_}
-use lib.ListN.{length, take, drop, getD, set, length-set}
-use borrow.Author.Needs.{needs}
+use Prim.Native.Nat.{_+_, _-_, _*_, _/_, _%_, _≤_}
+use mathlib.Core.Path.{_≡_}
+use denote.Ref.{now}
+use lib.ListN.{length-set}
+use Rattle.area_pieces.specs.Inner.{Taken}
+use Rattle.area_pieces.proofs.SweepLaws.{taken-none, taken-more, word-taken, taken-to}
 use Rattle.area_pieces.proofs.unmark.Statement.{statement}
 use Rattle.area_pieces.proofs.unmark.Tie as tie
-use Rattle.area_pieces.proofs.unmark.Reads as reads
-use Rattle.area_pieces.proofs.unmark.Lts as lts
-use Rattle.bits.proofs.unset.Reads as unset-reads
 
-add-if1 : tie.Need-add-if1
-add-if1 c = omega arith
+abbrev Inv-loop : tie.InvT-loop
+Inv-loop work₀ s k e c₀ work c = (c ≤ e) × Taken s k c work₀ work
 
-unset-requires : tie.Need-unset-requires
-unset-requires c κs = search needs
+abbrev μ-loop : tie.MeasureT-loop
+μ-loop work₀ s k e c₀ work c = e - c
 
-same-length : tie.Need-same-length
-same-length c = search needs
+add-work : tie.Need-add-work Inv-loop μ-loop
+add-work c = omega arith
 
-returns : tie.Need-returns
-returns c = subst (λ (e : ℕ). Taken ((c .before .before .before .before .before .before .args) .s) ((c .before .before .before .before .before .before .args) .k) e (now ((c .before .before .before .before .before .before .args) .work)) ((c .before .before .unset) .last .0)) (sym ((c .before .before .before .before .if1) .taken)) (one-taken ((c .before .before .before .before .before .before .pre) .0) ((c .before .before .unset) .ensures))
+mul-work : tie.Need-mul-work Inv-loop μ-loop
+mul-work c = omega arith
 
-add-work : tie.Need-add-work
-add-work c = search needs
+slice-write-work : tie.Need-slice-write-work Inv-loop μ-loop
+slice-write-work c = omega arith
 
-mul-work : tie.Need-mul-work
-mul-work c = search needs
+same-length : tie.Need-same-length Inv-loop μ-loop
+same-length c = length-set ((c .before .before .before .args) .work .now) ((c .before .before .before .args) .s .mark + (c .before .before .before .args) .k / 64) 0
 
-slice-write-work : tie.Need-slice-write-work
-slice-write-work c = search needs
+returns : tie.Need-returns Inv-loop μ-loop
+returns c = word-taken (now ((c .before .before .before .args) .work)) ((c .before .before .before .pre) .0) ((c .before .before .before .pre) .2) (omega arith)
 
-same-length-2 : tie.Need-same-length-2
-same-length-2 c = search needs
+loop-holds : tie.Need-loop-holds Inv-loop μ-loop
+loop-holds c = (omega arith, taken-none ((c .before .before .args) .s) ((c .before .before .args) .k) (now ((c .before .before .args) .work)) (omega arith))
 
-returns-2 : tie.Need-returns-2
-returns-2 c = word-taken (now ((c .before .before .before .args) .work)) ((c .before .before .before .pre) .0) ((c .before .before .before .pre) .2) ((c .before .before .before .pre) .3 ((c .before .if1) .left))
+unset-requires : tie.Need-unset-requires Inv-loop μ-loop
+unset-requires c κs = omega (arith, (c .before .before .loop) .inv .1 .len)
+
+add-c : tie.Need-add-c Inv-loop μ-loop
+add-c c = omega arith
+
+loop-less : tie.Need-loop-less Inv-loop μ-loop
+loop-less c = omega arith
+
+loop-again : tie.Need-loop-again Inv-loop μ-loop
+loop-again c = (omega arith, taken-more ((c .before .before .before .before .before .loop) .inv .1) (omega arith) ((c .before .before .unset) .ensures))
+
+same-length-2 : tie.Need-same-length-2 Inv-loop μ-loop
+same-length-2 c = (c .before .loop) .inv .1 .len
+
+returns-2 : tie.Need-returns-2 Inv-loop μ-loop
+returns-2 c = taken-to ((c .before .loop) .inv .1) (omega arith)
 
 pub unmark-spec : {M : Type 1} → statement M
 unmark-spec =
     tie.close
     (tie.spec
-    add-if1
-    unset-requires
-    same-length
-    returns
+    Inv-loop
+    μ-loop
     add-work
     mul-work
     slice-write-work
+    same-length
+    returns
+    loop-holds
+    unset-requires
+    add-c
+    loop-less
+    loop-again
     same-length-2
     returns-2)

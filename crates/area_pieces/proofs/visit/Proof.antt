@@ -35,7 +35,7 @@ join-requires : tie.Need-join-requires Inv-loop μ-loop
 join-requires c κs = let a = (c .before .before .before .before .before .before .loop) .inv .1 .asked in omega (arith, sweep-in ((c .before .before .before .before .before .before .loop) .inv .1 .sweep) (omega arith), (c .before .before .before .before .before .before .loop) .inv .1 .sweep .r-le, (c .before .before .before .before .before .before .loop) .inv .1 .sweep .len)
 
 unmark-requires : tie.Need-unmark-requires Inv-loop μ-loop
-unmark-requires c κs = let a = (c .before .before .before .before .before .before .before .before .before .before .loop) .inv .1 .asked in let e = (c .before .before .before .before .before .before .before .before .before .before .loop) .inv .1 .sweep .len in let j = (c .before .before .before .join) .ensures .listed .len in (omega arith, omega (arith, a .swept), omega arith, (c .before .before .before .before .before .before .before .run) .ensures .word)
+unmark-requires c κs = let a = (c .before .before .before .before .before .before .before .before .before .before .loop) .inv .1 .asked in let e = (c .before .before .before .before .before .before .before .before .before .before .loop) .inv .1 .sweep .len in let j = (c .before .before .before .join) .ensures .listed .len in (omega arith, omega (arith, a .swept), omega arith, (c .before .before .before .before .before .before .before .run) .ensures .some, (c .before .before .before .before .before .before .before .run) .ensures .word)
 
 first-from-requires-2 : tie.Need-first-from-requires-2 Inv-loop μ-loop
 first-from-requires-2 c κs = let a = (c .before .before .before .before .before .before .before .before .before .before .before .before .before .before .loop) .inv .1 .asked in omega (arith, (c .before .before .before .before .before .before .before .before .before .before .before .before .before .before .loop) .inv .1 .sweep .len, (c .before .before .before .before .before .before .before .join) .ensures .listed .len, (c .before .before .before .unmark) .ensures .len)
