@@ -8,8 +8,5 @@ pub use regions::copy_from;
 pub use regions::copy_u32;
 pub use regions::fill;
 pub use regions::narrow;
-pub use regions::widen;
-pub use search::at_most;
 pub use search::at_most_in_rows;
 pub use search::below;
-pub use search::below_in_rows;

@@ -48,18 +48,6 @@ pub fn copy_from(w: &mut [u64], to: usize, s: &[u64], from: usize, n: usize)
     }
 }
 
-// The same of smaller numbers.
-pub fn widen(w: &mut [u64], to: usize, s: &[u32], from: usize, n: usize)
-    requires { ⌜ (to + n ≤ length (now w)) × (from + n ≤ length (now s)) ⌝ }
-    ensures { λ _. ⌜ Region (now (w .entry)) (now (w .exit)) to n (λ i. getD (now (s .entry)) (from + i) 0) ⌝ }
-{
-    let mut i = 0;
-    while i < n {
-        w[to + i] = s[from + i] as u64;
-        i += 1;
-    }
-}
-
 // The same into a list of smaller numbers, where each fits.
 pub fn narrow(w: &mut [u32], to: usize, s: &[u64], from: usize, n: usize)
     requires { ⌜ (to + n ≤ length (now w)) × (from + n ≤ length (now s)) × ((i : ℕ) → i < n → getD (now s) (from + i) 0 < 2 ^ 32) ⌝ }

@@ -8,25 +8,7 @@ ghost use Rattle.words.specs.Sort.{Rising};
 ghost use Rattle.words.specs.Search.{Splits};
 ghost use Rattle.words.specs.Rows.{field};
 
-// How many of the `n` numbers from `base` on are at most `point`.
-pub fn at_most(w: &[u64], base: usize, n: usize, point: u64) -> usize
-    requires { ⌜ (base + n ≤ length (now w)) × Rising (λ i. getD (now w) (base + i) 0) n ⌝ }
-    ensures { λ r. ⌜ Splits (λ i. leb (getD (now (w .entry)) (base + i) 0) point) n r ⌝ }
-{
-    let mut lo = 0;
-    let mut hi = n;
-    while lo < hi {
-        let m = lo + (hi - lo) / 2;
-        if w[base + m] <= point {
-            lo = m + 1;
-        } else {
-            hi = m;
-        }
-    }
-    lo
-}
-
-// How many of them are below `point`.
+// How many of the `n` numbers from `base` on are below `point`.
 pub fn below(w: &[u64], base: usize, n: usize, point: u64) -> usize
     requires { ⌜ (base + n ≤ length (now w)) × Rising (λ i. getD (now w) (base + i) 0) n ⌝ }
     ensures { λ r. ⌜ Splits (λ i. ltb (getD (now (w .entry)) (base + i) 0) point) n r ⌝ }
@@ -51,7 +33,7 @@ fn no_more(x: u32, y: u32) -> usize
     ((y as u64 + 0x1_0000_0000 - x as u64) / 0x1_0000_0000) as usize
 }
 
-// The same of field `f` of `n` rows of `width` numbers; a column is rows of one number.
+// How many of the `n` rows of `width` numbers have at most `point` in field `f`; a column is rows of one number.
 pub fn at_most_in_rows(s: &[u32], width: usize, f: usize, n: usize, point: u32) -> usize
     requires { ⌜ (f < width) × (width * n ≤ length (now s)) × Rising (λ i. field width (now s) i f) n ⌝ }
     ensures { λ r. ⌜ Splits (λ i. leb (field width (now (s .entry)) i f) point) n r ⌝ }
@@ -68,21 +50,4 @@ pub fn at_most_in_rows(s: &[u32], width: usize, f: usize, n: usize, point: u32) 
         return lo;
     }
     lo + no_more(s[width * lo + f], point)
-}
-
-pub fn below_in_rows(s: &[u32], width: usize, f: usize, n: usize, point: u32) -> usize
-    requires { ⌜ (f < width) × (width * n ≤ length (now s)) × Rising (λ i. field width (now s) i f) n ⌝ }
-    ensures { λ r. ⌜ Splits (λ i. ltb (field width (now (s .entry)) i f) point) n r ⌝ }
-{
-    let mut lo = 0;
-    let mut hi = n;
-    while lo < hi {
-        let m = lo + (hi - lo) / 2;
-        if s[width * m + f] < point {
-            lo = m + 1;
-        } else {
-            hi = m;
-        }
-    }
-    lo
 }
