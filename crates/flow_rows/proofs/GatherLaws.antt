@@ -1,5 +1,7 @@
 -- Laws of `gather`: the edges of one place, one after the other.
-use Prim.Native.Nat.{ℕ, suc, _+_, _*_, _≤_, _<_}
+use Prim.Native.Nat.{ℕ, suc, _+_, _*_, _^_, _≤_, _<_}
+use mir.Syntax.{w64}
+use mir.Val.{Fits}
 use mathlib.Core.Path.{_≡_, refl, sym, ap, _∙_, subst}
 use mathlib.Core.Logic.{_≢_, _⊎_, inl, inr, ⊎-elim}
 use mathlib.Core.Bool.{Bool, true, false, _||_}
@@ -13,6 +15,7 @@ use Rattle.graph.specs.Work.{Within}
 use Rattle.flow_rows.specs.declared.Flow.{Flow}
 use Rattle.flow_rows.specs.Flowed.{which, order, begins, ends, target, touchedBit, outBit, Laid, Across, Stays, Joins, Tells}
 use Rattle.flow_rows.proofs.Joins.{row-in, which-kept, target-kept, touched-kept, laid-kept, row-wide, other-row, joins-none, joins-then, joins-as, joins-row, or-true, or-left, or-right, touched-aligned}
+use Rattle.flow_rows.proofs.Places.{small, bytes}
 
 -- the edges of u before e
 abbrev pub AcrossTo : Flow → List ℕ → ℕ → ℕ → ℕ → ℕ → Type 0
@@ -47,14 +50,80 @@ gather-start f u c x w L h k e = record {
   tells = record { yes-so = λ q. true-false q; so-yes = λ s. absurd (omega (arith, s .1, s .2)) };
 }
 
--- what is known at an edge
-pub record AtEdge (f : Flow) (w : List ℕ) (x g : ℕ) : Type 0 where
-  pub node : g < f .n
-  pub row-x : x * f .words + f .words ≤ f .n * f .words
-  pub row-g : g * f .words + f .words ≤ f .n * f .words
-  pub out-fits : f .out + f .n * f .words ≤ length w
-  pub touched-fits : f .touched + f .n * f .words ≤ length w
-  pub base-fits : f .base + f .n + f .n + f .n + f .n + f .n + f .n ≤ f .out
+-- what is computed before the first edge fits
+pub record Before (f : Flow) (n u x : ℕ) : Type 0 where
+  pub to : Fits w64 (f .at + f .n)
+  pub to-one : Fits w64 (f .at + f .n + 1)
+  pub rows : Fits w64 (x * f .words)
+  pub row : Fits w64 (f .out + x * f .words)
+  pub begin : Fits w64 (f .at + u)
+  pub begin-bytes : Fits w64 ((f .at + u) * 8)
+  pub begin-in : f .at + u < n
+  pub end : Fits w64 (f .at + u + 1)
+  pub end-bytes : Fits w64 ((f .at + u + 1) * 8)
+  pub end-in : f .at + u + 1 < n
+
+pub before-edges : {f : Flow} {w : List ℕ} (u x : ℕ) → Laid f w → u < f .n → x < f .n → length w * 8 < 2 ^ 63 → Before f (length w) u x
+before-edges {f} {w} u x L h k r =
+    let o = L .out-fits in
+    let top : f .at + u + 1 < length w = omega (arith, L .below, L .base-fits) in
+    let all : f .at + f .n + 1 ≤ length w = omega (arith, L .below, L .base-fits) in
+    let row : f .out + x * f .words ≤ length w = omega (arith, row-in x (f .n) (f .words) k) in
+    record {
+      to = small _ (length w) (omega arith) r;
+      to-one = small _ (length w) all r;
+      rows = small _ (length w) (omega arith) r;
+      row = small _ (length w) row r;
+      begin = small _ (length w) (omega arith) r;
+      begin-bytes = bytes _ (length w) (omega arith) r;
+      begin-in = omega arith;
+      end = small _ (length w) (omega arith) r;
+      end-bytes = bytes _ (length w) (omega arith) r;
+      end-in = top;
+    }
+
+-- what is computed at edge k, which goes to g, fits
+pub record AtEdge (f : Flow) (n x k g : ℕ) : Type 0 where
+  pub to : Fits w64 (f .at + f .n + 1 + k)
+  pub to-bytes : Fits w64 ((f .at + f .n + 1 + k) * 8)
+  pub to-in : f .at + f .n + 1 + k < n
+  pub which-fits : Fits w64 (f .base + g)
+  pub which-bytes : Fits w64 ((f .base + g) * 8)
+  pub which-in : f .base + g < n
+  pub next : Fits w64 (k + 1)
+  pub rows : Fits w64 (g * f .words)
+  pub out : Fits w64 (f .out + g * f .words)
+  pub touched : Fits w64 (f .touched + g * f .words)
+  pub row-in-x : f .out + x * f .words + f .words ≤ n
+  pub out-in : f .out + g * f .words + f .words ≤ n
+  pub touched-in : f .touched + g * f .words + f .words ≤ n
+
+at-node : {f : Flow} {w₀ : List ℕ} (u x k g : ℕ) → Laid f w₀ → u < f .n → x < f .n → k < ends f w₀ u → g < f .n → length w₀ * 8 < 2 ^ 63 → AtEdge f (length w₀) x k g
+at-node {f} {w₀} u x k g L h l e m r =
+    let n = length w₀ in
+    let o = L .out-fits in
+    let t = L .touched-fits in
+    let to : f .at + f .n + 1 + k < n = omega (arith, L .rows-fit u h, L .base-fits) in
+    let which : f .base + g < n = omega (arith, L .base-fits) in
+    let in-x : f .out + x * f .words + f .words ≤ n = omega (arith, row-in x (f .n) (f .words) l) in
+    let in-g = row-in g (f .n) (f .words) m in
+    let out : f .out + g * f .words + f .words ≤ n = omega arith in
+    let touched : f .touched + g * f .words + f .words ≤ n = omega arith in
+    record {
+      to = small _ n (omega arith) r;
+      to-bytes = bytes _ n (omega arith) r;
+      to-in = to;
+      which-fits = small _ n (omega arith) r;
+      which-bytes = bytes _ n (omega arith) r;
+      which-in = which;
+      next = small _ n (omega arith) r;
+      rows = small _ n (omega arith) r;
+      out = small _ n (omega arith) r;
+      touched = small _ n (omega arith) r;
+      row-in-x = in-x;
+      out-in = out;
+      touched-in = touched;
+    }
 
 module _ {f : Flow} {u c x : ℕ} {w₀ w : List ℕ} {k : ℕ} {looped : Bool} (t : Gathering f u c x w₀ w k looped) (h : k < ends f w₀ u) where
   wide : Within (f .out) (f .out + f .n * f .words) w₀ w
@@ -69,15 +138,9 @@ module _ {f : Flow} {u c x : ℕ} {w₀ w : List ℕ} {k : ℕ} {looped : Bool} 
   pub which-is : which f w (target f w k) ≡ which f w₀ (target f w₀ k)
   which-is = ap (which f w) target-is ∙ which-kept (t .laid) wide (target f w₀ k) target-lt
 
-  pub at-edge : AtEdge f w x (target f w k)
-  at-edge = record {
-    node = omega (arith, target-is, target-lt);
-    row-x = row-in x (f .n) (f .words) (t .x-lt);
-    row-g = row-in _ (f .n) (f .words) (omega (arith, target-is, target-lt));
-    out-fits = omega (arith, wide .len, t .laid .out-fits);
-    touched-fits = omega (arith, wide .len, t .laid .touched-fits);
-    base-fits = t .laid .base-fits;
-  }
+  pub at-edge : length w₀ * 8 < 2 ^ 63 → AtEdge f (length w) x k (target f w k)
+  at-edge r = subst (λ (n : ℕ). AtEdge f n x k (target f w k)) (sym (wide .len))
+      (subst (AtEdge f (length w₀) x k) (sym target-is) (at-node u x k (target f w₀ k) (t .laid) (t .u-lt) (t .x-lt) h target-lt r))
 
   pub touched-apart : Aligned (f .out + x * f .words) (f .touched + target f w k * f .words) (f .words)
   touched-apart = touched-aligned f w₀ x (target f w k) (t .laid) (t .x-lt) (omega (arith, target-is, target-lt))

@@ -134,18 +134,3 @@ touched-aligned f w x v L h k =
     let a = row-in x (f .n) (f .words) h in
     let b = row-in v (f .n) (f .words) k in
     ⊎-elim (λ p. apart (above (omega arith))) (λ p. apart (below (omega arith))) (L .apart)
-
--- the rows of two places have room
-pub record Rows (f : Flow) (w : List ℕ) (x u : ℕ) : Type 0 where
-  pub row-x : x * f .words + f .words ≤ f .n * f .words
-  pub row-u : u * f .words + f .words ≤ f .n * f .words
-  pub out-fits : f .out + f .n * f .words ≤ length w
-  pub touched-fits : f .touched + f .n * f .words ≤ length w
-
-pub two-rows : {f : Flow} {w : List ℕ} → Laid f w → (x u : ℕ) → x < f .n → u < f .n → Rows f w x u
-two-rows {f} L x u h k = record {
-  row-x = row-in x (f .n) (f .words) h;
-  row-u = row-in u (f .n) (f .words) k;
-  out-fits = L .out-fits;
-  touched-fits = L .touched-fits;
-}

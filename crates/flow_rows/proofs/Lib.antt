@@ -1,5 +1,6 @@
 pub mod Routes
 pub mod Joins
+pub mod Places
 pub mod GatherLaws
 pub mod Visits
 pub mod Shares

@@ -1,5 +1,5 @@
 -- Laws of `share` and `visit`: the rows of one component, worked out and given to each of its places.
-use Prim.Native.Nat.{ℕ, suc, _+_, _*_, _/_, _%_, _≤_, _<_}
+use Prim.Native.Nat.{ℕ, suc, _+_, _*_, _/_, _%_, _^_, _≤_, _<_}
 use mathlib.Core.Path.{_≡_, refl, sym, ap, _∙_, subst}
 use mathlib.Core.Logic.{_≢_, _⊎_, inl, inr, ⊎-elim}
 use mathlib.Core.Bool.{Bool, true, false}
@@ -16,6 +16,7 @@ use Rattle.graph.proofs.Within.{within-refl, within-trans, within-wider, region
 use Rattle.flow_rows.specs.declared.Flow.{Flow}
 use Rattle.flow_rows.specs.Flowed.{which, order, touchedBit, outBit, Laid, Across, Stays, Member, Joins, Tells, Run, Shared, Source, Visited}
 use Rattle.flow_rows.proofs.Joins.{row-in, which-kept, order-kept, touched-kept, laid-kept, row-wide, other-row}
+use Rattle.flow_rows.proofs.Places.{OrderAt, RowAt, as-long, order-at, row-at}
 use Rattle.flow_rows.proofs.Visits.{across-back, across-on, stays-back, stays-on, member-as, member-on}
 
 -- ---- share
@@ -62,6 +63,15 @@ module _ {f : Flow} {x i j c : ℕ} {w₀ w : List ℕ} {p : ℕ} (t : Sharing f
 
   pub share-node : order f w p < f .n
   share-node = omega (arith, order-is, t .laid .listed p p-lt)
+
+  pub share-at : length w₀ * 8 < 2 ^ 63 → OrderAt f (length w) p
+  share-at r = order-at share-laid (as-long _ (length w₀) (t .kept .len) r) p p-lt
+
+  pub share-row : length w₀ * 8 < 2 ^ 63 → RowAt f (length w) (order f w p)
+  share-row r = row-at share-laid (as-long _ (length w₀) (t .kept .len) r) _ share-node
+
+  pub share-x : length w₀ * 8 < 2 ^ 63 → RowAt f (length w) x
+  share-x r = row-at share-laid (as-long _ (length w₀) (t .kept .len) r) x (t .x-lt)
 
   pub share-skip : order f w p ≡ x → Sharing f x i j c w₀ w (p + 1)
   share-skip e = record {

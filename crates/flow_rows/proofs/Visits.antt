@@ -1,5 +1,5 @@
 -- Laws of the steps over a component's places: `pull`, `touch`, `share`, and the three as one visit.
-use Prim.Native.Nat.{ℕ, suc, _+_, _*_, _/_, _%_, _≤_, _<_}
+use Prim.Native.Nat.{ℕ, suc, _+_, _*_, _/_, _%_, _^_, _≤_, _<_}
 use mathlib.Core.Path.{_≡_, refl, sym, ap, _∙_, subst}
 use mathlib.Core.Logic.{_≢_, _⊎_, inl, inr, ⊎-elim}
 use mathlib.Core.Bool.{Bool, true, false, _||_}
@@ -16,6 +16,7 @@ use Rattle.graph.proofs.Within.{within-refl, within-trans, within-wider, region
 use Rattle.flow_rows.specs.declared.Flow.{Flow}
 use Rattle.flow_rows.specs.Flowed.{which, order, begins, ends, target, touchedBit, outBit, Laid, Across, Stays, Member, Joins, Tells, Run, Shared, Source, Visited}
 use Rattle.flow_rows.proofs.Joins.{row-in, which-kept, order-kept, begins-kept, ends-kept, target-kept, touched-kept, laid-kept, row-wide, other-row, joins-none, joins-then, joins-as, joins-row, touched-aligned}
+use Rattle.flow_rows.proofs.Places.{OrderAt, RowAt, as-long, order-at, row-at}
 
 -- ---- what a change of the row of x leaves of the sources of its component
 
@@ -127,6 +128,9 @@ module _ {f : Flow} {i j c x : ℕ} {w₀ w : List ℕ} {p : ℕ} {looped : Bool
   pub pull-node : order f w p < f .n
   pull-node = omega (arith, pull-order, u-lt)
 
+  pub pull-at : length w₀ * 8 < 2 ^ 63 → OrderAt f (length w) p
+  pull-at r = order-at pull-laid (as-long _ (length w₀) (all-rows .len) r) p p-lt
+
   pub pull-x : which f w x ≡ c
   pull-x = which-kept (t .laid) all-rows x (t .x-lt) ∙ t .x-in
 
@@ -217,6 +221,15 @@ module _ {f : Flow} {i j x : ℕ} {w₀ w : List ℕ} {p : ℕ} (t : Touching f 
 
   pub touch-node : order f w p < f .n
   touch-node = omega (arith, order-is, t .laid .listed p p-in)
+
+  pub touch-at : length w₀ * 8 < 2 ^ 63 → OrderAt f (length w) p
+  touch-at r = order-at touch-laid (as-long _ (length w₀) (kept-all .len) r) p p-in
+
+  pub touch-row : length w₀ * 8 < 2 ^ 63 → RowAt f (length w) (order f w p)
+  touch-row r = row-at touch-laid (as-long _ (length w₀) (kept-all .len) r) _ touch-node
+
+  pub touch-x : length w₀ * 8 < 2 ^ 63 → RowAt f (length w) x
+  touch-x r = row-at touch-laid (as-long _ (length w₀) (kept-all .len) r) x (t .x-lt)
 
   pub touch-more : {w' : List ℕ}
       → Row w w' (f .out + x * f .words) (f .words) (λ b. bit w (f .out + x * f .words) b || bit w (f .touched + order f w p * f .words) b) → Touching f i j x w₀ w' (p + 1)

@@ -1,70 +1,70 @@
 -- `flow::rows::pull` meets its contract: the places before p are gathered.
 use native.Mathlib.Omega.{arith}
-use Prim.Native.Nat.{_+_, _-_}
-use mathlib.Core.Path.{_≡_, refl}
+use Prim.Native.Nat.{_-_}
 use Rattle.flow_rows.proofs.pull.Statement.{statement}
-use Rattle.flow_rows.proofs.Visits.{Pulling, pull-start, pull-looped, pull-not, pull-done, pull-laid, pull-node, pull-x}
+use Rattle.flow_rows.proofs.Visits.{Pulling, pull-start, pull-looped, pull-not, pull-done, pull-laid, pull-node, pull-at, pull-x}
+use Rattle.flow_rows.proofs.Places.{orders}
 use Rattle.flow_rows.proofs.pull.Tie as tie
 
 abbrev Inv-loop : tie.InvT-loop
-Inv-loop work₀ f i j c x n base ord looped₀ p₀ work looped p = (ord ≡ f .base + f .n + f .n + f .n + f .n + f .n) × Pulling f i j c x work₀ work p looped
+Inv-loop work₀ f i j c x n base ord looped₀ p₀ work looped p = Pulling f i j c x work₀ work p looped
 
 abbrev μ-loop : tie.MeasureT-loop
 μ-loop work₀ f i j c x n base ord looped₀ p₀ work looped p = j - p
 
 add-ord : tie.Need-add-ord Inv-loop μ-loop
-add-ord c = omega (arith, c .before .pre .0 .base-fits, c .before .pre .0 .out-fits)
+add-ord c = orders (c .before .pre .0) (c .before .good .0 .1) .one
 
 add-ord-2 : tie.Need-add-ord-2 Inv-loop μ-loop
-add-ord-2 c = omega (arith, c .before .pre .0 .base-fits, c .before .pre .0 .out-fits)
+add-ord-2 c = orders (c .before .pre .0) (c .before .good .0 .1) .two
 
 add-ord-3 : tie.Need-add-ord-3 Inv-loop μ-loop
-add-ord-3 c = omega (arith, c .before .pre .0 .base-fits, c .before .pre .0 .out-fits)
+add-ord-3 c = orders (c .before .pre .0) (c .before .good .0 .1) .three
 
 add-ord-4 : tie.Need-add-ord-4 Inv-loop μ-loop
-add-ord-4 c = omega (arith, c .before .pre .0 .base-fits, c .before .pre .0 .out-fits)
+add-ord-4 c = orders (c .before .pre .0) (c .before .good .0 .1) .four
 
 add-ord-5 : tie.Need-add-ord-5 Inv-loop μ-loop
-add-ord-5 c = omega (arith, c .before .pre .0 .base-fits, c .before .pre .0 .out-fits)
+add-ord-5 c = orders (c .before .pre .0) (c .before .good .0 .1) .five
 
 loop-holds : tie.Need-loop-holds Inv-loop μ-loop
-loop-holds c = (refl, pull-start _ _ _ _ _ _ (c .before .pre .0) (c .before .pre .1) (c .before .pre .2) (c .before .pre .3) (c .before .pre .4))
+loop-holds c = pull-start _ _ _ _ _ _ (c .before .pre .0) (c .before .pre .1) (c .before .pre .2) (c .before .pre .3) (c .before .pre .4)
 
 add-u : tie.Need-add-u Inv-loop μ-loop
-add-u c = omega (arith, c .before .before .before .pre .0 .base-fits, c .before .before .before .pre .0 .out-fits, c .before .loop .inv .0, c .before .loop .inv .1 .joins .kept .len)
+add-u c = pull-at (c .before .loop .inv) (c .loop-test .taken) (c .before .before .before .good .0 .1) .fits
 
 mul-u : tie.Need-mul-u Inv-loop μ-loop
-mul-u c = omega (arith, c .before .before .before .pre .0 .base-fits, c .before .before .before .pre .0 .out-fits, c .before .loop .inv .0, c .before .loop .inv .1 .joins .kept .len)
+mul-u c = pull-at (c .before .loop .inv) (c .loop-test .taken) (c .before .before .before .good .0 .1) .in-bytes
 
 slice-read-u : tie.Need-slice-read-u Inv-loop μ-loop
-slice-read-u c = omega (arith, c .before .before .before .before .pre .0 .base-fits, c .before .before .before .before .pre .0 .out-fits, c .before .before .loop .inv .0, c .before .before .loop .inv .1 .joins .kept .len)
+slice-read-u c = pull-at (c .before .before .loop .inv) (c .before .loop-test .taken) (c .before .before .before .before .good .0 .1) .inside
 
 gather-requires : tie.Need-gather-requires Inv-loop μ-loop
-gather-requires c κs = rw (c .before .before .before .loop .inv .0) (pull-laid (c .before .before .before .loop .inv .1) (omega arith), pull-node (c .before .before .before .loop .inv .1) (omega arith), c .before .before .before .before .before .pre .3, pull-x (c .before .before .before .loop .inv .1) (omega arith))
+gather-requires c κs = (pull-laid (c .before .before .before .loop .inv) (c .before .before .loop-test .taken), pull-node (c .before .before .before .loop .inv) (c .before .before .loop-test .taken), c .before .before .before .before .before .pre .3, pull-x (c .before .before .before .loop .inv) (c .before .before .loop-test .taken))
 
 add-p : tie.Need-add-p Inv-loop μ-loop
-add-p c = omega arith
+add-p c = pull-at (c .before .before .before .before .before .before .before .loop .inv) (c .before .before .before .before .before .before .loop-test .taken) (c .before .before .before .before .before .before .before .before .before .good .0 .1) .next
 
 loop-less : tie.Need-loop-less Inv-loop μ-loop
 loop-less c = omega arith
 
 loop-again : tie.Need-loop-again Inv-loop μ-loop
-loop-again c = (c .before .before .before .before .before .before .before .loop .inv .0, pull-looped (c .before .before .before .before .before .before .before .loop .inv .1) (omega arith) (rw (c .before .before .before .before .before .before .before .loop .inv .0) at (c .before .before .before .gather .ensures .0)) (rw (c .before .before .before .before .before .before .before .loop .inv .0) at (c .before .before .before .gather .ensures .1)) (c .if1 .taken))
+loop-again c = pull-looped (c .before .before .before .before .before .before .before .loop .inv) (c .before .before .before .before .before .before .loop-test .taken) (c .before .before .before .gather .ensures .0) (c .before .before .before .gather .ensures .1) (c .if1 .taken)
 
 add-p-2 : tie.Need-add-p-2 Inv-loop μ-loop
-add-p-2 c = omega arith
+add-p-2 c = pull-at (c .before .before .before .before .before .before .before .loop .inv) (c .before .before .before .before .before .before .loop-test .taken) (c .before .before .before .before .before .before .before .before .before .good .0 .1) .next
 
 loop-less-2 : tie.Need-loop-less-2 Inv-loop μ-loop
 loop-less-2 c = omega arith
 
 loop-again-2 : tie.Need-loop-again-2 Inv-loop μ-loop
-loop-again-2 c = (c .before .before .before .before .before .before .before .loop .inv .0, pull-not (c .before .before .before .before .before .before .before .loop .inv .1) (omega arith) (rw (c .before .before .before .before .before .before .before .loop .inv .0) at (c .before .before .before .gather .ensures .0)) (rw (c .before .before .before .before .before .before .before .loop .inv .0) at (c .before .before .before .gather .ensures .1)) (c .if1 .left))
+loop-again-2 c = pull-not (c .before .before .before .before .before .before .before .loop .inv) (c .before .before .before .before .before .before .loop-test .taken) (c .before .before .before .gather .ensures .0) (c .before .before .before .gather .ensures .1) (c .if1 .left)
 
 same-length : tie.Need-same-length Inv-loop μ-loop
-same-length c = c .before .loop .inv .1 .joins .kept .len
+same-length c = c .before .loop .inv .joins .kept .len
 
 returns : tie.Need-returns Inv-loop μ-loop
-returns c = pull-done (c .before .loop .inv .1) (omega arith)
+returns c = pull-done (c .before .loop .inv) (c .loop-test .left)
 
 pub pull-spec : {M : Type 1} → statement M
 pull-spec =

@@ -2,9 +2,9 @@
 use native.Mathlib.Omega.{arith}
 use Prim.Native.Nat.{_-_}
 use Rattle.flow_rows.proofs.touch.Statement.{statement}
-use Rattle.flow_rows.proofs.Visits.{Touching, touch-start, touch-more, touch-done, touch-laid, touch-node}
-use Rattle.flow_rows.proofs.Joins.{row-in, touched-aligned, Rows, two-rows}
-use Rattle.flow_rows.specs.Flowed.{order}
+use Rattle.flow_rows.proofs.Visits.{Touching, touch-start, touch-more, touch-done, touch-laid, touch-node, touch-at, touch-row, touch-x}
+use Rattle.flow_rows.proofs.Joins.{touched-aligned}
+use Rattle.flow_rows.proofs.Places.{orders, row-at}
 use Rattle.flow_rows.proofs.touch.Tie as tie
 
 abbrev Inv-loop : tie.InvT-loop
@@ -14,64 +14,61 @@ abbrev μ-loop : tie.MeasureT-loop
 μ-loop work₀ f i j x n base words touched ord row p₀ work p = j - p
 
 add-ord : tie.Need-add-ord Inv-loop μ-loop
-add-ord c = omega (arith, c .before .pre .0 .base-fits, c .before .pre .0 .out-fits)
+add-ord c = orders (c .before .pre .0) (c .before .good .0 .1) .one
 
 add-ord-2 : tie.Need-add-ord-2 Inv-loop μ-loop
-add-ord-2 c = omega (arith, c .before .pre .0 .base-fits, c .before .pre .0 .out-fits)
+add-ord-2 c = orders (c .before .pre .0) (c .before .good .0 .1) .two
 
 add-ord-3 : tie.Need-add-ord-3 Inv-loop μ-loop
-add-ord-3 c = omega (arith, c .before .pre .0 .base-fits, c .before .pre .0 .out-fits)
+add-ord-3 c = orders (c .before .pre .0) (c .before .good .0 .1) .three
 
 add-ord-4 : tie.Need-add-ord-4 Inv-loop μ-loop
-add-ord-4 c = omega (arith, c .before .pre .0 .base-fits, c .before .pre .0 .out-fits)
+add-ord-4 c = orders (c .before .pre .0) (c .before .good .0 .1) .four
 
 add-ord-5 : tie.Need-add-ord-5 Inv-loop μ-loop
-add-ord-5 c = omega (arith, c .before .pre .0 .base-fits, c .before .pre .0 .out-fits)
+add-ord-5 c = orders (c .before .pre .0) (c .before .good .0 .1) .five
 
 mul-row : tie.Need-mul-row Inv-loop μ-loop
-mul-row c = omega (arith, c .before .pre .0 .base-fits, c .before .pre .0 .out-fits, row-in (c .before .args .x) (c .before .args .f .n) (c .before .args .f .words) (omega arith))
+mul-row c = row-at (c .before .pre .0) (c .before .good .0 .1) _ (c .before .pre .3) .rows
 
 add-row : tie.Need-add-row Inv-loop μ-loop
-add-row c = omega (arith, c .before .before .pre .0 .base-fits, c .before .before .pre .0 .out-fits, row-in (c .before .before .args .x) (c .before .before .args .f .n) (c .before .before .args .f .words) (omega arith))
+add-row c = row-at (c .before .before .pre .0) (c .before .before .good .0 .1) _ (c .before .before .pre .3) .out
 
 loop-holds : tie.Need-loop-holds Inv-loop μ-loop
 loop-holds c = touch-start _ _ _ _ _ (c .before .before .pre .0) (c .before .before .pre .1) (c .before .before .pre .2) (c .before .before .pre .3)
 
 add-u : tie.Need-add-u Inv-loop μ-loop
-add-u c = omega (arith, c .before .before .before .before .pre .0 .base-fits, c .before .before .before .before .pre .0 .out-fits, c .before .loop .inv .joins .kept .len)
+add-u c = touch-at (c .before .loop .inv) (c .loop-test .taken) (c .before .before .before .before .good .0 .1) .fits
 
 mul-u : tie.Need-mul-u Inv-loop μ-loop
-mul-u c = omega (arith, c .before .before .before .before .pre .0 .base-fits, c .before .before .before .before .pre .0 .out-fits, c .before .loop .inv .joins .kept .len)
+mul-u c = touch-at (c .before .loop .inv) (c .loop-test .taken) (c .before .before .before .before .good .0 .1) .in-bytes
 
 slice-read-u : tie.Need-slice-read-u Inv-loop μ-loop
-slice-read-u c = omega (arith, c .before .before .before .before .before .pre .0 .base-fits, c .before .before .before .before .before .pre .0 .out-fits, c .before .before .loop .inv .joins .kept .len)
-
-known : (c : tie.In-loop Inv-loop μ-loop) → Rows (c .before .before .before .before .args .f) (c .before .loop .work) (c .before .before .before .before .args .x) (order (c .before .before .before .before .args .f) (c .before .loop .work) (c .before .loop .p))
-known c = two-rows (touch-laid (c .before .loop .inv) (omega arith)) _ _ (c .before .before .before .before .pre .3) (touch-node (c .before .loop .inv) (omega arith))
+slice-read-u c = touch-at (c .before .before .loop .inv) (c .before .loop-test .taken) (c .before .before .before .before .before .good .0 .1) .inside
 
 mul-row-or : tie.Need-mul-row-or Inv-loop μ-loop
-mul-row-or c = omega (arith, known (c .before .before))
+mul-row-or c = touch-row (c .before .before .before .loop .inv) (c .before .before .loop-test .taken) (c .before .before .before .before .before .before .good .0 .1) .rows
 
 add-row-or : tie.Need-add-row-or Inv-loop μ-loop
-add-row-or c = omega (arith, known (c .before .before))
+add-row-or c = touch-row (c .before .before .before .loop .inv) (c .before .before .loop-test .taken) (c .before .before .before .before .before .before .good .0 .1) .touched
 
 row-or-requires : tie.Need-row-or-requires Inv-loop μ-loop
-row-or-requires c κs = (omega (arith, known (c .before .before)), omega (arith, known (c .before .before)), touched-aligned (c .before .before .before .before .before .before .args .f) _ _ _ (touch-laid (c .before .before .before .loop .inv) (omega arith)) (c .before .before .before .before .before .before .pre .3) (touch-node (c .before .before .before .loop .inv) (omega arith)))
+row-or-requires c κs = let s = c .before .before in (touch-x (s .before .loop .inv) (s .loop-test .taken) (s .before .before .before .before .good .0 .1) .out-in, touch-row (s .before .loop .inv) (s .loop-test .taken) (s .before .before .before .before .good .0 .1) .touched-in, touched-aligned (s .before .before .before .before .args .f) _ _ _ (touch-laid (s .before .loop .inv) (s .loop-test .taken)) (s .before .before .before .before .pre .3) (touch-node (s .before .loop .inv) (s .loop-test .taken)))
 
 add-p : tie.Need-add-p Inv-loop μ-loop
-add-p c = omega arith
+add-p c = touch-at (c .before .before .before .before .before .before .loop .inv) (c .before .before .before .before .before .loop-test .taken) (c .before .before .before .before .before .before .before .before .before .good .0 .1) .next
 
 loop-less : tie.Need-loop-less Inv-loop μ-loop
 loop-less c = omega arith
 
 loop-again : tie.Need-loop-again Inv-loop μ-loop
-loop-again c = touch-more (c .before .before .before .before .before .before .loop .inv) (omega arith) (c .before .before .row-or .ensures)
+loop-again c = let s = c .before .before .before .before .before in touch-more (s .before .loop .inv) (s .loop-test .taken) (c .before .before .row-or .ensures)
 
 same-length : tie.Need-same-length Inv-loop μ-loop
 same-length c = c .before .loop .inv .joins .kept .len
 
 returns : tie.Need-returns Inv-loop μ-loop
-returns c = touch-done (c .before .loop .inv) (omega arith)
+returns c = touch-done (c .before .loop .inv) (c .loop-test .left)
 
 pub touch-spec : {M : Type 1} → statement M
 touch-spec =

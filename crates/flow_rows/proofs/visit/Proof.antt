@@ -4,53 +4,53 @@ use Prim.Native.Nat.{_-_}
 use mathlib.Core.Path.{refl, _∙_}
 use Rattle.flow_rows.proofs.visit.Statement.{statement}
 use Rattle.flow_rows.proofs.Shares.{laid₁, x-in₁, laid₂, run₂, run-loop, visit-line, visit-loop}
-use Rattle.flow_rows.proofs.Joins.{row-in}
+use Rattle.flow_rows.proofs.Places.{orders, order-at, which-at, row-at}
 use Rattle.flow_rows.proofs.visit.Tie as tie
 
 add-ord : tie.Need-add-ord
-add-ord c = omega (arith, c .before .pre .0 .base-fits, c .before .pre .0 .out-fits)
+add-ord c = orders (c .before .pre .0) (c .before .good .0 .1) .one
 
 add-ord-2 : tie.Need-add-ord-2
-add-ord-2 c = omega (arith, c .before .pre .0 .base-fits, c .before .pre .0 .out-fits)
+add-ord-2 c = orders (c .before .pre .0) (c .before .good .0 .1) .two
 
 add-ord-3 : tie.Need-add-ord-3
-add-ord-3 c = omega (arith, c .before .pre .0 .base-fits, c .before .pre .0 .out-fits)
+add-ord-3 c = orders (c .before .pre .0) (c .before .good .0 .1) .three
 
 add-ord-4 : tie.Need-add-ord-4
-add-ord-4 c = omega (arith, c .before .pre .0 .base-fits, c .before .pre .0 .out-fits)
+add-ord-4 c = orders (c .before .pre .0) (c .before .good .0 .1) .four
 
 add-ord-5 : tie.Need-add-ord-5
-add-ord-5 c = omega (arith, c .before .pre .0 .base-fits, c .before .pre .0 .out-fits)
+add-ord-5 c = orders (c .before .pre .0) (c .before .good .0 .1) .five
 
 add-x : tie.Need-add-x
-add-x c = omega (arith, c .before .pre .0 .base-fits, c .before .pre .0 .out-fits)
+add-x c = order-at (c .before .pre .0) (c .before .good .0 .1) _ (c .before .pre .1) .fits
 
 mul-x : tie.Need-mul-x
-mul-x c = omega (arith, c .before .pre .0 .base-fits, c .before .pre .0 .out-fits)
+mul-x c = order-at (c .before .pre .0) (c .before .good .0 .1) _ (c .before .pre .1) .in-bytes
 
 slice-read-x : tie.Need-slice-read-x
-slice-read-x c = omega (arith, c .before .before .pre .0 .base-fits, c .before .before .pre .0 .out-fits)
+slice-read-x c = order-at (c .before .before .pre .0) (c .before .before .good .0 .1) _ (c .before .before .pre .1) .inside
 
 add-c : tie.Need-add-c
-add-c c = omega (arith, c .before .before .pre .0 .base-fits, c .before .before .pre .0 .out-fits, c .before .before .pre .0 .listed (c .before .before .args .i) (c .before .before .pre .1))
+add-c c = which-at (c .before .before .pre .0) (c .before .before .good .0 .1) _ (c .before .before .pre .0 .listed (c .before .before .args .i) (c .before .before .pre .1)) .fits
 
 mul-c : tie.Need-mul-c
-mul-c c = omega (arith, c .before .before .pre .0 .base-fits, c .before .before .pre .0 .out-fits, c .before .before .pre .0 .listed (c .before .before .args .i) (c .before .before .pre .1))
+mul-c c = which-at (c .before .before .pre .0) (c .before .before .good .0 .1) _ (c .before .before .pre .0 .listed (c .before .before .args .i) (c .before .before .pre .1)) .in-bytes
 
 slice-read-c : tie.Need-slice-read-c
-slice-read-c c = omega (arith, c .before .before .before .pre .0 .base-fits, c .before .before .before .pre .0 .out-fits, c .before .before .before .pre .0 .listed (c .before .before .before .args .i) (c .before .before .before .pre .1))
+slice-read-c c = which-at (c .before .before .before .pre .0) (c .before .before .before .good .0 .1) _ (c .before .before .before .pre .0 .listed (c .before .before .before .args .i) (c .before .before .before .pre .1)) .inside
 
 run-end-requires : tie.Need-run-end-requires
 run-end-requires c κs = (c .before .before .before .before .pre .0, c .before .before .before .before .pre .1, refl)
 
 mul-fill : tie.Need-mul-fill
-mul-fill c = omega (arith, c .before .before .before .before .before .before .pre .0 .base-fits, c .before .before .before .before .before .before .pre .0 .out-fits, row-in _ (c .before .before .before .before .before .before .args .f .n) (c .before .before .before .before .before .before .args .f .words) (c .before .before .before .before .before .before .pre .0 .listed (c .before .before .before .before .before .before .args .i) (c .before .before .before .before .before .before .pre .1)))
+mul-fill c = row-at (c .before .before .before .before .before .before .pre .0) (c .before .before .before .before .before .before .good .0 .1) _ (c .before .before .before .before .before .before .pre .0 .listed (c .before .before .before .before .before .before .args .i) (c .before .before .before .before .before .before .pre .1)) .rows
 
 add-fill : tie.Need-add-fill
-add-fill c = omega (arith, c .before .before .before .before .before .before .before .pre .0 .base-fits, c .before .before .before .before .before .before .before .pre .0 .out-fits, row-in _ (c .before .before .before .before .before .before .before .args .f .n) (c .before .before .before .before .before .before .before .args .f .words) (c .before .before .before .before .before .before .before .pre .0 .listed (c .before .before .before .before .before .before .before .args .i) (c .before .before .before .before .before .before .before .pre .1)))
+add-fill c = row-at (c .before .before .before .before .before .before .before .pre .0) (c .before .before .before .before .before .before .before .good .0 .1) _ (c .before .before .before .before .before .before .before .pre .0 .listed (c .before .before .before .before .before .before .before .args .i) (c .before .before .before .before .before .before .before .pre .1)) .out
 
 fill-requires : tie.Need-fill-requires
-fill-requires c κs = omega (arith, c .before .before .before .before .before .before .before .pre .0 .base-fits, c .before .before .before .before .before .before .before .pre .0 .out-fits, row-in _ (c .before .before .before .before .before .before .before .args .f .n) (c .before .before .before .before .before .before .before .args .f .words) (c .before .before .before .before .before .before .before .pre .0 .listed (c .before .before .before .before .before .before .before .args .i) (c .before .before .before .before .before .before .before .pre .1)))
+fill-requires c κs = row-at (c .before .before .before .before .before .before .before .pre .0) (c .before .before .before .before .before .before .before .good .0 .1) _ (c .before .before .before .before .before .before .before .pre .0 .listed (c .before .before .before .before .before .before .before .args .i) (c .before .before .before .before .before .before .before .pre .1)) .out-in
 
 pull-requires : tie.Need-pull-requires
 pull-requires c κs = (laid₁ (c .before .before .before .before .before .before .before .before .before .before .before .pre .0) (c .before .before .before .before .before .before .run-end .ensures) (c .before .before .before .before .before .before .before .before .before .before .before .pre .0 .listed (c .before .before .before .before .before .before .before .before .before .before .before .args .i) (c .before .before .before .before .before .before .before .before .before .before .before .pre .1)) refl (c .before .before .before .fill .ensures), omega (arith, c .before .before .before .before .before .before .run-end .ensures .first), c .before .before .before .before .before .before .run-end .ensures .last, (c .before .before .before .before .before .before .before .before .before .before .before .pre .0 .listed (c .before .before .before .before .before .before .before .before .before .before .before .args .i) (c .before .before .before .before .before .before .before .before .before .before .before .pre .1)), x-in₁ (c .before .before .before .before .before .before .before .before .before .before .before .pre .0) (c .before .before .before .before .before .before .run-end .ensures) (c .before .before .before .before .before .before .before .before .before .before .before .pre .0 .listed (c .before .before .before .before .before .before .before .before .before .before .before .args .i) (c .before .before .before .before .before .before .before .before .before .before .before .pre .1)) refl (c .before .before .before .fill .ensures))
