@@ -7,3 +7,4 @@ pub mod Lists
 pub mod Laws
 pub mod Roots
 pub mod Edges
+pub mod Bounds
