@@ -3,3 +3,4 @@ pub mod LinkLaws
 pub mod StepLaws
 pub mod PutLaws
 pub mod RunLaws
+pub mod Bounds
