@@ -1,0 +1,97 @@
+-- What `push` computes fits and stands in the work space, each bound as the code asks for it.
+use Prim.Native.Nat.{ℕ, _+_, _*_, _/_, _^_, _≤_, _<_}
+use mathlib.Core.Path.{_≡_, sym, subst}
+use mathlib.Core.List.{List}
+use mir.Syntax.{w64}
+use mir.Val.{Fits}
+use native.Mathlib.Omega.{arith}
+use lib.ListN.{length}
+use Rattle.words.proofs.RegionLaws.{row-before}
+use Rattle.spread_rows.specs.declared.Layout.{Layout}
+use Rattle.spread_rows.specs.Spread.{Laid, begins, ends, target}
+use Rattle.spread_rows.proofs.Pushes.{Pushing, push-laid, target-lt}
+
+-- word a of n is read
+pub record Word (a n : ℕ) : Type 0 where
+  pub fits : Fits w64 a
+  pub in-bytes : Fits w64 (a * 8)
+  pub inside : a < n
+
+word : (a n : ℕ) → a < n → n * 8 < 2 ^ 63 → Word a n
+word a n h r = record { fits = omega arith; in-bytes = omega arith; inside = h }
+
+small : (a n : ℕ) → a ≤ n → n * 8 < 2 ^ 63 → Fits w64 a
+small a n h r = omega arith
+
+-- the rows of a place
+pub record RowsOf (s : Layout) (u n : ℕ) : Type 0 where
+  pub rows : Fits w64 (u * s .words)
+  pub out : Fits w64 (s .wait + (s .n / 64 + 1) + u * s .words)
+  pub pass : Fits w64 (s .passes + u * s .words)
+  pub leave : Fits w64 (s .leaves + u * s .words)
+  pub out-in : s .wait + (s .n / 64 + 1) + u * s .words + s .words ≤ n
+  pub pass-in : s .passes + u * s .words + s .words ≤ n
+  pub leave-in : s .leaves + u * s .words + s .words ≤ n
+
+-- before the first edge of u
+pub record Before (s : Layout) (u n : ℕ) : Type 0 where
+  pub to : Fits w64 (s .at + s .n)
+  pub to-one : Fits w64 (s .at + s .n + 1)
+  pub waits : Fits w64 (s .n / 64 + 1)
+  pub out : Fits w64 (s .wait + (s .n / 64 + 1))
+  pub begin : Word (s .at + u) n
+  pub end : Word (s .at + u + 1) n
+
+-- at edge k
+pub record AtEdge (s : Layout) (k n : ℕ) : Type 0 where
+  pub to : Word (s .at + s .n + 1 + k) n
+  pub next : Fits w64 (k + 1)
+
+module _ {s : Layout} {w : List ℕ} (L : Laid s w) (r : length w * 8 < 2 ^ 63) where
+  pub rows-of : (u : ℕ) → u < s .n → RowsOf s u (length w)
+  rows-of u h =
+      let a = row-before u (s .n) (s .words) h in
+      let m = length w in
+      let o = L .out-fits in
+      let out : s .wait + (s .n / 64 + 1) + u * s .words + s .words ≤ m = omega arith in
+      let pass : s .passes + u * s .words + s .words ≤ m = omega (arith, L .passes-fit) in
+      let leave : s .leaves + u * s .words + s .words ≤ m = omega (arith, L .leaves-fit) in
+      record {
+        rows = small _ m (omega arith) r;
+        out = small _ m (omega arith) r;
+        pass = small _ m (omega arith) r;
+        leave = small _ m (omega arith) r;
+        out-in = out;
+        pass-in = pass;
+        leave-in = leave;
+      }
+
+  pub before-edges : (u : ℕ) → u < s .n → Before s u (length w)
+  before-edges u h =
+      let m = length w in
+      let o : s .wait + (s .n / 64 + 1) ≤ m = omega (arith, L .out-fits) in
+      let b : s .at + s .n + 1 ≤ s .wait = L .below in
+      record {
+        to = small _ m (omega arith) r;
+        to-one = small _ m (omega arith) r;
+        waits = small _ m (omega arith) r;
+        out = small _ m o r;
+        begin = word _ m (omega arith) r;
+        end = word _ m (omega arith) r;
+      }
+
+module _ {s : Layout} {u : ℕ} {w₀ w : List ℕ} {k : ℕ} (t : Pushing s u w₀ w k) (h : k < ends s w₀ u) (r : length w₀ * 8 < 2 ^ 63) where
+  room : length w * 8 < 2 ^ 63
+  room = subst (λ (n : ℕ). n * 8 < 2 ^ 63) (sym (t .kept .len)) r
+
+  pub target-rows : RowsOf s (target s w k) (length w)
+  target-rows = rows-of (push-laid t h) room (target s w k) (target-lt t h)
+
+  pub own-rows : RowsOf s u (length w)
+  own-rows = rows-of (push-laid t h) room u (t .u-lt)
+
+  pub at-edge : AtEdge s k (length w)
+  at-edge =
+      let m = length w in
+      let a : s .at + s .n + 1 + k < m = omega (arith, t .laid .rows-fit u (t .u-lt), push-laid t h .out-fits) in
+      record { to = word _ m a room; next = small _ m (omega arith) room }
