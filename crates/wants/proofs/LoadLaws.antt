@@ -1,4 +1,6 @@
 -- The loaded tables hold the wants that were lent.
+use mir.Syntax.{w64}
+use mir.Val.{Fits}
 use Prim.Native.Nat.{ℕ, _+_, _-_, _*_, _^_, _≤_, _<_}
 use native.Mathlib.Omega.{arith}
 use native.Mathlib.Decide.{ℕ-discrete}
@@ -120,3 +122,21 @@ module _ {w₀ w wants areas : List ℕ} (L : Loaded w₀ w wants areas (rowCoun
   pub wants-are : wantsIn w 0 (rowCount 2 areas) (rowCount 5 wants) ≡ wantsOf (areasOf areas) wants
   wants-are = tabulate-eq (rowCount 5 wants) (wantIn w 0 (rowCount 2 areas) (rowCount 5 wants))
       (λ i. record { size = field 5 wants i 0; align = field 5 wants i 1; area = partOf (areasOf areas) (field 5 wants i 2) (field 5 wants i 3) (field 5 wants i 4) }) want-same
+
+-- ---- what the entry computes fits, each bound as the code asks for it
+pub record Regions (n ranges : ℕ) : Type 0 where
+  pub five : Fits w64 (5 * n)
+  pub cells : Fits w64 (ranges + 5 * n)
+  pub six : Fits w64 (6 * n)
+  pub items : Fits w64 (ranges + 6 * n)
+  pub all : Fits w64 (n + ranges)
+  pub end : Fits w64 (8 * (n + ranges))
+
+pub regions : (n ranges : ℕ) → n ≤ 4096 → ranges ≤ 65536 → Regions n ranges
+regions n ranges h k = record { five = omega arith; cells = omega arith; six = omega arith; items = omega arith; all = omega arith; end = omega arith }
+
+pub in-cells : (k n m : ℕ) → k ≤ n → 2 * n ≤ m → 2 * k ≤ m
+in-cells k n m h r = omega arith
+
+pub in-tables : (k n ranges m₀ m₁ m₂ : ℕ) → k ≤ n → 8 * (n + ranges) ≤ m₀ → m₁ ≡ m₀ → m₂ ≡ m₁ → ranges + 5 * n + k ≤ m₂
+in-tables k n ranges m₀ m₁ m₂ h r e f = omega arith
