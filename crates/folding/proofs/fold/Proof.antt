@@ -1,6 +1,7 @@
 -- `fold` meets its contract: each turn unites two lists, and the link falls.
 use Rattle.cell_tables.specs.Inner.{nextAt, Folded}
 use Rattle.folding.proofs.FoldLaws.{folded-none, folded-then}
+use Rattle.folding.proofs.Bounds.{own-place, next-place, room-kept}
 use native.Mathlib.Omega.{arith}
 use Prim.Native.Nat.{_-_}
 use mathlib.Core.Path.{_≡_, refl}
@@ -14,61 +15,61 @@ abbrev μ-loop : tie.MeasureT-loop
 μ-loop w₀ at items n end k top t₀ p₀ w t p = p
 
 mul-p : tie.Need-mul-p Inv-loop μ-loop
-mul-p c = omega (arith, (c .before .pre) .linked .low, (c .before .pre) .linked .top-le, (c .before .pre) .linked .k-le)
+mul-p c = own-place (c .before .pre) ((c .before .good) .0 .1) .four
 
 add-p : tie.Need-add-p Inv-loop μ-loop
-add-p c = omega (arith, (c .before .pre) .linked .low, (c .before .pre) .linked .top-le, (c .before .pre) .linked .k-le)
+add-p c = own-place (c .before .pre) ((c .before .good) .0 .1) .links
 
 add-p-2 : tie.Need-add-p-2 Inv-loop μ-loop
-add-p-2 c = omega (arith, (c .before .pre) .linked .low, (c .before .pre) .linked .top-le, (c .before .pre) .linked .k-le)
+add-p-2 c = own-place (c .before .pre) ((c .before .good) .0 .1) .link .fits
 
 mul-p-2 : tie.Need-mul-p-2 Inv-loop μ-loop
-mul-p-2 c = omega (arith, (c .before .pre) .linked .low, (c .before .pre) .linked .top-le, (c .before .pre) .linked .k-le)
+mul-p-2 c = own-place (c .before .pre) ((c .before .good) .0 .1) .link .in-bytes
 
 slice-read-p : tie.Need-slice-read-p Inv-loop μ-loop
-slice-read-p c = omega (arith, (c .before .before .pre) .linked .low, (c .before .before .pre) .linked .top-le, (c .before .before .pre) .linked .k-le)
+slice-read-p c = own-place (c .before .before .pre) ((c .before .before .good) .0 .1) .link .inside
 
 loop-holds : tie.Need-loop-holds Inv-loop μ-loop
 loop-holds c = (refl, folded-none (c .before .before .pre))
 
 sub-q : tie.Need-sub-q Inv-loop μ-loop
-sub-q c = omega arith
+sub-q c = (c .loop-test) .taken
 
 mul-together : tie.Need-mul-together Inv-loop μ-loop
-mul-together c = omega (arith, (c .before .loop) .inv .1 .topped .linked .low, (c .before .loop) .inv .1 .topped .linked .top-le, (c .before .loop) .inv .1 .topped .linked .k-le, (c .before .loop) .inv .1 .topped .linked .falls ((c .before .before .before .before .args) .k) (omega arith), (c .before .loop) .inv .0)
+mul-together c = own-place ((c .before .loop) .inv .1 .topped) (room-kept _ _ ((c .before .loop) .inv .1 .len) ((c .before .before .before .before .good) .0 .1)) .seven
 
 add-together : tie.Need-add-together Inv-loop μ-loop
-add-together c = omega (arith, (c .before .loop) .inv .1 .topped .linked .low, (c .before .loop) .inv .1 .topped .linked .top-le, (c .before .loop) .inv .1 .topped .linked .k-le, (c .before .loop) .inv .1 .topped .linked .falls ((c .before .before .before .before .args) .k) (omega arith), (c .before .loop) .inv .0)
+add-together c = own-place ((c .before .loop) .inv .1 .topped) (room-kept _ _ ((c .before .loop) .inv .1 .len) ((c .before .before .before .before .good) .0 .1)) .lists
 
 add-together-2 : tie.Need-add-together-2 Inv-loop μ-loop
-add-together-2 c = omega (arith, (c .before .loop) .inv .1 .topped .linked .low, (c .before .loop) .inv .1 .topped .linked .top-le, (c .before .loop) .inv .1 .topped .linked .k-le, (c .before .loop) .inv .1 .topped .linked .falls ((c .before .before .before .before .args) .k) (omega arith), (c .before .loop) .inv .0)
+add-together-2 c = own-place ((c .before .loop) .inv .1 .topped) (room-kept _ _ ((c .before .loop) .inv .1 .len) ((c .before .before .before .before .good) .0 .1)) .list .fits
 
 mul-together-2 : tie.Need-mul-together-2 Inv-loop μ-loop
-mul-together-2 c = omega (arith, (c .before .loop) .inv .1 .topped .linked .low, (c .before .loop) .inv .1 .topped .linked .top-le, (c .before .loop) .inv .1 .topped .linked .k-le, (c .before .loop) .inv .1 .topped .linked .falls ((c .before .before .before .before .args) .k) (omega arith), (c .before .loop) .inv .0)
+mul-together-2 c = own-place ((c .before .loop) .inv .1 .topped) (room-kept _ _ ((c .before .loop) .inv .1 .len) ((c .before .before .before .before .good) .0 .1)) .list .in-bytes
 
 slice-read-together : tie.Need-slice-read-together Inv-loop μ-loop
-slice-read-together c = omega (arith, (c .before .before .loop) .inv .1 .topped .linked .low, (c .before .before .loop) .inv .1 .topped .linked .top-le, (c .before .before .loop) .inv .1 .topped .linked .k-le, (c .before .before .loop) .inv .1 .topped .linked .falls ((c .before .before .before .before .before .args) .k) (omega arith), (c .before .before .loop) .inv .0)
+slice-read-together c = own-place ((c .before .before .loop) .inv .1 .topped) (room-kept _ _ ((c .before .before .loop) .inv .1 .len) ((c .before .before .before .before .before .good) .0 .1)) .list .inside
 
 mul-together-3 : tie.Need-mul-together-3 Inv-loop μ-loop
-mul-together-3 c = omega (arith, (c .before .before .loop) .inv .1 .topped .linked .low, (c .before .before .loop) .inv .1 .topped .linked .top-le, (c .before .before .loop) .inv .1 .topped .linked .k-le, (c .before .before .loop) .inv .1 .topped .linked .falls ((c .before .before .before .before .before .args) .k) (omega arith), (c .before .before .loop) .inv .0)
+mul-together-3 c = own-place ((c .before .before .loop) .inv .1 .topped) (room-kept _ _ ((c .before .before .loop) .inv .1 .len) ((c .before .before .before .before .before .good) .0 .1)) .seven
 
 add-together-3 : tie.Need-add-together-3 Inv-loop μ-loop
-add-together-3 c = omega (arith, (c .before .before .loop) .inv .1 .topped .linked .low, (c .before .before .loop) .inv .1 .topped .linked .top-le, (c .before .before .loop) .inv .1 .topped .linked .k-le, (c .before .before .loop) .inv .1 .topped .linked .falls ((c .before .before .before .before .before .args) .k) (omega arith), (c .before .before .loop) .inv .0)
+add-together-3 c = own-place ((c .before .before .loop) .inv .1 .topped) (room-kept _ _ ((c .before .before .loop) .inv .1 .len) ((c .before .before .before .before .before .good) .0 .1)) .lists
 
 add-together-4 : tie.Need-add-together-4 Inv-loop μ-loop
-add-together-4 c = omega (arith, (c .before .before .loop) .inv .1 .topped .linked .low, (c .before .before .loop) .inv .1 .topped .linked .top-le, (c .before .before .loop) .inv .1 .topped .linked .k-le, (c .before .before .loop) .inv .1 .topped .linked .falls ((c .before .before .before .before .before .args) .k) (omega arith), (c .before .before .loop) .inv .0)
+add-together-4 c = next-place ((c .before .before .loop) .inv .1 .topped) (room-kept _ _ ((c .before .before .loop) .inv .1 .len) ((c .before .before .before .before .before .good) .0 .1)) _ ((c .before .before .loop) .inv .0) ((c .before .loop-test) .taken) .list .fits
 
 mul-together-4 : tie.Need-mul-together-4 Inv-loop μ-loop
-mul-together-4 c = omega (arith, (c .before .before .loop) .inv .1 .topped .linked .low, (c .before .before .loop) .inv .1 .topped .linked .top-le, (c .before .before .loop) .inv .1 .topped .linked .k-le, (c .before .before .loop) .inv .1 .topped .linked .falls ((c .before .before .before .before .before .args) .k) (omega arith), (c .before .before .loop) .inv .0)
+mul-together-4 c = next-place ((c .before .before .loop) .inv .1 .topped) (room-kept _ _ ((c .before .before .loop) .inv .1 .len) ((c .before .before .before .before .before .good) .0 .1)) _ ((c .before .before .loop) .inv .0) ((c .before .loop-test) .taken) .list .in-bytes
 
 slice-read-together-2 : tie.Need-slice-read-together-2 Inv-loop μ-loop
-slice-read-together-2 c = omega (arith, (c .before .before .before .loop) .inv .1 .topped .linked .low, (c .before .before .before .loop) .inv .1 .topped .linked .top-le, (c .before .before .before .loop) .inv .1 .topped .linked .k-le, (c .before .before .before .loop) .inv .1 .topped .linked .falls ((c .before .before .before .before .before .before .args) .k) (omega arith), (c .before .before .before .loop) .inv .0)
+slice-read-together-2 c = next-place ((c .before .before .before .loop) .inv .1 .topped) (room-kept _ _ ((c .before .before .before .loop) .inv .1 .len) ((c .before .before .before .before .before .before .good) .0 .1)) _ ((c .before .before .before .loop) .inv .0) ((c .before .before .loop-test) .taken) .list .inside
 
 together-requires : tie.Need-together-requires Inv-loop μ-loop
 together-requires c κs = tt
 
 sub-room : tie.Need-sub-room Inv-loop μ-loop
-sub-room c = omega (arith, (c .before .before .before .before .loop) .inv .1 .topped .top-end)
+sub-room c = (c .before .before .before .before .loop) .inv .1 .topped .top-end
 
 same-length : tie.Need-same-length Inv-loop μ-loop
 same-length c = (c .before .before .before .before .before .loop) .inv .1 .len
@@ -80,19 +81,19 @@ unite-top-requires : tie.Need-unite-top-requires Inv-loop μ-loop
 unite-top-requires c κs = ((c .before .before .before .before .before .before .loop) .inv .1 .topped, record { next = omega (arith, (c .before .before .before .before .before .before .loop) .inv .0); one = (c .before .before .together) .ensures (omega (arith, (c .before .if1) .left, (c .before .before .before .before .before .before .loop) .inv .1 .topped .linked .low, (c .before .before .before .before .before .before .loop) .inv .1 .topped .linked .k-le)) .0; two = (c .before .before .together) .ensures (omega (arith, (c .before .if1) .left, (c .before .before .before .before .before .before .loop) .inv .1 .topped .linked .low, (c .before .before .before .before .before .before .loop) .inv .1 .topped .linked .k-le)) .1; room = omega (arith, (c .before .before .together) .ensures (omega (arith, (c .before .if1) .left, (c .before .before .before .before .before .before .loop) .inv .1 .topped .linked .low, (c .before .before .before .before .before .before .loop) .inv .1 .topped .linked .k-le)) .2, (c .before .if1) .left, (c .before .before .before .before .before .before .loop) .inv .1 .topped .top-end) })
 
 mul-p-3 : tie.Need-mul-p-3 Inv-loop μ-loop
-mul-p-3 c = omega (arith, (c .before .before .unite-top) .ensures .0 .topped .linked .low, (c .before .before .unite-top) .ensures .0 .topped .linked .top-le, (c .before .before .unite-top) .ensures .0 .topped .linked .k-le)
+mul-p-3 c = own-place ((c .before .before .unite-top) .ensures .0 .topped) (room-kept _ _ ((c .before .before .unite-top) .ensures .0 .len) (room-kept _ _ ((c .before .before .before .before .before .before .before .before .before .loop) .inv .1 .len) ((c .before .before .before .before .before .before .before .before .before .before .before .before .good) .0 .1))) .four
 
 add-p-3 : tie.Need-add-p-3 Inv-loop μ-loop
-add-p-3 c = omega (arith, (c .before .before .unite-top) .ensures .0 .topped .linked .low, (c .before .before .unite-top) .ensures .0 .topped .linked .top-le, (c .before .before .unite-top) .ensures .0 .topped .linked .k-le)
+add-p-3 c = own-place ((c .before .before .unite-top) .ensures .0 .topped) (room-kept _ _ ((c .before .before .unite-top) .ensures .0 .len) (room-kept _ _ ((c .before .before .before .before .before .before .before .before .before .loop) .inv .1 .len) ((c .before .before .before .before .before .before .before .before .before .before .before .before .good) .0 .1))) .links
 
 add-p-4 : tie.Need-add-p-4 Inv-loop μ-loop
-add-p-4 c = omega (arith, (c .before .before .unite-top) .ensures .0 .topped .linked .low, (c .before .before .unite-top) .ensures .0 .topped .linked .top-le, (c .before .before .unite-top) .ensures .0 .topped .linked .k-le)
+add-p-4 c = own-place ((c .before .before .unite-top) .ensures .0 .topped) (room-kept _ _ ((c .before .before .unite-top) .ensures .0 .len) (room-kept _ _ ((c .before .before .before .before .before .before .before .before .before .loop) .inv .1 .len) ((c .before .before .before .before .before .before .before .before .before .before .before .before .good) .0 .1))) .link .fits
 
 mul-p-4 : tie.Need-mul-p-4 Inv-loop μ-loop
-mul-p-4 c = omega (arith, (c .before .before .unite-top) .ensures .0 .topped .linked .low, (c .before .before .unite-top) .ensures .0 .topped .linked .top-le, (c .before .before .unite-top) .ensures .0 .topped .linked .k-le)
+mul-p-4 c = own-place ((c .before .before .unite-top) .ensures .0 .topped) (room-kept _ _ ((c .before .before .unite-top) .ensures .0 .len) (room-kept _ _ ((c .before .before .before .before .before .before .before .before .before .loop) .inv .1 .len) ((c .before .before .before .before .before .before .before .before .before .before .before .before .good) .0 .1))) .link .in-bytes
 
 slice-read-p-2 : tie.Need-slice-read-p-2 Inv-loop μ-loop
-slice-read-p-2 c = omega (arith, (c .before .before .before .unite-top) .ensures .0 .topped .linked .low, (c .before .before .before .unite-top) .ensures .0 .topped .linked .top-le, (c .before .before .before .unite-top) .ensures .0 .topped .linked .k-le)
+slice-read-p-2 c = own-place ((c .before .before .before .unite-top) .ensures .0 .topped) (room-kept _ _ ((c .before .before .before .unite-top) .ensures .0 .len) (room-kept _ _ ((c .before .before .before .before .before .before .before .before .before .before .loop) .inv .1 .len) ((c .before .before .before .before .before .before .before .before .before .before .before .before .before .good) .0 .1))) .link .inside
 
 loop-less : tie.Need-loop-less Inv-loop μ-loop
 loop-less c = omega (arith, (c .before .before .before .unite-top) .ensures .1)
