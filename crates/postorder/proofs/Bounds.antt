@@ -1,0 +1,80 @@
+-- What a turn computes fits and stands in the work space, each bound as the code asks for it.
+use Prim.Native.Nat.{ℕ, _+_, _-_, _*_, _^_, _≤_, _<_}
+use mathlib.Core.Path.{_≡_}
+use mathlib.Core.List.{List}
+use mir.Syntax.{w64}
+use mir.Val.{Fits}
+use native.Mathlib.Omega.{arith}
+use lib.ListN.{length, getD}
+use Rattle.postorder.specs.Walk.{ends}
+use Rattle.postorder.specs.Space.{Ready}
+use Rattle.postorder.proofs.Turns.{topOf, nextOf, leadsTo, Top, top, v-ok}
+
+-- word a of n is read or written
+pub record Word (a n : ℕ) : Type 0 where
+  pub fits : Fits w64 a
+  pub in-bytes : Fits w64 (a * 8)
+  pub inside : a < n
+
+word : (a n : ℕ) → a < n → n * 8 < 2 ^ 63 → Word a n
+word a n h r = record { fits = omega arith; in-bytes = omega arith; inside = h }
+
+small : (a n : ℕ) → a ≤ n → n * 8 < 2 ^ 63 → Fits w64 a
+small a n h r = omega arith
+
+-- at any turn
+pub record Turning (n at base : ℕ) (w : List ℕ) (depth : ℕ) : Type 0 where
+  pub rank : Fits w64 (base + n)
+  pub stack : Fits w64 (base + n + n)
+  pub next : Fits w64 (base + n + n + n)
+  pub held : Word (base + n + n + (depth - 1)) (length w)
+  pub looked : Word (base + n + n + n + topOf n base w depth) (length w)
+  pub begin : Fits w64 (at + topOf n base w depth)
+  pub end : Word (at + topOf n base w depth + 1) (length w)
+  pub ranked : Word (base + n + topOf n base w depth) (length w)
+
+-- at an edge
+pub record AtEdge (n at base : ℕ) (w : List ℕ) (depth : ℕ) : Type 0 where
+  pub rows : Fits w64 (at + n)
+  pub to : Word (at + n + nextOf n base w (topOf n base w depth)) (length w)
+  pub more : Fits w64 (nextOf n base w (topOf n base w depth) + 1)
+  pub seen : Word (base + n + n + n + leadsTo n at base w depth) (length w)
+
+module _ {n at base : ℕ} {w : List ℕ} {depth left : ℕ} (pos : 0 < depth) (Y : Ready n at base w depth left) (r : length w * 8 < 2 ^ 63) where
+  T : Top n at base w depth left
+  T = top n at base w depth left pos Y
+
+  pub turning : Turning n at base w depth
+  turning =
+      let a = T .room in
+      let s = T .starts in
+      let d = T .deep in
+      let u = T .u-lt in
+      let m = length w in
+      record {
+        rank = small _ m (omega arith) r;
+        stack = small _ m (omega arith) r;
+        next = small _ m (omega arith) r;
+        held = word _ m (omega arith) r;
+        looked = word _ m (omega arith) r;
+        begin = small _ m (omega arith) r;
+        end = word _ m (omega arith) r;
+        ranked = word _ m (omega arith) r;
+      }
+
+  pub edge : nextOf n base w (topOf n base w depth) ≤ ends w at (topOf n base w depth) → AtEdge n at base w depth
+  edge h =
+      let a = T .room in
+      let e = T .end-le in
+      let u = T .u-lt in
+      let v = v-ok n at base w depth left pos h Y in
+      let m = length w in
+      record {
+        rows = small _ m (omega arith) r;
+        to = word _ m (omega arith) r;
+        more = small _ m (omega arith) r;
+        seen = word _ m (omega arith) r;
+      }
+
+  pub deeper : depth < n → Fits w64 (depth + 1)
+  deeper h = small _ (length w) (omega (arith, T .room)) r
