@@ -87,15 +87,10 @@ module _ (blocks : List ℕ) (s : Local) (w : List ℕ) (k y : ℕ) (h : k < len
       ap unpack e ∙ unpack-pack (getD blocks (3 * k + 1) 0) (getD blocks (3 * k + 2) 0) small
       ∙ rw (o, start-is blocks k h, end-is blocks k h)
 
-  pub piece-part : ownBit s w k ≡ false → (from to : Bool) → from ≡ writtenBit s w k → to ≡ readBit s w k → (a b first last : ℕ) → a ≡ getD w (s .span + k) 0 / 2 ^ 32 → b ≡ getD w (s .span + k) 0 % 2 ^ 32
-      → first ≡ cond from (getD blocks (3 * k + 1) 0) a → last ≡ cond to (getD blocks (3 * k + 2) 0) b → y ≡ pack (range first last) → unpack y ≡ pieceAt (lineOf blocks []) s w k
-  piece-part o from to ef et a b first last ea eb f l e =
-      ap unpack e ∙ unpack-pack first last (rw l (under to))
-      ∙ rw (o, f, l, ef, et, ea, eb, start-is blocks k h, end-is blocks k h)
-    where
-      under : (t : Bool) → cond t (getD blocks (3 * k + 2) 0) b < 2 ^ 32
-      under true = small
-      under false = omega arith
+  pub piece-part : ownBit s w k ≡ false → (from to : Bool) → from ≡ writtenBit s w k → to ≡ readBit s w k
+      → unpack y ≡ range (cond from (getD blocks (3 * k + 1) 0) (unpack (getD w (s .span + k) 0) .start)) (cond to (getD blocks (3 * k + 2) 0) (unpack (getD w (s .span + k) 0) .end))
+      → unpack y ≡ pieceAt (lineOf blocks []) s w k
+  piece-part o from to ef et e = e ∙ rw (o, ef, et, start-is blocks k h, end-is blocks k h)
 
 -- ---- the pieces of some blocks more
 
@@ -113,6 +108,12 @@ module _ (G : Graph) (ts : List Range) (f g : ℕ → Bool) where
   line-start = refl
 
 -- ---- the loop over the marked blocks
+
+pub under : {k a b : ℕ} → a ≡ b → k < a → k < b
+under e h = omega arith
+
+pub nearer : {k k′ a b : ℕ} → a ≡ b → k < a → k < k′ → a - k′ < a - k
+nearer e h l = omega arith
 
 pub record Lining (blocks : List ℕ) (s : Local) (n from : ℕ) (w₀ w : List ℕ) (k r : ℕ) : Type 0 where
   pub asked : Visitable s n from w₀
@@ -208,6 +209,29 @@ module _ {blocks : List ℕ} {s : Local} {n from : ℕ} {w₀ w : List ℕ} {k r
       let m = a .mark-fits in
       piece-kept s n w₀ w (a .flowing) (d .sweep .before) G k h (a .row-fits) (omega arith) (d .sweep .between (s .span + k) (omega arith) (omega arith))
 
+  pub run-asks : k < s .wide * 64 → (k < s .wide * 64) × (s .row + s .wide ≤ length w) × (s .wide * 64 < 2 ^ 64)
+  run-asks h =
+      let l = d .sweep .len in
+      let f = d .asked .swept .fits in
+      let g = d .asked .swept .mark-fits in
+      let q = d .asked .row-fits in
+      (h, omega arith, d .asked .swept .small)
+
+  pub join-asks : k < s .wide * 64 → from + r < length w
+  join-asks h =
+      let z = sweep-in (d .sweep) h in
+      let l = d .sweep .len in
+      let q = d .sweep .r-le in
+      let f = d .asked .swept .fits in
+      omega arith
+
+  pub first-asks : k < s .wide * 64 → {l₁ l₂ : ℕ} → l₁ ≡ length w → l₂ ≡ l₁ → (s .mark + s .wide ≤ l₂) × (k / 64 ≤ s .wide) × (s .wide * 64 < 2 ^ 64)
+  first-asks h q v =
+      let l = d .sweep .len in
+      let f = d .asked .swept .fits in
+      let g = d .asked .swept .mark-fits in
+      (omega arith, omega arith, d .asked .swept .small)
+
   module _ {e : ℕ} (h : k < s .wide * 64) (run : Run s k e w) where
     own-marked : e ≢ k + 1 → (c : ℕ) → k ≤ c → c < e → (markBit s w₀ c ≡ true) × (ownBit s w₀ c ≡ true)
     own-marked q c i j =
@@ -222,6 +246,25 @@ module _ {blocks : List ℕ} {s : Local} {n from : ℕ} {w₀ w : List ℕ} {k r
         same e (k + 1) (λ q. let z = sweep-in (d .sweep) h in omega arith)
         (λ q. let v = run .word in cut e n (λ i. i)
         (λ i. absurd (true≢false (sym (own-marked q (e - 1) (omega arith) (omega arith) .0) ∙ d .asked .swept .past (e - 1) (omega arith) (omega arith)))))
+
+    -- what the calls of one turn ask
+    pub stretch-asks : ((k < e) × (e ≤ n) × (k < s .wide * 64) × (s .row + s .wide ≤ length w) × (s .span + k < length w)) × (Flowing s n × (s .mark ≤ length w))
+    stretch-asks =
+        let z = sweep-in (d .sweep) h in
+        let l = d .sweep .len in
+        let a = d .asked in
+        let f = a .swept .fits in
+        let g = a .swept .mark-fits in
+        let b = a .span-fits in
+        let q = a .row-fits in
+        ((run .some, run-in, h, omega arith, omega arith), (a .flowing, omega arith))
+
+    pub unmark-asks : {l₁ : ℕ} → l₁ ≡ length w → (k < s .wide * 64) × (s .wide * 64 < 2 ^ 64) × (s .mark + s .wide ≤ l₁) × (k < e) × (e ≤ k / 64 * 64 + 64)
+    unmark-asks q =
+        let l = d .sweep .len in
+        let f = d .asked .swept .fits in
+        let g = d .asked .swept .mark-fits in
+        (h, d .asked .swept .small, omega arith, run .some, run .word)
 
     run-lines : (x : Range) → RunPiece (lineOf blocks []) s w k e x → (es : List Edge) (ts : List Range) (f g : ℕ → Bool) → Pieced (lineOf blocks es) ts f g s n w₀
         → linePieces (lineOf blocks es) ts f g e ≡ joined (linePieces (lineOf blocks es) ts f g k) x

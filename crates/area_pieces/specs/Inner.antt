@@ -8,13 +8,13 @@ use lib.ListN.{length, getD}
 use Rattle.words.specs.Regions.{part}
 use Rattle.ranges.specs.declared.Range.{Range}
 use Rattle.ranges.specs.Points.{range}
-use Rattle.ranges.specs.Merged.{joined}
 use Rattle.ranges.specs.Forms.{unpack, unpacked}
 use Rattle.graph.specs.Paths.{Edge}
 use Rattle.graph.specs.Work.{Within}
 use Rattle.areas.specs.Blocks.{Graph, top, bottom, whole}
 use Rattle.areas.specs.Pieces.{clips, through, throughs, least, most, blockPiece, linePieces}
 use Rattle.spots.specs.Spots.{lineOf}
+pub use Rattle.joining.specs.Joined.{Listed, JoinedIn}
 use Rattle.area_pieces.specs.declared.Local.{Local}
 use Rattle.area_pieces.specs.Local.{ownBit, writtenBit, readBit, markBit, Flowing, Unmarked}
 
@@ -38,19 +38,6 @@ pub record Swept (s : Local) (n from r : ℕ) (w₀ w : List ℕ) : Type 0 where
   pub before : (i : ℕ) → i < s .mark → getD w i 0 ≡ getD w₀ i 0
   pub between : (i : ℕ) → s .mark + s .wide ≤ i → i < from → getD w i 0 ≡ getD w₀ i 0
   pub after : (i : ℕ) → from + n ≤ i → getD w i 0 ≡ getD w₀ i 0
-
--- the r ranges from `at` on are rs; nothing before or behind them has changed
-pub record Listed (w₀ w : List ℕ) (at r : ℕ) (rs : List Range) : Type 0 where
-  pub len : length w ≡ length w₀
-  pub is : unpacked (part at r w) ≡ rs
-  pub before : (i : ℕ) → i < at → getD w i 0 ≡ getD w₀ i 0
-  pub after : (i : ℕ) → at + r ≤ i → getD w i 0 ≡ getD w₀ i 0
-
--- one range more is put to the first k, through `joined`
-pub record JoinedIn (w₀ w : List ℕ) (at k r x : ℕ) : Type 0 where
-  pub listed : Listed w₀ w at r (joined (unpacked (part at k w₀)) (unpack x))
-  pub least : k ≤ r
-  pub most : r ≤ k + 1
 
 -- first to last point of some ranges
 abbrev pub hull : List Range → List Range

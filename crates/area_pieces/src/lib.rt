@@ -1,6 +1,6 @@
 // From the touches, the ends and the row bits of one local to its area, in the words of one work space.
 ghost use mathlib.Core.Path.{_≡_};
-ghost use mathlib.Core.Bool.{true, false, cond};
+ghost use mathlib.Core.Bool.{true, false};
 ghost use mathlib.Core.List.{List, []};
 ghost use Prim.Native.Nat.{_+_, _-_, _*_, _/_, _≤_, _<_, _^_};
 ghost use lib.ListN.{length};
@@ -12,7 +12,7 @@ ghost use Rattle.graph.specs.Line.{blocksOf, Sound};
 ghost use Rattle.areas.specs.Blocks.{top, bottom, clip, inverted};
 ghost use Rattle.spots.specs.Spots.{lineOf, touchesAt};
 ghost use Rattle.area_pieces.specs.Local.{ownBit, Appended, Free, Laid, Unmarked, Upright, Flowing, Both, PlainIn};
-ghost use Rattle.area_pieces.specs.Inner.{JoinedIn, Spannable, Widened, Put, Spanned, pieceAt, Run, RunPiece, Taken, Covered, Visitable, Visited, Lined};
+ghost use Rattle.area_pieces.specs.Inner.{Spannable, Widened, Put, Spanned, pieceAt, Run, RunPiece, Taken, Covered, Visitable, Visited, Lined};
 use spots::Spots;
 
 // A word with every bit set.
@@ -51,27 +51,6 @@ pub fn append(
         words::copy(work, from, base + total, count);
     }
     sum
-}
-
-// Puts a range to the k ranges from `at` on: the last is lengthened where the new one starts at its end plus 1, else it is appended.
-fn join(work: &mut [u64], at: usize, k: usize, x: u64) -> usize
-    requires { ⌜ at + k < length (now work) ⌝ }
-    ensures { λ r. ⌜ JoinedIn (now (work .entry)) (now (work .exit)) at k r x ⌝ }
-{
-    if 0 < k {
-        let i = at + k - 1;
-        let last = work[i];
-        let end = packed::end_of(last);
-        let start = packed::start_of(x);
-        if start as u64 == end as u64 + 1 {
-            let first = packed::start_of(last);
-            let e = packed::end_of(x);
-            work[i] = packed::pack(first, e);
-            return k;
-        }
-    }
-    work[at + k] = x;
-    k + 1
 }
 
 // Puts a range to the span of block k: the first and the last point so far, in one word.
@@ -143,15 +122,6 @@ fn spans(blocks: &[u32], work: &mut [u64], t: Spots, s: Local) -> usize
     m
 }
 
-fn either(test: bool, x: u32, y: u32) -> u32
-    ensures { λ r. ⌜ r ≡ cond test x y ⌝ }
-{
-    if test {
-        return x;
-    }
-    y
-}
-
 // The piece of block k: all of it where the local's own row has the bit, else its span, from the top by the written bit and to the bottom
 // by the read one.
 fn piece(blocks: &[u32], work: &[u64], s: Local, k: usize) -> u64
@@ -167,9 +137,7 @@ fn piece(blocks: &[u32], work: &[u64], s: Local, k: usize) -> u64
     let x = work[s.span + k];
     let from = bits::test(work, s.written + k * s.words, s.local);
     let to = bits::test(work, s.read + k * s.words, s.local);
-    let first = either(from, top, packed::start_of(x));
-    let last = either(to, bottom, packed::end_of(x));
-    packed::pack(first, last)
+    joining::lengthened(x, top, bottom, from, to)
 }
 
 // Where the blocks from k on end that have the local's own bit, within the word of k.
@@ -242,7 +210,7 @@ fn visit(blocks: &[u32], work: &mut [u64], s: Local, from: usize) -> usize
     while k < end {
         let e = run(work, s, k);
         let x = stretch(blocks, work, s, k, e);
-        n = join(work, from, n, x);
+        n = joining::join(work, from, n, x);
         unmark(work, s, k, e);
         k = bits::first_from(work, s.mark, s.wide, k / 64);
     }

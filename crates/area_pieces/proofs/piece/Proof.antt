@@ -69,23 +69,11 @@ add-test-2 c = omega (arith, row-before ((c .before .before .before .before .bef
 test-requires-3 : tie.Need-test-requires-3
 test-requires-3 c κs = omega (arith, row-before ((c .before .before .before .before .before .before .before .before .before .before .before .before .before .args) .k) _ ((c .before .before .before .before .before .before .before .before .before .before .before .before .before .args) .s .words) ((c .before .before .before .before .before .before .before .before .before .before .before .before .before .pre) .0 .0), (c .before .before .before .before .before .before .before .before .before .before .before .before .before .pre) .1 .0 .read-fits, (c .before .before .before .before .before .before .before .before .before .before .before .before .before .pre) .1 .0 .bit-in, (c .before .before .before .before .before .before .before .before .before .before .before .before .before .pre) .1 .1)
 
-start-of-requires : tie.Need-start-of-requires
-start-of-requires c κs = search needs
-
-either-requires : tie.Need-either-requires
-either-requires c κs = search needs
-
-end-of-requires : tie.Need-end-of-requires
-end-of-requires c κs = search needs
-
-either-requires-2 : tie.Need-either-requires-2
-either-requires-2 c κs = search needs
-
-pack-requires-2 : tie.Need-pack-requires-2
-pack-requires-2 c κs = search needs
+lengthened-requires : tie.Need-lengthened-requires
+lengthened-requires c κs = search needs
 
 returns-2 : tie.Need-returns-2
-returns-2 c = piece-part (now ((c .before .before .before .before .before .before .before .before .before .before .before .before .before .before .before .before .before .before .before .args) .blocks)) ((c .before .before .before .before .before .before .before .before .before .before .before .before .before .before .before .before .before .before .before .args) .s) (now ((c .before .before .before .before .before .before .before .before .before .before .before .before .before .before .before .before .before .before .before .args) .work)) ((c .before .before .before .before .before .before .before .before .before .before .before .before .before .before .before .before .before .before .before .args) .k) _ ((c .before .before .before .before .before .before .before .before .before .before .before .before .before .before .before .before .before .before .before .pre) .0 .0) (omega (arith, (c .before .before .before .before .before .before .before .before .before .before .before .before .before .before .before .before .shared-slice-known3) .given (3 * (c .before .before .before .before .before .before .before .before .before .before .before .before .before .before .before .before .before .before .before .args) .k + 2))) (sym ((c .before .before .before .before .before .before .before .before .before .before .before .before .before .before .test) .ensures) ∙ (c .before .before .before .before .before .before .before .before .before .before .before .before .before .if1) .left) _ _ ((c .before .before .before .before .before .before .before .before .test2) .ensures) ((c .before .before .before .before .before .test3) .ensures) _ _ _ _ ((c .before .before .before .before .start-of) .ensures) ((c .before .before .end-of) .ensures) ((c .before .before .before .either) .ensures) ((c .before .either2) .ensures) ((c .pack2) .ensures)
+returns-2 c = piece-part (now ((c .before .before .before .before .before .before .before .before .before .before .before .before .before .before .before .args) .blocks)) ((c .before .before .before .before .before .before .before .before .before .before .before .before .before .before .before .args) .s) (now ((c .before .before .before .before .before .before .before .before .before .before .before .before .before .before .before .args) .work)) ((c .before .before .before .before .before .before .before .before .before .before .before .before .before .before .before .args) .k) _ ((c .before .before .before .before .before .before .before .before .before .before .before .before .before .before .before .pre) .0 .0) (omega (arith, ((c .before .before .before .before .before .before .before .before .before .before .before .before .shared-slice-known3)) .given (3 * (c .before .before .before .before .before .before .before .before .before .before .before .before .before .before .before .args) .k + 2))) (sym ((c .before .before .before .before .before .before .before .before .before .before .test) .ensures) ∙ (c .before .before .before .before .before .before .before .before .before .if1) .left) _ _ ((c .before .before .before .before .test2) .ensures) ((c .before .test3) .ensures) (c .lengthened .ensures)
 
 pub piece-spec : {M : Type 1} → statement M
 piece-spec =
@@ -111,9 +99,5 @@ piece-spec =
     mul-test-2
     add-test-2
     test-requires-3
-    start-of-requires
-    either-requires
-    end-of-requires
-    either-requires-2
-    pack-requires-2
+    lengthened-requires
     returns-2)

@@ -5,8 +5,7 @@ use mathlib.Core.Path.{_≡_, refl, sym}
 use Rattle.graph.proofs.Line.{blocks-length}
 use Prim.Native.Nat.{_/_}
 use lib.ListN.{length}
-use Rattle.area_pieces.proofs.SweepLaws.{sweep-in}
-use Rattle.area_pieces.proofs.LineLaws.{Lining, line-begin, run-in, line-next, line-more, line-done}
+use Rattle.area_pieces.proofs.LineLaws.{under, nearer, Lining, line-begin, run-asks, stretch-asks, join-asks, unmark-asks, first-asks, line-next, line-more, line-done}
 use Rattle.area_pieces.proofs.visit.Statement.{statement}
 use Rattle.area_pieces.proofs.visit.Tie as tie
 
@@ -17,34 +16,34 @@ abbrev μ-loop : tie.MeasureT-loop
 μ-loop blocks work₀ s from end n₀ k₀ work n k = end - k
 
 mul-end : tie.Need-mul-end Inv-loop μ-loop
-mul-end c = omega (arith, (c .before .before .before .pre) .0 .swept)
+mul-end c = omega (arith, ((c .before .before .before .pre)) .0 .swept)
 
 first-from-requires : tie.Need-first-from-requires Inv-loop μ-loop
-first-from-requires c κs = omega (arith, (c .before .before .before .before .pre) .0 .swept)
+first-from-requires c κs = omega (arith, ((c .before .before .before .before .pre)) .0 .swept)
 
 loop-holds : tie.Need-loop-holds Inv-loop μ-loop
 loop-holds c = (refl, line-begin _ _ _ _ ((c .before .before .before .before .before .pre) .0) ((c .before .before .before .before .before .pre) .1) ((c .before .before .before .before .before .pre) .2) (sym (blocks-length ((c .before .before .before .before .before .args) .blocks .now))) _ (c .first-from .ensures))
 
 run-requires : tie.Need-run-requires Inv-loop μ-loop
-run-requires c κs = let a = (c .before .before .loop) .inv .1 .asked in omega (arith, a .swept, (c .before .before .loop) .inv .1 .sweep .len)
+run-requires c κs = run-asks ((c .before .before .loop) .inv .1) (under ((c .before .before .loop) .inv .0) ((c .before .loop-test) .taken))
 
 stretch-requires : tie.Need-stretch-requires Inv-loop μ-loop
-stretch-requires c κs = let a = (c .before .before .before .before .loop) .inv .1 .asked in let e = (c .before .before .before .before .loop) .inv .1 .sweep .len in let k = sweep-in ((c .before .before .before .before .loop) .inv .1 .sweep) (omega arith) in let r = run-in ((c .before .before .before .before .loop) .inv .1) (omega arith) ((c .before .run) .ensures) in (((c .before .run) .ensures .some, r, omega arith, omega arith, omega arith), (a .flowing, omega arith))
+stretch-requires c κs = stretch-asks ((c .before .before .before .before .loop) .inv .1) (under ((c .before .before .before .before .loop) .inv .0) ((c .before .before .before .loop-test) .taken)) ((c .before .run) .ensures)
 
 join-requires : tie.Need-join-requires Inv-loop μ-loop
-join-requires c κs = let a = (c .before .before .before .before .before .before .loop) .inv .1 .asked in omega (arith, sweep-in ((c .before .before .before .before .before .before .loop) .inv .1 .sweep) (omega arith), (c .before .before .before .before .before .before .loop) .inv .1 .sweep .r-le, (c .before .before .before .before .before .before .loop) .inv .1 .sweep .len)
+join-requires c κs = join-asks ((c .before .before .before .before .before .before .loop) .inv .1) (under ((c .before .before .before .before .before .before .loop) .inv .0) ((c .before .before .before .before .before .loop-test) .taken))
 
 unmark-requires : tie.Need-unmark-requires Inv-loop μ-loop
-unmark-requires c κs = let a = (c .before .before .before .before .before .before .before .before .before .before .loop) .inv .1 .asked in let e = (c .before .before .before .before .before .before .before .before .before .before .loop) .inv .1 .sweep .len in let j = (c .before .before .before .join) .ensures .listed .len in (omega arith, omega (arith, a .swept), omega arith, (c .before .before .before .before .before .before .before .run) .ensures .some, (c .before .before .before .before .before .before .before .run) .ensures .word)
+unmark-requires c κs = unmark-asks ((c .before .before .before .before .before .before .before .before .before .before .loop) .inv .1) (under ((c .before .before .before .before .before .before .before .before .before .before .loop) .inv .0) ((c .before .before .before .before .before .before .before .before .before .loop-test) .taken)) ((c .before .before .before .before .before .before .before .run) .ensures) ((c .before .before .before .join) .ensures .listed .len)
 
 first-from-requires-2 : tie.Need-first-from-requires-2 Inv-loop μ-loop
-first-from-requires-2 c κs = let a = (c .before .before .before .before .before .before .before .before .before .before .before .before .before .before .loop) .inv .1 .asked in omega (arith, (c .before .before .before .before .before .before .before .before .before .before .before .before .before .before .loop) .inv .1 .sweep .len, (c .before .before .before .before .before .before .before .join) .ensures .listed .len, (c .before .before .before .unmark) .ensures .len)
+first-from-requires-2 c κs = first-asks ((c .before .before .before .before .before .before .before .before .before .before .before .before .before .before .loop) .inv .1) (under ((c .before .before .before .before .before .before .before .before .before .before .before .before .before .before .loop) .inv .0) ((c .before .before .before .before .before .before .before .before .before .before .before .before .before .loop-test) .taken)) ((c .before .before .before .before .before .before .before .join) .ensures .listed .len) ((c .before .before .before .unmark) .ensures .len)
 
 loop-less : tie.Need-loop-less Inv-loop μ-loop
-loop-less c = omega (arith, line-next ((c .before .before .before .before .before .before .before .before .before .before .before .before .before .before .before .loop) .inv .1) (omega arith) ((c .before .before .before .before .before .before .before .before .before .before .before .before .run) .ensures) ((c .before .before .before .before .before .before .before .before .before .before .stretch) .ensures) ((c .before .before .before .before .before .before .before .before .join) .ensures) ((c .before .before .before .before .unmark) .ensures) (c .first-from2 .ensures))
+loop-less c = nearer ((c .before .before .before .before .before .before .before .before .before .before .before .before .before .before .before .loop) .inv .0) ((c .before .before .before .before .before .before .before .before .before .before .before .before .before .before .loop-test) .taken) (line-next ((c .before .before .before .before .before .before .before .before .before .before .before .before .before .before .before .loop) .inv .1) (under ((c .before .before .before .before .before .before .before .before .before .before .before .before .before .before .before .loop) .inv .0) ((c .before .before .before .before .before .before .before .before .before .before .before .before .before .before .loop-test) .taken)) ((c .before .before .before .before .before .before .before .before .before .before .before .before .run) .ensures) ((c .before .before .before .before .before .before .before .before .before .before .stretch) .ensures) ((c .before .before .before .before .before .before .before .before .join) .ensures) ((c .before .before .before .before .unmark) .ensures) (c .first-from2 .ensures))
 
 loop-again : tie.Need-loop-again Inv-loop μ-loop
-loop-again c = ((c .before .before .before .before .before .before .before .before .before .before .before .before .before .before .before .loop) .inv .0, line-more ((c .before .before .before .before .before .before .before .before .before .before .before .before .before .before .before .loop) .inv .1) (omega arith) ((c .before .before .before .before .before .before .before .before .before .before .before .before .run) .ensures) ((c .before .before .before .before .before .before .before .before .before .before .stretch) .ensures) ((c .before .before .before .before .before .before .before .before .join) .ensures) ((c .before .before .before .before .unmark) .ensures) (c .first-from2 .ensures))
+loop-again c = ((c .before .before .before .before .before .before .before .before .before .before .before .before .before .before .before .loop) .inv .0, line-more ((c .before .before .before .before .before .before .before .before .before .before .before .before .before .before .before .loop) .inv .1) (under ((c .before .before .before .before .before .before .before .before .before .before .before .before .before .before .before .loop) .inv .0) ((c .before .before .before .before .before .before .before .before .before .before .before .before .before .before .loop-test) .taken)) ((c .before .before .before .before .before .before .before .before .before .before .before .before .run) .ensures) ((c .before .before .before .before .before .before .before .before .before .before .stretch) .ensures) ((c .before .before .before .before .before .before .before .before .join) .ensures) ((c .before .before .before .before .unmark) .ensures) (c .first-from2 .ensures))
 
 same-length : tie.Need-same-length Inv-loop μ-loop
 same-length c = (c .before .loop) .inv .1 .sweep .len

@@ -4,9 +4,9 @@ use Prim.Native.Nat.{_-_}
 use denote.Ref.{now}
 use borrow.Author.Needs.{needs}
 use mathlib.Core.Logic.{⊎-elim}
-use Rattle.area_pieces.proofs.PushLaws.{join-first, join-next, join-longer}
-use Rattle.area_pieces.proofs.join.Statement.{statement}
-use Rattle.area_pieces.proofs.join.Tie as tie
+use Rattle.joining.proofs.PushLaws.{join-first, join-next, join-longer}
+use Rattle.joining.proofs.join.Statement.{statement}
+use Rattle.joining.proofs.join.Tie as tie
 
 add-i : tie.Need-add-i
 add-i c = search needs
