@@ -52,6 +52,26 @@ some-number (some r) e = refl
 pub same-bit : (w₀ w : List ℕ) (row v r : ℕ) → r < v → ((k : ℕ) → row ≤ k → k < row + wordsOf v → getD w k 0 ≡ getD w₀ k 0) → bit w row r ≡ bit w₀ row r
 same-bit w₀ w row v r h f = ap (λ (y : ℕ). bitOf y (r % 64)) (f (row + r / 64) (omega arith) (omega arith))
 
+not-yes : (t : Bool) → not t ≡ true → t ≡ false
+not-yes true e = absurd (true≢false (sym e))
+not-yes false e = refl
+
+not-no : (t : Bool) → not t ≡ false → t ≡ true
+not-no true e = refl
+not-no false e = absurd (true≢false e)
+
+lea-no : (p l m a e : Bool) → (p && (l && m)) ≡ false → ((p && a) && ((m && e) && l)) ≡ false
+lea-no false l m a e h = refl
+lea-no true false m a e h = ap (λ (t : Bool). a && t) (and-no (m && e)) ∙ and-no a
+lea-no true true false a e h = and-no a
+lea-no true true true a e h = absurd (true≢false h)
+
+lea-yes : (p l m a e : Bool) → (p && (l && m)) ≡ true → (a && e) ≡ ((p && a) && ((m && e) && l))
+lea-yes false l m a e h = absurd (true≢false (sym h))
+lea-yes true false m a e h = absurd (true≢false (sym h))
+lea-yes true true false a e h = absurd (true≢false (sym h))
+lea-yes true true true a e h = ap (λ (t : Bool). a && t) (sym (and-yes e))
+
 -- ---- the rows' instructions
 
 each-row : (f : ℕ → ℕ) (ps : List Operand) (r p : ℕ) (os : List Operand) → eachAddress (instOf f ps) r p os ≡ eachAddress (addressing (f 6) (f 7)) r p os
@@ -60,39 +80,26 @@ each-row f ps r p [] = refl
 each-row f ps r p (o ∷ os) = ap (λ (t : Bool). (not (isUse r o) || addressPosition (addressing (f 6) (f 7)) p) && t) (each-row f ps r (suc p) os)
 
 module _ (insts operands : List ℕ) (i from : ℕ) where
-  placed-field : field 9 insts i 0 ≡ getD insts (9 * i) 0
-  placed-field = ap (λ (k : ℕ). getD insts k 0) (add-zero (9 * i))
+  pub unplaced-stray : not (isSet (field 9 insts i 0)) ≡ true → (r : ℕ) → strayReader (rowOf insts operands i from) r ≡ false
+  unplaced-stray e r = rw (not-yes (isSet (field 9 insts i 0)) e)
 
-  not-placed : getD insts (9 * i) 0 ≢ 1 → isSet (field 9 insts i 0) ≡ false
-  not-placed e = ne-eqb _ 1 (λ q. e (sym placed-field ∙ q))
-
-  is-placed : getD insts (9 * i) 0 ≡ 1 → isSet (field 9 insts i 0) ≡ true
-  is-placed e = eq-eqb _ 1 (placed-field ∙ e)
-
-  pub unplaced-stray : getD insts (9 * i) 0 ≢ 1 → (r : ℕ) → strayReader (rowOf insts operands i from) r ≡ false
-  unplaced-stray e r = rw (not-placed e)
-
-  pub placed-stray : getD insts (9 * i) 0 ≡ 1 → (r : ℕ)
-      → escapesIn (field 9 insts i 5) (field 9 insts i 6) (field 9 insts i 7) (operandsFrom operands from (field 9 insts i 8)) r ≡ strayReader (rowOf insts operands i from) r
-  placed-stray e r =
-      rw (is-placed e) (ap (λ (t : Bool). any (isUse r) (operandsFrom operands from (field 9 insts i 8)) && not (isSet (field 9 insts i 5) && t))
+  pub placed-stray : not (isSet (field 9 insts i 0)) ≡ false → (n : ℕ) → n ≡ field 9 insts i 8 → (r : ℕ)
+      → escapesIn (field 9 insts i 5) (field 9 insts i 6) (field 9 insts i 7) (operandsFrom operands from n) r ≡ strayReader (rowOf insts operands i from) r
+  placed-stray e n q r =
+      ap (λ (k : ℕ). escapesIn (field 9 insts i 5) (field 9 insts i 6) (field 9 insts i 7) (operandsFrom operands from k) r) q
+      ∙ rw (not-no (isSet (field 9 insts i 0)) e) (ap (λ (t : Bool). any (isUse r) (operandsFrom operands from (field 9 insts i 8)) && not (isSet (field 9 insts i 5) && t))
       (sym (each-row (field 9 insts i) (operandsFrom operands from (field 9 insts i 8)) r 0 (operandsFrom operands from (field 9 insts i 8)))))
 
-  pub unplaced-lea : getD insts (9 * i) 0 ≢ 1 → (r : ℕ) → leaReader (rowOf insts operands i from) r ≡ false
-  unplaced-lea e r = rw (not-placed e)
+  pub no-lea : (isSet (field 9 insts i 0) && (isSet (field 9 insts i 4) && isSet (field 9 insts i 5))) ≡ false → (r : ℕ) → leaReader (rowOf insts operands i from) r ≡ false
+  no-lea e r = lea-no (isSet (field 9 insts i 0)) (isSet (field 9 insts i 4)) (isSet (field 9 insts i 5)) _ _ e
 
-  pub other-lea : field 9 insts i 4 ≢ 1 → (r : ℕ) → leaReader (rowOf insts operands i from) r ≡ false
-  other-lea e r = rw (ne-eqb (field 9 insts i 4) 1 e, and-no (addressed (rowOf insts operands i from) r)) (and-no (reads (rowOf insts operands i from) r))
-
-  pub no-memory : field 9 insts i 5 ≢ 1 → (r : ℕ) → leaReader (rowOf insts operands i from) r ≡ false
-  no-memory e r = rw (ne-eqb (field 9 insts i 5) 1 e) (and-no (reads (rowOf insts operands i from) r))
-
-  pub placed-lea : getD insts (9 * i) 0 ≡ 1 → field 9 insts i 4 ≡ 1 → field 9 insts i 5 ≡ 1 → (r : ℕ)
-      → handsIn (field 9 insts i 6) (field 9 insts i 7) (operandsFrom operands from (field 9 insts i 8)) r ≡ leaReader (rowOf insts operands i from) r
-  placed-lea e f g r =
-      rw (is-placed e, eq-eqb (field 9 insts i 4) 1 f, eq-eqb (field 9 insts i 5) 1 g)
-      (ap (λ (t : Bool). any (isUse r) (operandsFrom operands from (field 9 insts i 8)) && t)
-      (sym (each-row (field 9 insts i) (operandsFrom operands from (field 9 insts i 8)) r 0 (operandsFrom operands from (field 9 insts i 8))) ∙ sym (and-yes _)))
+  pub placed-lea : (isSet (field 9 insts i 0) && (isSet (field 9 insts i 4) && isSet (field 9 insts i 5))) ≡ true → (n : ℕ) → n ≡ field 9 insts i 8 → (r : ℕ)
+      → handsIn (field 9 insts i 6) (field 9 insts i 7) (operandsFrom operands from n) r ≡ leaReader (rowOf insts operands i from) r
+  placed-lea e n q r =
+      ap (λ (k : ℕ). handsIn (field 9 insts i 6) (field 9 insts i 7) (operandsFrom operands from k) r) q
+      ∙ ap (λ (t : Bool). any (isUse r) (operandsFrom operands from (field 9 insts i 8)) && t)
+      (sym (each-row (field 9 insts i) (operandsFrom operands from (field 9 insts i 8)) r 0 (operandsFrom operands from (field 9 insts i 8))))
+      ∙ lea-yes (isSet (field 9 insts i 0)) (isSet (field 9 insts i 4)) (isSet (field 9 insts i 5)) _ _ e
 
 -- ---- one instruction
 

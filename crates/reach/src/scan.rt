@@ -138,25 +138,24 @@ fn link(
     k
 }
 
-// Sets the bit of each register that escapes through instruction `i`, whose operands begin at `from`.
+// Sets the bit of each register that escapes through instruction `i`, whose `n` operands begin at `from`.
 fn escapes(
     insts: &[u32],
     operands: &[u32],
     i: usize,
     from: usize,
+    n: usize,
     v: u32,
     work: &mut [u64],
     row: usize,
 )
-    requires { ⌜ (i < length (now insts) / 9) × (from + field 9 (now insts) i 8 ≤ length (now operands) / 2) × (row + wordsOf v ≤ length (now work)) ⌝ }
+    requires { ⌜ (i < length (now insts) / 9) × (n ≡ field 9 (now insts) i 8) × (from + n ≤ length (now operands) / 2) × (row + wordsOf v ≤ length (now work)) ⌝ }
     ensures { λ _. ⌜ Marked (now (work .entry)) (now (work .exit)) row v (strayReader (rowOf (now (insts .entry)) (now (operands .entry)) i from)) ⌝ }
 {
-    let at = 9 * i;
-    let placed = insts[at];
-    if placed != 1 {
+    if inst_flags::unplaced(insts, i) {
         return;
     }
-    let n = wide(insts[at + 8]);
+    let at = 9 * i;
     escape(
         operands,
         from,
@@ -176,55 +175,29 @@ fn hand(
     operands: &[u32],
     i: usize,
     from: usize,
+    n: usize,
     v: u32,
     def: u32,
     work: &mut [u64],
     lay: Lay,
     count: usize,
 ) -> usize
-    requires { ⌜ (i < length (now insts) / 9) × (from + field 9 (now insts) i 8 ≤ length (now operands) / 2) × (i < 65536) × (v ≤ 65535) ⌝ }
-    requires { ⌜ (lay .dead + wordsOf v ≤ lay .edges) × (lay .edges + count + field 9 (now insts) i 8 ≤ length (now work)) ⌝ }
+    requires { ⌜ (i < length (now insts) / 9) × (n ≡ field 9 (now insts) i 8) × (from + n ≤ length (now operands) / 2) × (i < 65536) × (v ≤ 65535) ⌝ }
+    requires { ⌜ (lay .dead + wordsOf v ≤ lay .edges) × (lay .edges + count + n ≤ length (now work)) ⌝ }
     requires { ⌜ def ≡ defNumber (defOf v (rowOf (now insts) (now operands) i from)) ⌝ }
     ensures { λ r. ⌜ Handing (now (work .entry)) (now (work .exit)) lay v (rowOf (now (insts .entry)) (now (operands .entry)) i from) i (field 9 (now (insts .entry)) i 8) count r ⌝ }
 {
-    let at = 9 * i;
-    if insts[at] != 1 {
-        return count;
+    if inst_flags::handing(insts, i) {
+        let at = 9 * i;
+        let base = insts[at + 6];
+        let index = insts[at + 7];
+        if def == 0 {
+            stick(operands, from, n, v, base, index, work, lay.dead);
+            return count;
+        }
+        return link(operands, from, n, v, base, index, i, work, lay.edges, count);
     }
-    if insts[at + 4] != 1 {
-        return count;
-    }
-    if insts[at + 5] != 1 {
-        return count;
-    }
-    let n = wide(insts[at + 8]);
-    if def == 0 {
-        let dead = lay.dead;
-        stick(
-            operands,
-            from,
-            n,
-            v,
-            insts[at + 6],
-            insts[at + 7],
-            work,
-            dead,
-        );
-        return count;
-    }
-    let edges = lay.edges;
-    link(
-        operands,
-        from,
-        n,
-        v,
-        insts[at + 6],
-        insts[at + 7],
-        i,
-        work,
-        edges,
-        count,
-    )
+    count
 }
 
 // Instruction `i`: its one def, the registers that escape through it, and what it hands on.
@@ -246,9 +219,8 @@ fn one(
     let def = operands::def(operands, from, n, v);
     let defs = lay.defs;
     work[defs + i] = def as u64;
-    let row = lay.escapes;
-    escapes(insts, operands, i, from, v, work, row);
-    hand(insts, operands, i, from, v, def, work, lay, count)
+    escapes(insts, operands, i, from, n, v, work, lay.escapes);
+    hand(insts, operands, i, from, n, v, def, work, lay, count)
 }
 
 // The pass over all instructions; how many edges there are.

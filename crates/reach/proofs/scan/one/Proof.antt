@@ -7,7 +7,7 @@ use Rattle.words.specs.Rows.{field}
 use Rattle.insts.specs.Rows.{operandsFrom}
 use Rattle.carrying.specs.Insts.{defOf}
 use Rattle.reach.specs.Scan.{escapesIn, handsIn, rowOf, strayReader}
-use Rattle.reach.proofs.ScanLaws.{unplaced-stray, placed-stray, unplaced-lea, other-lea, no-memory, placed-lea, marked-none, marked-same, none-number, some-number, hand-none, hand-stuck, hand-linked, added, scan-start, scan-more}
+use Rattle.reach.proofs.ScanLaws.{added}
 use Prim.Native.Nat.{_/_}
 use Rattle.reach.proofs.scan.one.Statement.{statement}
 use Rattle.reach.proofs.scan.one.Tie as tie
@@ -43,10 +43,10 @@ slice-write-work : tie.Need-slice-write-work
 slice-write-work c = omega arith
 
 escapes-requires : tie.Need-escapes-requires
-escapes-requires c κs = simp length-set (omega arith)
+escapes-requires c κs = ((c .before .before .before .before .before .before .before .pre) .0 .0, (c .before .before .wide) .ensures, omega (arith, (c .before .before .wide) .ensures), simp length-set (omega arith))
 
 hand-requires : tie.Need-hand-requires
-hand-requires c κs = (omega arith, (omega (arith, simp length-set at ((c .before .before .before .escapes) .ensures .kept .len)), let z = (c .before .before .before .before .before .before .wide) .ensures in rw z at ((c .before .before .before .before .before .def) .ensures)))
+hand-requires c κs = let z = (c .before .before .before .before .before .before .wide) .ensures in let l = simp length-set at ((c .before .before .before .escapes) .ensures .kept .len) in (((c .before .before .before .before .before .before .before .before .before .before .before .pre) .0 .0, z, omega arith, (c .before .before .before .before .before .before .before .before .before .before .before .pre) .0 .2, (c .before .before .before .before .before .before .before .before .before .before .before .pre) .0 .3), ((omega arith, omega arith), rw z at ((c .before .before .before .before .before .def) .ensures)))
 
 same-length : tie.Need-same-length
 same-length c = (c .before .before .hand) .ensures .len ∙ (c .before .before .before .before .before .before .escapes) .ensures .kept .len ∙ simp length-set

@@ -8,7 +8,7 @@ use Rattle.words.specs.Rows.{field}
 use Rattle.insts.specs.Rows.{operandsFrom}
 use Rattle.carrying.specs.Insts.{defOf}
 use Rattle.reach.specs.Scan.{escapesIn, handsIn, rowOf, strayReader}
-use Rattle.reach.proofs.ScanLaws.{unplaced-stray, placed-stray, unplaced-lea, other-lea, no-memory, placed-lea, marked-none, marked-same, none-number, some-number, hand-none, hand-stuck, hand-linked, added, scan-start, scan-more}
+use Rattle.reach.proofs.ScanLaws.{scan-start, scan-more}
 use Rattle.carrying.specs.Insts.{instsOf}
 use Rattle.reach.specs.Scan.{Scanning}
 use Rattle.insts.specs.Counts.{offset}
