@@ -27,7 +27,7 @@ use Rattle.reach.specs.declared.Lay.{Lay}
 use Rattle.reach.specs.Prepared.{wordsOf, codeOf, Readied}
 use Rattle.follow.specs.declared.Sizes.{Sizes}
 use Rattle.follow.specs.declared.Followed.{Followed}
-use Rattle.follow.specs.Walk.{queued}
+use Rattle.queue.specs.Walk.{queued}
 use Rattle.follow.specs.Followed.{FollowedTo, FollowsAny}
 use Rattle.carried_registers.specs.declared.Carrying.{Carrying}
 use Rattle.carried_registers.specs.declared.Carrying.the-variants.{Listed, Absent, Refused}
@@ -45,12 +45,27 @@ carried-length : (C : Code) (l : ℕ) → length (carried C l) ≤ C .numbered
 unfolding carried
 carried-length C l = below-length (C .numbered) (carries C l)
 
+-- what fits a list fits one of the same length
+pub fits-on : {n a b c : ℕ} → n ≤ a → b ≡ a → c ≡ b → n ≤ c
+fits-on h e g = omega arith
+
+-- and so does what is as long
+pub fits-as : {m n a b : ℕ} → m ≡ n → n ≤ a → b ≡ a → m ≤ b
+fits-as d h e = omega arith
+
+-- what has changed before the queue only
+pub from-start : {lo q used : ℕ} {a b : List ℕ} (i : ℕ) → q + i ≡ used → Within lo q a b → Within 0 used a b
+from-start i e d = within-wider 0 _ (omega arith) (omega arith) d
+
 module _ (C : Code) (lay : Lay) (z : Sizes) (l : ℕ) {w : List ℕ} {f : Followed} (p : FollowedTo C lay z l true w f) (fits : lay .queue + z .insts ≤ length w) where
   abbrev P : List ℕ
   P = part (lay .queue) (f .count) w
 
   size : length P ≡ f .count
   size = length-part (lay .queue) (f .count) w (let q = p .few in omega arith)
+
+  pub queue-holds : lay .queue + f .count ≤ length w
+  queue-holds = let q = p .few in omega arith
 
   at : (k : ℕ) → k < f .count → getD P k 0 ≡ queued lay w k
   at k h = getD-part (lay .queue) (f .count) w k h
@@ -83,15 +98,19 @@ module _ (C : Code) (lay : Lay) (z : Sizes) (l : ℕ) {w : List ℕ} {f : Follow
     pub sorted-at : (k : ℕ) → k < f .count → getD w' (lay .queue + k) 0 ≡ getD (carried C l) k 0
     sorted-at k h = s .inside (lay .queue + k) k refl h ∙ ap (λ (x : List ℕ). getD x k 0) sorted-is
 
-    pub sorted-small : C .numbered ≤ 65535 → (k : ℕ) → k < f .count → getD w' (lay .queue + k) 0 < 2 ^ 32
+    sorted-small : C .numbered ≤ 65535 → (k : ℕ) → k < f .count → getD w' (lay .queue + k) 0 < 2 ^ 32
     sorted-small v k h =
         let e = sorted-at k h in
         let m = getD-member (carried C l) k 0 (let q = count-is in omega arith) in
         let b = carries-below C l (getD (carried C l) k 0) (carried-least C l (getD (carried C l) k 0) .0 m) in
         omega arith
 
-    pub count-small : f .count ≤ min (C .numbered) (z .insts)
+    count-small : f .count ≤ min (C .numbered) (z .insts)
     count-small = let a = count-is in let b = carried-length C l in let c = p .few in omega arith
+
+    pub narrow-asks : {a : ℕ} → min (C .numbered) (z .insts) ≤ a → C .numbered ≤ 65535
+        → (0 + f .count ≤ a) × (lay .queue + f .count ≤ length w') × ((k : ℕ) → k < f .count → getD w' (lay .queue + k) 0 < 2 ^ 32)
+    narrow-asks g v = (let q = count-small in omega arith, (let q = p .few in let e = s .len in omega arith), sorted-small v)
 
     pub registers-are : {answer₀ answer w₀ w₁ : List ℕ} (used : ℕ) → Within 0 used w₀ w₁ → Within (lay .queue) (lay .queue + z .insts) w₁ w → lay .queue + z .insts ≡ used → min (C .numbered) (z .insts) ≤ length answer₀
         → Region answer₀ answer 0 (f .count) (λ k. getD w' (lay .queue + k) 0) → Registers C l used (f .count) answer₀ answer w₀ w'

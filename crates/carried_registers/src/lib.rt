@@ -56,11 +56,9 @@ fn list(
         edges: e,
     };
     let f = follow::walks::follow(insts, addresses, work, lay, z, local, true);
-    let queue = lay.queue;
-    let n = f.count;
-    sorting::sort_part(work, queue, n);
-    words::narrow(answer, 0, work, queue, n);
-    n
+    sorting::sort_part(work, lay.queue, f.count);
+    words::narrow(answer, 0, work, lay.queue, f.count);
+    f.count
 }
 
 // The registers that carry the local's address, rising, at the front of the answer list, also of a local that is unfollowed; a local number past the end is absent.

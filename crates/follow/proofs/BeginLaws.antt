@@ -19,9 +19,9 @@ use Rattle.reach.specs.Steps.{rowLocal}
 use Rattle.reach.proofs.UseLaws.{by-bool}
 use Rattle.follow.specs.declared.Sizes.{Sizes}
 use Rattle.follow.specs.declared.Begun.{Begun}
-use Rattle.follow.specs.Walk.{defAt, queued, Held, Listed, Grew, Joined}
+use Rattle.queue.specs.Walk.{defAt, queued, Held, Listed, Grew, Joined}
 use Rattle.follow.specs.Steps.{Walkable, Entry, Chain, Took, Began}
-use Rattle.follow.proofs.QueueLaws.{grew-none, grew-def, grew-listed, grew-then}
+use Rattle.queue.proofs.QueueLaws.{grew-none, grew-def, grew-listed, grew-then}
 
 -- ---- the last of some values that is l
 

@@ -37,10 +37,10 @@ use Rattle.follow.specs.declared.Sizes.{Sizes}
 use Rattle.follow.specs.declared.Begun.{Begun}
 use Rattle.follow.specs.declared.Walk.{Walk}
 use Rattle.follow.specs.declared.Followed.{Followed}
-use Rattle.follow.specs.Walk.{defAt, queued, Held, Listed, Grew}
+use Rattle.queue.specs.Walk.{defAt, queued, Held, Listed, Grew}
 use Rattle.follow.specs.Steps.{Walkable, Edge, Entry, Chain, Began, registerAt, Walking, Walked, Unseen}
 use Rattle.follow.specs.Followed.{kindBy, Empty, FollowedTo}
-use Rattle.follow.proofs.QueueLaws.{grew-def, grew-listed}
+use Rattle.queue.proofs.QueueLaws.{grew-def, grew-listed}
 use Rattle.follow.proofs.WalkLaws.{edge-same, edge-on, edge-back}
 use Rattle.follow.proofs.BeginLaws.{latest-le, latest-is, latest-gap}
 

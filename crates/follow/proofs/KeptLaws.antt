@@ -21,7 +21,7 @@ use Rattle.reach.proofs.ScanLaws.{same-bit}
 use Rattle.reach.proofs.StepLaws.{splits-same}
 use Rattle.reach.proofs.ReadyLaws.{latest-same, local-is, mentions-count, def-small}
 use Rattle.follow.specs.declared.Sizes.{Sizes}
-use Rattle.follow.specs.Walk.{defAt}
+use Rattle.queue.specs.Walk.{defAt}
 use Rattle.follow.specs.Steps.{Walkable, Chain}
 use Rattle.follow.specs.Followed.{Empty, Ready}
 

@@ -1,4 +1,3 @@
-pub mod QueueLaws
 pub mod WalkLaws
 pub mod BeginLaws
 pub mod FollowLaws

@@ -25,9 +25,9 @@ use Rattle.reach.proofs.UseLaws.{bool-ext, Some, some-at, some-index}
 use Rattle.follow.specs.declared.Sizes.{Sizes}
 use Rattle.follow.specs.declared.Begun.{Begun}
 use Rattle.follow.specs.declared.Walk.{Walk}
-use Rattle.follow.specs.Walk.{defAt, queued, Held, Listed, Grew, Joined}
+use Rattle.queue.specs.Walk.{defAt, queued, Held, Listed, Grew, Joined}
 use Rattle.follow.specs.Steps.{Walkable, Edge, Grown, registerAt, Stepped, Walking, Walked, Unseen}
-use Rattle.follow.proofs.QueueLaws.{grew-none, grew-def, grew-listed, grew-then}
+use Rattle.queue.proofs.QueueLaws.{grew-none, grew-def, grew-listed, grew-then}
 
 -- ---- the tables stay
 

@@ -13,7 +13,7 @@ use Rattle.reach.specs.declared.Lay.{Lay}
 use Rattle.reach.specs.Prepared.{wordsOf, codeOf, Prepared}
 use Rattle.follow.specs.declared.Sizes.{Sizes}
 use Rattle.follow.specs.declared.Followed.{Followed}
-use Rattle.follow.specs.Walk.{queued}
+use Rattle.queue.specs.Walk.{queued}
 use Rattle.follow.specs.Steps.{Walkable, Chain}
 
 -- the kind of a local: no address entry, lost or dead, escaping, without a placed end

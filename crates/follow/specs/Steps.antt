@@ -18,7 +18,7 @@ use Rattle.reach.specs.Steps.{rowLocal}
 use Rattle.follow.specs.declared.Sizes.{Sizes}
 use Rattle.follow.specs.declared.Begun.{Begun}
 use Rattle.follow.specs.declared.Walk.{Walk}
-use Rattle.follow.specs.Walk.{defAt, queued, Held, Listed, Grew}
+use Rattle.queue.specs.Walk.{defAt, queued, Held, Listed, Grew}
 
 -- tables that a walk can read: edges in order, each of a numbered register and an instruction with a def, and the first edge of each def
 pub record Walkable (lay : Lay) (z : Sizes) (w : List ℕ) : Type 0 where

@@ -1,7 +1,6 @@
 // Following a local's address from register to register: what becomes of each local, and which registers carry its address.
 use carrying::Kind;
 
-pub mod queue; // queue.rt: the queue of a walk
 pub mod walks; // walks.rt: one local's walk
 
 // How many registers, instructions, locals and edges there are.

@@ -4,14 +4,13 @@ ghost use mathlib.Core.Bool.{not, _&&_, _||_};
 ghost use Prim.Native.Nat.{_+_, _-_, _/_, _≤_, _<_};
 ghost use lib.ListN.{length, set};
 ghost use Rattle.reach.specs.Prepared.{wordsOf};
-ghost use Rattle.follow.specs.Walk.{defAt, queued, Held};
+ghost use Rattle.queue.specs.Walk.{defAt, queued, Held};
 ghost use Rattle.follow.specs.Followed.{kindBy, Ready, FollowsAny};
 ghost use Rattle.follow.specs.Steps.{Walkable, Grown, Chain, Took, Began, registerAt, Stepped, Walked, Unseen};
 use crate::Begun;
 use crate::Followed;
 use crate::Sizes;
 use crate::Walk;
-use crate::queue;
 use carrying::Kind;
 use reach::Lay;
 
@@ -45,14 +44,11 @@ fn grow(work: &mut [u64], lay: Lay, z: Sizes, i: usize, n: usize) -> usize
     requires { ⌜ Walkable lay z (now work) × Held (z .v) (z .insts) lay (now work) n × (i < z .insts) × (0 < defAt lay (now work) i) ⌝ }
     ensures { λ r. ⌜ Grown lay z (now (work .entry)) (now (work .exit)) (defAt lay (now (work .entry)) i - 1) n r ⌝ }
 {
-    let defs = lay.defs;
-    let firsts = lay.firsts;
-    let edges = lay.edges;
-    let q = work[defs + i] - 1;
+    let q = work[lay.defs + i] - 1;
     let mut k = n;
-    let mut x = work[firsts + i] as usize;
+    let mut x = work[lay.firsts + i] as usize;
     while x < z.edges {
-        let y = work[edges + x];
+        let y = work[lay.edges + x];
         if y / 4294967296 != q {
             return k;
         }
@@ -70,8 +66,7 @@ fn take(insts: &[u32], work: &mut [u64], lay: Lay, z: Sizes, i: usize, b: Begun)
     if insts[9 * i + 4] != 1 {
         return b;
     }
-    let defs = lay.defs;
-    if work[defs + i] == 0 {
+    if work[lay.defs + i] == 0 {
         return Begun {
             lost: true,
             count: b.count,
@@ -96,17 +91,15 @@ fn begin(
     requires { ⌜ Walkable lay z (now work) × Held (z .v) (z .insts) lay (now work) 0 × Chain lay z (now insts) (now addresses) local (now work) ⌝ }
     ensures { λ r. ⌜ Began lay z (now (insts .entry)) (now (addresses .entry)) local (now (work .entry)) (now (work .exit)) r ⌝ }
 {
-    let heads = lay.heads;
-    let nexts = lay.nexts;
     let mut b = Begun {
         lost: false,
         count: 0,
     };
-    let mut c = work[heads + local] as usize;
+    let mut c = work[lay.heads + local] as usize;
     while c > 0 {
         let a = c - 1;
         b = take(insts, work, lay, z, wide(addresses[2 * a]), b);
-        c = work[nexts + a] as usize;
+        c = work[lay.nexts + a] as usize;
     }
     b
 }
@@ -116,10 +109,8 @@ fn step(work: &mut [u64], lay: Lay, z: Sizes, h: usize, s: Walk) -> Walk
     requires { ⌜ Walkable lay z (now work) × Held (z .v) (z .insts) lay (now work) (s .count) × (h < s .count) ⌝ }
     ensures { λ r. ⌜ Stepped lay z (now (work .entry)) (now (work .exit)) h s r ⌝ }
 {
-    let queue = lay.queue;
-    let defs = lay.defs;
-    let i = work[queue + h] as usize;
-    let r = work[defs + i] as usize - 1;
+    let i = work[lay.queue + h] as usize;
+    let r = work[lay.defs + i] as usize - 1;
     let escapes = either(s.escapes, bits::test(work, lay.escapes, r));
     let bad = either(s.bad, bits::test(work, lay.dead, r));
     let n = grow(work, lay, z, i, s.count);
@@ -157,13 +148,10 @@ fn forget(work: &mut [u64], lay: Lay, z: Sizes, k: usize)
     requires { ⌜ (queued lay (now work) k < z .insts) × (0 < defAt lay (now work) (queued lay (now work) k)) × (defAt lay (now work) (queued lay (now work) k) ≤ z .v) ⌝ }
     ensures { λ _. ⌜ now (work .exit) ≡ set (set (now (work .entry)) (lay .queue + k) (registerAt lay (now (work .entry)) k)) (lay .seen + registerAt lay (now (work .entry)) k / 64) 0 ⌝ }
 {
-    let queue = lay.queue;
-    let defs = lay.defs;
-    let seen = lay.seen;
-    let i = work[queue + k] as usize;
-    let r = work[defs + i] - 1;
-    work[queue + k] = r;
-    work[seen + r as usize / 64] = 0;
+    let i = work[lay.queue + k] as usize;
+    let r = work[lay.defs + i] - 1;
+    work[lay.queue + k] = r;
+    work[lay.seen + r as usize / 64] = 0;
 }
 
 // Empties the set of seen registers again, and turns the queue into the registers.
@@ -211,10 +199,8 @@ pub fn follow(
     requires { ⌜ Ready lay z (now insts) (now addresses) (now work) × (local < z .locals) ⌝ }
     ensures { λ r. ⌜ FollowsAny (now (insts .entry)) (now (addresses .entry)) lay z local whole (now (work .entry)) (now (work .exit)) r ⌝ }
 {
-    let heads = lay.heads;
-    let ended = lay.ended;
-    let none = work[heads + local] == 0;
-    let endless = work[ended + local] == 0;
+    let none = work[lay.heads + local] == 0;
+    let endless = work[lay.ended + local] == 0;
     let b = begin(insts, addresses, work, lay, z, local);
     let s = walk(work, lay, z, b, whole);
     unsee(work, lay, z, s.count);

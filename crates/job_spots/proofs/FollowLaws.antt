@@ -22,7 +22,7 @@ use Rattle.reach.specs.declared.Lay.{Lay}
 use Rattle.reach.specs.Prepared.{codeOf}
 use Rattle.follow.specs.declared.Sizes.{Sizes}
 use Rattle.follow.specs.declared.Followed.{Followed}
-use Rattle.follow.specs.Walk.{queued}
+use Rattle.queue.specs.Walk.{queued}
 use Rattle.follow.specs.Followed.{FollowedTo}
 use Rattle.touches.proofs.TouchLaws.{touches-permuted, ends-sorted}
 use Rattle.job_spots.specs.Spots.{TouchesIn, EndsIn}

@@ -26,7 +26,7 @@ shared-slice-read-if2 : tie.Need-shared-slice-read-if2
 shared-slice-read-if2 c = omega arith
 
 returns-2 : tie.Need-returns-2
-returns-2 c = handing-other ((c .before .before .before .before .args) .insts .now) ((c .before .before .before .before .args) .i) ((c .before .before .if1) .left) ((c .if2) .taken)
+returns-2 c = handing-other ((c .before .before .before .before .args) .insts .now) ((c .before .before .before .before .args) .i) ((c .before .before .if1) .left) (λ e. omega arith)
 
 add-result : tie.Need-add-result
 add-result c = omega arith

@@ -10,52 +10,52 @@ use Rattle.follow.proofs.walks.grow.Statement.{statement}
 use Rattle.follow.proofs.walks.grow.Tie as tie
 
 abbrev Inv-loop : tie.InvT-loop
-Inv-loop work₀ lay z i n defs firsts edges q k₀ x₀ work k x = Growing lay z work₀ (getD work₀ (lay .defs + i) 0 - 1) (getD work₀ (lay .firsts + i) 0) n work k x
+Inv-loop work₀ lay z i n q k₀ x₀ work k x = Growing lay z work₀ (getD work₀ (lay .defs + i) 0 - 1) (getD work₀ (lay .firsts + i) 0) n work k x
 
 abbrev μ-loop : tie.MeasureT-loop
-μ-loop work₀ lay z i n defs firsts edges q k₀ x₀ work k x = z .edges - x
+μ-loop work₀ lay z i n q k₀ x₀ work k x = z .edges - x
 
 add-q : tie.Need-add-q Inv-loop μ-loop
-add-q c = let l = (c .before .pre) .0 .laid in omega arith
+add-q c = let l = ((c .before .before .pre)) .0 .laid in omega arith
 
 mul-q : tie.Need-mul-q Inv-loop μ-loop
 mul-q c = omega arith
 
 slice-read-q : tie.Need-slice-read-q Inv-loop μ-loop
-slice-read-q c = let l = (c .before .before .pre) .0 .laid in omega arith
+slice-read-q c = let l = ((c .before .before .before .pre)) .0 .laid in omega arith
 
 sub-q : tie.Need-sub-q Inv-loop μ-loop
 sub-q c = omega arith
 
 add-x : tie.Need-add-x Inv-loop μ-loop
-add-x c = let l = (c .before .before .pre) .0 .laid in omega arith
+add-x c = let l = ((c .before .before .before .before .pre)) .0 .laid in omega arith
 
 mul-x : tie.Need-mul-x Inv-loop μ-loop
 mul-x c = omega arith
 
 slice-read-x : tie.Need-slice-read-x Inv-loop μ-loop
-slice-read-x c = let l = (c .before .before .before .pre) .0 .laid in omega arith
+slice-read-x c = let l = ((c .before .before .before .before .before .pre)) .0 .laid in omega arith
 
 loop-holds : tie.Need-loop-holds Inv-loop μ-loop
-loop-holds c = grow-start ((c .before .before .before .args) .lay) ((c .before .before .before .args) .z) ((c .before .before .before .args) .work .now) ((c .before .before .before .args) .i) _ _ _ ((c .before .before .before .pre) .0) ((c .before .before .before .pre) .1) ((c .before .before .before .pre) .2) ((c .before .before .before .pre) .3) refl refl
+loop-holds c = grow-start (((c .before .before .before .before .before .args)) .lay) (((c .before .before .before .before .before .args)) .z) (((c .before .before .before .before .before .args)) .work .now) (((c .before .before .before .before .before .args)) .i) _ _ _ (((c .before .before .before .before .before .pre)) .0) (((c .before .before .before .before .before .pre)) .1) (((c .before .before .before .before .before .pre)) .2) (((c .before .before .before .before .before .pre)) .3) refl refl
 
 add-y : tie.Need-add-y Inv-loop μ-loop
-add-y c = let t = (c .before .before .loop) .inv .tables in let l = t .laid in let f = t .few in let e = (c .before .before .loop) .inv .grew .len in omega arith
+add-y c = let t = ((c .before .before .before .loop)) .inv .tables in let l = t .laid in let f = t .few in let e = ((c .before .before .before .loop)) .inv .grew .len in omega arith
 
 mul-y : tie.Need-mul-y Inv-loop μ-loop
 mul-y c = omega arith
 
 slice-read-y : tie.Need-slice-read-y Inv-loop μ-loop
-slice-read-y c = let t = (c .before .before .before .loop) .inv .tables in let l = t .laid in let f = t .few in let e = (c .before .before .before .loop) .inv .grew .len in omega arith
+slice-read-y c = let t = ((c .before .before .before .before .loop)) .inv .tables in let l = t .laid in let f = t .few in let e = ((c .before .before .before .before .loop)) .inv .grew .len in omega arith
 
 same-length : tie.Need-same-length Inv-loop μ-loop
-same-length c = (c .before .before .before .before .loop) .inv .grew .len
+same-length c = ((c .before .before .before .before .before .loop)) .inv .grew .len
 
 returns : tie.Need-returns Inv-loop μ-loop
-returns c = grow-stop ((c .before .before .before .before .loop) .inv) _ (omega arith) refl ((c .if2) .taken)
+returns c = grow-stop (((c .before .before .before .before .before .loop)) .inv) _ (omega arith) refl (((c .if2)) .taken)
 
 join-requires : tie.Need-join-requires Inv-loop μ-loop
-join-requires c κs = let u = grow-turn ((c .before .before .before .before .before .loop) .inv) _ _ (omega arith) refl ((c .before .if2) .left) refl in ((c .before .before .before .before .before .loop) .inv .grew .held, u .low, u .has-def)
+join-requires c κs = let u = grow-turn (((c .before .before .before .before .before .before .loop)) .inv) _ _ (omega arith) refl (((c .before .if2)) .left) refl in (((c .before .before .before .before .before .before .loop)) .inv .grew .held, u .low, u .has-def)
 
 add-x-2 : tie.Need-add-x-2 Inv-loop μ-loop
 add-x-2 c = omega arith
@@ -64,13 +64,13 @@ loop-less : tie.Need-loop-less Inv-loop μ-loop
 loop-less c = omega arith
 
 loop-again : tie.Need-loop-again Inv-loop μ-loop
-loop-again c = grow-more ((c .before .before .before .before .before .before .before .before .loop) .inv) (omega arith) (grow-turn ((c .before .before .before .before .before .before .before .before .loop) .inv) _ _ (omega arith) refl ((c .before .before .before .before .if2) .left) refl) ((c .before .before .join) .ensures)
+loop-again c = grow-more (((c .before .before .before .before .before .before .before .before .before .loop)) .inv) (omega arith) (grow-turn (((c .before .before .before .before .before .before .before .before .before .loop)) .inv) _ _ (omega arith) refl (((c .before .before .before .before .if2)) .left) refl) (((c .before .before .join)) .ensures)
 
 same-length-2 : tie.Need-same-length-2 Inv-loop μ-loop
-same-length-2 c = (c .before .before .loop) .inv .grew .len
+same-length-2 c = ((c .before .before .loop)) .inv .grew .len
 
 returns-2 : tie.Need-returns-2 Inv-loop μ-loop
-returns-2 c = grow-done ((c .before .before .loop) .inv) (omega arith)
+returns-2 c = grow-done (((c .before .before .loop)) .inv) (omega arith)
 
 pub grow-spec : {M : Type 1} → statement M
 grow-spec =

@@ -11,46 +11,46 @@ use Rattle.follow.proofs.walks.step.Statement.{statement}
 use Rattle.follow.proofs.walks.step.Tie as tie
 
 add-i : tie.Need-add-i
-add-i c = let a = held-at ((c .before .pre) .1) ((c .before .args) .h) ((c .before .pre) .2) in let l = (c .before .pre) .0 .laid in let d = (c .before .pre) .1 in omega arith
+add-i c = let a = held-at (((c .before .before .pre)) .1) (((c .before .before .args)) .h) (((c .before .before .pre)) .2) in let l = ((c .before .before .pre)) .0 .laid in let d = ((c .before .before .pre)) .1 in omega arith
 
 mul-i : tie.Need-mul-i
-mul-i c = let a = held-at ((c .before .pre) .1) ((c .before .args) .h) ((c .before .pre) .2) in let l = (c .before .pre) .0 .laid in let d = (c .before .pre) .1 in omega arith
+mul-i c = let a = held-at (((c .before .before .pre)) .1) (((c .before .before .args)) .h) (((c .before .before .pre)) .2) in let l = ((c .before .before .pre)) .0 .laid in let d = ((c .before .before .pre)) .1 in omega arith
 
 slice-read-i : tie.Need-slice-read-i
-slice-read-i c = let a = held-at ((c .before .before .pre) .1) ((c .before .before .args) .h) ((c .before .before .pre) .2) in let l = (c .before .before .pre) .0 .laid in let d = (c .before .before .pre) .1 in omega arith
+slice-read-i c = let a = held-at (((c .before .before .before .pre)) .1) (((c .before .before .before .args)) .h) (((c .before .before .before .pre)) .2) in let l = ((c .before .before .before .pre)) .0 .laid in let d = ((c .before .before .before .pre)) .1 in omega arith
 
 add-r : tie.Need-add-r
-add-r c = let a = held-at ((c .before .before .pre) .1) ((c .before .before .args) .h) ((c .before .before .pre) .2) in let l = (c .before .before .pre) .0 .laid in let d = (c .before .before .pre) .1 in omega arith
+add-r c = let a = held-at (((c .before .before .before .before .pre)) .1) (((c .before .before .before .before .args)) .h) (((c .before .before .before .before .pre)) .2) in let l = ((c .before .before .before .before .pre)) .0 .laid in let d = ((c .before .before .before .before .pre)) .1 in omega arith
 
 mul-r : tie.Need-mul-r
-mul-r c = let a = held-at ((c .before .before .pre) .1) ((c .before .before .args) .h) ((c .before .before .pre) .2) in let l = (c .before .before .pre) .0 .laid in let d = (c .before .before .pre) .1 in omega arith
+mul-r c = let a = held-at (((c .before .before .before .before .pre)) .1) (((c .before .before .before .before .args)) .h) (((c .before .before .before .before .pre)) .2) in let l = ((c .before .before .before .before .pre)) .0 .laid in let d = ((c .before .before .before .before .pre)) .1 in omega arith
 
 slice-read-r : tie.Need-slice-read-r
-slice-read-r c = let a = held-at ((c .before .before .before .pre) .1) ((c .before .before .before .args) .h) ((c .before .before .before .pre) .2) in let l = (c .before .before .before .pre) .0 .laid in let d = (c .before .before .before .pre) .1 in omega arith
+slice-read-r c = let a = held-at (((c .before .before .before .before .before .pre)) .1) (((c .before .before .before .before .before .args)) .h) (((c .before .before .before .before .before .pre)) .2) in let l = ((c .before .before .before .before .before .pre)) .0 .laid in let d = ((c .before .before .before .before .before .pre)) .1 in omega arith
 
 sub-r : tie.Need-sub-r
-sub-r c = let a = held-at ((c .before .before .before .pre) .1) ((c .before .before .before .args) .h) ((c .before .before .before .pre) .2) in let l = (c .before .before .before .pre) .0 .laid in let d = (c .before .before .before .pre) .1 in omega arith
+sub-r c = let a = held-at (((c .before .before .before .before .before .pre)) .1) (((c .before .before .before .before .before .args)) .h) (((c .before .before .before .before .before .pre)) .2) in let l = ((c .before .before .before .before .before .pre)) .0 .laid in let d = ((c .before .before .before .before .before .pre)) .1 in omega arith
 
 test-requires : tie.Need-test-requires
-test-requires c κs = let a = held-at ((c .before .before .before .before .pre) .1) ((c .before .before .before .before .args) .h) ((c .before .before .before .before .pre) .2) in let l = (c .before .before .before .before .pre) .0 .laid in let d = (c .before .before .before .before .pre) .1 in omega arith
+test-requires c κs = let a = held-at (((c .before .before .before .before .before .before .pre)) .1) (((c .before .before .before .before .before .before .args)) .h) (((c .before .before .before .before .before .before .pre)) .2) in let l = ((c .before .before .before .before .before .before .pre)) .0 .laid in let d = ((c .before .before .before .before .before .before .pre)) .1 in omega arith
 
 either-requires : tie.Need-either-requires
 either-requires c κs = search needs
 
 test-requires-2 : tie.Need-test-requires-2
-test-requires-2 c κs = let a = held-at ((c .before .before .before .before .before .before .before .pre) .1) ((c .before .before .before .before .before .before .before .args) .h) ((c .before .before .before .before .before .before .before .pre) .2) in let l = (c .before .before .before .before .before .before .before .pre) .0 .laid in let d = (c .before .before .before .before .before .before .before .pre) .1 in omega arith
+test-requires-2 c κs = let a = held-at (((c .before .before .before .before .before .before .before .before .before .pre)) .1) (((c .before .before .before .before .before .before .before .before .before .args)) .h) (((c .before .before .before .before .before .before .before .before .before .pre)) .2) in let l = ((c .before .before .before .before .before .before .before .before .before .pre)) .0 .laid in let d = ((c .before .before .before .before .before .before .before .before .before .pre)) .1 in omega arith
 
 either-requires-2 : tie.Need-either-requires-2
 either-requires-2 c κs = search needs
 
 grow-requires : tie.Need-grow-requires
-grow-requires c κs = let a = held-at ((c .before .before .before .before .before .before .before .before .before .before .pre) .1) ((c .before .before .before .before .before .before .before .before .before .before .args) .h) ((c .before .before .before .before .before .before .before .before .before .before .pre) .2) in ((c .before .before .before .before .before .before .before .before .before .before .pre) .0, (c .before .before .before .before .before .before .before .before .before .before .pre) .1, a .low, a .has-def)
+grow-requires c κs = let a = held-at (((c .before .before .before .before .before .before .before .before .before .before .before .before .pre)) .1) (((c .before .before .before .before .before .before .before .before .before .before .before .before .args)) .h) (((c .before .before .before .before .before .before .before .before .before .before .before .before .pre)) .2) in (((c .before .before .before .before .before .before .before .before .before .before .before .before .pre)) .0, ((c .before .before .before .before .before .before .before .before .before .before .before .before .pre)) .1, a .low, a .has-def)
 
 same-length : tie.Need-same-length
-same-length c = (c .before .before .grow) .ensures .grew .len
+same-length c = ((c .before .before .grow)) .ensures .grew .len
 
 returns : tie.Need-returns
-returns c = record { grown = (c .before .before .grow) .ensures; escapes = (c .before .before .before .before .before .before .before .either) .ensures ∙ ap (λ (t : Bool). (c .before .before .before .before .before .before .before .before .before .before .before .before .before .args) .s .escapes || t) ((c .before .before .before .before .before .before .before .before .test) .ensures); bad = (c .before .before .before .before .either2) .ensures ∙ ap (λ (t : Bool). (c .before .before .before .before .before .before .before .before .before .before .before .before .before .args) .s .bad || t) ((c .before .before .before .before .before .test2) .ensures) }
+returns c = record { grown = ((c .before .before .grow)) .ensures; escapes = ((c .before .before .before .before .before .before .before .either)) .ensures ∙ ap (λ (t : Bool). ((c .before .before .before .before .before .before .before .before .before .before .before .before .before .before .before .args)) .s .escapes || t) (((c .before .before .before .before .before .before .before .before .test)) .ensures); bad = ((c .before .before .before .before .either2)) .ensures ∙ ap (λ (t : Bool). ((c .before .before .before .before .before .before .before .before .before .before .before .before .before .before .before .args)) .s .bad || t) (((c .before .before .before .before .before .test2)) .ensures) }
 
 pub step-spec : {M : Type 1} → statement M
 step-spec =

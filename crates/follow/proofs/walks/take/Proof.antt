@@ -21,28 +21,28 @@ shared-slice-read-if1 : tie.Need-shared-slice-read-if1
 shared-slice-read-if1 c = search needs
 
 returns : tie.Need-returns
-returns c = took-other ((c .before .before .before .before .args) .lay) ((c .before .before .before .before .args) .z) ((c .before .before .before .before .args) .insts .now) ((c .before .before .before .before .args) .work .now) ((c .before .before .before .before .args) .i) ((c .before .before .before .before .args) .b) ((c .before .before .before .before .pre) .2) (c .if1 .taken)
+returns c = took-other (((c .before .before .before .before .args)) .lay) (((c .before .before .before .before .args)) .z) (((c .before .before .before .before .args)) .insts .now) (((c .before .before .before .before .args)) .work .now) (((c .before .before .before .before .args)) .i) (((c .before .before .before .before .args)) .b) (((c .before .before .before .before .pre)) .2) ((c .if1) .taken)
 
 add-if2 : tie.Need-add-if2
-add-if2 c = let h = (c .before .before .before .before .pre) .2 in omega arith
+add-if2 c = let h = ((c .before .before .before .before .before .pre)) .2 in omega arith
 
 mul-if2 : tie.Need-mul-if2
 mul-if2 c = search needs
 
 slice-read-if2 : tie.Need-slice-read-if2
-slice-read-if2 c = let h = (c .before .before .before .before .before .pre) .2 in omega arith
+slice-read-if2 c = let h = ((c .before .before .before .before .before .before .pre)) .2 in omega arith
 
 returns-2 : tie.Need-returns-2
-returns-2 c = took-lost ((c .before .before .before .before .before .before .args) .lay) ((c .before .before .before .before .before .before .args) .z) ((c .before .before .before .before .before .before .args) .insts .now) ((c .before .before .before .before .before .before .args) .work .now) ((c .before .before .before .before .before .before .args) .i) ((c .before .before .before .before .before .before .args) .b) ((c .before .before .before .before .before .before .pre) .2) (omega arith) (c .if2 .taken)
+returns-2 c = took-lost (((c .before .before .before .before .before .before .before .args)) .lay) (((c .before .before .before .before .before .before .before .args)) .z) (((c .before .before .before .before .before .before .before .args)) .insts .now) (((c .before .before .before .before .before .before .before .args)) .work .now) (((c .before .before .before .before .before .before .before .args)) .i) (((c .before .before .before .before .before .before .before .args)) .b) (((c .before .before .before .before .before .before .before .pre)) .2) (omega arith) ((c .if2) .taken)
 
 join-requires : tie.Need-join-requires
-join-requires c κs = ((c .before .before .before .before .before .before .before .pre) .2, (c .before .before .before .before .before .before .before .pre) .1, let q = (c .before .if2) .left in omega arith)
+join-requires c κs = (((c .before .before .before .before .before .before .before .before .pre)) .2, ((c .before .before .before .before .before .before .before .before .pre)) .1, let q = ((c .before .if2)) .left in omega arith)
 
 same-length : tie.Need-same-length
-same-length c = (c .before .before .join) .ensures .grew .len
+same-length c = ((c .before .before .join)) .ensures .grew .len
 
 returns-3 : tie.Need-returns-3
-returns-3 c = took-new ((c .before .before .before .before .before .before .before .before .before .before .args) .lay) ((c .before .before .before .before .before .before .before .before .before .before .args) .z) ((c .before .before .before .before .before .before .before .before .before .before .args) .insts .now) ((c .before .before .before .before .before .before .before .before .before .before .args) .work .now) ((c .before .before .before .before .before .before .before .before .before .before .args) .i) ((c .before .before .before .before .before .before .before .before .before .before .args) .b) ((c .before .before .join) .ensures) (omega arith) ((c .before .before .before .before .if2) .left)
+returns-3 c = took-new (((c .before .before .before .before .before .before .before .before .before .before .before .args)) .lay) (((c .before .before .before .before .before .before .before .before .before .before .before .args)) .z) (((c .before .before .before .before .before .before .before .before .before .before .before .args)) .insts .now) (((c .before .before .before .before .before .before .before .before .before .before .before .args)) .work .now) (((c .before .before .before .before .before .before .before .before .before .before .before .args)) .i) (((c .before .before .before .before .before .before .before .before .before .before .before .args)) .b) (((c .before .before .join)) .ensures) (omega arith) (((c .before .before .before .before .if2)) .left)
 
 pub take-spec : {M : Type 1} → statement M
 take-spec =

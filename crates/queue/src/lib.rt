@@ -2,7 +2,7 @@
 ghost use mathlib.Core.Path.{_≡_};
 ghost use Prim.Native.Nat.{_+_, _≤_, _<_};
 ghost use lib.ListN.{length};
-ghost use Rattle.follow.specs.Walk.{defAt, Held, Joined};
+ghost use Rattle.queue.specs.Walk.{defAt, Held, Joined};
 use reach::Lay;
 
 // Puts instruction `i` of `m`, which has a def of `v` registers, behind the `n` in the queue, unless its def is seen; how many stand there then.
@@ -10,14 +10,11 @@ pub fn join(v: u32, m: usize, work: &mut [u64], lay: Lay, i: usize, n: usize) ->
     requires { ⌜ Held v m lay (now work) n × (i < m) × (0 < defAt lay (now work) i) ⌝ }
     ensures { λ r. ⌜ Joined v m lay (now (work .entry)) (now (work .exit)) i n r ⌝ }
 {
-    let defs = lay.defs;
-    let seen = lay.seen;
-    let queue = lay.queue;
-    let r = work[defs + i] as usize - 1;
-    if bits::test(work, seen, r) {
+    let r = work[lay.defs + i] as usize - 1;
+    if bits::test(work, lay.seen, r) {
         return n;
     }
-    bits::set(work, seen, r);
-    work[queue + n] = i as u64;
+    bits::set(work, lay.seen, r);
+    work[lay.queue + n] = i as u64;
     n + 1
 }

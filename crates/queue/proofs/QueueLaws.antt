@@ -15,7 +15,7 @@ use Rattle.graph.proofs.Counting.{Differ, all-taken}
 use Rattle.reach.specs.declared.Lay.{Lay}
 use Rattle.reach.specs.Prepared.{wordsOf}
 use Rattle.reach.proofs.ScanLaws.{same-bit}
-use Rattle.follow.specs.Walk.{defAt, queued, Held, Listed, Grew, Joined}
+use Rattle.queue.specs.Walk.{defAt, queued, Held, Listed, Grew, Joined}
 
 module _ {v m : ℕ} {lay : Lay} {w : List ℕ} {n : ℕ} (h : Held v m lay w n) where
   -- a def that is not seen is of an instruction that is not there, so there is room
