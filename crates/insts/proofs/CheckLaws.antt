@@ -28,6 +28,7 @@ use Rattle.carrying.specs.Lists.{any}
 use Rattle.carrying.specs.Insts.{Operand, Inst, instOf, instsOf, instAt, isSet}
 use Rattle.carrying.specs.Carried.{Mention, mentionsOf}
 use Rattle.carrying.specs.Checks.{misplaced, badRegister, badOperand, badFlags, badPositions, badInst, instVerdict, crossingVerdict, absent, mentionAt, addressVerdict, endVerdict}
+use Rattle.inst_parts.proofs.PartLaws.{held}
 use Rattle.insts.specs.Counts.{badRows, rowsVerdict, mostVerdict, blockCounts, offset, addUp, instCounts, codeCounts}
 use Rattle.insts.specs.Rows.{operandAt, operandsFrom, placing, rowInst, AddsUp}
 use Rattle.insts.proofs.DealtLaws.{scan-same, insts-length, inst-at, placed-is}
@@ -132,54 +133,18 @@ counts-chain v insts operands crossings locals addresses ends ea eb ec ed ee ef 
 -- ---- number 4: the block of an instruction
 
 module _ (s : List ℕ) (S : Sound (blocksOf s)) where
-  -- what is known of the block at a place
-  record Held (k : ℕ) : Type 0 where
-    here : k < length (blocksOf s)
-    start : blockAt (blocksOf s) k .start ≡ field 3 s k 1
-    end : blockAt (blocksOf s) k .end ≡ field 3 s k 2
-    number : blockAt (blocksOf s) k .number ≡ getD s (3 * k) 0
-
-  held : (k : ℕ) → k < length s / 3 → Held k
-  held k h = record { here = rw (blocks-length s) h; start = start-is s k h; end = end-is s k h; number = number-is s k h }
-
-  pub starts-rise : Rising (λ i. field 3 s i 1) (length s / 3)
-  starts-rise k h =
-      let a = held k (omega arith) in
-      let b = held (k + 1) h in
-      let n = blocks-length s in
-      let g = rw (← add-one k) at (S .gapless k (let z = add-one k in omega arith)) in
-      let u = S .upright k (a .here) in
-      omega arith
-
-  -- a block that has the point is the last that starts no later
-  pub near-found : (k e : ℕ) → 0 < k → k ≤ length s / 3 → field 3 s (k - 1) 1 ≤ e → e ≤ field 3 s (k - 1) 2 → Splits (λ i. leb (field 3 s i 1) e) (length s / 3) k
-  near-found k e h l a b = record {
-    within = l;
-    holds = λ i q. le-leb (field 3 s i 1) e (omega (arith, rising-le (λ j. field 3 s j 1) (length s / 3) starts-rise i (k - 1) (omega arith) (omega arith)));
-    fails = λ i q v. lt-leb (field 3 s i 1) e (omega (arith, rising-le (λ j. field 3 s j 1) (length s / 3) starts-rise k i q v, next (omega arith)));
-  }
-    where
-      next : k < length s / 3 → field 3 s (k - 1) 2 < field 3 s k 1
-      next v =
-          let n = blocks-length s in
-          let z : suc (k - 1) ≡ k = omega arith in
-          let g = rw z at (S .gapless (k - 1) (omega arith)) in
-          let p = held (k - 1) (omega arith) .end in
-          let q = held k v .start in
-          omega arith
-
   -- the search finds the one block that has the point
   pub search-found : (r k e : ℕ) → Splits (λ i. leb (field 3 s i 1) e) (length s / 3) r → k < length s / 3
       → blockAt (blocksOf s) k .start ≤ e → e ≤ blockAt (blocksOf s) k .end → r ≡ k + 1
   search-found r k e p h a b =
       cut r k
-      (λ l. absurd (let z = leb-false (field 3 s k 1) e (p .fails k l h) in let q = held k h .start in omega arith))
+      (λ l. absurd (let z = leb-false (field 3 s k 1) e (p .fails k l h) in let q = held s S k h .start in omega arith))
       (λ l. cut r (k + 1) (λ m. omega arith)
       (λ m. absurd (
       let z = p .holds (k + 1) m in
       let n = blocks-length s in
       let w = p .within in
-      let q = held (k + 1) (omega arith) .start in
+      let q = held s S (k + 1) (omega arith) .start in
       let g = rw (← add-one k) at (S .gapless k (let y = add-one k in omega arith)) in
       cut (field 3 s (k + 1) 1) e (λ y. omega arith) (λ y. let o : _≡_ {A = ℕ} 0 1 = cc (lt-leb (field 3 s (k + 1) 1) e y) in omega arith))))
 
@@ -207,7 +172,7 @@ module _ (s : List ℕ) (S : Sound (blocksOf s)) where
     pub found-in : (k : ℕ) → k < length s / 3 → getD s (3 * k) 0 ≡ number → field 3 s k 1 ≤ early
         → ltb (field 3 s k 2) late ≡ misplaced (blocksOf s) (placing number early late)
     found-in k h e l =
-        let a = held k h in
+        let a = held s S k h in
         let n : blockAt (blocksOf s) k .number ≡ number = a .number ∙ e in
         let b : number < length (blocksOf s) = rw n at (S .numbered k (a .here)) in
         let p : placeIn (blocksOf s) number ≡ k = rw n at (place-of-number S k (a .here)) in
@@ -335,15 +300,3 @@ unplaced-1 n x t h = simp (le-leb n x h)
 
 pub unplaced-2 : (n x p : ℕ) → x < n → not (eqb p 1) ≡ leb n x || not (isSet p)
 unplaced-2 n x p h = simp (lt-leb n x h)
-
--- ---- operands
-
-module _ (v : ℕ) (o : Operand) where
-  pub operand-flag : 1 < o .def → badOperand v o ≡ true
-  operand-flag h = rw (lt-ltb 1 (o .def) h)
-
-  pub operand-register : o .def ≤ 1 → v + 256 ≤ o .register → badOperand v o ≡ true
-  operand-register h l = rw (le-ltb 1 (o .def) h) (le-leb _ _ l)
-
-  pub operand-fine : o .def ≤ 1 → o .register < v + 256 → badOperand v o ≡ false
-  operand-fine h l = rw (le-ltb 1 (o .def) h) (lt-leb _ _ l)

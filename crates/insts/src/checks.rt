@@ -40,22 +40,6 @@ pub fn below(s: &[u32], width: usize, f: usize, limit: usize, word: Refusal) -> 
     Verdict::Fine
 }
 
-// How many blocks start no later than the point. The last of the first `k` is tried first: one instruction mostly stands in the block of the one before.
-fn near(blocks: &[u32], early: u32, k: usize) -> usize
-    requires { ⌜ Sound (blocksOf (now blocks)) × (k ≤ length (now blocks) / 3) ⌝ }
-    ensures { λ r. ⌜ Splits (λ j. leb (field 3 (now (blocks .entry)) j 1) early) (length (now (blocks .entry)) / 3) r ⌝ }
-{
-    if 0 < k {
-        let at = 3 * (k - 1);
-        if blocks[at + 1] <= early {
-            if early <= blocks[at + 2] {
-                return k;
-            }
-        }
-    }
-    words::at_most_in_rows(blocks, 3, 1, blocks.len() / 3, early)
-}
-
 // Whether a placed instruction is in no block or outside its block's points, where the first `k` blocks start no later than it: the number of the last of them must be the instruction's.
 fn outside(blocks: &[u32], number: u32, early: u32, late: u32, k: usize) -> bool
     requires { ⌜ Sound (blocksOf (now blocks)) × (early ≤ late) × Splits (λ j. leb (field 3 (now blocks) j 1) early) (length (now blocks) / 3) k ⌝ }
@@ -76,14 +60,9 @@ fn bad_operands(operands: &[u32], from: usize, n: usize, v: u32) -> bool
     requires { ⌜ (from + n ≤ length (now operands) / 2) × (v ≤ 65535) ⌝ }
     ensures { λ r. ⌜ r ≡ any (badOperand v) (operandsFrom (now (operands .entry)) from n) ⌝ }
 {
-    let top = v + 256;
     let mut p = 0;
     while p < n {
-        let i = from + p;
-        if 1 < operands[2 * i] {
-            return true;
-        }
-        if top <= operands[2 * i + 1] {
+        if inst_parts::bad_operand(operands, from + p, v) {
             return true;
         }
         p += 1;
@@ -162,7 +141,7 @@ pub fn inst(blocks: &[u32], v: u32, insts: &[u32], operands: &[u32]) -> Verdict
     let mut i = 0;
     let mut k = 0;
     while i < n {
-        k = near(blocks, insts[9 * i + 2], k);
+        k = inst_parts::near(blocks, insts[9 * i + 2], k);
         if bad_inst(blocks, v, insts, operands, i, from, k) {
             return Verdict::Bad(Refusal::Inst, i);
         }

@@ -6,7 +6,7 @@ use mathlib.Core.Bool.{Bool, true, false}
 use lib.ListN.{length, getD}
 use denote.Ref.{now}
 use borrow.Author.Needs.{needs}
-use Rattle.insts.proofs.CheckLaws.{starts-rise, search-found, not-in, found-in}
+use Rattle.insts.proofs.CheckLaws.{search-found, not-in, found-in}
 use Rattle.words.specs.Rows.{rowCount, field}
 use lib.Dec.{leb, ltb}
 use borrow.Author.Tests.{leb-true}

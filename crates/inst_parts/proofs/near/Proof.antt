@@ -1,9 +1,9 @@
--- `insts::checks::near` meets its contract: the block that was tried has the point, or the search finds how many there are.
+-- `near` meets its contract: the block that was tried has the point, or the search finds how many there are.
 use native.Mathlib.Omega.{arith}
 use Prim.Native.Nat.{_-_, _*_}
-use Rattle.insts.proofs.CheckLaws.{starts-rise, near-found}
-use Rattle.insts.proofs.checks.near.Statement.{statement}
-use Rattle.insts.proofs.checks.near.Tie as tie
+use Rattle.inst_parts.proofs.PartLaws.{starts-rise, near-found}
+use Rattle.inst_parts.proofs.near.Statement.{statement}
+use Rattle.inst_parts.proofs.near.Tie as tie
 
 sub-at : tie.Need-sub-at
 sub-at c = omega arith
