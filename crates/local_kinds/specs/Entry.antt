@@ -17,17 +17,12 @@ use Rattle.follow.specs.declared.Sizes.{Sizes}
 use Rattle.local_kinds.specs.declared.Answer.{Answer}
 use Rattle.local_kinds.specs.declared.Answer.the-variants.{Given, Refused}
 use Rattle.carry_checks.specs.Checks.{carryVerdict, carrySpace}
+pub use Rattle.kind_numbers.specs.Numbers.{kindNumber}
 
 -- what each case of an answer stands for
 abbrev pub answered : Answer → Outcome ℕ
 answered (Given n) = given n
 answered (Refused r i) = refused (numberOf r) i
-
--- the number of each kind in an answer list
-abbrev pub kindNumber : Kind → ℕ
-kindNumber Unfollowed = 0
-kindNumber Plain = 1
-kindNumber Ending = 2
 
 -- the kinds of the first n locals
 abbrev pub kindsOf : Code → ℕ → List ℕ

@@ -4,11 +4,10 @@ ghost use Prim.Native.Nat.{_+_, _*_, _/_, _≤_, _<_};
 ghost use lib.ListN.{length};
 ghost use Rattle.reach.specs.Prepared.{wordsOf, codeOf};
 ghost use Rattle.follow.specs.Followed.{Ready};
-ghost use Rattle.local_kinds.specs.Entry.{kindNumber, Kinds, Measured, ReachTo};
+ghost use Rattle.local_kinds.specs.Entry.{Kinds, Measured, ReachTo};
 ghost use Rattle.carry_checks.specs.Layout.{usedOf, Checked};
 use carry_checks::checks;
 use carry_checks::layout;
-use carrying::Kind;
 use follow::Sizes;
 use reach::Lay;
 use refusals::Refusal;
@@ -20,17 +19,6 @@ pub enum Answer {
     Refused(Refusal, usize),
 }
 
-// The number of a kind in an answer list.
-pub fn number(k: Kind) -> u32
-    ensures { λ r. ⌜ r ≡ kindNumber k ⌝ }
-{
-    match k {
-        Kind::Unfollowed => 0,
-        Kind::Plain => 1,
-        Kind::Ending => 2,
-    }
-}
-
 // The kind of each local.
 fn kinds(insts: &[u32], addresses: &[u32], answer: &mut [u32], work: &mut [u64], lay: Lay, z: Sizes)
     requires { ⌜ Ready lay z (now insts) (now addresses) (now work) × (z .locals ≤ length (now answer)) ⌝ }
@@ -40,7 +28,7 @@ fn kinds(insts: &[u32], addresses: &[u32], answer: &mut [u32], work: &mut [u64],
     while l < z.locals {
         let f = follow::walks::follow(insts, addresses, work, lay, z, l, false);
         let k = f.kind;
-        answer[l] = number(k);
+        answer[l] = kind_numbers::number(k);
         l += 1;
     }
 }
