@@ -1,2 +1,1 @@
-pub mod MovedLaws
 pub mod MovedEntry

@@ -30,7 +30,7 @@ use Rattle.areas.specs.Slots.{Move, movesOf, moved, moveVerdict}
 use Rattle.spill_checks.specs.declared.Answer.{Answer}
 use Rattle.spill_checks.specs.declared.Answer.the-variants.{Given, Refused}
 use Rattle.moved_ranges.specs.Moved.{rowsOf, Wrote, movedCounts, movedSpace, movedRoom, movedVerdict, movedOf, MovedTo}
-use Rattle.moved_ranges.proofs.MovedLaws.{rows-length}
+use Rattle.move_covers.proofs.MovedLaws.{rows-length}
 use Rattle.spill_checks.proofs.OperandLaws.{moves-whatever, moved-whatever}
 
 -- ---- the checks

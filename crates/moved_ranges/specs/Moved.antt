@@ -2,8 +2,8 @@
 use Prim.Native.Nat.{ℕ, _+_, _*_}
 use mathlib.Core.Path.{_≡_}
 use mathlib.Core.Bool.{_||_}
-use mathlib.Core.List.{List, [], _∷_, _++_}
-use lib.ListN.{length, drop}
+use mathlib.Core.List.{List}
+use lib.ListN.{length}
 use lib.Dec.{ltb}
 use Rattle.refusals.specs.declared.Verdict.{Verdict}
 use Rattle.refusals.specs.declared.Refusal.the-variants.{Space}
@@ -17,19 +17,10 @@ use Rattle.carrying.specs.Insts.{instsOf}
 use Rattle.carrying.specs.Checks.{instVerdict}
 use Rattle.insts.specs.Counts.{rowsVerdict, mostVerdict, blockCounts, instCounts}
 use Rattle.areas.specs.Slots.{movesOf, moved, moveVerdict}
+unfoldable pub use Rattle.move_covers.specs.Wrote.{rowsOf}
+pub use Rattle.move_covers.specs.Wrote.{Wrote}
 use Rattle.spill_checks.specs.declared.Answer.{Answer}
 use Rattle.spill_checks.specs.Answer.{answered}
-
--- ranges as rows of two numbers
-unfoldable pub rowsOf : List Range → List ℕ
-rowsOf [] = []
-rowsOf (r ∷ rs) = r .start ∷ r .end ∷ rowsOf rs
-
--- ranges appended to the k that stand at the front of an answer list o, so that there are n
-pub record Wrote (out₀ out : List ℕ) (k n : ℕ) (rs : List Range) : Type 0 where
-  pub len : length out ≡ length out₀
-  pub count : n ≡ k + length rs
-  pub list : (xs : List Range) (o : List ℕ) → length xs ≡ k → length o ≡ length out₀ → out₀ ≡ rowsOf xs ++ drop (2 * k) o → out ≡ rowsOf (xs ++ rs) ++ drop (2 * n) o
 
 -- number 1: "B 1 to 4,096; instructions 65,536; operands 262,144; V 65,535; moves 65,536"
 unfoldable pub movedCounts : ℕ → List ℕ → List ℕ → List ℕ → List ℕ → Verdict

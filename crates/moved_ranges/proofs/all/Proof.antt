@@ -6,7 +6,7 @@ use mathlib.Core.Bool.{Bool, true, false}
 use lib.ListN.{length, getD}
 use denote.Ref.{now}
 use borrow.Author.Needs.{needs}
-use Rattle.moved_ranges.proofs.MovedLaws.{wrote-none, wrote-then, gather-next, gather-none}
+use Rattle.move_covers.proofs.MovedLaws.{wrote-none, wrote-then, gather-next, gather-none}
 use Rattle.move_points.proofs.MoveLaws.{covers-two}
 use mathlib.Core.List.{List, [], _++_}
 use Rattle.ranges.specs.declared.Range.{Range}

@@ -19,7 +19,7 @@ use Rattle.carrying.specs.Insts.{Inst}
 use Rattle.areas.specs.Slots.{Move}
 use Rattle.move_points.specs.declared.Spot.{Spot}
 use Rattle.move_points.specs.declared.Spot.the-variants.{At, Nowhere}
-use Rattle.moved_ranges.specs.Moved.{rowsOf, Wrote}
+use Rattle.move_covers.specs.Wrote.{rowsOf, Wrote}
 
 -- ---- ranges appended
 

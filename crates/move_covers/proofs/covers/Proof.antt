@@ -1,4 +1,4 @@
--- `moved_ranges::covers` meets its contract: to the slot, from it, both or neither.
+-- `move_covers::covers` meets its contract: to the slot, from it, both or neither.
 use native.Mathlib.Omega.{arith}
 use Prim.Native.Nat.{ℕ, suc, _+_, _-_, _*_, _/_, _%_, _≤_, _<_}
 use mathlib.Core.Path.{_≡_, refl, sym, ap, _∙_}
@@ -6,7 +6,7 @@ use mathlib.Core.Bool.{Bool, true, false}
 use lib.ListN.{length, getD}
 use denote.Ref.{now}
 use borrow.Author.Needs.{needs}
-use Rattle.moved_ranges.proofs.MovedLaws.{wrote-none, wrote-then, wrote-as}
+use Rattle.move_covers.proofs.MovedLaws.{wrote-none, wrote-then, wrote-as}
 use Rattle.move_points.proofs.MoveLaws.{move-fine, covers-both, covers-to, covers-from, covers-none, point-is, not-nowhere}
 use native.Mathlib.Nat.{add-zero}
 use mathlib.Core.List.{[], _∷_, _++_}
@@ -15,9 +15,9 @@ use Rattle.graph.specs.Line.{blocksOf}
 use Rattle.carrying.specs.Insts.{instsOf}
 use Rattle.areas.specs.Slots.{badMove, covering}
 use Rattle.move_points.specs.Moves.{positionAt, moveRow}
-use Rattle.moved_ranges.specs.Moved.{Wrote}
-use Rattle.moved_ranges.proofs.covers.Statement.{statement}
-use Rattle.moved_ranges.proofs.covers.Tie as tie
+use Rattle.move_covers.specs.Wrote.{Wrote}
+use Rattle.move_covers.proofs.covers.Statement.{statement}
+use Rattle.move_covers.proofs.covers.Tie as tie
 
 mul-position : tie.Need-mul-position
 mul-position c = omega arith

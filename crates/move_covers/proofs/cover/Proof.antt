@@ -1,4 +1,4 @@
--- `moved_ranges::cover` meets its contract: two stores.
+-- `move_covers::cover` meets its contract: two stores.
 use native.Mathlib.Omega.{arith}
 use Prim.Native.Nat.{ℕ, suc, _+_, _-_, _*_, _/_, _%_, _≤_, _<_}
 use mathlib.Core.Path.{_≡_, refl, sym, ap, _∙_}
@@ -6,10 +6,10 @@ use mathlib.Core.Bool.{Bool, true, false}
 use lib.ListN.{length, getD}
 use denote.Ref.{now}
 use borrow.Author.Needs.{needs}
-use Rattle.moved_ranges.proofs.MovedLaws.{wrote-one}
+use Rattle.move_covers.proofs.MovedLaws.{wrote-one}
 use lib.ListN.{length-set}
-use Rattle.moved_ranges.proofs.cover.Statement.{statement}
-use Rattle.moved_ranges.proofs.cover.Tie as tie
+use Rattle.move_covers.proofs.cover.Statement.{statement}
+use Rattle.move_covers.proofs.cover.Tie as tie
 
 preceding-requires : tie.Need-preceding-requires
 preceding-requires c κs = omega arith
