@@ -26,25 +26,17 @@ use Rattle.insts.proofs.DealtLaws.{insts-length}
 use Rattle.insts.proofs.CheckLaws.{bad-fine, most-few, rows-few, blocks-few, blocks-some, insts-counted, inst-is, address-whatever, end-whatever}
 use Rattle.reach.specs.Prepared.{wordsOf}
 use Rattle.reach.proofs.ReadyLaws.{mentions-count}
+use Rattle.rooms.proofs.RoomLaws.{room-answer, room-work}
 use Rattle.carry_checks.specs.Checks.{carryCounts, placeVerdict, strayVerdict, carrySpace, roomVerdict, carryVerdict}
 use Rattle.carry_checks.specs.Layout.{usedOf, Checked}
 
 -- ---- number 7
 
 module _ (lent most work words : ℕ) where
-  pub room-answer : lent < most → Bad Space 0 ≡ roomVerdict lent most work words
-  room-answer h = simp (lt-ltb lent most h)
-
-  pub room-work : most ≤ lent → work < words → Bad Space 0 ≡ roomVerdict lent most work words
-  room-work h l = simp (le-ltb lent most h, lt-ltb work words l)
-
-  pub room-fine : most ≤ lent → words ≤ work → Fine ≡ roomVerdict lent most work words
-  room-fine h l = simp (le-ltb lent most h, le-ltb work words l)
-
   room-told : roomVerdict lent most work words ≡ Fine → (most ≤ lent) × (words ≤ work)
   room-told e =
-      let p = cut {A = most ≤ lent} most lent (λ h. h) (λ h. absurd (bad-fine (room-answer h ∙ e))) in
-      (p, cut words work (λ h. h) (λ h. absurd (bad-fine (room-work p h ∙ e))))
+      let p = cut {A = most ≤ lent} most lent (λ h. h) (λ h. absurd (bad-fine (room-answer lent most work words h ∙ e))) in
+      (p, cut words work (λ h. h) (λ h. absurd (bad-fine (room-work lent most work words p h ∙ e))))
 
 -- ---- number 1
 

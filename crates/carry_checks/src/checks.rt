@@ -4,8 +4,7 @@ ghost use mathlib.Core.List.{[]};
 ghost use Prim.Native.Nat.{_+_, _*_, _/_, _≤_, _<_};
 ghost use lib.ListN.{length};
 ghost use Rattle.refusals.specs.Verdicts.{first};
-ghost use Rattle.carry_checks.specs.Checks.{carryCounts, strayVerdict, carrySpace, roomVerdict, carryVerdict};
-use refusals::Refusal;
+ghost use Rattle.carry_checks.specs.Checks.{carryCounts, strayVerdict, carrySpace, carryVerdict};
 use refusals::Verdict;
 
 fn wide(x: u32) -> usize
@@ -62,19 +61,6 @@ pub fn needed(
     8 * (a + b)
 }
 
-// Refusal 7.
-fn room(lent: usize, most: usize, work: usize, words: usize) -> Verdict
-    ensures { λ r. ⌜ r ≡ roomVerdict lent most work words ⌝ }
-{
-    if lent < most {
-        return Verdict::Bad(Refusal::Space, 0);
-    }
-    if work < words {
-        return Verdict::Bad(Refusal::Space, 0);
-    }
-    Verdict::Fine
-}
-
 // Refusals 1, 2, 4, 5 and 7, for an answer list of `lent` numbers where `most` may be needed, and `work` words of work space.
 pub fn refusal(
     points: u32,
@@ -120,6 +106,6 @@ pub fn refusal(
         addresses,
         ends,
     );
-    let short = room(lent, most, work, w);
+    let short = rooms::room(lent, most, work, w);
     refusals::earlier(astray, short)
 }
