@@ -19,7 +19,8 @@ use Rattle.area_measure.specs.Measure.{itemWord}
 use Rattle.area_measure.specs.Locals.{Listed}
 use Rattle.area_tables.proofs.RowLaws.{rows-areas, rows-long, ranges-below}
 use Rattle.area_entries.specs.declared.Answer.the-variants.{Given, Refused}
-use Rattle.area_tables.specs.Tables.{listVerdict, areaRows, halves, rowsIn}
+use Rattle.answer_rows.specs.Rows.{halves, rowsIn}
+use Rattle.area_tables.specs.Tables.{listVerdict, areaRows}
 use Rattle.area_entries.specs.Entry.{itemRows, AnsweredBy}
 use Rattle.lent_areas.specs.Areas.{listing}
 

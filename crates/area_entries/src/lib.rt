@@ -32,8 +32,8 @@ fn list(n: usize, areas: &mut [u32], items: &mut [u32], work: &[u64], locals: us
     if room < n {
         return Answer::Refused(Refusal::List, 0);
     }
-    area_tables::write_rows(areas, work, 0, n, 0);
-    area_tables::write_rows(items, work, room, locals, 1);
+    answer_rows::write_rows(areas, work, 0, n, 0);
+    answer_rows::write_rows(items, work, room, locals, 1);
     Answer::Given(n)
 }
 

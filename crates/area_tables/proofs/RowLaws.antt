@@ -16,7 +16,8 @@ use Rattle.carrying.specs.Lists.{gather}
 use Rattle.areas.specs.Job.{rangesIn, rangesOf}
 use Rattle.area_measure.specs.Locals.{listed}
 use Rattle.area_measure.proofs.ListLaws.{ranges-append, ranges-more}
-use Rattle.area_tables.specs.Tables.{areaRows, halves, rowsIn}
+use Rattle.answer_rows.specs.Rows.{halves, rowsIn}
+use Rattle.area_tables.specs.Tables.{areaRows}
 
 abbrev rangeRow : Range → List ℕ
 rangeRow r = r .start ∷ r .end ∷ []

@@ -1,5 +1,5 @@
--- The area list as rows, number 9, and rows by the words of the work space.
-use Prim.Native.Nat.{ℕ, _/_, _+_, _-_, _%_, _^_}
+-- The area list as rows, number 9, and where the areas stand in the work space.
+use Prim.Native.Nat.{ℕ}
 use mathlib.Core.Option.{Option}
 use mathlib.Core.List.{List, [], _∷_, map}
 use lib.Dec.{ltb}
@@ -10,8 +10,8 @@ use Rattle.words.specs.Rows.{tabulate, flat}
 use Rattle.ranges.specs.declared.Range.{Range}
 use Rattle.carrying.specs.Lists.{gather}
 use Rattle.areas.specs.Job.{rangesOf}
+use Rattle.area_measure.specs.declared.Listing.{Listing}
 use Rattle.area_measure.specs.Locals.{listed}
-use lib.ListN.{getD}
 
 -- number 9: "all areas, put there in item order, exceed the area list"
 abbrev pub listVerdict : ℕ → (ℕ → Option (List Range)) → ℕ → Verdict
@@ -21,9 +21,6 @@ listVerdict locals A room = check ListWord (ltb room (rangesOf (tabulate locals 
 abbrev pub areaRows : ℕ → (ℕ → Option (List Range)) → List ℕ
 areaRows locals A = flat (map (λ (r : Range). r .start ∷ r .end ∷ []) (gather listed (tabulate locals A)))
 
--- a word's halves, and a row of them for each of n words, each less `less`
-abbrev pub halves : ℕ → List ℕ
-halves x = x / 2 ^ 32 ∷ x % 2 ^ 32 ∷ []
-
-abbrev pub rowsIn : List ℕ → ℕ → ℕ → ℕ → List ℕ
-rowsIn w from n less = flat (tabulate n (λ i. halves (getD w (from + i) 0 - less)))
+-- in the work space: the areas stand from 0 on, the items' words from `items` on
+abbrev pub listing : ℕ → ℕ → Listing
+listing room items = record { areas = 0; room = room; items = items }

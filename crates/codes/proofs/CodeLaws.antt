@@ -1,20 +1,14 @@
 -- What the codes tell apart, and what is told in a list with room for some of it.
-use mathlib.Core.Path.{_≡_, refl, sym, ap, _∙_}
-use mathlib.Core.Logic.{_≢_}
+use mathlib.Core.Path.{_≡_, refl, sym, ap}
 use mathlib.Core.List.{List, [], _∷_}
-use Prim.Native.Nat.{ℕ, zero, suc, _/_, _%_, _^_, _≤_, _<_}
+use Prim.Native.Nat.{ℕ, _/_, _%_, _^_, _≤_, _<_}
 use native.Mathlib.Omega.{arith}
 use lib.ListN.{length, take, drop, set}
 use lib.Seq.{take-length}
-use Rattle.flow.specs.declared.Over.the-variants.{Successors}
 use Rattle.refusals.specs.declared.Refusal.{Refusal}
 use Rattle.refusals.specs.declared.Refusal.the-variants.{Count, Line, Edge, Inst, Stray, Piece, Space, Inverted, List as ListFull, Want, Text}
 use Rattle.refusals.specs.Verdicts.{numberOf}
-use Rattle.refusals.specs.Outcomes.{Outcome, given, refused}
-use Rattle.wants.specs.Entry.{Tally}
-use Rattle.queries.specs.declared.Share.{Share}
-use Rattle.queries.specs.declared.Share.the-variants.{Part, Absent, Refused as ShareRefused}
-use Rattle.codes.specs.Codes.{refusalCode, absentCode, codeOf, fitted, countsAfter, overOf, PlanTold, partCode, partAfter, PartTold}
+use Rattle.codes.specs.Codes.{refusalCode, absentCode, fitted}
 
 -- ---- a refusal's code is no answer, is not that of absence, and gives its number and index back
 
@@ -81,46 +75,3 @@ module _ (f c : ℕ) where
   part-all [] e = absurd (omega arith)
   part-all (x ∷ []) e = absurd (omega arith)
   part-all (x ∷ y ∷ l) e = ap (λ (r : List ℕ). f ∷ c ∷ r) (sym (take-length l))
-
--- ---- answers
-
-pub over-some : (n : ℕ) → n ≢ 0 → Successors ≡ overOf n
-over-some zero h = absurd (h refl)
-over-some (suc n) h = refl
-
-module _ {counts : List ℕ} {o : Outcome Tally} where
-  pub plan-told : {counts′ : List ℕ} {c p d : ℕ} → o ≡ given (record { cells = c; probes = p; depth = d }) → counts′ ≡ fitted (c ∷ p ∷ d ∷ []) counts → PlanTold counts o 0 counts′
-  plan-told e h =
-      record {
-        answer = ap codeOf (sym e);
-        in-counts = h ∙ ap (λ (x : Outcome Tally). countsAfter x counts) (sym e);
-      }
-
-  pub plan-refused : {n k i : ℕ} → o ≡ refused k i → n ≡ refusalCode k i → PlanTold counts o n counts
-  plan-refused e h =
-      record {
-        answer = h ∙ ap codeOf (sym e);
-        in-counts = ap (λ (x : Outcome Tally). countsAfter x counts) (sym e);
-      }
-
-module _ {part : List ℕ} {s : Share} where
-  pub part-told : {part′ : List ℕ} {f c : ℕ} → s ≡ Part f c → part′ ≡ fitted (f ∷ c ∷ []) part → PartTold part s 0 part′
-  part-told e h =
-      record {
-        answer = ap partCode (sym e);
-        in-part = h ∙ ap (λ (x : Share). partAfter x part) (sym e);
-      }
-
-  pub part-absent : s ≡ Absent → PartTold part s absentCode part
-  part-absent e =
-      record {
-        answer = ap partCode (sym e);
-        in-part = ap (λ (x : Share). partAfter x part) (sym e);
-      }
-
-  pub part-refused : {n i : ℕ} {k : Refusal} → s ≡ ShareRefused k i → n ≡ refusalCode (numberOf k) i → PartTold part s n part
-  part-refused e h =
-      record {
-        answer = h ∙ ap partCode (sym e);
-        in-part = ap (λ (x : Share). partAfter x part) (sym e);
-      }

@@ -15,8 +15,9 @@ use Rattle.refusals.specs.Verdicts.{first, check}
 use Rattle.refusals.proofs.Laws.{first-fine, first-bad, first-left, first-right}
 use Rattle.ranges.proofs.PointLaws.{or-none}
 use Rattle.insts.specs.Counts.{rowsVerdict}
-use Rattle.job_checks.specs.declared.Sizes.{Sizes}
-use Rattle.job_checks.specs.Job.{recordsVerdict, sizesOf, spaceOf, Small}
+use Rattle.job_space.specs.declared.Sizes.{Sizes}
+use Rattle.job_space.specs.Space.{sizesOf, spaceOf, Small}
+use Rattle.job_checks.specs.Job.{recordsVerdict}
 use Rattle.job_checks.proofs.CheckLaws.{records-checked}
 use Rattle.job_areas.specs.Areas.{Lent}
 use Rattle.item_areas.specs.Entry.{spaceVerdict, lentVerdict}

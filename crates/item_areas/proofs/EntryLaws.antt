@@ -17,15 +17,17 @@ use Rattle.words.specs.Rows.{rowCount}
 use Rattle.words.proofs.RowLaws.{length-records}
 use Rattle.ranges.specs.declared.Range.{Range}
 use Rattle.areas.specs.Job.{itemCount, itemArea, listVerdict}
-use Rattle.area_tables.specs.Tables.{listVerdict as listVerdictOf}
+use Rattle.area_tables.specs.Tables.{listVerdict as listVerdictOf, listing}
 use Rattle.area_measure.specs.Locals.{wordOf, ListedBy}
-use Rattle.job_checks.specs.declared.Sizes.{Sizes}
-use Rattle.job_checks.specs.Job.{jobOf, sizesOf, spaceOf}
-use Rattle.job_areas.specs.Areas.{listing, Lent, Solved}
-use Rattle.item_areas.specs.declared.Answer.{Answer}
-use Rattle.item_areas.specs.declared.Answer.the-variants.{Refused}
-use Rattle.item_areas.specs.Entry.{lentVerdict, AnsweredBy, ItemAreas}
-use Rattle.item_areas.specs.Inner.{Held}
+use Rattle.job_space.specs.declared.Sizes.{Sizes}
+use Rattle.job_space.specs.Space.{sizesOf, spaceOf}
+use Rattle.job_checks.specs.Job.{jobOf}
+use Rattle.job_areas.specs.Areas.{Lent, Solved}
+use Rattle.item_lists.specs.declared.Answer.{Answer}
+use Rattle.item_lists.specs.declared.Answer.the-variants.{Refused}
+use Rattle.item_areas.specs.Entry.{lentVerdict, ItemAreas}
+use Rattle.item_lists.specs.Lists.{AnsweredBy}
+use Rattle.item_lists.specs.Inner.{Held}
 
 module _ (points v : ℕ) (blocks edges insts operands crossings locals slots addresses ends pieces assigned moves areas items work : List ℕ) where
   abbrev lentV : Verdict

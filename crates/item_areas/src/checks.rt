@@ -1,8 +1,8 @@
 // The refusals that come before the areas are measured: numbers 1 to 7, in linear time and without work space.
 ghost use mathlib.Core.Path.{_≡_};
-ghost use Rattle.job_checks.specs.Job.{Small};
+ghost use Rattle.job_space.specs.Space.{Small};
 ghost use Rattle.item_areas.specs.Entry.{spaceVerdict, lentVerdict};
-use job_checks::Sizes;
+use job_space::Sizes;
 use refusals::Refusal;
 use refusals::Verdict;
 
@@ -11,7 +11,7 @@ fn short(z: Sizes, items: usize, work: usize) -> Verdict
     requires { ⌜ Small z ⌝ }
     ensures { λ r. ⌜ r ≡ spaceVerdict z items work ⌝ }
 {
-    if work < job_checks::space::needed(z) {
+    if work < job_space::needed(z) {
         return Verdict::Bad(Refusal::Space, 0);
     }
     if items / 3 < z.locals + z.slots {
@@ -66,7 +66,7 @@ pub fn refusal(
     if let Verdict::Bad(r, i) = lent {
         return Verdict::Bad(r, i);
     }
-    let z = job_checks::space::sizes(
+    let z = job_space::records::sizes(
         v,
         blocks,
         edges,

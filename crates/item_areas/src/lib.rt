@@ -1,41 +1,10 @@
 // The areas of all items of a job's records.
-ghost use mathlib.Core.Option.{Option};
-ghost use mathlib.Core.List.{List};
-ghost use Prim.Native.Nat.{ℕ, _+_, _*_, _/_, _≤_};
-ghost use lib.ListN.{length};
-ghost use Rattle.refusals.specs.Verdicts.{check};
-ghost use Rattle.ranges.specs.declared.Range.{Range};
-ghost use Rattle.area_tables.specs.Tables.{listVerdict};
-ghost use Rattle.area_measure.specs.Locals.{wordOf, ListedBy};
-ghost use Rattle.job_areas.specs.Areas.{listing};
-ghost use Rattle.item_areas.specs.Entry.{AnsweredBy, ItemAreas};
-ghost use Rattle.item_areas.specs.Inner.{Held};
-use refusals::Refusal;
+ghost use Rattle.item_areas.specs.Entry.{ItemAreas};
 use refusals::Verdict;
 
 mod checks; // checks.rt: refusals 1 to 7
-pub mod tables; // tables.rt: from the items' words into the answer list
 
-// How many ranges all areas have, or a refusal with the index of the first offending record.
-pub enum Answer {
-    Given(usize),
-    Refused(Refusal, usize),
-}
-
-// Writes the areas and the items, where all n ranges fit the area list (else 9).
-fn list(n: usize, areas: &mut [u32], items: &mut [u32], work: &[u64], count: usize) -> Answer
-    requires { ⌜ Held count (length (now areas) / 2) n (now work) × (3 * count ≤ length (now items)) × (length (now areas) / 2 ≤ 65536) × (length (now areas) / 2 + count ≤ length (now work)) ⌝ }
-    ensures { λ r. ⌜ ((A : ℕ → Option (List Range)) → ListedBy wordOf (listing (length (now (areas .entry)) / 2) (length (now (areas .entry)) / 2)) A count n (now (work .entry))
-        → AnsweredBy (listVerdict count A (length (now (areas .entry)) / 2)) count A (now (areas .entry)) (now (items .entry)) r (now (areas .exit)) (now (items .exit))) ⌝ }
-{
-    let room = areas.len() / 2;
-    if room < n {
-        return Answer::Refused(Refusal::List, 0);
-    }
-    area_tables::write_rows(areas, work, 0, n, 0);
-    tables::write_items(items, work, room, count);
-    Answer::Given(n)
-}
+pub use item_lists::Answer;
 
 // The area of every item, locals first, then slots, by the job's records. Areas come back as rows of start and end, items as rows of present, first and count;
 // the answer is the number of ranges. Refuses what document 01's table says of the records (1 to 6), an item list under the items or a work space under
@@ -84,7 +53,7 @@ pub fn item_areas(
     if let Verdict::Bad(r, i) = verdict {
         return Answer::Refused(r, i);
     }
-    let z = job_checks::space::sizes(
+    let z = job_space::records::sizes(
         v,
         blocks,
         edges,
@@ -100,7 +69,7 @@ pub fn item_areas(
         moves,
         areas.len(),
     );
-    let w = job_checks::space::needed(z);
+    let w = job_space::needed(z);
     let n = job_areas::solve(
         points,
         v,
@@ -119,7 +88,7 @@ pub fn item_areas(
         areas.len(),
         work,
     );
-    let r = list(n, areas, items, work, z.locals + z.slots);
+    let r = item_lists::list(n, areas, items, work, z.locals + z.slots);
     words::clear(work, w);
     r
 }

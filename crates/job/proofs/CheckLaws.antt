@@ -1,12 +1,12 @@
 -- What each way out of the checks comes to, and what is left where none refuses.
-use Prim.Native.Nat.{ℕ, _+_, _*_, _/_, _%_, _≤_, _<_}
+use Prim.Native.Nat.{ℕ, _+_, _*_, _/_, _≤_, _<_}
 use native.Mathlib.Omega.{arith}
 use mathlib.Core.Path.{_≡_, refl, sym, ap, subst, _∙_}
-use mathlib.Core.Bool.{Bool, true, false, not, _||_}
+use mathlib.Core.Bool.{Bool, true, false, _||_}
 use mathlib.Core.List.{List}
 use lib.ListN.{length}
-use lib.Dec.{ltb, eqb}
-use borrow.Author.Tests.{lt-ltb, le-ltb, ltb-false, eq-eqb, ne-eqb}
+use lib.Dec.{ltb}
+use borrow.Author.Tests.{lt-ltb, le-ltb, ltb-false}
 use Rattle.refusals.specs.declared.Verdict.{Verdict}
 use Rattle.refusals.specs.declared.Verdict.the-variants.{Fine, Bad}
 use Rattle.refusals.specs.declared.Refusal.{Refusal}
@@ -14,27 +14,16 @@ use Rattle.refusals.specs.declared.Refusal.the-variants.{Count, Space}
 use Rattle.refusals.specs.Verdicts.{first, check}
 use Rattle.refusals.proofs.Laws.{first-fine, first-bad, first-left, first-right}
 use Rattle.ranges.proofs.PointLaws.{or-none}
-use Rattle.job_checks.specs.declared.Sizes.{Sizes}
-use Rattle.job_checks.specs.Job.{recordsVerdict, sizesOf, spaceOf, Small}
+use Rattle.job_space.specs.declared.Sizes.{Sizes}
+use Rattle.job_space.specs.Space.{sizesOf, spaceOf, Small, badShape}
+use Rattle.job_checks.specs.Job.{recordsVerdict}
 use Rattle.job_checks.proofs.CheckLaws.{records-checked}
 use Rattle.job_areas.specs.Areas.{Lent}
-use Rattle.job.specs.Entry.{badShape, spaceVerdict, lentVerdict}
+use Rattle.job.specs.Entry.{spaceVerdict, lentVerdict}
 
 pub check-told : (r : Refusal) (t : Bool) → check r t ≡ Fine → t ≡ false
 check-told r true e = absurd (let z : _≡_ {A = ℕ} 0 1 = cc in omega arith)
 check-told r false e = refl
-
--- ---- number 1 of the budget, the cells and the items
-
-module _ (budget cells items : ℕ) where
-  pub over-budget : 1048576 < budget → true ≡ badShape budget cells items
-  over-budget h = simp (lt-ltb 1048576 budget h)
-
-  pub odd-cells : budget ≤ 1048576 → (cells % 2 ≡ 0 → ⊥) → true ≡ badShape budget cells items
-  odd-cells h d = simp (le-ltb 1048576 budget h, ne-eqb (cells % 2) 0 d)
-
-  pub by-items : (r : Bool) → budget ≤ 1048576 → cells % 2 ≡ 0 → r ≡ not (eqb (items % 4) 0) → r ≡ badShape budget cells items
-  by-items r h e g = g ∙ simp (le-ltb 1048576 budget h, eq-eqb (cells % 2) 0 e)
 
 -- ---- number 7
 

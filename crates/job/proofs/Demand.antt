@@ -18,14 +18,15 @@ use Rattle.areas.specs.Job.{Job, Checked, itemCount, itemArea, rangesOf, listVe
 use Rattle.fitting.specs.Wants.{orderOf}
 use Rattle.fitting.specs.Plan.{Plan, Cell, cellAt}
 use Rattle.wants.specs.Entry.{Tally, tallyOf, cellRow, cellRows}
-use Rattle.item_areas.specs.Entry.{itemRow}
-use Rattle.item_areas.proofs.TableLaws.{row-long}
+use Rattle.item_lists.specs.Lists.{itemRow}
+use Rattle.item_lists.proofs.TableLaws.{row-long}
 use Rattle.job_checks.specs.Job.{jobOf}
 use Rattle.soundness.specs.Walks.{Step, Legal, Separate}
 use Rattle.soundness.specs.Demand.{wantsOf, frameOf, jobPlan}
 use Rattle.soundness.proofs.Demand.{job-order, separate, uses, any-cells, demand-3}
-use Rattle.job.specs.declared.Shared.the-variants.{Plan as Planned, Refused}
-use Rattle.job.specs.Entry.{lentVerdict, verdictOf, itemRows, SharedAs}
+use Rattle.job_answers.specs.declared.Shared.the-variants.{Plan as Planned, Refused}
+use Rattle.job_answers.specs.Answers.{itemRows}
+use Rattle.job.specs.Entry.{lentVerdict, verdictOf, SharedAs}
 use Rattle.job.specs.Reads.{cellIn, sizeIn, ReadsAsPrivate}
 use Rattle.job.proofs.CheckLaws.{granted}
 

@@ -24,17 +24,19 @@ use Rattle.areas.specs.Job.{Job, Local, localsOf, itemCount, itemArea, listVerd
 use Rattle.areas.proofs.ApartLaws.{areas-apart}
 use Rattle.fitting.specs.Wants.{Want, orderOf}
 use Rattle.fitting.specs.Plan.{Plan, planOf}
-use Rattle.area_tables.specs.Tables.{listVerdict as listVerdictOf}
+use Rattle.area_tables.specs.Tables.{listVerdict as listVerdictOf, listing}
 use Rattle.area_measure.specs.Locals.{wordOf, ListedBy}
-use Rattle.job_checks.specs.declared.Sizes.{Sizes}
-use Rattle.job_checks.specs.Job.{jobOf, sizesOf, spaceOf, Small}
-use Rattle.job_areas.specs.Areas.{listing, Lent, Solved}
+use Rattle.job_space.specs.declared.Sizes.{Sizes}
+use Rattle.job_space.specs.Space.{sizesOf, spaceOf, Small}
+use Rattle.job_checks.specs.Job.{jobOf}
+use Rattle.job_areas.specs.Areas.{Lent, Solved}
 use Rattle.job_fit.specs.Wants.{countOf, sizeAt, alignAt, wantFor, wantsFor, planFor}
 use Rattle.soundness.specs.Demand.{wantOf, wantsOf, jobPlan}
-use Rattle.job.specs.declared.Shared.{Shared}
-use Rattle.job.specs.declared.Shared.the-variants.{Refused}
-use Rattle.job.specs.Entry.{lentVerdict, AnsweredBy, SharedAs}
-use Rattle.job.specs.Inner.{Measured}
+use Rattle.job_answers.specs.declared.Shared.{Shared}
+use Rattle.job_answers.specs.declared.Shared.the-variants.{Refused}
+use Rattle.job.specs.Entry.{lentVerdict, SharedAs}
+use Rattle.job_answers.specs.Answers.{AnsweredBy}
+use Rattle.job_answers.specs.Inner.{Measured}
 use Rattle.job.proofs.CheckLaws.{Granted}
 
 -- ---- the wants are the job's

@@ -1,4 +1,3 @@
 pub mod CheckLaws
-pub mod TableLaws
 pub mod EntryLaws
 pub mod Demand

@@ -1,32 +1,17 @@
 // The refusals that come before the areas are measured: numbers 1 to 7, in linear time and without work space.
 ghost use mathlib.Core.Path.{_≡_};
-ghost use Rattle.job_checks.specs.Job.{Small};
-ghost use Rattle.job.specs.Entry.{badShape, spaceVerdict, lentVerdict};
-use job_checks::Sizes;
+ghost use Rattle.job_space.specs.Space.{Small};
+ghost use Rattle.job.specs.Entry.{spaceVerdict, lentVerdict};
+use job_space::Sizes;
 use refusals::Refusal;
 use refusals::Verdict;
-
-const BUDGET: u32 = 1048576;
-
-// Refusal 1 of what only fitting takes: a budget over its limit, or a cell or an item list that is no whole rows.
-fn bad_shape(budget: u32, cells: usize, items: usize) -> bool
-    ensures { λ r. ⌜ r ≡ badShape budget cells items ⌝ }
-{
-    if BUDGET < budget {
-        return true;
-    }
-    if cells % 2 != 0 {
-        return true;
-    }
-    items % 4 != 0
-}
 
 // Refusal 7: work space under W, or a cell or an item list under the items.
 fn short(z: Sizes, cells: usize, items: usize, work: usize) -> Verdict
     requires { ⌜ Small z ⌝ }
     ensures { λ r. ⌜ r ≡ spaceVerdict z cells items work ⌝ }
 {
-    if work < job_checks::space::needed(z) {
+    if work < job_space::needed(z) {
         return Verdict::Bad(Refusal::Space, 0);
     }
     if cells / 2 < z.locals + z.slots {
@@ -62,7 +47,7 @@ pub fn refusal(
 ) -> Verdict
     ensures { λ r. ⌜ r ≡ lentVerdict points v budget (now (blocks .entry)) (now (edges .entry)) (now (insts .entry)) (now (operands .entry)) (now (crossings .entry)) (now (locals .entry)) (now (slots .entry)) (now (addresses .entry)) (now (ends .entry)) (now (pieces .entry)) (now (assigned .entry)) (now (moves .entry)) cells items areas work ⌝ }
 {
-    if bad_shape(budget, cells, items) {
+    if job_space::bad_shape(budget, cells, items) {
         return Verdict::Bad(Refusal::Count, 0);
     }
     let lent = job_checks::checks::records(
@@ -85,7 +70,7 @@ pub fn refusal(
     if let Verdict::Bad(r, i) = lent {
         return Verdict::Bad(r, i);
     }
-    let z = job_checks::space::sizes(
+    let z = job_space::records::sizes(
         v,
         blocks,
         edges,

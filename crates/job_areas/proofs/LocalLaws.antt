@@ -29,13 +29,15 @@ use Rattle.area_measure.specs.Locals.{wordOf}
 use Rattle.area_measure.proofs.ListLaws.{listed-none}
 use Rattle.job_spots.specs.declared.Places.{Places}
 use Rattle.job_locals.specs.Locals.{Asked, LocalsIn}
-use Rattle.job_checks.specs.declared.Sizes.{Sizes}
-use Rattle.job_checks.specs.Job.{jobOf, sizesOf, spaceOf, Small}
-use Rattle.job_checks.proofs.SpaceLaws.{rows-small}
+use Rattle.job_space.specs.declared.Sizes.{Sizes}
+use Rattle.job_space.specs.Space.{sizesOf, spaceOf, Small}
+use Rattle.job_checks.specs.Job.{jobOf}
+use Rattle.job_space.proofs.SpaceLaws.{rows-small}
 use Rattle.job_layout.specs.declared.Regions.{Regions}
 use Rattle.job_layout.specs.Layout.{gridSizes, Placed, LaidFrom, SlotsFrom, mostOfLocal, LocalsLaid}
 use Rattle.job_layout.proofs.FitLaws.{ranges-small, locals-laid, layout-fits}
-use Rattle.job_areas.specs.Areas.{Lent, listing, LocalsDone}
+use Rattle.area_tables.specs.Tables.{listing}
+use Rattle.job_areas.specs.Areas.{Lent, LocalsDone}
 
 -- number 8 does not go by the edges
 same-block : (blocks : List ℕ) (d e : List Edge) (n x : ℕ) → holding (lineOf blocks d) n x ≡ holding (lineOf blocks e) n x

@@ -26,12 +26,14 @@ use Rattle.slot_spots.specs.declared.Places.{Places}
 use Rattle.slot_spots.specs.Slots.{heldWord}
 use Rattle.area_measure.specs.Locals.{wordOf, ListedBy}
 use Rattle.slot_measure.specs.All.{mostFor, AreasBy}
-use Rattle.job_checks.specs.declared.Sizes.{Sizes}
-use Rattle.job_checks.specs.Job.{jobOf, sizesOf, spaceOf, Small}
+use Rattle.job_space.specs.declared.Sizes.{Sizes}
+use Rattle.job_space.specs.Space.{sizesOf, spaceOf, Small}
+use Rattle.job_checks.specs.Job.{jobOf}
 use Rattle.job_layout.specs.declared.Regions.{Regions}
 use Rattle.job_layout.specs.Layout.{Placed, SlotsFrom, mostOfLocal, mostOfSlot}
 use Rattle.job_layout.proofs.FitLaws.{slots-in-order, slots-laid, slots-within}
-use Rattle.job_areas.specs.Areas.{SlotsAsked, SlotsIn, Lent, listing, LocalsDone, SlotsDue, SlotsDone, Solved}
+use Rattle.area_tables.specs.Tables.{listing}
+use Rattle.job_areas.specs.Areas.{SlotsAsked, SlotsIn, Lent, LocalsDone, SlotsDue, SlotsDone, Solved}
 use Rattle.job_areas.proofs.KeptLaws.{held-bound}
 
 -- ---- the slots' phase

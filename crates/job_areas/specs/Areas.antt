@@ -18,8 +18,10 @@ use Rattle.slot_spots.specs.Slots.{heldWord, Laid}
 use Rattle.area_measure.specs.declared.Listing.{Listing}
 use Rattle.area_measure.specs.Locals.{wordOf, ListedBy}
 use Rattle.slot_measure.specs.All.{mostFor, AreasBy}
-use Rattle.job_checks.specs.declared.Sizes.{Sizes}
-use Rattle.job_checks.specs.Job.{jobOf, sizesOf, spaceOf, Small, Passed}
+use Rattle.area_tables.specs.Tables.{listing}
+use Rattle.job_space.specs.declared.Sizes.{Sizes}
+use Rattle.job_space.specs.Space.{sizesOf, spaceOf, Small}
+use Rattle.job_checks.specs.Job.{jobOf, Passed}
 use Rattle.job_layout.specs.declared.Regions.{Regions}
 use Rattle.job_layout.specs.Layout.{Placed, mostOfLocal}
 
@@ -52,10 +54,6 @@ pub record SlotsIn (points : ℕ) (blocks insts moves pieces assigned : List ℕ
 pub record Lent (points v : ℕ) (blocks edges insts operands crossings locals slots addresses ends pieces assigned moves : List ℕ) (areas : ℕ) (w : List ℕ) : Type 0 where
   pub passed : Passed points v blocks edges insts operands crossings locals slots addresses ends pieces assigned moves areas
   pub space : spaceOf (sizesOf v blocks edges insts operands crossings locals slots addresses ends pieces assigned moves areas) ≤ length w
-
--- the areas stand from 0 on, the items' words from `items` on
-abbrev pub listing : ℕ → ℕ → Listing
-listing room items = record { areas = 0; room = room; items = items }
 
 -- the areas of the locals; the live pieces stand as they did, and nothing past W has changed
 pub record LocalsDone (points v : ℕ) (blocks edges insts operands crossings locals slots addresses ends pieces assigned moves : List ℕ) (areas : ℕ) (r : Regions) (w₀ w : List ℕ) (n : ℕ) : Type 0 where

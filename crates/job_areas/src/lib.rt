@@ -1,13 +1,13 @@
 // The areas of all items of a job in the work space, from records that no check refuses: the locals', then the slots'.
 ghost use mathlib.Core.Path.{_≡_};
 ghost use lib.ListN.{length};
-ghost use Rattle.job_checks.specs.Job.{sizesOf};
+ghost use Rattle.job_space.specs.Space.{sizesOf};
 ghost use Rattle.job_layout.specs.Layout.{Placed};
 ghost use Rattle.live.specs.Live.{InOrder};
 ghost use Rattle.job_areas.specs.Areas.{Lent, LocalsDone, SlotsDue, SlotsDone, Solved};
 use area_measure::Listing;
-use job_checks::Sizes;
 use job_layout::Regions;
+use job_space::Sizes;
 use job_spots::Places;
 
 pub mod slots; // slots.rt: the slots' phase
@@ -133,7 +133,7 @@ pub fn solve(
     requires { ⌜ Lent points v (now blocks) (now edges) (now insts) (now operands) (now crossings) (now locals) (now slots) (now addresses) (now ends) (now pieces) (now assigned) (now moves) areas (now work) ⌝ }
     ensures { λ n. ⌜ Solved points v (now (blocks .entry)) (now (edges .entry)) (now (insts .entry)) (now (operands .entry)) (now (crossings .entry)) (now (locals .entry)) (now (slots .entry)) (now (addresses .entry)) (now (ends .entry)) (now (pieces .entry)) (now (assigned .entry)) (now (moves .entry)) areas (now (work .entry)) (now (work .exit)) n ⌝ }
 {
-    let z = job_checks::space::sizes(
+    let z = job_space::records::sizes(
         v,
         blocks,
         edges,

@@ -23,7 +23,8 @@ use Rattle.insts.proofs.CheckLaws.{most-few, rows-few}
 use Rattle.carry_checks.specs.Checks.{carryCounts, strayVerdict as mentionVerdict}
 use Rattle.carry_checks.proofs.CheckLaws.{counted, Counted, stray-whatever, addresses-found, ends-found}
 use Rattle.spill_checks.proofs.OperandLaws.{moves-whatever}
-use Rattle.job_checks.specs.Job.{jobOf, otherCounts, countVerdict, recordsVerdict, sizesOf, Small, Passed}
+use Rattle.job_space.specs.Space.{sizesOf, Small}
+use Rattle.job_checks.specs.Job.{jobOf, otherCounts, countVerdict, recordsVerdict, Passed}
 use Rattle.job_checks.specs.Inner.{placeVerdict, strayVerdict, liveVerdict}
 
 -- ---- number 1

@@ -1,5 +1,5 @@
--- Document 01: a job as its rows are lent, numbers 1 to 6 of it in their order, and W.
-use Prim.Native.Nat.{ℕ, _+_, _*_, _/_, _≤_, _<_}
+-- Document 01: a job as its rows are lent, and numbers 1 to 6 of it in their order.
+use Prim.Native.Nat.{ℕ, _*_, _<_}
 use mathlib.Core.Path.{_≡_}
 use mathlib.Core.List.{List, []}
 use lib.ListN.{length, getD}
@@ -15,9 +15,9 @@ use Rattle.areas.specs.Slots.{assignedOf, movesOf, moveVerdict, pieceVerdict, a
 use Rattle.areas.specs.Job.{Job, localsOf, checks, Checked}
 use Rattle.insts.specs.Counts.{rowsVerdict, mostVerdict}
 use Rattle.insts.specs.Rows.{AddsUp}
-use Rattle.reach.specs.Prepared.{wordsOf, codeOf}
+use Rattle.reach.specs.Prepared.{codeOf}
 use Rattle.carry_checks.specs.Checks.{carryCounts}
-use Rattle.job_checks.specs.declared.Sizes.{Sizes}
+use Rattle.job_space.specs.Space.{sizesOf, Small}
 
 -- the records of the rows, in the job text's group order
 abbrev pub jobOf : ℕ → ℕ → List ℕ → List ℕ → List ℕ → List ℕ → List ℕ → List ℕ → List ℕ → List ℕ → List ℕ → List ℕ → List ℕ → List ℕ → Job
@@ -51,52 +51,6 @@ unfoldable pub recordsVerdict : ℕ → ℕ → List ℕ → List ℕ → List �
 recordsVerdict points v blocks edges insts operands crossings locals slots addresses ends pieces assigned moves areas =
     first (countVerdict v blocks edges insts operands crossings locals slots addresses ends pieces assigned moves areas)
     (inOrder (checks (jobOf points v blocks edges insts operands crossings locals slots addresses ends pieces assigned moves)))
-
--- ---- counts
-
--- how many records are lent, how many ranges the area list holds, and V
-abbrev pub sizesOf : ℕ → List ℕ → List ℕ → List ℕ → List ℕ → List ℕ → List ℕ → List ℕ → List ℕ → List ℕ → List ℕ → List ℕ → List ℕ → ℕ → Sizes
-sizesOf v blocks edges insts operands crossings locals slots addresses ends pieces assigned moves areas =
-    record {
-      v = v;
-      blocks = rowCount 3 blocks;
-      edges = rowCount 2 edges;
-      insts = rowCount 9 insts;
-      operands = rowCount 2 operands;
-      crossings = length crossings;
-      locals = rowCount 2 locals;
-      slots = length slots;
-      addresses = rowCount 2 addresses;
-      ends = rowCount 2 ends;
-      pieces = rowCount 3 pieces;
-      assigned = rowCount 2 assigned;
-      moves = rowCount 4 moves;
-      room = areas / 2;
-    }
-
--- W = 8 × (all record counts + B × ⌈locals/64⌉ + area list length + ⌈V/64⌉)
-abbrev pub spaceOf : Sizes → ℕ
-spaceOf z =
-    8 * (z .blocks + z .edges + z .insts + z .operands + z .crossings + z .locals + z .slots + z .addresses + z .ends + z .pieces + z .assigned + z .moves
-    + z .blocks * wordsOf (z .locals) + z .room + wordsOf (z .v))
-
--- within the limits
-pub record Small (z : Sizes) : Type 0 where
-  pub registers : z .v ≤ 65535
-  pub some-block : 0 < z .blocks
-  pub few-blocks : z .blocks ≤ 4096
-  pub few-edges : z .edges ≤ 16384
-  pub few-insts : z .insts ≤ 65536
-  pub few-operands : z .operands ≤ 262144
-  pub few-crossings : z .crossings ≤ 65536
-  pub few-locals : z .locals ≤ 2048
-  pub few-slots : z .slots ≤ 2048
-  pub few-addresses : z .addresses ≤ 65536
-  pub few-ends : z .ends ≤ 65536
-  pub few-pieces : z .pieces ≤ 65536
-  pub few-assigned : z .assigned ≤ 65536
-  pub few-moves : z .moves ≤ 65536
-  pub few-ranges : z .room ≤ 65536
 
 -- what no refusal says of the rows
 pub record Passed (points v : ℕ) (blocks edges insts operands crossings locals slots addresses ends pieces assigned moves : List ℕ) (areas : ℕ) : Type 0 where

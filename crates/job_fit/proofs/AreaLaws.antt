@@ -21,7 +21,7 @@ use Rattle.area_measure.specs.Locals.{listed, wordOf, ListedBy}
 use Rattle.area_measure.proofs.ListLaws.{ranges-append, ranges-more, gather-more}
 use Rattle.cell_tables.specs.Tables.{firstOf, countOf, rangesAt, areaIn, Proper}
 use Rattle.cell_tables.proofs.TableLaws.{area-none, area-some}
-use Rattle.job_areas.specs.Areas.{listing}
+use Rattle.area_tables.specs.Tables.{listing}
 
 -- ---- lists
 

@@ -23,7 +23,7 @@ use Rattle.order.specs.Keys.{sizeOf, alignOf}
 use Rattle.cell_tables.specs.declared.Counts.{Counts}
 use Rattle.cell_tables.specs.Tables.{areaIn, wantIn, wantsIn, planIn, Lent, Shown, Fitted}
 use Rattle.area_measure.specs.Locals.{wordOf, ListedBy}
-use Rattle.job_areas.specs.Areas.{listing}
+use Rattle.area_tables.specs.Tables.{listing}
 use Rattle.job_fit.specs.Wants.{countOf, sizeAt, alignAt, localWord, slotWord, wantWord, wantFor, wantsFor, planFor, Ready, Holds, FittedFor}
 use Rattle.job_fit.proofs.AreaLaws.{area-is, proper-is, listed-kept}
 

@@ -15,7 +15,7 @@ use Rattle.fitting.specs.Plan.{Plan, planOf, depthOf}
 use Rattle.cell_tables.specs.declared.Counts.{Counts}
 use Rattle.cell_tables.specs.Tables.{Shown}
 use Rattle.area_measure.specs.Locals.{wordOf, ListedBy}
-use Rattle.job_areas.specs.Areas.{listing}
+use Rattle.area_tables.specs.Tables.{listing}
 
 -- items: locals, then slots
 abbrev pub countOf : List ℕ → List ℕ → ℕ

@@ -14,9 +14,9 @@ use Rattle.area_layout.specs.Layout.{Small as GridSmall}
 use Rattle.area_layout.proofs.FitLaws.{rows-fit}
 use Rattle.slot_spots.specs.declared.Places.{Places}
 use Rattle.slot_spots.specs.Slots.{Laid as SlotLaid}
-use Rattle.job_checks.specs.declared.Sizes.{Sizes}
-use Rattle.job_checks.specs.Job.{spaceOf, Small}
-use Rattle.job_checks.proofs.SpaceLaws.{rows-small}
+use Rattle.job_space.specs.declared.Sizes.{Sizes}
+use Rattle.job_space.specs.Space.{spaceOf, Small}
+use Rattle.job_space.proofs.SpaceLaws.{rows-small}
 use Rattle.job_layout.specs.declared.Regions.{Regions}
 use Rattle.job_layout.specs.Layout.{gridSizes, Placed, LaidFrom, SlotsFrom, mostOfLocal, mostOfSlot, Fits, Order, SlotOrder, LocalsLaid, SlotsLaid}
 

@@ -12,8 +12,8 @@ use Rattle.area_layout.specs.declared.Sizes.{Sizes as GridSizes}
 use Rattle.area_layout.specs.Layout.{markOf}
 use Rattle.slot_spots.specs.declared.Places.{Places}
 use Rattle.slot_spots.specs.Slots.{Laid as SlotLaid}
-use Rattle.job_checks.specs.declared.Sizes.{Sizes}
-use Rattle.job_checks.specs.Job.{spaceOf}
+use Rattle.job_space.specs.declared.Sizes.{Sizes}
+use Rattle.job_space.specs.Space.{spaceOf}
 use Rattle.job_layout.specs.declared.Regions.{Regions}
 
 -- the counts that the grid goes by; it has no region for the others

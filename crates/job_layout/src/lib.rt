@@ -2,11 +2,11 @@
 // the locals are measured, and then, over the same words again, the slots'.
 ghost use mathlib.Core.Path.{_≡_};
 ghost use Prim.Native.Nat.{_*_, _≤_};
-ghost use Rattle.job_checks.specs.Job.{Small};
+ghost use Rattle.job_space.specs.Space.{Small};
 ghost use Rattle.area_layout.specs.Layout.{Gridded, markOf};
 ghost use Rattle.job_layout.specs.Layout.{gridSizes, Placed, LaidFrom, SlotsFrom};
 use area_flow::Grid;
-use job_checks::Sizes;
+use job_space::Sizes;
 use reach::Lay;
 use slot_spots::Places;
 

@@ -5,8 +5,8 @@ use mathlib.Core.List.{List, _∷_, _++_}
 use lib.ListN.{length, getD, drop}
 use Rattle.words.specs.Rows.{tabulate, flat}
 use Rattle.want_tables.specs.Tables.{cellRowsIn}
-use Rattle.area_tables.specs.Tables.{rowsIn}
-use Rattle.item_areas.specs.Inner.{rowOf as partOf}
+use Rattle.answer_rows.specs.Rows.{rowsIn}
+use Rattle.answer_rows.specs.Tables.{rowOf as partOf}
 
 -- an item's row, by its cell and its word
 abbrev pub rowOf : ℕ → ℕ → List ℕ

@@ -4,7 +4,7 @@ ghost use mathlib.Core.List.{_++_};
 ghost use Prim.Native.Nat.{ℕ, _+_, _*_, _^_, _≤_, _<_};
 ghost use lib.ListN.{length, getD, drop};
 ghost use Rattle.words.specs.Rows.{rowPut};
-ghost use Rattle.item_areas.specs.Inner.{itemOf};
+ghost use Rattle.answer_rows.specs.Tables.{itemOf};
 ghost use Rattle.job_tables.specs.Tables.{rowsOf, Listable, Written};
 
 // One item's row of four numbers: its cell, then its part of the area list by its word.
@@ -12,7 +12,7 @@ fn put_item(out: &mut [u32], at: usize, cell: u64, word: u64)
     requires { ⌜ (at + 4 ≤ length (now out)) × (cell < 2 ^ 32) ⌝ }
     ensures { λ _. ⌜ now (out .exit) ≡ rowPut (now (out .entry)) at cell (itemOf word .present) (itemOf word .first) (itemOf word .count) ⌝ }
 {
-    let t = item_areas::tables::part(word);
+    let t = answer_rows::part(word);
     out[at] = cell as u32;
     out[at + 1] = t.present;
     out[at + 2] = t.first;
@@ -47,5 +47,5 @@ pub fn write(
     let room = areas.len() / 2;
     want_tables::write_cells(cells, w, room + 5 * n, used);
     write_items(items, w, room, room + 6 * n, n);
-    area_tables::write_rows(areas, w, 0, total, 0);
+    answer_rows::write_rows(areas, w, 0, total, 0);
 }

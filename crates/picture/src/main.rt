@@ -4,7 +4,7 @@ ghost use mathlib.Core.Path.{_≡_};
 ghost use Prim.Native.Nat.{_*_, _≤_};
 ghost use lib.ListN.{length};
 ghost use Rattle.grammar.specs.Groups.{none, rowNumbers};
-ghost use Rattle.planning.specs.Answer.{Few};
+ghost use Rattle.row_plans.specs.Groups.{Few};
 use drawing::Axis;
 use drawing::axis_of;
 use drawing::height;

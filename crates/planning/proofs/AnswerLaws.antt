@@ -1,7 +1,7 @@
 -- From what each function leaves to what the program prints.
 use Prim.Native.Nat.{ℕ, zero, suc, _+_, _-_, _*_, _/_, _≤_, _<_}
 use native.Mathlib.Omega.{arith}
-use native.Mathlib.Nat.{not-suc-le-zero, zero-add}
+use native.Mathlib.Nat.{not-suc-le-zero}
 use native.Mathlib.Decide.{ℕ-discrete}
 use mathlib.Core.Path.{_≡_, refl, ap, sym, subst, _∙_}
 use mathlib.Core.Bool.{Bool, false}
@@ -18,7 +18,7 @@ use Rattle.refusals.specs.Verdicts.{numberOf, first, check}
 use Rattle.refusals.specs.Outcomes.{Outcome, given, refused, unless, after}
 use Rattle.refusals.proofs.Laws.{first-left, first-right}
 use Rattle.words.specs.Regions.{part}
-use Rattle.words.proofs.RegionLaws.{getD-part, length-part}
+use Rattle.words.proofs.RegionLaws.{length-part}
 use Rattle.words.proofs.RowLaws.{length-records}
 use Rattle.ranges.proofs.PointLaws.{or-none}
 use Rattle.areas.specs.Job.{Job, Local, itemCount, itemArea, listVerdict}
@@ -27,9 +27,10 @@ use Rattle.query_checks.specs.Checks.{sharedVerdict}
 use Rattle.wants.specs.Entry.{Tally, tallied, tallyOf, cellRows}
 use Rattle.area_tables.specs.Tables.{areaRows}
 use Rattle.soundness.specs.Demand.{jobPlan}
-use Rattle.job.specs.declared.Shared.{Shared}
-use Rattle.job.specs.declared.Shared.the-variants.{Plan as Planned, Refused}
-use Rattle.job.specs.Entry.{answered, itemRows, lentVerdict, verdictOf, SharedAs}
+use Rattle.job_answers.specs.declared.Shared.{Shared}
+use Rattle.job_answers.specs.declared.Shared.the-variants.{Plan as Planned, Refused}
+use Rattle.job_answers.specs.Answers.{answered, itemRows}
+use Rattle.job.specs.Entry.{lentVerdict, verdictOf}
 use Rattle.job.proofs.CheckLaws.{check-told}
 use Rattle.grammar.specs.Groups.{groupAt, none, rowNumbers}
 use Rattle.grammar.specs.Lines.{linesOf}
@@ -42,8 +43,9 @@ use Rattle.plan_text.specs.declared.Written.{Written}
 use Rattle.plan_text.specs.declared.Written.the-variants.{Bytes, Refused as WrittenRefused}
 use Rattle.plan_text.specs.Printed.{printed, refusalText, printVerdict, writtenOf, PrintedTo, planText, noText}
 use Rattle.plan_text.proofs.LineLaws.{line-length}
-use Rattle.planning.specs.Program.{told, jobText, points, registers, budget, job, refusal, printedFor, numbersIn, programText}
-use Rattle.planning.specs.Answer.{Finished, Read, numbersAt, Few, SharedFor, Stands, Answers, roomFor}
+use Rattle.planning.specs.Program.{told, jobText, job, refusal, printedFor, numbersIn, programText}
+use Rattle.row_plans.specs.Groups.{points, registers, budget, numbersAt, Few, SharedFor}
+use Rattle.planning.specs.Answer.{Finished, Read, Stands, Answers, roomFor}
 use Rattle.planning.proofs.GroupLaws.{same-printed}
 use Rattle.planning.proofs.PrintLaws.{Printable, cells-long, items-long, plan-fine, text-before, text-short}
 use Rattle.planning.proofs.JobLaws.{job-printable}
@@ -134,31 +136,10 @@ module _ (text rows counts : List ℕ) where
 pub stands-as : {a b out : List ℕ} {n : ℕ} {out′ : List ℕ} → a ≡ b → Stands a out n out′ → Stands b out n out′
 stands-as {a} {b} {out} {n} {out′} e s = subst (λ (x : List ℕ). Stands x out n out′) e s
 
--- ---- the records in the reader's lists
-
--- a part of the rows, from where its group begins
-pub cut-at : (rows : List ℕ) (a b n : ℕ) → b ≡ a + n → take (b - a) (drop a rows) ≡ part a n rows
-cut-at rows a b n e = let f : b - a ≡ n = omega arith in ap (λ (k : ℕ). take k (drop a rows)) f
-
--- the same of records of one number
-pub cut-one : (rows : List ℕ) (a b n : ℕ) → b ≡ a + n → take (b - a) (drop a rows) ≡ part a (1 * n) rows
-cut-one rows a b n e = let f : b - a ≡ 1 * n = omega arith in ap (λ (k : ℕ). take k (drop a rows)) f
-
-pub shared-same : {p p′ v v′ b b′ : ℕ} {g1 g2 g3 g4 g5 g6 g7 g8 g9 g10 g11 g12 h1 h2 h3 h4 h5 h6 h7 h8 h9 h10 h11 h12 cells items areas work : List ℕ} {r : Shared} {cells′ items′ areas′ work′ : List ℕ}
-    → p ≡ p′ → v ≡ v′ → b ≡ b′ → g1 ≡ h1 → g2 ≡ h2 → g3 ≡ h3 → g4 ≡ h4 → g5 ≡ h5 → g6 ≡ h6 → g7 ≡ h7 → g8 ≡ h8 → g9 ≡ h9 → g10 ≡ h10 → g11 ≡ h11 → g12 ≡ h12
-    → SharedAs p v b g1 g2 g3 g4 g5 g6 g7 g8 g9 g10 g11 g12 cells items areas work r cells′ items′ areas′ work′
-    → SharedAs p′ v′ b′ h1 h2 h3 h4 h5 h6 h7 h8 h9 h10 h11 h12 cells items areas work r cells′ items′ areas′ work′
-shared-same e0 e1 e2 e3 e4 e5 e6 e7 e8 e9 e10 e11 e12 e13 e14 E = rw (sym e0, sym e1, sym e2, sym e3, sym e4, sym e5, sym e6, sym e7, sym e8, sym e9, sym e10, sym e11, sym e12, sym e13, sym e14) E
-
-pub head-at : (rows counts : List ℕ) → Few counts → (i : ℕ) → i < 3 → getD rows i 0 ≡ getD (numbersAt rows counts 0) i 0
-head-at rows counts F i h =
-    let n = F .head in
-    ap (λ (k : ℕ). getD rows k 0) (sym (zero-add i)) ∙ sym (getD-part 0 (3 * getD counts 0 0) rows i (omega arith))
+-- ---- the answer of the whole job, as text
 
 pub sum-is : {a b x y : ℕ} → a ≡ x → b ≡ y → a + b ≡ x + y
 sum-is e f = omega arith
-
--- ---- the answer of the whole job, as text
 
 told-refused : (v : Verdict) (p : Plan) (n i : ℕ) → refused n i ≡ tallyOf (unless v p) → (t : List ℕ) → refusalText n i ≡ told (unless v t)
 told-refused Fine p n i e t = absurd (let z : _≡_ {A = ℕ} 0 1 = cc in omega arith)

@@ -31,9 +31,9 @@ use Rattle.query_checks.specs.Checks.{badCount, badAreas, outside, badItem, sha
 use Rattle.query_checks.proofs.CheckLaws.{Sound, item-named, out-absent, out-present, parts-fine}
 use Rattle.queries.proofs.ShareLaws.{shared-at}
 use Rattle.wants.specs.Entry.{cellRow, cellRows}
-use Rattle.item_areas.specs.Entry.{itemRow}
-use Rattle.item_areas.proofs.TableLaws.{row-long}
-use Rattle.job.specs.Entry.{itemRows}
+use Rattle.item_lists.specs.Lists.{itemRow}
+use Rattle.item_lists.proofs.TableLaws.{row-long}
+use Rattle.job_answers.specs.Answers.{itemRows}
 use Rattle.plan_text.specs.Printed.{cellLines, itemLines, rangeLine, areaLines, sharedLines, totalLine, printed}
 use Rattle.plan_text.proofs.LineLaws.{line-length}
 use Rattle.plan_text.proofs.PlanLaws.{cells-length, items-length}

@@ -23,7 +23,8 @@ use Rattle.carry_checks.specs.Checks.{carryCounts}
 use Rattle.job_checks.specs.Job.{otherCounts, countVerdict, recordsVerdict}
 use Rattle.soundness.specs.Demand.{jobPlan}
 use Rattle.soundness.proofs.StarOne.{star-1-job, star-1-checked, star-1-areas, star-1 as star-1-plan}
-use Rattle.job.specs.Entry.{itemRows, lentVerdict}
+use Rattle.job_answers.specs.Answers.{itemRows}
+use Rattle.job.specs.Entry.{lentVerdict}
 use Rattle.grammar.proofs.Stars.{star, star-1 as star-1-read}
 use Rattle.plan_text.specs.Printed.{printed}
 use Rattle.plan_text.proofs.Stars.{star as starText, star-1 as star-1-printed}

@@ -2,7 +2,7 @@
 use Prim.Native.Nat.{ℕ}
 use mathlib.Core.Option.{Option}
 use mathlib.Core.List.{List}
-use lib.ListN.{length, getD}
+use lib.ListN.{length}
 use Rattle.refusals.specs.declared.Verdict.{Verdict}
 use Rattle.refusals.specs.Verdicts.{first}
 use Rattle.refusals.specs.Outcomes.{Outcome, given, refused, unless}
@@ -14,9 +14,11 @@ use Rattle.wants.specs.Entry.{cellRows}
 use Rattle.area_tables.specs.Tables.{areaRows}
 use Rattle.job_checks.specs.Job.{jobOf}
 use Rattle.soundness.specs.Demand.{jobPlan}
-use Rattle.job.specs.Entry.{itemRows, verdictOf}
+use Rattle.job_answers.specs.Answers.{itemRows}
+use Rattle.job.specs.Entry.{verdictOf}
 use Rattle.grammar.specs.Lines.{linesOf}
 use Rattle.grammar.specs.Text.{rowsIn, readVerdict}
+use Rattle.row_plans.specs.Groups.{points, registers, budget}
 use Rattle.plan_text.specs.Printed.{printed, refusalText}
 
 -- "its area list has 64 ranges"; cells and items have room for 64 locals and 64 slots, and the work space is over W of 64 records of each group
@@ -47,28 +49,18 @@ jobText J budget = textOf (itemCount J) (itemArea J) (length (J .locals)) (jobPl
 
 -- the numbers of the records of each group, `H`'s line first
 module _ (group : ℕ → List ℕ) where
-  -- "`H,points,V,budget`"
-  abbrev pub points : ℕ
-  points = getD (group 0) 0 0
-
-  abbrev pub registers : ℕ
-  registers = getD (group 0) 1 0
-
-  abbrev pub budget : ℕ
-  budget = getD (group 0) 2 0
-
   abbrev pub job : Job
-  job = jobOf points registers (group 1) (group 2) (group 3) (group 4) (group 5) (group 6) (group 7) (group 8) (group 9) (group 10) (group 11) (group 12)
+  job = jobOf (points group) (registers group) (group 1) (group 2) (group 3) (group 4) (group 5) (group 6) (group 7) (group 8) (group 9) (group 10) (group 11) (group 12)
 
   -- what the job is refused for
   abbrev pub refusal : Verdict
   refusal =
-      verdictOf points registers budget (group 1) (group 2) (group 3) (group 4) (group 5) (group 6) (group 7) (group 8) (group 9) (group 10) (group 11) (group 12)
+      verdictOf (points group) (registers group) (budget group) (group 1) (group 2) (group 3) (group 4) (group 5) (group 6) (group 7) (group 8) (group 9) (group 10) (group 11) (group 12)
       cellNumbers itemNumbers areaNumbers workWords
 
   -- the reader's refusals come before the job's
   unfoldable pub printedFor : Verdict → List ℕ
-  printedFor v = told (unless (first v refusal) (jobText job budget))
+  printedFor v = told (unless (first v refusal) (jobText job (budget group)))
 
 -- the numbers of a group's records in a text
 abbrev pub numbersIn : List ℕ → ℕ → List ℕ

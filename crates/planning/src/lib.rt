@@ -9,7 +9,8 @@ ghost use Rattle.grammar.specs.Groups.{rowNumbers, none};
 ghost use Rattle.query_checks.specs.Checks.{sharedVerdict};
 ghost use Rattle.plan_text.specs.Printed.{printed, refusalText, writtenOf};
 ghost use Rattle.planning.specs.Program.{printedFor};
-ghost use Rattle.planning.specs.Answer.{numbersAt, Few, SharedFor, Read, Stands, Answers, roomFor};
+ghost use Rattle.row_plans.specs.Groups.{numbersAt, Few};
+ghost use Rattle.planning.specs.Answer.{Read, Stands, Answers, roomFor};
 use job::Shared;
 use plan_text::Written;
 use plan_text::print_plan;
@@ -17,6 +18,8 @@ use plan_text::print_refusal;
 use refusals::Refusal;
 use refusals::Verdict;
 use refusals::number;
+pub use row_plans::held;
+pub use row_plans::planned;
 
 // How many bytes were written, where the text was not refused.
 fn bytes(w: Written) -> usize
@@ -50,62 +53,6 @@ fn print(
 {
     let w = print_plan(cells, items, areas, locals, probes, depth, out);
     bytes(w)
-}
-
-// How many records of a group stand in the reader's list.
-pub fn held(counts: &[u32], group: usize) -> usize
-    requires { ⌜ (length (now counts) ≡ none) × Few (now counts) × (group < none) ⌝ }
-    ensures { λ r. ⌜ (r ≡ getD (now (counts .entry)) group 0) × (r ≤ 64) ⌝ }
-{
-    counts[group] as usize
-}
-
-// The plan of the records in the reader's list, each group's from its place on.
-pub fn planned(
-    rows: &[u32],
-    counts: &[u32],
-    cells: &mut [u32],
-    items: &mut [u32],
-    areas: &mut [u32],
-    work: &mut [u64],
-) -> Shared
-    requires { ⌜ (length (now rows) ≡ rowNumbers) × (length (now counts) ≡ none) × Few (now counts) ⌝ }
-    ensures { λ r. ⌜ SharedFor (numbersAt (now (rows .entry)) (now (counts .entry))) (now (cells .entry)) (now (items .entry)) (now (areas .entry)) (now (work .entry)) r
-        (now (cells .exit)) (now (items .exit)) (now (areas .exit)) (now (work .exit)) ⌝ }
-{
-    let blocks = held(counts, 1);
-    let edges = held(counts, 2);
-    let insts = held(counts, 3);
-    let operands = held(counts, 4);
-    let crossings = held(counts, 5);
-    let locals = held(counts, 6);
-    let slots = held(counts, 7);
-    let addresses = held(counts, 8);
-    let ends = held(counts, 9);
-    let pieces = held(counts, 10);
-    let assigned = held(counts, 11);
-    let moves = held(counts, 12);
-    job::share(
-        rows[0],
-        rows[1],
-        rows[2],
-        &rows[3..3 + 3 * blocks],
-        &rows[195..195 + 2 * edges],
-        &rows[323..323 + 9 * insts],
-        &rows[899..899 + 2 * operands],
-        &rows[1027..1027 + crossings],
-        &rows[1091..1091 + 2 * locals],
-        &rows[1219..1219 + slots],
-        &rows[1283..1283 + 2 * addresses],
-        &rows[1411..1411 + 2 * ends],
-        &rows[1539..1539 + 3 * pieces],
-        &rows[1731..1731 + 2 * assigned],
-        &rows[1859..1859 + 4 * moves],
-        cells,
-        items,
-        areas,
-        work,
-    )
 }
 
 // The text of the records' plan, or of their refusal.

@@ -1,40 +1,25 @@
 -- From what an entry promises and its answer in one number to what the exported function promises.
 use mathlib.Core.Path.{_≡_, ap, _∙_}
 use mathlib.Core.List.{List}
-use Prim.Native.Nat.{ℕ, _*_, _^_, _≤_, _<_}
-use native.Mathlib.Nat.{mul-le-mul-left}
-use native.Mathlib.Omega.{arith}
+use Prim.Native.Nat.{ℕ}
 use Rattle.refusals.specs.Outcomes.{Outcome}
 use Rattle.refusals.specs.declared.Verdict.{Verdict}
 use Rattle.ranges.specs.declared.Range.{Range}
 use Rattle.range_entries.specs.declared.Counted.{Counted}
 use Rattle.range_entries.specs.Entries.{counted, Listed}
-use Rattle.reach.specs.Prepared.{wordsOf}
-use Rattle.fitting.specs.Plan.{Plan}
 use Rattle.fitting.specs.Queries.{Slots}
-use Rattle.wants.specs.declared.Fitted.{Fitted}
-use Rattle.wants.specs.Entry.{Tally, answerOf, FittedAlone}
+use Rattle.wants.specs.Entry.{Tally}
 use Rattle.queries.specs.declared.Crowd.{Crowd}
 use Rattle.queries.specs.Shares.{crowdOf, CrowdedBy}
 use Rattle.capping.specs.Cap.{CappedBy}
 use Rattle.apart.specs.Apart.{ApartBy}
-use Rattle.job.specs.declared.Shared.{Shared}
-use Rattle.job.specs.Entry.{answered, SharedAs}
-use Rattle.codes.specs.Codes.{codeOf, countCode, verdictCode, countsAfter, PlanTold}
-use Rattle.slots.specs.Exports.{PlanCoded, ListCoded, CrowdCoded, CapCoded, ApartCoded}
+use Rattle.job_answers.specs.declared.Shared.{Shared}
+use Rattle.job_answers.specs.Answers.{answered}
+use Rattle.job.specs.Entry.{SharedAs}
+use Rattle.codes.specs.Codes.{codeOf, countCode, verdictCode}
+use Rattle.want_codes.specs.Plans.{countsAfter, PlanTold}
+use Rattle.slots.specs.Exports.{ListCoded, CrowdCoded, CapCoded, ApartCoded}
 use Rattle.slots.specs.Job.{JobCoded}
-
-pub plan-coded : {wants areas cells items counts work cells′ items′ counts′ work′ : List ℕ} {o : Outcome Plan} {f : Fitted} {r : ℕ}
-    → FittedAlone wants areas o cells items work f cells′ items′ work′ → PlanTold counts (answerOf f) r counts′
-    → PlanCoded wants areas o cells items counts work r cells′ items′ counts′ work′
-plan-coded {counts = counts} a t =
-    record {
-      answer = t .answer ∙ ap codeOf (a .answer);
-      in-cells = a .in-cells;
-      in-items = a .in-items;
-      in-counts = t .in-counts ∙ ap (λ (x : Outcome Tally). countsAfter x counts) (a .answer);
-      in-work = a .in-work;
-    }
 
 pub job-coded : {points v budget : ℕ} {blocks edges insts operands crossings locals slots addresses ends pieces assigned moves cells items areas counts work cells′ items′ areas′ counts′ work′ : List ℕ} {s : Shared} {r : ℕ}
     → SharedAs points v budget blocks edges insts operands crossings locals slots addresses ends pieces assigned moves cells items areas work s cells′ items′ areas′ work′ → PlanTold counts (answered s) r counts′
@@ -60,10 +45,3 @@ cap-coded a e = record { answer = e ∙ ap verdictCode (a .answer); in-cells = a
 
 pub apart-coded : {v w : Verdict} {o : Outcome Slots} {cells items cells′ items′ : List ℕ} {r : ℕ} → ApartBy v o cells items w cells′ items′ → r ≡ verdictCode w → ApartCoded v o cells items r cells′ items′
 apart-coded a e = record { answer = e ∙ ap verdictCode (a .answer); in-cells = a .in-cells; in-items = a .in-items }
-
--- W of any 32-bit numbers: the rows of the blocks are far below 64 bits
-pub rows-few : (b l : ℕ) → b < 2 ^ 32 → l < 2 ^ 32 → b * wordsOf l ≤ 288230376151711744
-rows-few b l hb hl =
-    let w : wordsOf l ≤ 67108864 = omega arith in
-    let a = mul-le-mul-left b w in
-    omega arith

@@ -11,15 +11,14 @@ use Rattle.flow.specs.declared.Answer.{Answer as FlowAnswer}
 use Rattle.flow.specs.Entry.{Answered as Flowed, outcomeOf as flowOutcome}
 use Rattle.spread.specs.declared.Answer.{Answer as SpreadAnswer}
 use Rattle.spread.specs.Entry.{Answered as Spread, outcomeOf as spreadOutcome}
-use Rattle.fitting.specs.Plan.{Plan}
 use Rattle.fitting.specs.Queries.{Slots}
-use Rattle.wants.specs.Entry.{tallyOf, zeroed, cellRows, itemRows}
-use Rattle.want_checks.specs.Checks.{spaceOf}
 use Rattle.queries.specs.declared.Share.{Share}
 use Rattle.queries.specs.Shares.{SharedBy, counted}
 use Rattle.capping.specs.Cap.{capVerdict, capRows}
 use Rattle.apart.specs.Apart.{roomRows, loneRows}
-use Rattle.codes.specs.Codes.{codeOf, countCode, verdictCode, overOf, countsAfter, partCode, partAfter}
+use Rattle.codes.specs.Codes.{codeOf, countCode, verdictCode}
+use Rattle.part_codes.specs.Codes.{overOf}
+use Rattle.query_codes.specs.Codes.{partCode, partAfter}
 
 -- `flowed` and `spread`
 pub record FlowCoded (over : ℕ) (blocks edges : List ℕ) (points : ℕ) (touched : List ℕ) (words : ℕ) (out₀ work₀ : List ℕ) (r : ℕ) (out work : List ℕ) : Type 0 where
@@ -31,14 +30,6 @@ pub record SpreadCoded (blocks edges : List ℕ) (points : ℕ) (leaves passes :
   pub told : SpreadAnswer
   pub answer : r ≡ codeOf (spreadOutcome told)
   pub holds : Spread blocks edges points leaves passes words out₀ work₀ told out work
-
--- fitting alone
-pub record PlanCoded (wants areas : List ℕ) (o : Outcome Plan) (cells items counts work : List ℕ) (r : ℕ) (cells′ items′ counts′ work′ : List ℕ) : Type 0 where
-  pub answer : r ≡ codeOf (tallyOf o)
-  pub in-cells : cells′ ≡ after o cellRows cells
-  pub in-items : items′ ≡ after o (itemRows wants) items
-  pub in-counts : counts′ ≡ countsAfter (tallyOf o) counts
-  pub in-work : work′ ≡ zeroed o (spaceOf wants areas) work
 
 -- W of fitting alone, of so many wants and ranges: 8 × (wants + length of the area list)
 abbrev pub fitSpace : ℕ → ℕ → ℕ

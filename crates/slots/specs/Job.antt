@@ -8,10 +8,13 @@ use Rattle.areas.specs.Job.{itemCount, itemArea}
 use Rattle.fitting.specs.Plan.{Plan}
 use Rattle.wants.specs.Entry.{tallyOf, cellRows}
 use Rattle.area_tables.specs.Tables.{areaRows}
-use Rattle.job_checks.specs.Job.{jobOf, sizesOf, spaceOf}
+use Rattle.job_space.specs.Space.{sizesOf, spaceOf}
+use Rattle.job_checks.specs.Job.{jobOf}
 use Rattle.soundness.specs.Demand.{jobPlan}
-use Rattle.job.specs.Entry.{verdictOf, lentVerdict, itemRows}
-use Rattle.codes.specs.Codes.{codeOf, countsAfter}
+use Rattle.job_answers.specs.Answers.{itemRows}
+use Rattle.job.specs.Entry.{verdictOf, lentVerdict}
+use Rattle.codes.specs.Codes.{codeOf}
+use Rattle.want_codes.specs.Plans.{countsAfter}
 
 -- the job's plan, unless refused; the lengths are those of the answer lists and the work space
 abbrev pub jobOutcome : ℕ → ℕ → ℕ → List ℕ → List ℕ → List ℕ → List ℕ → List ℕ → List ℕ → List ℕ → List ℕ → List ℕ → List ℕ → List ℕ → List ℕ → ℕ → ℕ → ℕ → ℕ → Outcome Plan

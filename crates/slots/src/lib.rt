@@ -7,9 +7,10 @@ ghost use Rattle.wants.specs.Entry.{outcome};
 ghost use Rattle.queries.specs.Entry.{localOf, slotOf, savedBy};
 ghost use Rattle.queries.specs.Shares.{crowdedOf};
 ghost use Rattle.apart.specs.Apart.{apartVerdict, apartOf};
-ghost use Rattle.job_checks.specs.Job.{spaceOf};
+ghost use Rattle.job_space.specs.Space.{spaceOf};
 ghost use Rattle.codes.specs.Codes.{countCode, optionCode, truthOf, truthCode};
-ghost use Rattle.slots.specs.Exports.{FlowCoded, SpreadCoded, PlanCoded, fitSpace, ListCoded, ShareCoded, CrowdCoded, CapCoded, ApartCoded};
+ghost use Rattle.want_codes.specs.Plans.{PlanCoded};
+ghost use Rattle.slots.specs.Exports.{FlowCoded, SpreadCoded, fitSpace, ListCoded, ShareCoded, CrowdCoded, CapCoded, ApartCoded};
 ghost use Rattle.slots.specs.Job.{JobCoded};
 
 // `flow::flowed`: over predecessors for 0, else over successors.
@@ -26,8 +27,8 @@ pub extern "C" fn slots_flowed(
 ) -> u64
     ensures { λ r. ⌜ FlowCoded over (now (blocks .entry)) (now (edges .entry)) points (now (touched .entry)) words (now (out .entry)) (now (work .entry)) r (now (out .exit)) (now (work .exit)) ⌝ }
 {
-    codes::flowed(flow::flowed(
-        codes::over(over),
+    part_codes::flowed(flow::flowed(
+        part_codes::over(over),
         blocks,
         edges,
         points,
@@ -52,7 +53,7 @@ pub extern "C" fn slots_spread(
 ) -> u64
     ensures { λ r. ⌜ SpreadCoded (now (blocks .entry)) (now (edges .entry)) points (now (leaves .entry)) (now (passes .entry)) words (now (out .entry)) (now (work .entry)) r (now (out .exit)) (now (work .exit)) ⌝ }
 {
-    codes::spread(spread::spread(blocks, edges, points, leaves, passes, words, out, work))
+    part_codes::spread(spread::spread(blocks, edges, points, leaves, passes, words, out, work))
 }
 
 // `wants::fit_wants`: of the plan's counts, which are cells, probes and depth, as many as `counts` has room for.
@@ -72,10 +73,7 @@ pub extern "C" fn slots_fit_wants(
         (now (cells .entry)) (now (items .entry)) (now (counts .entry)) (now (work .entry)) r
         (now (cells .exit)) (now (items .exit)) (now (counts .exit)) (now (work .exit)) ⌝ }
 {
-    codes::plan(
-        counts,
-        wants::fit_wants(wants, areas, locals, budget, cells, items, work),
-    )
+    want_codes::fit_wants(wants, areas, locals, budget, cells, items, counts, work)
 }
 
 // `job::share`, the whole job, with the counts as in `slots_fit_wants`.
@@ -106,7 +104,7 @@ pub extern "C" fn slots_share(
         (now (cells .entry)) (now (items .entry)) (now (areas .entry)) (now (counts .entry)) (now (work .entry)) r
         (now (cells .exit)) (now (items .exit)) (now (areas .exit)) (now (counts .exit)) (now (work .exit)) ⌝ }
 {
-    codes::job(
+    job_codes::job(
         counts,
         job::share(
             points,
@@ -132,7 +130,7 @@ pub extern "C" fn slots_share(
     )
 }
 
-// W of a job, by the numbers of its records. No sum is too large for any 32-bit numbers.
+// W of a job, by the numbers of its records.
 #[no_mangle]
 pub extern "C" fn slots_work_words(
     v: u32,
@@ -152,11 +150,22 @@ pub extern "C" fn slots_work_words(
 ) -> u64
     ensures { λ r. ⌜ r ≡ spaceOf (record { v = v; blocks = blocks; edges = edges; insts = insts; operands = operands; crossings = crossings; locals = locals; slots = slots; addresses = addresses; ends = ends; pieces = pieces; assigned = assigned; moves = moves; room = ranges }) ⌝ }
 {
-    let code = blocks as u64 + edges as u64 + insts as u64 + operands as u64 + crossings as u64;
-    let items = locals as u64 + slots as u64 + addresses as u64 + ends as u64;
-    let live = pieces as u64 + assigned as u64 + moves as u64;
-    let rows = blocks as u64 * ((locals as u64 + 63) / 64);
-    8 * (code + items + live + rows + ranges as u64 + (v as u64 + 63) / 64)
+    job_space::words(
+        v,
+        blocks,
+        edges,
+        insts,
+        operands,
+        crossings,
+        locals,
+        slots,
+        addresses,
+        ends,
+        pieces,
+        assigned,
+        moves,
+        ranges,
+    )
 }
 
 // W of fitting alone, by the numbers of wants and of ranges.
@@ -174,7 +183,7 @@ pub extern "C" fn slots_fit_words(wants: u32, ranges: u32) -> u64
 pub extern "C" fn slots_local(cells: &[u32], items: &[u32], locals: u32, i: u32) -> u64
     ensures { λ r. ⌜ r ≡ optionCode (localOf (now (cells .entry)) (now (items .entry)) locals i) ⌝ }
 {
-    codes::place(queries::local(cells, items, locals, i))
+    query_codes::local(cells, items, locals, i)
 }
 
 // `queries::slot`: the cell of a slot.
@@ -182,7 +191,7 @@ pub extern "C" fn slots_local(cells: &[u32], items: &[u32], locals: u32, i: u32)
 pub extern "C" fn slots_slot(cells: &[u32], items: &[u32], locals: u32, i: u32) -> u64
     ensures { λ r. ⌜ r ≡ optionCode (slotOf (now (cells .entry)) (now (items .entry)) locals i) ⌝ }
 {
-    codes::place(queries::slot(cells, items, locals, i))
+    query_codes::slot(cells, items, locals, i)
 }
 
 // `queries::saved`.
@@ -190,7 +199,7 @@ pub extern "C" fn slots_slot(cells: &[u32], items: &[u32], locals: u32, i: u32) 
 pub extern "C" fn slots_saved(cells: &[u32], items: &[u32], locals: u32) -> u64
     ensures { λ r. ⌜ r ≡ countCode (savedBy (now (cells .entry)) (now (items .entry)) locals) ⌝ }
 {
-    codes::saving(queries::saved(cells, items, locals))
+    query_codes::saving(queries::saved(cells, items, locals))
 }
 
 // `queries::shared`: of the part's first range and how many there are, as many as `part` has room for.
@@ -205,7 +214,7 @@ pub extern "C" fn slots_shared(
 ) -> u64
     ensures { λ r. ⌜ ShareCoded (now (cells .entry)) (now (items .entry)) (now (areas .entry)) locals i (now (part .entry)) r (now (part .exit)) ⌝ }
 {
-    codes::share(part, queries::shared(cells, items, areas, locals, i))
+    query_codes::share(part, queries::shared(cells, items, areas, locals, i))
 }
 
 // `queries::crowded`.
@@ -213,7 +222,7 @@ pub extern "C" fn slots_shared(
 pub extern "C" fn slots_crowded(cells: &[u32], items: &[u32], locals: u32, out: &mut [u32]) -> u64
     ensures { λ r. ⌜ CrowdCoded (crowdedOf (now (cells .entry)) (now (items .entry)) locals (length (now (out .entry)))) (now (out .entry)) r (now (out .exit)) ⌝ }
 {
-    codes::crowd(queries::crowded(cells, items, locals, out))
+    query_codes::crowd(queries::crowded(cells, items, locals, out))
 }
 
 // `capping::cap`.
@@ -260,7 +269,7 @@ pub extern "C" fn slots_merged(
     ensures { λ r. ⌜ ListCoded (mergedOf (now (start .entry)) (now (end .entry)) (length (now («out_start» .entry))) (length (now («out_end» .entry))))
         (now («out_start» .entry)) (now («out_end» .entry)) r (now («out_start» .exit)) (now («out_end» .exit)) ⌝ }
 {
-    codes::counted(range_entries::merged(start, end, out_start, out_end))
+    part_codes::counted(range_entries::merged(start, end, out_start, out_end))
 }
 
 // `range_entries::joined`.
@@ -276,7 +285,7 @@ pub extern "C" fn slots_joined(
     ensures { λ r. ⌜ ListCoded (joinedOf (now (start .entry)) (now (end .entry)) (range «new_start» «new_end») (length (now («out_start» .entry))) (length (now («out_end» .entry))))
         (now («out_start» .entry)) (now («out_end» .entry)) r (now («out_start» .exit)) (now («out_end» .exit)) ⌝ }
 {
-    codes::counted(range_entries::joined(start, end, new_start, new_end, out_start, out_end))
+    part_codes::counted(range_entries::joined(start, end, new_start, new_end, out_start, out_end))
 }
 
 // `range_entries::union`.
@@ -292,7 +301,14 @@ pub extern "C" fn slots_union(
     ensures { λ r. ⌜ ListCoded (unionOf (now (start .entry)) (now (end .entry)) (now («other_start» .entry)) (now («other_end» .entry)) (length (now («out_start» .entry))) (length (now («out_end» .entry))))
         (now («out_start» .entry)) (now («out_end» .entry)) r (now («out_start» .exit)) (now («out_end» .exit)) ⌝ }
 {
-    codes::counted(range_entries::union(start, end, other_start, other_end, out_start, out_end))
+    part_codes::counted(range_entries::union(
+        start,
+        end,
+        other_start,
+        other_end,
+        out_start,
+        out_end,
+    ))
 }
 
 // `range_entries::clashes`: 1 or 0.
@@ -305,5 +321,5 @@ pub extern "C" fn slots_clashes(
 ) -> u64
     ensures { λ r. ⌜ r ≡ truthCode (clashesOf (now (start .entry)) (now (end .entry)) (now («other_start» .entry)) (now («other_end» .entry))) ⌝ }
 {
-    codes::clash(range_entries::clashes(start, end, other_start, other_end))
+    part_codes::clash(range_entries::clashes(start, end, other_start, other_end))
 }

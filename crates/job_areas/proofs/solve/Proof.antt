@@ -2,7 +2,7 @@
 use mathlib.Core.Path.{sym, subst}
 use denote.Ref.{now}
 use borrow.Author.Needs.{needs}
-use Rattle.job_checks.specs.Job.{Small}
+use Rattle.job_space.specs.Space.{Small}
 use Rattle.job_areas.proofs.SolveLaws.{lent-after, keys-room, due-for, solved-for}
 use Rattle.job_areas.proofs.solve.Statement.{statement}
 use Rattle.job_areas.proofs.solve.Tie as tie

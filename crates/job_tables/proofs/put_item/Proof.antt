@@ -4,7 +4,7 @@ use mathlib.Core.Path.{ap}
 use lib.ListN.{length-set}
 use denote.Ref.{now}
 use Rattle.words.specs.Rows.{rowPut}
-use Rattle.item_areas.specs.declared.tables.Item.{Item}
+use Rattle.answer_rows.specs.declared.Item.{Item}
 use borrow.Author.Needs.{needs}
 use Rattle.job_tables.proofs.put_item.Statement.{statement}
 use Rattle.job_tables.proofs.put_item.Tie as tie

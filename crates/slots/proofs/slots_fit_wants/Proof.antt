@@ -1,14 +1,10 @@
 -- `slots::slots_fit_wants` meets its contract.
 use borrow.Author.Needs.{needs}
-use Rattle.slots.proofs.CodeLaws.{plan-coded}
 use Rattle.slots.proofs.slots_fit_wants.Statement.{statement}
 use Rattle.slots.proofs.slots_fit_wants.Tie as tie
 
 fit-wants-requires : tie.Need-fit-wants-requires
 fit-wants-requires c κs = search needs
-
-plan-requires : tie.Need-plan-requires
-plan-requires c κs = search needs
 
 same-length : tie.Need-same-length
 same-length c = search needs
@@ -23,16 +19,7 @@ same-length-4 : tie.Need-same-length-4
 same-length-4 c = search needs
 
 returns : tie.Need-returns
-returns c = plan-coded ((c .before .before .before .before .before .before .before .before .before .fit-wants) .ensures) ((c .before .before .plan) .ensures)
+returns c = (c .before .before .before .before .before .before .before .before .fit-wants) .ensures
 
 pub slots-fit-wants-spec : {M : Type 1} → statement M
-slots-fit-wants-spec =
-    tie.close
-    (tie.spec
-    fit-wants-requires
-    plan-requires
-    same-length
-    same-length-2
-    same-length-3
-    same-length-4
-    returns)
+slots-fit-wants-spec = tie.close (tie.spec fit-wants-requires same-length same-length-2 same-length-3 same-length-4 returns)

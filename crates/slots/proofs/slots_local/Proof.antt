@@ -1,18 +1,13 @@
 -- `slots::slots_local` meets its contract.
-use mathlib.Core.Path.{ap, _∙_}
 use borrow.Author.Needs.{needs}
-use Rattle.codes.specs.Codes.{optionCode}
 use Rattle.slots.proofs.slots_local.Statement.{statement}
 use Rattle.slots.proofs.slots_local.Tie as tie
 
 local-requires : tie.Need-local-requires
 local-requires c κs = search needs
 
-place-requires : tie.Need-place-requires
-place-requires c κs = search needs
-
 returns : tie.Need-returns
-returns c = (c .place) .ensures ∙ ap optionCode ((c .before .local) .ensures)
+returns c = (c .local) .ensures
 
 pub slots-local-spec : {M : Type 1} → statement M
-slots-local-spec = tie.close (tie.spec local-requires place-requires returns)
+slots-local-spec = tie.close (tie.spec local-requires returns)

@@ -2,7 +2,7 @@
 use mathlib.Core.Path.{sym, subst, _∙_}
 use denote.Ref.{now}
 use borrow.Author.Needs.{needs}
-use Rattle.job_checks.specs.Job.{Small}
+use Rattle.job_space.specs.Space.{Small}
 use Rattle.item_areas.proofs.CheckLaws.{by-whole, by-records, small, by-space}
 use Rattle.item_areas.proofs.checks.refusal.Statement.{statement}
 use Rattle.item_areas.proofs.checks.refusal.Tie as tie

@@ -2,7 +2,7 @@
 use mathlib.Core.Path.{refl, sym, ap, subst, _∙_}
 use denote.Ref.{now}
 use borrow.Author.Needs.{needs}
-use Rattle.job_checks.specs.Job.{Small}
+use Rattle.job_space.specs.Space.{Small}
 use Rattle.job.proofs.CheckLaws.{by-shape, by-records, small, by-space}
 use Rattle.job.proofs.checks.refusal.Statement.{statement}
 use Rattle.job.proofs.checks.refusal.Tie as tie

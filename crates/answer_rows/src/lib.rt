@@ -1,0 +1,63 @@
+// From the words of the work space into the rows of an answer list.
+ghost use mathlib.Core.Path.{_≡_};
+ghost use mathlib.Core.List.{_++_};
+ghost use Prim.Native.Nat.{ℕ, _+_, _*_, _≤_, _<_};
+ghost use lib.ListN.{length, getD, drop};
+ghost use Rattle.answer_rows.specs.Rows.{rowsIn};
+ghost use Rattle.answer_rows.specs.Tables.{itemOf, rowsOf};
+
+const HALF: u64 = 0x1_0000_0000;
+
+// A row of two numbers for each of the `n` words from `from` on, less `less`: its upper and its lower half.
+pub fn write_rows(out: &mut [u32], w: &[u64], from: usize, n: usize, less: u64)
+    requires { ⌜ (2 * n ≤ length (now out)) × (from + n ≤ length (now w)) × ((i : ℕ) → i < n → less ≤ getD (now w) (from + i) 0) ⌝ }
+    ensures { λ _. ⌜ now (out .exit) ≡ rowsIn (now (w .entry)) from n less ++ drop (2 * n) (now (out .entry)) ⌝ }
+{
+    let mut i = 0;
+    while i < n {
+        let x = w[from + i] - less;
+        out[2 * i] = (x / HALF) as u32;
+        out[2 * i + 1] = (x % HALF) as u32;
+        i += 1;
+    }
+}
+
+// Whether an item has an area, the first of its ranges and how many they are.
+pub struct Item {
+    pub present: u32,
+    pub first: u32,
+    pub count: u32,
+}
+
+// An item by its word.
+pub fn part(x: u64) -> Item
+    ensures { λ r. ⌜ r ≡ itemOf x ⌝ }
+{
+    if x == 0 {
+        return Item {
+            present: 0,
+            first: 0,
+            count: 0,
+        };
+    }
+    Item {
+        present: 1,
+        first: ((x - 1) / HALF) as u32,
+        count: ((x - 1) % HALF) as u32,
+    }
+}
+
+// A row of three numbers for each of the `n` words from `from` on.
+pub fn write_items(out: &mut [u32], w: &[u64], from: usize, n: usize)
+    requires { ⌜ (3 * n ≤ length (now out)) × (from + n ≤ length (now w)) ⌝ }
+    ensures { λ _. ⌜ now (out .exit) ≡ rowsOf (now (w .entry)) from n ++ drop (3 * n) (now (out .entry)) ⌝ }
+{
+    let mut i = 0;
+    while i < n {
+        let t = part(w[from + i]);
+        out[3 * i] = t.present;
+        out[3 * i + 1] = t.first;
+        out[3 * i + 2] = t.count;
+        i += 1;
+    }
+}

@@ -1,0 +1,53 @@
+// The answer of a whole job from the areas in the work space: the plan of its items, then the answer lists.
+ghost use mathlib.Core.Option.{Option};
+ghost use mathlib.Core.List.{List};
+ghost use Prim.Native.Nat.{ℕ, _/_};
+ghost use lib.ListN.{length};
+ghost use Rattle.graph.specs.Work.{Within};
+ghost use Rattle.ranges.specs.declared.Range.{Range};
+ghost use Rattle.area_measure.specs.Locals.{wordOf, ListedBy};
+ghost use Rattle.area_tables.specs.Tables.{listVerdict, listing};
+ghost use Rattle.job_fit.specs.Wants.{countOf, planFor};
+ghost use Rattle.job_answers.specs.Answers.{AnsweredBy};
+ghost use Rattle.job_answers.specs.Inner.{Measured};
+use refusals::Refusal;
+
+// A plan's cells, the probes spent and its depth, or a refusal with the index of the first offending record.
+pub enum Shared {
+    Plan(usize, u64, u64),
+    Refused(Refusal, usize),
+}
+
+// The plan of the items whose `total` ranges were measured, where these fit the area list (else 9): made in the work space, and only then written.
+pub fn answer(
+    locals: &[u32],
+    slots: &[u32],
+    budget: u32,
+    total: usize,
+    end: usize,
+    cells: &mut [u32],
+    items: &mut [u32],
+    areas: &mut [u32],
+    work: &mut [u64],
+) -> Shared
+    requires { ⌜ Measured (countOf (now locals) (now slots)) (length (now areas) / 2) total end (length (now cells)) (length (now items)) (now work) ⌝ }
+    ensures { λ r. ⌜ Within 0 end (now (work .entry)) (now (work .exit)) × ((A : ℕ → Option (List Range)) → ListedBy wordOf (listing (length (now (areas .entry)) / 2) (length (now (areas .entry)) / 2)) A (countOf (now (locals .entry)) (now (slots .entry))) total (now (work .entry))
+        → AnsweredBy (listVerdict (countOf (now (locals .entry)) (now (slots .entry))) A (length (now (areas .entry)) / 2)) (countOf (now (locals .entry)) (now (slots .entry))) A (planFor (now (locals .entry)) (now (slots .entry)) A budget)
+        (now (cells .entry)) (now (items .entry)) (now (areas .entry)) r (now (cells .exit)) (now (items .exit)) (now (areas .exit))) ⌝ }
+{
+    let room = areas.len() / 2;
+    if room < total {
+        return Shared::Refused(Refusal::List, 0);
+    }
+    let f = job_fit::fitted(locals, slots, budget, work, room, end);
+    job_tables::write(
+        cells,
+        items,
+        areas,
+        work,
+        locals.len() / 2 + slots.len(),
+        f.cells,
+        total,
+    );
+    Shared::Plan(f.cells, f.probes, f.depth)
+}

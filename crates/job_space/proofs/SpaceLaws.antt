@@ -1,0 +1,43 @@
+-- W: how large it can be, and of the job of document 01's ★1; number 1 of what only fitting takes.
+use Prim.Native.Nat.{ℕ, _+_, _*_, _%_, _^_, _≤_, _<_}
+use native.Mathlib.Nat.{mul-le-mul-left}
+use native.Mathlib.Omega.{arith}
+use mathlib.Core.Path.{_≡_, refl, _∙_}
+use mathlib.Core.Bool.{Bool, true, not}
+use mathlib.Core.List.{List, [], _∷_}
+use lib.Dec.{eqb}
+use borrow.Author.Tests.{lt-ltb, le-ltb, eq-eqb, ne-eqb}
+use Rattle.job_space.specs.declared.Sizes.{Sizes}
+use Rattle.job_space.specs.Space.{rowWords, sizesOf, spaceOf, Small, badShape}
+
+-- the rows of the places are short
+pub rows-small : {z : Sizes} → Small z → z .blocks * rowWords (z .locals) ≤ 131072
+rows-small {z} S =
+    let l : rowWords (z .locals) ≤ 32 = omega (arith, S .few-locals) in
+    let a = mul-le-mul-left (z .blocks) l in
+    omega (arith, S .few-blocks)
+
+-- ★1 with an area list of 64 ranges: 7 records, one block with a row of one word, 64 ranges and no register
+pub star-1-space : spaceOf (sizesOf 0 (0 ∷ 0 ∷ 19 ∷ []) []
+    (1 ∷ 0 ∷ 2 ∷ 3 ∷ 0 ∷ 0 ∷ 256 ∷ 256 ∷ 0 ∷ 1 ∷ 0 ∷ 6 ∷ 7 ∷ 0 ∷ 0 ∷ 256 ∷ 256 ∷ 0 ∷ []) [] []
+    (8 ∷ 8 ∷ 4 ∷ 4 ∷ []) [] (0 ∷ 0 ∷ 1 ∷ 1 ∷ []) [] [] [] [] 128) ≡ 576
+star-1-space = refl
+
+-- W of any 32-bit numbers: the rows of the blocks are far below 64 bits
+pub rows-few : (b l : ℕ) → b < 2 ^ 32 → l < 2 ^ 32 → b * rowWords l ≤ 288230376151711744
+rows-few b l hb hl =
+    let w : rowWords l ≤ 67108864 = omega arith in
+    let a = mul-le-mul-left b w in
+    omega arith
+
+-- ---- number 1 of the budget, the cells and the items
+
+module _ (budget cells items : ℕ) where
+  pub over-budget : 1048576 < budget → true ≡ badShape budget cells items
+  over-budget h = simp (lt-ltb 1048576 budget h)
+
+  pub odd-cells : budget ≤ 1048576 → (cells % 2 ≡ 0 → ⊥) → true ≡ badShape budget cells items
+  odd-cells h d = simp (le-ltb 1048576 budget h, ne-eqb (cells % 2) 0 d)
+
+  pub by-items : (r : Bool) → budget ≤ 1048576 → cells % 2 ≡ 0 → r ≡ not (eqb (items % 4) 0) → r ≡ badShape budget cells items
+  by-items r h e g = g ∙ simp (le-ltb 1048576 budget h, eq-eqb (cells % 2) 0 e)

@@ -1,0 +1,60 @@
+-- Document 01: the counts of a job's records, W, and number 1 of what only fitting takes.
+use Prim.Native.Nat.{ℕ, _+_, _*_, _/_, _%_, _≤_, _<_}
+use mathlib.Core.Bool.{Bool, not, _||_}
+use mathlib.Core.List.{List}
+use lib.ListN.{length}
+use lib.Dec.{ltb, eqb}
+use Rattle.words.specs.Rows.{rowCount}
+use Rattle.job_space.specs.declared.Sizes.{Sizes}
+
+-- ⌈n/64⌉: the words of a row of n bits
+abbrev pub rowWords : ℕ → ℕ
+rowWords n = (n + 63) / 64
+
+-- how many records are lent, how many ranges the area list holds, and V
+abbrev pub sizesOf : ℕ → List ℕ → List ℕ → List ℕ → List ℕ → List ℕ → List ℕ → List ℕ → List ℕ → List ℕ → List ℕ → List ℕ → List ℕ → ℕ → Sizes
+sizesOf v blocks edges insts operands crossings locals slots addresses ends pieces assigned moves areas =
+    record {
+      v = v;
+      blocks = rowCount 3 blocks;
+      edges = rowCount 2 edges;
+      insts = rowCount 9 insts;
+      operands = rowCount 2 operands;
+      crossings = length crossings;
+      locals = rowCount 2 locals;
+      slots = length slots;
+      addresses = rowCount 2 addresses;
+      ends = rowCount 2 ends;
+      pieces = rowCount 3 pieces;
+      assigned = rowCount 2 assigned;
+      moves = rowCount 4 moves;
+      room = areas / 2;
+    }
+
+-- W = 8 × (all record counts + B × ⌈locals/64⌉ + area list length + ⌈V/64⌉)
+abbrev pub spaceOf : Sizes → ℕ
+spaceOf z =
+    8 * (z .blocks + z .edges + z .insts + z .operands + z .crossings + z .locals + z .slots + z .addresses + z .ends + z .pieces + z .assigned + z .moves
+    + z .blocks * rowWords (z .locals) + z .room + rowWords (z .v))
+
+-- within the limits
+pub record Small (z : Sizes) : Type 0 where
+  pub registers : z .v ≤ 65535
+  pub some-block : 0 < z .blocks
+  pub few-blocks : z .blocks ≤ 4096
+  pub few-edges : z .edges ≤ 16384
+  pub few-insts : z .insts ≤ 65536
+  pub few-operands : z .operands ≤ 262144
+  pub few-crossings : z .crossings ≤ 65536
+  pub few-locals : z .locals ≤ 2048
+  pub few-slots : z .slots ≤ 2048
+  pub few-addresses : z .addresses ≤ 65536
+  pub few-ends : z .ends ≤ 65536
+  pub few-pieces : z .pieces ≤ 65536
+  pub few-assigned : z .assigned ≤ 65536
+  pub few-moves : z .moves ≤ 65536
+  pub few-ranges : z .room ≤ 65536
+
+-- number 1 of what only fitting takes: the budget over 1,048,576, a cell or an item list that is no whole rows
+abbrev pub badShape : ℕ → ℕ → ℕ → Bool
+badShape budget cells items = ltb 1048576 budget || (not (eqb (cells % 2) 0) || not (eqb (items % 4) 0))

@@ -1,0 +1,76 @@
+// The counts of a job's records as they are lent, W, and what only fitting takes.
+ghost use mathlib.Core.Path.{_≡_};
+ghost use Rattle.job_space.specs.Space.{spaceOf, Small, badShape};
+
+pub mod records; // records.rt: how many are lent
+
+const BUDGET: u32 = 1048576;
+
+// How many records of each group are lent, how many ranges the area list holds, and how many registers are numbered.
+pub struct Sizes {
+    pub v: usize,
+    pub blocks: usize,
+    pub edges: usize,
+    pub insts: usize,
+    pub operands: usize,
+    pub crossings: usize,
+    pub locals: usize,
+    pub slots: usize,
+    pub addresses: usize,
+    pub ends: usize,
+    pub pieces: usize,
+    pub assigned: usize,
+    pub moves: usize,
+    pub room: usize,
+}
+
+// W, the words of work space that are needed.
+pub fn needed(z: Sizes) -> usize
+    requires { ⌜ Small z ⌝ }
+    ensures { λ r. ⌜ r ≡ spaceOf z ⌝ }
+{
+    let code = z.blocks + z.edges + z.insts + z.operands + z.crossings;
+    let items = z.locals + z.slots + z.addresses + z.ends;
+    let live = z.pieces + z.assigned + z.moves;
+    let rows = z.blocks * ((z.locals + 63) / 64);
+    8 * (code + items + live + rows + z.room + (z.v + 63) / 64)
+}
+
+// W by numbers of records. No sum is too large for any 32-bit numbers.
+pub fn words(
+    v: u32,
+    blocks: u32,
+    edges: u32,
+    insts: u32,
+    operands: u32,
+    crossings: u32,
+    locals: u32,
+    slots: u32,
+    addresses: u32,
+    ends: u32,
+    pieces: u32,
+    assigned: u32,
+    moves: u32,
+    ranges: u32,
+) -> u64
+    ensures { λ r. ⌜ r ≡ spaceOf (record { v = v; blocks = blocks; edges = edges; insts = insts; operands = operands; crossings = crossings; locals = locals; slots = slots; addresses = addresses; ends = ends; pieces = pieces; assigned = assigned; moves = moves; room = ranges }) ⌝ }
+{
+    let code = blocks as u64 + edges as u64 + insts as u64 + operands as u64 + crossings as u64;
+    let items = locals as u64 + slots as u64 + addresses as u64 + ends as u64;
+    let live = pieces as u64 + assigned as u64 + moves as u64;
+    let rows = blocks as u64 * ((locals as u64 + 63) / 64);
+    8 * (code + items + live + rows + ranges as u64 + (v as u64 + 63) / 64)
+}
+
+// Refusal 1 of what only fitting takes: a budget over its limit, or a cell or an item list that is no whole rows.
+pub fn bad_shape(budget: u32, cells: usize, items: usize) -> bool
+    ensures { λ r. ⌜ r ≡ badShape budget cells items ⌝ }
+{
+    if BUDGET < budget {
+        return true;
+    }
+    if cells % 2 != 0 {
+        return true;
+    }
+    items % 4 != 0
+}

@@ -1,0 +1,56 @@
+// The answers of the parts in one number: rows over a graph, and ranges.
+ghost use mathlib.Core.Path.{_≡_};
+ghost use Rattle.flow.specs.Entry.{outcomeOf as flowOutcome};
+ghost use Rattle.spread.specs.Entry.{outcomeOf as spreadOutcome};
+ghost use Rattle.range_entries.specs.Entries.{counted, clashing};
+ghost use Rattle.codes.specs.Codes.{codeOf, countCode, truthCode};
+ghost use Rattle.part_codes.specs.Codes.{overOf};
+use codes::refused;
+use flow::Over;
+use range_entries::Clash;
+use range_entries::Counted;
+
+pub fn counted(c: Counted) -> u64
+    ensures { λ n. ⌜ n ≡ countCode (counted c) ⌝ }
+{
+    match c {
+        Counted::Ranges(n) => n as u64,
+        Counted::Refused(r, i) => refused(r, i),
+    }
+}
+
+pub fn clash(c: Clash) -> u64
+    ensures { λ n. ⌜ n ≡ truthCode (clashing c) ⌝ }
+{
+    match c {
+        Clash::Is(b) => codes::truth(b),
+        Clash::Refused(r, i) => refused(r, i),
+    }
+}
+
+pub fn flowed(a: flow::Answer) -> u64
+    ensures { λ n. ⌜ n ≡ codeOf (flowOutcome a) ⌝ }
+{
+    match a {
+        flow::Answer::Given => 0,
+        flow::Answer::Refused(r, i) => refused(r, i),
+    }
+}
+
+pub fn spread(a: spread::Answer) -> u64
+    ensures { λ n. ⌜ n ≡ codeOf (spreadOutcome a) ⌝ }
+{
+    match a {
+        spread::Answer::Given => 0,
+        spread::Answer::Refused(r, i) => refused(r, i),
+    }
+}
+
+pub fn over(over: u32) -> Over
+    ensures { λ r. ⌜ r ≡ overOf over ⌝ }
+{
+    if over == 0 {
+        return Over::Predecessors;
+    }
+    Over::Successors
+}
