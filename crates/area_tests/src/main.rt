@@ -1,14 +1,11 @@
 // Runs `local_areas` on each case of standard input and prints what it answers and leaves: held to the file `stdout`.
 // Answer lists and work space have 7s at first, so that what is written past an answer, or by a refusal, shows.
 // The columns of a case: points, the lengths of the area list, of the item list and of the work space; blocks, edges, kinds, touches, ends.
+ghost use mathlib.Core.Path.{_≡_};
+ghost use lib.ListN.{length};
+ghost use Rattle.cases.specs.Cuts.{Ordered};
 use area_entries::Answer;
-
-struct Head {
-    points: u32,
-    areas: usize,
-    items: usize,
-    work: usize,
-}
+use cases::Cuts;
 
 fn given(a: Answer) {
     match a {
@@ -17,41 +14,41 @@ fn given(a: Answer) {
     }
 }
 
-fn areas_into(
-    points: u32,
-    blocks: &[u32],
-    edges: &[u32],
-    kinds: &[u32],
-    touches: &[u32],
-    ends: &[u32],
-    areas: &mut [u32],
-    items: &mut [u32],
-    work: &mut [u64],
-) {
-    let a = area_entries::local_areas(
-        blocks,
-        edges,
-        points,
-        kinds,
-        touches,
-        ends,
+// The areas of the records that stand in `n`, a group from where one column ends to where the next one does.
+fn answer(n: &[u32], e: Cuts, areas: &mut [u32], items: &mut [u32], work: &mut [u64])
+    requires { ⌜ (length (now n) ≡ 1024) × Ordered e 1024 ⌝ }
+{
+    let c0 = e.c0;
+    let c1 = e.c1;
+    let c2 = e.c2;
+    let c3 = e.c3;
+    let c4 = e.c4;
+    let c5 = e.c5;
+    given(area_entries::local_areas(
+        &n[c0..c1],
+        &n[c1..c2],
+        n[0],
+        &n[c2..c3],
+        &n[c3..c4],
+        &n[c4..c5],
         areas,
         items,
         work,
-    );
-    given(a);
-    cases::show(areas);
-    cases::text(b" |");
+    ));
+    cases::listed(areas);
     cases::left(items, work);
 }
 
-fn areas(h: Head, blocks: &[u32], edges: &[u32], kinds: &[u32], touches: &[u32], ends: &[u32]) {
+// In lists of these lengths.
+fn run(n: &[u32], e: Cuts)
+    requires { ⌜ (length (now n) ≡ 1024) × Ordered e 1024 ⌝ }
+{
     let mut areas = [7u32; 80];
     let mut items = [7u32; 160];
     let mut work = [7u64; 4096];
-    let a = h.areas;
-    let i = h.items;
-    let w = h.work;
+    let a = n[1] as usize;
+    let i = n[2] as usize;
+    let w = n[3] as usize;
     if a > 80 {
         return;
     }
@@ -61,81 +58,17 @@ fn areas(h: Head, blocks: &[u32], edges: &[u32], kinds: &[u32], touches: &[u32],
     if w > 4096 {
         return;
     }
-    areas_into(
-        h.points,
-        blocks,
-        edges,
-        kinds,
-        touches,
-        ends,
-        &mut areas[0..a],
-        &mut items[0..i],
-        &mut work[0..w],
-    );
-}
-
-// Runs the columns that end there.
-fn split(n: &[u32], a: usize, b: usize, c: usize, d: usize, e: usize, f: usize) {
-    if a < 4 {
-        return;
-    }
-    if a > b {
-        return;
-    }
-    if b > c {
-        return;
-    }
-    if c > d {
-        return;
-    }
-    if d > e {
-        return;
-    }
-    if e > f {
-        return;
-    }
-    if f > n.len() {
-        return;
-    }
-    let head = Head {
-        points: n[0],
-        areas: n[1] as usize,
-        items: n[2] as usize,
-        work: n[3] as usize,
-    };
-    areas(head, &n[a..b], &n[b..c], &n[c..d], &n[d..e], &n[e..f]);
-}
-
-fn case(line: &[u8]) {
-    let mut n = [0u32; 256];
-    let mut e = [0usize; 6];
-    cases::read(line, &mut n, &mut e);
-    let a = e[0];
-    let b = e[1];
-    let c = e[2];
-    split(&n, a, b, c, e[3], e[4], e[5]);
-}
-
-// Runs the case of a line, behind its name.
-fn line(s: &[u8]) {
-    let at = cases::find(s, 0, b' ');
-    if at < s.len() {
-        cases::text(&s[0..at]);
-        case(&s[at + 1..s.len()]);
-    }
-}
-
-fn lines(text: &[u8]) {
-    let mut i = 0;
-    while i < text.len() {
-        let end = cases::find(text, i, b'\n');
-        line(&text[i..end]);
-        i = end + 1;
-    }
+    answer(n, e, &mut areas[0..a], &mut items[0..i], &mut work[0..w]);
 }
 
 fn main() {
     let mut text = [0u8; 65536];
-    let n = io::read_full(0, &mut text);
-    lines(&text[0..n]);
+    let mut n = [0u32; 1024];
+    let len = io::read_full(0, &mut text);
+    let mut i = 0;
+    while i < len {
+        let e = cases::case(&text, i, &mut n);
+        run(&n, e);
+        i = e.next;
+    }
 }

@@ -1,5 +1,5 @@
 // What the test programs share. A case is a line: its name, a blank, and columns of numbers, a comma after each number and a bar after each column.
-ghost use Prim.Native.Nat.{_≤_};
+ghost use Prim.Native.Nat.{_≤_, _<_};
 ghost use lib.ListN.{length};
 ghost use mathlib.Core.Path.{_≡_};
 ghost use mathlib.Core.Bool.{true};
@@ -31,9 +31,21 @@ pub fn counted(n: usize) {
     text(b":");
 }
 
-pub fn refused(r: Refusal, i: usize) {
+pub fn bad(r: Refusal, i: usize) {
     put(b" refused ", number(r) as u64);
     put(b" at ", i as u64);
+}
+
+pub fn refused(r: Refusal, i: usize) {
+    bad(r, i);
+    text(b":");
+}
+
+// A plan: cells, probes and depth.
+pub fn plan(cells: usize, probes: u64, depth: u64) {
+    put(b" ", cells as u64);
+    put(b" ", probes);
+    put(b" ", depth);
     text(b":");
 }
 
@@ -43,6 +55,12 @@ pub fn show(list: &[u32]) {
         put(b" ", list[i] as u64);
         i += 1;
     }
+}
+
+// An answer list that others follow.
+pub fn listed(list: &[u32]) {
+    show(list);
+    text(b" |");
 }
 
 // How many words stand before the first that is not zero.
@@ -65,7 +83,7 @@ pub fn left(answer: &[u32], work: &[u64]) {
 }
 
 // Where the next such byte stands, or the end.
-pub fn find(text: &[u8], from: usize, byte: u8) -> usize
+fn find(text: &[u8], from: usize, byte: u8) -> usize
     requires { ⌜ from ≤ length (now text) ⌝ }
     ensures { λ r. ⌜ (from ≤ r) × (r ≤ length (now (text .entry))) ⌝ }
 {
@@ -79,8 +97,17 @@ pub fn find(text: &[u8], from: usize, byte: u8) -> usize
     i
 }
 
-// The numbers of a case, and where each column ends; what is past the room is left out.
-pub fn read(case: &[u8], numbers: &mut [u32], ends: &mut [usize]) {
+// Columns that a case does not have are empty.
+fn rest(ends: &mut [usize], from: usize, n: usize) {
+    let mut c = from;
+    while c < ends.len() {
+        ends[c] = n;
+        c += 1;
+    }
+}
+
+// The numbers of a case, and where each column ends; what is past the room is left out. A blank before them is no digit.
+fn read(case: &[u8], numbers: &mut [u32], ends: &mut [usize]) {
     let mut i = 0;
     let mut n = 0;
     let mut c = 0;
@@ -105,6 +132,7 @@ pub fn read(case: &[u8], numbers: &mut [u32], ends: &mut [usize]) {
             }
         }
     }
+    rest(ends, c, n);
 }
 
 // Whether each column ends where or after the one before does, and all within so many numbers.
@@ -127,7 +155,7 @@ fn rising(ends: &[usize], most: usize) -> bool
     true
 }
 
-// Where thirteen columns end.
+// Where thirteen columns end, and where the next case begins.
 pub struct Cuts {
     pub c0: usize,
     pub c1: usize,
@@ -142,11 +170,12 @@ pub struct Cuts {
     pub c10: usize,
     pub c11: usize,
     pub c12: usize,
+    pub next: usize,
 }
 
-fn cut(ends: &[usize], most: usize) -> Cuts
+fn cut(ends: &[usize], most: usize, next: usize) -> Cuts
     requires { ⌜ (length (now ends) ≡ 13) × Rising (now ends) most ⌝ }
-    ensures { λ r. ⌜ Ordered r most ⌝ }
+    ensures { λ r. ⌜ Ordered r most × (r .next ≡ next) ⌝ }
 {
     Cuts {
         c0: ends[0],
@@ -162,17 +191,17 @@ fn cut(ends: &[usize], most: usize) -> Cuts
         c10: ends[10],
         c11: ends[11],
         c12: ends[12],
+        next,
     }
 }
 
 // Where the thirteen columns of a case end, in order and within so many numbers: of what is no such case, all at 0.
-pub fn columns(ends: &[usize], most: usize) -> Cuts
-    ensures { λ r. ⌜ Ordered r most ⌝ }
+fn columns(ends: &[usize], most: usize, next: usize) -> Cuts
+    requires { ⌜ length (now ends) ≡ 13 ⌝ }
+    ensures { λ r. ⌜ Ordered r most × (r .next ≡ next) ⌝ }
 {
-    if ends.len() == 13 {
-        if rising(ends, most) {
-            return cut(ends, most);
-        }
+    if rising(ends, most) {
+        return cut(ends, most, next);
     }
     Cuts {
         c0: 0,
@@ -188,5 +217,19 @@ pub fn columns(ends: &[usize], most: usize) -> Cuts
         c10: 0,
         c11: 0,
         c12: 0,
+        next,
     }
+}
+
+// The case of the line that begins there: prints its name, and reads its numbers, of which there is room for 1,024.
+pub fn case(text: &[u8], from: usize, numbers: &mut [u32]) -> Cuts
+    requires { ⌜ (from ≤ length (now text)) × (length (now numbers) ≡ 1024) ⌝ }
+    ensures { λ r. ⌜ Ordered r 1024 × (from < r .next) ⌝ }
+{
+    let mut ends = [0usize; 13];
+    let blank = find(text, from, b' ');
+    let end = find(text, blank, b'\n');
+    io::write_all(1, &text[from..blank]);
+    read(&text[blank..end], numbers, &mut ends);
+    columns(&ends, 1024, end + 1)
 }

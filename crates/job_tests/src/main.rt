@@ -1,29 +1,17 @@
 // Replays a recorded sample: runs `share` on each job of standard input and prints what it answers and leaves, held to the file `stdout`, which was recorded from slots.rs
 // and a model of the refusals. Answer lists and work space have 7s at first, so that what is written past an answer, or by a refusal, shows.
 // The columns of a case: points, V, budget, the lengths of the cell, the item and the area list and of the work space; then the records of a job, in the job text's group order.
-ghost use Prim.Native.Nat.{_≤_};
+ghost use mathlib.Core.Path.{_≡_};
 ghost use lib.ListN.{length};
 ghost use Rattle.cases.specs.Cuts.{Ordered};
 use cases::Cuts;
 use job::Shared;
 
-struct Head {
-    points: u32,
-    v: u32,
-    budget: u32,
-    cells: usize,
-    items: usize,
-    areas: usize,
-    work: usize,
-}
-
 fn told(s: Shared) {
     match s {
         Shared::Plan(cells, probes, depth) => {
-            cases::put(b" plan ", cells as u64);
-            cases::put(b" ", probes);
-            cases::put(b" ", depth);
-            cases::text(b":");
+            cases::text(b" plan");
+            cases::plan(cells, probes, depth);
         }
         Shared::Refused(r, i) => cases::refused(r, i),
     }
@@ -44,92 +32,74 @@ fn kept(work: &[u64]) -> usize {
     n
 }
 
-fn show(s: Shared, cells: &[u32], items: &[u32], areas: &[u32], work: &[u64]) {
-    told(s);
+fn show(cells: &[u32], items: &[u32], areas: &[u32], work: &[u64]) {
     cases::put(b" ", kept(work) as u64);
     cases::text(b" |");
-    cases::show(cells);
-    cases::text(b" |");
-    cases::show(items);
-    cases::text(b" |");
+    cases::listed(cells);
+    cases::listed(items);
     cases::left(areas, work);
 }
 
 // The plan of the records that stand in `n`, a group from where one column ends to where the next one does.
-fn planned(
-    h: Head,
-    e: Cuts,
+fn plan(
     n: &[u32],
-    cells: &mut [u32],
-    items: &mut [u32],
-    areas: &mut [u32],
-    work: &mut [u64],
-) -> Shared
-    requires { ⌜ Ordered e (length (now n)) ⌝ }
-{
-    let s0 = e.c0;
-    let s1 = e.c1;
-    let s2 = e.c2;
-    let s3 = e.c3;
-    let s4 = e.c4;
-    let s5 = e.c5;
-    let s6 = e.c6;
-    let s7 = e.c7;
-    let s8 = e.c8;
-    let s9 = e.c9;
-    let s10 = e.c10;
-    let s11 = e.c11;
-    let s12 = e.c12;
-    job::share(
-        h.points,
-        h.v,
-        h.budget,
-        &n[s0..s1],
-        &n[s1..s2],
-        &n[s2..s3],
-        &n[s3..s4],
-        &n[s4..s5],
-        &n[s5..s6],
-        &n[s6..s7],
-        &n[s7..s8],
-        &n[s8..s9],
-        &n[s9..s10],
-        &n[s10..s11],
-        &n[s11..s12],
-        cells,
-        items,
-        areas,
-        work,
-    )
-}
-
-// In lists of these lengths.
-fn run(
-    h: Head,
     e: Cuts,
-    n: &[u32],
     cells: &mut [u32],
     items: &mut [u32],
     areas: &mut [u32],
     work: &mut [u64],
 )
-    requires { ⌜ Ordered e (length (now n)) ⌝ }
+    requires { ⌜ (length (now n) ≡ 1024) × Ordered e 1024 ⌝ }
 {
-    let s = planned(h, e, n, cells, items, areas, work);
-    show(s, cells, items, areas, work);
+    let c0 = e.c0;
+    let c1 = e.c1;
+    let c2 = e.c2;
+    let c3 = e.c3;
+    let c4 = e.c4;
+    let c5 = e.c5;
+    let c6 = e.c6;
+    let c7 = e.c7;
+    let c8 = e.c8;
+    let c9 = e.c9;
+    let c10 = e.c10;
+    let c11 = e.c11;
+    let c12 = e.c12;
+    told(job::share(
+        n[0],
+        n[1],
+        n[2],
+        &n[c0..c1],
+        &n[c1..c2],
+        &n[c2..c3],
+        &n[c3..c4],
+        &n[c4..c5],
+        &n[c5..c6],
+        &n[c6..c7],
+        &n[c7..c8],
+        &n[c8..c9],
+        &n[c9..c10],
+        &n[c10..c11],
+        &n[c11..c12],
+        cells,
+        items,
+        areas,
+        work,
+    ));
+    show(cells, items, areas, work);
 }
 
-fn case(h: Head, e: Cuts, n: &[u32])
-    requires { ⌜ Ordered e (length (now n)) ⌝ }
+// In lists of these lengths.
+fn run(n: &[u32], e: Cuts)
+    requires { ⌜ (length (now n) ≡ 1024) × Ordered e 1024 ⌝ }
 {
     let mut cells = [7u32; 128];
     let mut items = [7u32; 256];
     let mut areas = [7u32; 128];
     let mut work = [7u64; 4096];
-    let c = h.cells;
-    let i = h.items;
-    let a = h.areas;
-    let w = h.work;
+    let c = n[3] as usize;
+    let i = n[4] as usize;
+    let a = n[5] as usize;
+    let w = n[6] as usize;
     if c > 128 {
         return;
     }
@@ -142,10 +112,9 @@ fn case(h: Head, e: Cuts, n: &[u32])
     if w > 4096 {
         return;
     }
-    run(
-        h,
-        e,
+    plan(
         n,
+        e,
         &mut cells[0..c],
         &mut items[0..i],
         &mut areas[0..a],
@@ -153,57 +122,14 @@ fn case(h: Head, e: Cuts, n: &[u32])
     );
 }
 
-fn numbers(n: &[u32]) -> Head
-    requires { ⌜ 7 ≤ length (now n) ⌝ }
-{
-    Head {
-        points: n[0],
-        v: n[1],
-        budget: n[2],
-        cells: n[3] as usize,
-        items: n[4] as usize,
-        areas: n[5] as usize,
-        work: n[6] as usize,
-    }
-}
-
-fn checked(n: &[u32], e: &[usize]) {
-    if n.len() < 7 {
-        return;
-    }
-    let h = numbers(n);
-    let c = cases::columns(e, n.len());
-    case(h, c, n);
-}
-
-// The columns of a case.
-fn columns(line: &[u8]) {
-    let mut n = [0u32; 1024];
-    let mut e = [0usize; 13];
-    cases::read(line, &mut n, &mut e);
-    checked(&n, &e);
-}
-
-// Runs the case of a line, behind its name.
-fn line(s: &[u8]) {
-    let at = cases::find(s, 0, b' ');
-    if at < s.len() {
-        cases::text(&s[0..at]);
-        columns(&s[at + 1..s.len()]);
-    }
-}
-
-fn lines(text: &[u8]) {
-    let mut i = 0;
-    while i < text.len() {
-        let end = cases::find(text, i, b'\n');
-        line(&text[i..end]);
-        i = end + 1;
-    }
-}
-
 fn main() {
     let mut text = [0u8; 131072];
-    let n = io::read_full(0, &mut text);
-    lines(&text[0..n]);
+    let mut n = [0u32; 1024];
+    let len = io::read_full(0, &mut text);
+    let mut i = 0;
+    while i < len {
+        let e = cases::case(&text, i, &mut n);
+        run(&n, e);
+        i = e.next;
+    }
 }

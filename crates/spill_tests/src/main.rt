@@ -2,15 +2,11 @@
 // Answer lists and work space have 7s at first, so that what is written past an answer, or by a refusal, shows.
 // A case's name is that of its entry. The columns of `spilled`: V, slots, the length of the answer list; assignments. Of `moved`: points, V, the slot, the
 // lengths of the answer list and of the work space; blocks, instructions, operands, moves.
+ghost use mathlib.Core.Path.{_≡_};
+ghost use lib.ListN.{length};
+ghost use Rattle.cases.specs.Cuts.{Ordered};
+use cases::Cuts;
 use spill_checks::Answer;
-
-struct Head {
-    points: u32,
-    v: u32,
-    slot: u32,
-    answer: usize,
-    work: usize,
-}
 
 fn given(a: Answer) {
     match a {
@@ -19,38 +15,44 @@ fn given(a: Answer) {
     }
 }
 
-fn spilled_into(v: u32, slots: usize, assigned: &[u32], answer: &mut [u32]) {
-    let a = spilled_registers::spilled(v, slots, assigned, answer);
+fn spilled_into(n: &[u32], e: Cuts, answer: &mut [u32])
+    requires { ⌜ (length (now n) ≡ 1024) × Ordered e 1024 ⌝ }
+{
+    let c0 = e.c0;
+    let c1 = e.c1;
+    let a = spilled_registers::spilled(n[0], n[1] as usize, &n[c0..c1], answer);
     given(a);
     cases::show(answer);
     cases::text(b"\n");
 }
 
-fn spilled(v: u32, slots: usize, most: usize, assigned: &[u32]) {
+fn spilled(n: &[u32], e: Cuts)
+    requires { ⌜ (length (now n) ≡ 1024) × Ordered e 1024 ⌝ }
+{
     let mut answer = [7u32; 16];
+    let most = n[2] as usize;
     if most > 16 {
         return;
     }
-    spilled_into(v, slots, assigned, &mut answer[0..most]);
+    spilled_into(n, e, &mut answer[0..most]);
 }
 
-fn moved_into(
-    h: Head,
-    blocks: &[u32],
-    insts: &[u32],
-    operands: &[u32],
-    moves: &[u32],
-    answer: &mut [u32],
-    work: &mut [u64],
-) {
+fn moved_into(n: &[u32], e: Cuts, answer: &mut [u32], work: &mut [u64])
+    requires { ⌜ (length (now n) ≡ 1024) × Ordered e 1024 ⌝ }
+{
+    let c0 = e.c0;
+    let c1 = e.c1;
+    let c2 = e.c2;
+    let c3 = e.c3;
+    let c4 = e.c4;
     let a = moved_ranges::moved(
-        h.points,
-        h.v,
-        blocks,
-        insts,
-        operands,
-        moves,
-        h.slot,
+        n[0],
+        n[1],
+        &n[c0..c1],
+        &n[c1..c2],
+        &n[c2..c3],
+        &n[c3..c4],
+        n[2],
         answer,
         work,
     );
@@ -58,105 +60,41 @@ fn moved_into(
     cases::left(answer, work);
 }
 
-fn moved(h: Head, blocks: &[u32], insts: &[u32], operands: &[u32], moves: &[u32]) {
+fn moved(n: &[u32], e: Cuts)
+    requires { ⌜ (length (now n) ≡ 1024) × Ordered e 1024 ⌝ }
+{
     let mut answer = [7u32; 64];
     let mut work = [7u64; 512];
-    let most = h.answer;
-    let words = h.work;
+    let most = n[3] as usize;
+    let words = n[4] as usize;
     if most > 64 {
         return;
     }
     if words > 512 {
         return;
     }
-    moved_into(
-        h,
-        blocks,
-        insts,
-        operands,
-        moves,
-        &mut answer[0..most],
-        &mut work[0..words],
-    );
+    moved_into(n, e, &mut answer[0..most], &mut work[0..words]);
 }
 
-// Runs `spilled` on the columns that end there.
-fn assigned(n: &[u32], a: usize, b: usize) {
-    if a < 3 {
-        return;
-    }
-    if a > b {
-        return;
-    }
-    if b > n.len() {
-        return;
-    }
-    spilled(n[0], n[1] as usize, n[2] as usize, &n[a..b]);
-}
-
-// Runs `moved` on the columns that end there.
-fn moves(n: &[u32], a: usize, b: usize, c: usize, d: usize, e: usize) {
-    if a < 5 {
-        return;
-    }
-    if a > b {
-        return;
-    }
-    if b > c {
-        return;
-    }
-    if c > d {
-        return;
-    }
-    if d > e {
-        return;
-    }
-    if e > n.len() {
-        return;
-    }
-    let head = Head {
-        points: n[0],
-        v: n[1],
-        slot: n[2],
-        answer: n[3] as usize,
-        work: n[4] as usize,
-    };
-    moved(head, &n[a..b], &n[b..c], &n[c..d], &n[d..e]);
-}
-
-fn case(entry: u8, line: &[u8]) {
-    let mut n = [0u32; 256];
-    let mut e = [0usize; 5];
-    cases::read(line, &mut n, &mut e);
-    let a = e[0];
-    let b = e[1];
+// Runs an entry, by the first letter of its name.
+fn run(entry: u8, n: &[u32], e: Cuts)
+    requires { ⌜ (length (now n) ≡ 1024) × Ordered e 1024 ⌝ }
+{
     if entry == b's' {
-        assigned(&n, a, b);
-        return;
-    }
-    moves(&n, a, b, e[2], e[3], e[4]);
-}
-
-// Runs the case of a line, behind its name.
-fn line(s: &[u8]) {
-    let at = cases::find(s, 0, b' ');
-    if at < s.len() {
-        cases::text(&s[0..at]);
-        case(s[0], &s[at + 1..s.len()]);
-    }
-}
-
-fn lines(text: &[u8]) {
-    let mut i = 0;
-    while i < text.len() {
-        let end = cases::find(text, i, b'\n');
-        line(&text[i..end]);
-        i = end + 1;
+        spilled(n, e);
+    } else {
+        moved(n, e);
     }
 }
 
 fn main() {
     let mut text = [0u8; 65536];
-    let n = io::read_full(0, &mut text);
-    lines(&text[0..n]);
+    let mut n = [0u32; 1024];
+    let len = io::read_full(0, &mut text);
+    let mut i = 0;
+    while i < len {
+        let e = cases::case(&text, i, &mut n);
+        run(text[i], &n, e);
+        i = e.next;
+    }
 }

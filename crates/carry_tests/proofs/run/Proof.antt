@@ -1,56 +1,38 @@
--- `run` is safe and ends: it counts up past the locals.
+-- `run` is safe and ends: it counts up to the last local.
 use native.Mathlib.Omega.{arith}
-use Prim.Native.Nat.{_+_, _-_, _/_, _≤_}
-use mathlib.Core.Path.{refl}
-use lib.ListN.{length}
+use Prim.Native.Nat.{_+_, _-_, _≤_}
 use Rattle.carry_tests.proofs.run.Statement.{statement}
 use Rattle.carry_tests.proofs.run.Tie as tie
 
 abbrev Inv-loop : tie.InvT-loop
-Inv-loop h blocks insts operands crossings locals addresses ends l₀ t10 l = l ≤ length locals / 2 + 1
+Inv-loop n e last l₀ l = l ≤ 514
 
 abbrev μ-loop : tie.MeasureT-loop
-μ-loop h blocks insts operands crossings locals addresses ends l₀ t10 l = length locals / 2 + 1 - l
+μ-loop n e last l₀ l = 514 - l
 
-reach-requires : tie.Need-reach-requires Inv-loop μ-loop
-reach-requires c κs = tt
+sub-last : tie.Need-sub-last Inv-loop μ-loop
+sub-last c = (c .before .before .pre) .1 .in4 .0
+
+add-last : tie.Need-add-last Inv-loop μ-loop
+add-last c = omega (arith, (c .before .before .pre) .1 .in4)
 
 loop-holds : tie.Need-loop-holds Inv-loop μ-loop
 loop-holds c = omega arith
 
-slice-aggregate-asked : tie.Need-slice-aggregate-asked Inv-loop μ-loop
-slice-aggregate-asked c = refl
-
-asked-requires : tie.Need-asked-requires Inv-loop μ-loop
-asked-requires c κs = tt
-
-carried-requires : tie.Need-carried-requires Inv-loop μ-loop
-carried-requires c κs = tt
+turn-requires : tie.Need-turn-requires Inv-loop μ-loop
+turn-requires c κs = (c .before .before .before .before .pre)
 
 add-l : tie.Need-add-l Inv-loop μ-loop
 add-l c = omega arith
 
 loop-less : tie.Need-loop-less Inv-loop μ-loop
-loop-less c = omega arith
+loop-less c = omega (arith, (c .before .before .before .before .before .pre) .1 .in4)
 
 loop-again : tie.Need-loop-again Inv-loop μ-loop
-loop-again c = omega arith
+loop-again c = omega (arith, (c .before .before .before .before .before .pre) .1 .in4)
 
 returns : tie.Need-returns Inv-loop μ-loop
 returns c = tt
 
 pub run-spec : {M : Type 1} → statement M
-run-spec =
-    tie.close
-    (tie.spec
-    Inv-loop
-    μ-loop
-    reach-requires
-    loop-holds
-    slice-aggregate-asked
-    asked-requires
-    carried-requires
-    add-l
-    loop-less
-    loop-again
-    returns)
+run-spec = tie.close (tie.spec Inv-loop μ-loop sub-last add-last loop-holds turn-requires add-l loop-less loop-again returns)

@@ -82,6 +82,9 @@ loop-less-5 c = omega arith
 loop-again-5 : tie.Need-loop-again-5 Inv-loop μ-loop
 loop-again-5 c = (omega arith, omega arith, omega arith, omega arith)
 
+rest-requires : tie.Need-rest-requires Inv-loop μ-loop
+rest-requires c κs = tt
+
 same-length : tie.Need-same-length Inv-loop μ-loop
 same-length c = omega arith
 
@@ -89,7 +92,7 @@ same-length-2 : tie.Need-same-length-2 Inv-loop μ-loop
 same-length-2 c = omega arith
 
 returns : tie.Need-returns Inv-loop μ-loop
-returns c = omega arith
+returns c = tt
 
 pub read-spec : {M : Type 1} → statement M
 read-spec =
@@ -120,6 +123,7 @@ read-spec =
     add-x
     loop-less-5
     loop-again-5
+    rest-requires
     same-length
     same-length-2
     returns)
