@@ -1,65 +1,29 @@
-// Runs fitting alone and the queries on small cases and prints what they answer and leave: held to the file `stdout`.
+// Runs fitting alone and the queries on the cases of standard input and prints what they answer and leave: held to the file `stdout`.
 // Answer lists and work space have 7s at first, so that what is written past an answer, or by a refusal, shows. A fit's line: cells, probes and depth; the list of cells; the list of items;
 // how many words of the work space are zero. The cells and the items' cells of every fit that is not refused are those that `fit` of slots.rs gives for the same wants.
+// A case's name is that of what it asks. The columns of `fit`: locals, budget; wants, areas. Of `local`, which asks for locals 0 and 2, slots 0 and 2 and what is saved, of `shared`, which asks
+// for locals 0, 1 and 2, and of `crowded`: locals; cells, items, areas. Of `apart`: none; locals, slots. Of `cap`: how many cells, the largest alignment.
+// The cases of `fit`: the three wants of star 9, whose areas do not clash, with three budgets; alignment, then size, then index, and the size and the alignment of a cell are the largest of its
+// members; a want without area opens a cell, spends nothing, and its cell still costs a probe; an empty area clashes with none; nothing; four counts that are refused; more items than the lists
+// take, and a work space under W; four wants that are refused. Then two locals and two slots in two cells, where local 1 is alone: its places, shares and crowded slots, and those of a plan
+// without locals. Places refused: a row cut short, more locals than items, an item that names no cell, more cells than items. Shares refused: an area list cut short, a part outside it before an
+// item that names no cell, more cells than items. Crowded slots refused: a row cut short; a list under the slots comes before an item that names no cell; such an item. Then `apart` and `cap`.
+ghost use mathlib.Core.Path.{_≡_};
+ghost use lib.ListN.{length};
+ghost use Rattle.cases.specs.Cuts.{Ordered};
+use cases::Cuts;
 use queries::Crowd;
 use queries::Place;
 use queries::Saving;
 use queries::Share;
-use refusals::Refusal;
 use refusals::Verdict;
-use refusals::number;
 use wants::Fitted;
 
-fn text(s: &[u8]) {
-    io::write_all(1, s);
-}
-
-fn show(list: &[u32]) {
-    let mut i = 0;
-    while i < list.len() {
-        text(b" ");
-        io::print_decimal(1, list[i] as u64);
-        i += 1;
-    }
-}
-
-fn count(n: u64) {
-    text(b" ");
-    io::print_decimal(1, n);
-}
-
-fn refused(r: Refusal, i: usize) {
-    text(b" refused");
-    count(number(r) as u64);
-    text(b" at");
-    count(i as u64);
-}
-
-// How many of the first words are zero.
-fn zeros(work: &[u64]) -> usize {
-    let mut i = 0;
-    while i < work.len() {
-        if work[i] != 0 {
-            return i;
-        }
-        i += 1;
-    }
-    i
-}
-
 fn fitted(f: Fitted) {
-    text(b"fit");
     match f {
-        Fitted::Plan(cells, probes, depth) => {
-            count(cells as u64);
-            count(probes);
-            count(depth);
-        }
-        Fitted::Refused(r, i) => {
-            refused(r, i);
-        }
+        Fitted::Plan(cells, probes, depth) => cases::plan(cells, probes, depth),
+        Fitted::Refused(r, i) => cases::refused(r, i),
     }
-    text(b":");
 }
 
 fn fit(wants: &[u32], areas: &[u32], locals: u32, budget: u32) {
@@ -75,145 +39,32 @@ fn fit(wants: &[u32], areas: &[u32], locals: u32, budget: u32) {
         &mut items,
         &mut work,
     ));
-    show(&cells);
-    text(b" |");
-    show(&items);
-    text(b" |");
-    count(zeros(&work) as u64);
-    text(b"\n");
-}
-
-// The three wants of star 9: their areas do not clash.
-fn star_9(budget: u32) {
-    fit(
-        &[8, 8, 1, 0, 1, 8, 8, 1, 1, 1, 8, 8, 1, 2, 1],
-        &[1, 2, 3, 4, 5, 6],
-        3,
-        budget,
-    );
-}
-
-// Alignment, then size, then index; the size and the alignment of a cell are the largest of its members.
-fn orders() {
-    fit(
-        &[4, 4, 1, 0, 1, 16, 8, 1, 1, 1, 24, 4, 1, 2, 1],
-        &[1, 2, 3, 4, 2, 3],
-        2,
-        9,
-    );
-    fit(
-        &[8, 8, 1, 0, 1, 8, 8, 1, 0, 1, 8, 8, 1, 1, 1],
-        &[1, 4, 4, 6],
-        0,
-        9,
-    );
-}
-
-// A want without area opens a cell, spends nothing, and its cell still costs a probe; an empty area clashes with none.
-fn areas() {
-    fit(
-        &[8, 8, 0, 9, 9, 8, 8, 1, 0, 1, 4, 4, 1, 1, 1],
-        &[1, 2, 3, 4],
-        3,
-        9,
-    );
-    fit(
-        &[8, 8, 1, 0, 0, 4, 4, 1, 2, 0, 4, 4, 1, 0, 2],
-        &[1, 2, 4, 5],
-        1,
-        9,
-    );
-    fit(&[], &[], 0, 9);
-}
-
-fn counts_refused() {
-    fit(&[8, 8, 1, 0], &[1, 2], 0, 9);
-    fit(&[8, 8, 1, 0, 1], &[1, 2, 3], 0, 9);
-    fit(&[8, 8, 1, 0, 1], &[1, 2], 2, 9);
-    fit(&[8, 8, 1, 9, 1], &[1, 2], 1, 1048577);
-}
-
-// More items than the lists take, and a work space under W.
-fn spaces_refused() {
-    fit(
-        &[
-            8,
-            8,
-            0,
-            0,
-            0,
-            8,
-            8,
-            0,
-            0,
-            0,
-            8,
-            8,
-            0,
-            0,
-            0,
-            8,
-            8,
-            0,
-            0,
-            0,
-            8,
-            8,
-            1,
-            9,
-            9,
-        ],
-        &[],
-        5,
-        9,
-    );
-    fit(
-        &[8, 8, 1, 9, 9],
-        &[1, 2, 1, 2, 1, 2, 1, 2, 1, 2, 1, 2, 1, 2],
-        1,
-        9,
-    );
-}
-
-fn wants_refused() {
-    fit(&[8, 8, 1, 0, 1, 8, 8, 1, 1, 1], &[1, 2], 1, 9);
-    fit(&[8, 8, 0, 0, 1, 8, 8, 1, 0, 1], &[2, 1], 1, 9);
-    fit(&[8, 8, 1, 0, 1, 8, 8, 1, 0, 2], &[3, 4, 1, 2], 1, 9);
-    fit(&[8, 8, 1, 0, 2, 8, 8, 1, 9, 9], &[1, 4, 4, 6], 1, 9);
+    cases::listed(&cells);
+    cases::left(&items, &work);
 }
 
 fn placed(p: Place) {
     match p {
-        Place::At(c) => {
-            count(c as u64);
-        }
-        Place::Absent => {
-            text(b" -");
-        }
-        Place::Refused(r, i) => {
-            refused(r, i);
-        }
+        Place::At(c) => cases::put(b" ", c as u64),
+        Place::Absent => cases::text(b" -"),
+        Place::Refused(r, i) => cases::bad(r, i),
     }
 }
 
 fn saved(s: Saving) {
-    text(b" saved");
     match s {
-        Saving::Cells(n) => {
-            count(n as u64);
-        }
+        Saving::Cells(n) => cases::put(b" saved ", n as u64),
         Saving::Refused(r, i) => {
-            refused(r, i);
+            cases::text(b" saved");
+            cases::bad(r, i);
         }
     }
-    text(b"\n");
 }
 
 fn places(cells: &[u32], items: &[u32], locals: u32) {
-    text(b"local");
     placed(queries::local(cells, items, locals, 0));
     placed(queries::local(cells, items, locals, 2));
-    text(b" slot");
+    cases::text(b" slot");
     placed(queries::slot(cells, items, locals, 0));
     placed(queries::slot(cells, items, locals, 2));
     saved(queries::saved(cells, items, locals));
@@ -222,151 +73,97 @@ fn places(cells: &[u32], items: &[u32], locals: u32) {
 fn shared(s: Share) {
     match s {
         Share::Part(first, n) => {
-            count(first as u64);
-            count(n as u64);
-            text(b";");
+            cases::put(b" ", first as u64);
+            cases::put(b" ", n as u64);
         }
-        Share::Absent => {
-            text(b" -;");
-        }
-        Share::Refused(r, i) => {
-            refused(r, i);
-            text(b";");
-        }
+        Share::Absent => cases::text(b" -"),
+        Share::Refused(r, i) => cases::bad(r, i),
     }
+    cases::text(b";");
 }
 
 fn shares(cells: &[u32], items: &[u32], areas: &[u32], locals: u32) {
-    text(b"shared");
     shared(queries::shared(cells, items, areas, locals, 0));
     shared(queries::shared(cells, items, areas, locals, 1));
     shared(queries::shared(cells, items, areas, locals, 2));
-    text(b"\n");
 }
 
 fn crowd(c: Crowd) {
-    text(b"crowded");
     match c {
-        Crowd::Slots(n) => {
-            count(n as u64);
-        }
-        Crowd::Refused(r, i) => {
-            refused(r, i);
-        }
+        Crowd::Slots(n) => cases::counted(n),
+        Crowd::Refused(r, i) => cases::refused(r, i),
     }
-    text(b":");
 }
 
 fn crowded(cells: &[u32], items: &[u32], locals: u32) {
     let mut out = [7u32; 3];
     crowd(queries::crowded(cells, items, locals, &mut out));
-    show(&out);
-    text(b"\n");
+    cases::show(&out);
 }
 
 fn verdict(v: Verdict) {
     match v {
-        Verdict::Fine => {
-            text(b" fine");
-        }
-        Verdict::Bad(r, i) => {
-            refused(r, i);
-        }
+        Verdict::Fine => cases::text(b" fine:"),
+        Verdict::Bad(r, i) => cases::refused(r, i),
     }
-    text(b":");
 }
 
 fn apart(locals: &[u32], slots: &[u32]) {
     let mut cells = [7u32; 6];
     let mut items = [7u32; 12];
-    text(b"apart");
     verdict(apart::apart(locals, slots, &mut cells, &mut items));
-    show(&cells);
-    text(b" |");
-    show(&items);
-    text(b"\n");
+    cases::listed(&cells);
+    cases::show(&items);
 }
 
 fn cap(count: u32, most: u32) {
     let mut cells = [4u32, 16, 8, 8, 32, 32];
-    text(b"cap");
     verdict(capping::cap(&mut cells, count, most));
-    show(&cells);
-    text(b"\n");
+    cases::show(&cells);
 }
 
-// Two locals and two slots in two cells: local 1 is alone.
-fn plan() {
-    places(
-        &[8, 8, 4, 4],
-        &[0, 1, 0, 1, 1, 1, 1, 1, 0, 1, 2, 1, 0, 0, 0, 0],
-        2,
-    );
-    shares(
-        &[8, 8, 4, 4],
-        &[0, 1, 0, 2, 1, 1, 1, 1, 0, 1, 2, 1, 0, 0, 0, 0],
-        &[1, 2, 3, 4, 5, 6],
-        2,
-    );
-    crowded(
-        &[8, 8, 4, 4],
-        &[0, 1, 0, 1, 1, 1, 1, 1, 0, 1, 2, 1, 0, 0, 0, 0],
-        2,
-    );
-    crowded(&[8, 8, 4, 4], &[0, 0, 0, 0, 1, 0, 0, 0, 0, 0, 0, 0], 0);
+// `crowded` and `cap` begin with the same letter: `cap` is lent no list.
+fn crowded_or_cap(a: &[u32], b: &[u32], x: u32, y: u32) {
+    if a.len() == 0 {
+        cap(x, y);
+    } else {
+        crowded(a, b, x);
+    }
 }
 
-// A row cut short, more locals than items, an item that names no cell, more cells than items.
-fn plans_refused() {
-    places(&[8, 8, 4], &[0, 0, 0, 0], 0);
-    places(&[8, 8], &[0, 0, 0, 0], 2);
-    places(&[8, 8], &[0, 0, 0, 0, 1, 0, 0, 0], 1);
-    places(&[8, 8, 4, 4, 2, 2], &[0, 0, 0, 0, 1, 0, 0, 0], 1);
+// Runs a query, by the first letter of its name.
+fn query(name: u8, a: &[u32], b: &[u32], c: &[u32], x: u32, y: u32) {
+    match name {
+        b'l' => places(a, b, x),
+        b's' => shares(a, b, c, x),
+        b'a' => apart(a, b),
+        _ => crowded_or_cap(a, b, x, y),
+    }
+    cases::text(b"\n");
 }
 
-// An area list cut short, a part outside it before an item that names no cell, more cells than items.
-fn shares_refused() {
-    shares(&[8, 8], &[0, 1, 0, 1, 0, 1, 0, 1], &[1, 2, 3], 2);
-    shares(&[8, 8], &[0, 0, 9, 9, 0, 1, 0, 2, 1, 0, 0, 0], &[1, 2], 3);
-    shares(&[8, 8, 8, 8, 8, 8], &[0, 1, 0, 1, 0, 1, 0, 1], &[1, 2], 2);
-}
-
-// A list under the slots comes before an item that names no cell.
-fn crowds_refused() {
-    crowded(&[8, 8], &[0, 0, 0], 0);
-    crowded(
-        &[8, 8],
-        &[9, 0, 0, 0, 0, 0, 0, 0, 0, 0, 0, 0, 0, 0, 0, 0],
-        0,
-    );
-    crowded(&[8, 8], &[0, 0, 0, 0, 9, 0, 0, 0, 9, 0, 0, 0], 0);
-}
-
-fn aparts() {
-    apart(&[16, 8], &[4, 8]);
-    apart(&[], &[]);
-    apart(&[16, 8, 1], &[4, 8]);
-    apart(&[16, 8, 1, 1], &[4, 8]);
-}
-
-fn caps() {
-    cap(2, 8);
-    cap(4, 8);
+fn run(name: u8, n: &[u32], e: Cuts)
+    requires { ⌜ (length (now n) ≡ 1024) × Ordered e 1024 ⌝ }
+{
+    let c0 = e.c0;
+    let c1 = e.c1;
+    let c2 = e.c2;
+    let c3 = e.c3;
+    if name == b'f' {
+        fit(&n[c0..c1], &n[c1..c2], n[0], n[1]);
+    } else {
+        query(name, &n[c0..c1], &n[c1..c2], &n[c2..c3], n[0], n[1]);
+    }
 }
 
 fn main() {
-    star_9(0);
-    star_9(1);
-    star_9(1048576);
-    orders();
-    areas();
-    counts_refused();
-    spaces_refused();
-    wants_refused();
-    plan();
-    plans_refused();
-    shares_refused();
-    crowds_refused();
-    aparts();
-    caps();
+    let mut text = [0u8; 65536];
+    let mut n = [0u32; 1024];
+    let len = io::read_full(0, &mut text);
+    let mut i = 0;
+    while i < len {
+        let e = cases::case(&text, i, &mut n);
+        run(text[i], &n, e);
+        i = e.next;
+    }
 }

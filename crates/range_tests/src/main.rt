@@ -6,31 +6,16 @@
 // joined; columns of different lengths; a reversed range; answer columns of different lengths, too little room; the count comes before the room, the room
 // before the range; a list that is too long for the small array. Those of `clashes`: document 01's third and fourth example; a long list against a short
 // one, where ranges are skipped; refusals.
-ghost use Prim.Native.Nat.{ℕ, _≤_};
+ghost use mathlib.Core.Path.{_≡_};
 ghost use lib.ListN.{length};
+ghost use Rattle.cases.specs.Cuts.{Ordered};
+use cases::Cuts;
 use range_entries::Clash;
 use range_entries::Counted;
-use refusals::Refusal;
-use refusals::number;
-
-fn text(s: &[u8]) {
-    io::write_all(1, s);
-}
-
-// A number, with what stands before it.
-fn put(before: &[u8], n: u64) {
-    text(before);
-    io::print_decimal(1, n);
-}
-
-fn refused(r: Refusal, i: usize) {
-    put(b"refused ", number(r) as u64);
-    put(b" at ", i as u64);
-}
 
 fn show_one(start: u32, end: u32) {
-    put(b" ", start as u64);
-    put(b"-", end as u64);
+    cases::put(b" ", start as u64);
+    cases::put(b"-", end as u64);
 }
 
 // The first six ranges of two columns.
@@ -50,12 +35,9 @@ fn show(start: &[u32], end: &[u32]) {
 
 fn counted(c: Counted) {
     match c {
-        Counted::Ranges(n) => {
-            io::print_decimal(1, n as u64);
-        }
-        Counted::Refused(r, i) => refused(r, i),
+        Counted::Ranges(n) => cases::counted(n),
+        Counted::Refused(r, i) => cases::refused(r, i),
     }
-    text(b":");
 }
 
 // What was answered, and what the answer list holds.
@@ -98,9 +80,9 @@ fn union(start: &[u32], end: &[u32], other_start: &[u32], other_end: &[u32]) {
 
 fn yes_or_no(b: bool) {
     if b {
-        text(b"yes");
+        cases::text(b" yes");
     } else {
-        text(b"no");
+        cases::text(b" no");
     }
 }
 
@@ -108,46 +90,16 @@ fn clashes(start: &[u32], end: &[u32], other_start: &[u32], other_end: &[u32]) {
     let c = range_entries::clashes(start, end, other_start, other_end);
     match c {
         Clash::Is(b) => yes_or_no(b),
-        Clash::Refused(r, i) => refused(r, i),
+        Clash::Refused(r, i) => cases::bad(r, i),
     }
 }
 
-fn overlaps(start: &[u32], end: &[u32], s: u32, e: u32) {
-    if start.len() == 0 {
-        return;
+// The first number of a column; of an empty one, 0.
+fn first(s: &[u32]) -> u32 {
+    if s.len() == 0 {
+        return 0;
     }
-    if end.len() == 0 {
-        return;
-    }
-    yes_or_no(ranges::overlaps(start[0], end[0], s, e));
-}
-
-// The numbers of a case, and where each column ends; what is past the room is left out.
-fn read(case: &[u8], numbers: &mut [u32], ends: &mut [usize]) {
-    let mut i = 0;
-    let mut n = 0;
-    let mut c = 0;
-    let mut x = 0u64;
-    while i < case.len() {
-        let b = case[i];
-        i += 1;
-        if b == b'|' {
-            if c < ends.len() {
-                ends[c] = n;
-                c += 1;
-            }
-        } else {
-            if b == b',' {
-                if n < numbers.len() {
-                    numbers[n] = x as u32;
-                    n += 1;
-                }
-                x = 0;
-            } else {
-                x = (x * 10 + (b % 16) as u64) % 0x1_0000_0000;
-            }
-        }
-    }
+    s[0]
 }
 
 // Runs an entry, by the first letter of its name, on one list and two numbers.
@@ -155,89 +107,38 @@ fn run_one(entry: u8, start: &[u32], end: &[u32], s: u32, e: u32) {
     match entry {
         b'm' => merged(start, end, s as usize, e as usize),
         b'j' => joined(start, end, s, e),
-        _ => overlaps(start, end, s, e),
+        _ => yes_or_no(ranges::overlaps(first(start), first(end), s, e)),
     }
 }
 
 // Runs it on four columns.
-fn run(entry: u8, start: &[u32], end: &[u32], other_start: &[u32], other_end: &[u32]) {
+fn run_on(entry: u8, start: &[u32], end: &[u32], other_start: &[u32], other_end: &[u32]) {
     match entry {
         b'u' => union(start, end, other_start, other_end),
         b'c' => clashes(start, end, other_start, other_end),
-        _ => {
-            if other_start.len() > 0 {
-                if other_end.len() > 0 {
-                    run_one(entry, start, end, other_start[0], other_end[0]);
-                }
-            }
-        }
+        _ => run_one(entry, start, end, first(other_start), first(other_end)),
     }
+    cases::text(b"\n");
 }
 
-// Runs it on the columns that end at a, b, c and d.
-fn split(entry: u8, n: &[u32], a: usize, b: usize, c: usize, d: usize) {
-    if a > b {
-        return;
-    }
-    if b > c {
-        return;
-    }
-    if c > d {
-        return;
-    }
-    if d > n.len() {
-        return;
-    }
-    run(entry, &n[0..a], &n[a..b], &n[b..c], &n[c..d]);
-}
-
-fn case(entry: u8, line: &[u8]) {
-    let mut n = [0u32; 640];
-    let mut e = [0usize; 4];
-    read(line, &mut n, &mut e);
-    let a = e[0];
-    let b = e[1];
-    let c = e[2];
-    let d = e[3];
-    split(entry, &n, a, b, c, d);
-}
-
-// Where the next such byte stands, or the end.
-fn find(text: &[u8], from: usize, byte: u8) -> usize
-    requires { ⌜ from ≤ length (now text) ⌝ }
-    ensures { λ r. ⌜ (from ≤ r) × (r ≤ length (now (text .entry))) ⌝ }
+fn run(entry: u8, n: &[u32], e: Cuts)
+    requires { ⌜ (length (now n) ≡ 1024) × Ordered e 1024 ⌝ }
 {
-    let mut i = from;
-    while i < text.len() {
-        if text[i] == byte {
-            return i;
-        }
-        i += 1;
-    }
-    i
-}
-
-// Runs the case of a line, behind the name of its entry.
-fn line(s: &[u8]) {
-    let at = find(s, 0, b' ');
-    if at < s.len() {
-        text(&s[0..at + 1]);
-        case(s[0], &s[at + 1..s.len()]);
-        text(b"\n");
-    }
-}
-
-fn lines(text: &[u8]) {
-    let mut i = 0;
-    while i < text.len() {
-        let end = find(text, i, b'\n');
-        line(&text[i..end]);
-        i = end + 1;
-    }
+    let c0 = e.c0;
+    let c1 = e.c1;
+    let c2 = e.c2;
+    let c3 = e.c3;
+    run_on(entry, &n[0..c0], &n[c0..c1], &n[c1..c2], &n[c2..c3]);
 }
 
 fn main() {
     let mut text = [0u8; 4096];
-    let n = io::read_full(0, &mut text);
-    lines(&text[0..n]);
+    let mut n = [0u32; 1024];
+    let len = io::read_full(0, &mut text);
+    let mut i = 0;
+    while i < len {
+        let e = cases::case(&text, i, &mut n);
+        run(text[i], &n, e);
+        i = e.next;
+    }
 }
