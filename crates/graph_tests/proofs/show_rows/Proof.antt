@@ -10,13 +10,13 @@ slice-aggregate-show-flowed : tie.Need-slice-aggregate-show-flowed
 slice-aggregate-show-flowed c = simp length-take (omega arith)
 
 show-flowed-requires : tie.Need-show-flowed-requires
-show-flowed-requires c κs = search needs
+show-flowed-requires c κs = tt
 
 slice-aggregate-show-flowed-2 : tie.Need-slice-aggregate-show-flowed-2
 slice-aggregate-show-flowed-2 c = simp length-take (omega arith)
 
 show-flowed-requires-2 : tie.Need-show-flowed-requires-2
-show-flowed-requires-2 c κs = search needs
+show-flowed-requires-2 c κs = tt
 
 slice-aggregate-show-spread : tie.Need-slice-aggregate-show-spread
 slice-aggregate-show-spread c = simp length-take (omega arith)
@@ -25,22 +25,22 @@ slice-aggregate-show-spread-2 : tie.Need-slice-aggregate-show-spread-2
 slice-aggregate-show-spread-2 c = simp length-take (omega arith)
 
 show-spread-requires : tie.Need-show-spread-requires
-show-spread-requires c κs = search needs
+show-spread-requires c κs = tt
 
 same-length : tie.Need-same-length
 same-length c = search needs
 
 returns : tie.Need-returns
-returns c = search needs
+returns c = tt
 
 same-length-2 : tie.Need-same-length-2
 same-length-2 c = search needs
 
 returns-2 : tie.Need-returns-2
-returns-2 c = search needs
+returns-2 c = tt
 
 returns-3 : tie.Need-returns-3
-returns-3 c = search needs
+returns-3 c = tt
 
 pub show-rows-spec : {M : Type 1} → statement M
 show-rows-spec =
