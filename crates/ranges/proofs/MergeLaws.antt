@@ -10,6 +10,7 @@ use borrow.Author.Tests.{leb-true, leb-false, le-leb, lt-leb}
 use Rattle.ranges.specs.declared.Range.{Range}
 use Rattle.ranges.specs.Points.{range, Within, Point, Upright, Past, Apart}
 use Rattle.ranges.specs.Merged.{insert, sort, join, joinAll, merged, union}
+use Rattle.ranges.specs.Inner.{Permuted}
 use Rattle.ranges.proofs.PointLaws.{point-head, point-tail, point-none, point-cases, point-left, point-right, point-split, upright-head, upright-tail, apart-upright, past-point}
 use Rattle.ranges.proofs.SortLaws.{From, Sorted, sort-sorted, sort-member, member-sort, insert-swap, sort-insert}
 
@@ -142,19 +143,12 @@ merged-upright rs u = apart-upright (merged rs) (merged-apart rs u)
 
 -- ---- any order
 
--- one list is the other in another order
-pub data Permuted : List Range → List Range → Type 0 where
-  none : Permuted [] []
-  keep : (r : Range) {rs ss : List Range} → Permuted rs ss → Permuted (r ∷ rs) (r ∷ ss)
-  swap : (r s : Range) (rs : List Range) → Permuted (r ∷ s ∷ rs) (s ∷ r ∷ rs)
-  then : {rs ss ts : List Range} → Permuted rs ss → Permuted ss ts → Permuted rs ts
-
 sort-permuted : {rs ss : List Range} → Permuted rs ss → sort rs ≡ sort ss
 unfolding sort
-sort-permuted none = refl
-sort-permuted (keep r p) = ap (insert r) (sort-permuted p)
-sort-permuted (swap r s rs) = insert-swap r s (sort rs)
-sort-permuted (then p q) = sort-permuted p ∙ sort-permuted q
+sort-permuted Permuted.none = refl
+sort-permuted (Permuted.keep r p) = ap (insert r) (sort-permuted p)
+sort-permuted (Permuted.swap r s rs) = insert-swap r s (sort rs)
+sort-permuted (Permuted.then p q) = sort-permuted p ∙ sort-permuted q
 
 pub merged-permuted : {rs ss : List Range} → Permuted rs ss → merged rs ≡ merged ss
 unfolding merged

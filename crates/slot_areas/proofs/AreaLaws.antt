@@ -10,7 +10,8 @@ use Rattle.words.specs.Regions.{part, Kept}
 use Rattle.ranges.specs.declared.Range.{Range}
 use Rattle.ranges.specs.Merged.{merged}
 use Rattle.ranges.specs.Forms.{unpacked}
-use Rattle.ranges.proofs.MergeLaws.{Permuted, merged-permuted}
+use Rattle.ranges.specs.Inner.{Permuted}
+use Rattle.ranges.proofs.MergeLaws.{merged-permuted}
 use Rattle.packed.specs.Work.{MergedIn}
 use Rattle.graph.specs.Line.{blocksOf}
 use Rattle.graph.specs.Work.{Within, Table}
