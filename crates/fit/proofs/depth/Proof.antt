@@ -24,7 +24,7 @@ shared-slice-read-sum : tie.Need-shared-slice-read-sum Inv-loop μ-loop
 shared-slice-read-sum c = omega arith
 
 add-sum-2 : tie.Need-add-sum-2 Inv-loop μ-loop
-add-sum-2 c = record { fits = sum-fits ((c .before .before .loop) .inv) (omega arith) (omega arith) ((c .shared-slice-known) .given ((c .before .before .before .args) .from + (c .before .before .loop) .c) .fits) }
+add-sum-2 c = record { fits = sum-fits ((c .before .before .loop) .inv) (c .before .loop-test .taken) (omega arith) ((c .shared-slice-known) .given ((c .before .before .before .args) .from + (c .before .before .loop) .c) .fits) }
 
 add-c : tie.Need-add-c Inv-loop μ-loop
 add-c c = omega arith
@@ -33,7 +33,7 @@ loop-less : tie.Need-loop-less Inv-loop μ-loop
 loop-less c = omega arith
 
 loop-again : tie.Need-loop-again Inv-loop μ-loop
-loop-again c = summing-more ((c .before .before .loop) .inv) (omega arith) ((c .shared-slice-known) .given ((c .before .before .before .args) .from + (c .before .before .loop) .c) .fits)
+loop-again c = summing-more ((c .before .before .loop) .inv) (c .before .loop-test .taken) ((c .shared-slice-known) .given ((c .before .before .before .args) .from + (c .before .before .loop) .c) .fits)
 
 returns : tie.Need-returns Inv-loop μ-loop
 returns c = summing-done ((c .before .loop) .inv) (omega arith)

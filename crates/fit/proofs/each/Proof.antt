@@ -24,22 +24,22 @@ loop-holds : tie.Need-loop-holds Inv-loop μ-loop
 loop-holds c = going-start ((c .before .pre) .0) ((c .before .pre) .1) ((c .before .pre) .2)
 
 mul-draw : tie.Need-mul-draw Inv-loop μ-loop
-mul-draw c = omega (arith, row-in ((c .before .before .loop) .inv) (omega arith))
+mul-draw c = omega (arith, row-in ((c .before .before .loop) .inv) (c .before .loop-test .taken))
 
 add-draw : tie.Need-add-draw Inv-loop μ-loop
-add-draw c = omega (arith, row-in ((c .before .before .loop) .inv) (omega arith))
+add-draw c = omega (arith, row-in ((c .before .before .loop) .inv) (c .before .loop-test .taken))
 
 draw-requires : tie.Need-draw-requires Inv-loop μ-loop
-draw-requires c κs = (lent-in ((c .before .before .loop) .inv) (omega arith), order-in ((c .before .before .loop) .inv) (omega arith), omega arith, omega (arith, low-in ((c .before .before .loop) .inv) (omega arith)), row-in ((c .before .before .loop) .inv) (omega arith), (c .before .before .loop) .inv .grid .narrow, (c .before .before .loop) .inv .grid .some-step, (c .before .before .loop) .inv .grid .step-le)
+draw-requires c κs = (lent-in ((c .before .before .loop) .inv) (c .before .loop-test .taken), order-in ((c .before .before .loop) .inv) (c .before .loop-test .taken), omega arith, omega (arith, low-in ((c .before .before .loop) .inv) (c .before .loop-test .taken)), row-in ((c .before .before .loop) .inv) (c .before .loop-test .taken), (c .before .before .loop) .inv .grid .narrow, (c .before .before .loop) .inv .grid .some-step, (c .before .before .loop) .inv .grid .step-le)
 
 add-put : tie.Need-add-put Inv-loop μ-loop
-add-put c = omega (arith, row-in ((c .before .before .before .before .before .before .before .loop) .inv) (omega arith), (c .before .before .before .before .draw) .ensures .fits)
+add-put c = omega (arith, row-in ((c .before .before .before .before .before .before .before .loop) .inv) (c .before .before .before .before .before .before .loop-test .taken), (c .before .before .before .before .draw) .ensures .fits)
 
 put-requires : tie.Need-put-requires Inv-loop μ-loop
-put-requires c κs = (ready-drawn ((c .before .before .before .before .before .before .before .loop) .inv) (omega arith) ((c .before .before .before .before .draw) .ensures), sure-drawn ((c .before .before .before .before .before .before .before .loop) .inv) (omega arith) ((c .before .before .before .before .draw) .ensures))
+put-requires c κs = (ready-drawn ((c .before .before .before .before .before .before .before .loop) .inv) (c .before .before .before .before .before .before .loop-test .taken) ((c .before .before .before .before .draw) .ensures), sure-drawn ((c .before .before .before .before .before .before .before .loop) .inv) (c .before .before .before .before .before .before .loop-test .taken) ((c .before .before .before .before .draw) .ensures))
 
 join-row-requires : tie.Need-join-row-requires Inv-loop μ-loop
-join-row-requires c κs = (low-in ((c .before .before .before .before .before .before .before .before .before .before .before .loop) .inv) (omega arith), end-put ((c .before .before .before .before .before .before .before .before .before .before .before .loop) .inv) (omega arith) ((c .before .before .before .before .before .before .before .before .draw) .ensures) ((c .before .before .before .put) .ensures), omega arith, cells-in ((c .before .before .before .before .before .before .before .before .before .before .before .loop) .inv) (omega arith), order-in-put ((c .before .before .before .before .before .before .before .before .before .before .before .loop) .inv) (omega arith) ((c .before .before .before .before .before .before .before .before .draw) .ensures) ((c .before .before .before .put) .ensures), cell-in-put ((c .before .before .before .before .before .before .before .before .before .before .before .loop) .inv) (omega arith) ((c .before .before .before .before .before .before .before .before .draw) .ensures) ((c .before .before .before .put) .ensures))
+join-row-requires c κs = (low-in ((c .before .before .before .before .before .before .before .before .before .before .before .loop) .inv) (c .before .before .before .before .before .before .before .before .before .before .loop-test .taken), end-put ((c .before .before .before .before .before .before .before .before .before .before .before .loop) .inv) (c .before .before .before .before .before .before .before .before .before .before .loop-test .taken) ((c .before .before .before .before .before .before .before .before .draw) .ensures) ((c .before .before .before .put) .ensures), omega arith, cells-in ((c .before .before .before .before .before .before .before .before .before .before .before .loop) .inv) (c .before .before .before .before .before .before .before .before .before .before .loop-test .taken), order-in-put ((c .before .before .before .before .before .before .before .before .before .before .before .loop) .inv) (c .before .before .before .before .before .before .before .before .before .before .loop-test .taken) ((c .before .before .before .before .before .before .before .before .draw) .ensures) ((c .before .before .before .put) .ensures), cell-in-put ((c .before .before .before .before .before .before .before .before .before .before .before .loop) .inv) (c .before .before .before .before .before .before .before .before .before .before .loop-test .taken) ((c .before .before .before .before .before .before .before .before .draw) .ensures) ((c .before .before .before .put) .ensures))
 
 add-k : tie.Need-add-k Inv-loop μ-loop
 add-k c = omega arith
@@ -48,7 +48,7 @@ loop-less : tie.Need-loop-less Inv-loop μ-loop
 loop-less c = omega arith
 
 loop-again : tie.Need-loop-again Inv-loop μ-loop
-loop-again c = going-more ((c .before .before .before .before .before .before .before .before .before .before .before .before .before .before .loop) .inv) (omega arith) ((c .before .before .before .before .before .before .before .before .before .before .before .draw) .ensures) ((c .before .before .before .before .before .before .put) .ensures) ((c .before .before .join-row) .ensures)
+loop-again c = going-more ((c .before .before .before .before .before .before .before .before .before .before .before .before .before .before .loop) .inv) (c .before .before .before .before .before .before .before .before .before .before .before .before .before .loop-test .taken) ((c .before .before .before .before .before .before .before .before .before .before .before .draw) .ensures) ((c .before .before .before .before .before .before .put) .ensures) ((c .before .before .join-row) .ensures)
 
 same-length : tie.Need-same-length Inv-loop μ-loop
 same-length c = (c .before .loop) .inv .holds .len
