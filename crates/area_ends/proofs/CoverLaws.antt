@@ -6,7 +6,6 @@ use mathlib.Core.Bool.{Bool, true, false, cond}
 use mathlib.Core.List.{List, [], _∷_, _++_, append-assoc}
 use lib.ListN.{length, getD, take, set, length-set}
 use lib.Seq.{take-all}
-use lib.Dec.{leb}
 use borrow.Author.Tests.{eq-eqb, ne-eqb}
 use Rattle.words.specs.Regions.{part}
 use Rattle.words.proofs.RegionLaws.{kept-part-list}
@@ -23,30 +22,15 @@ use Rattle.spots.specs.Spots.{lineOf, touchesAt, endsAt, Stand}
 use Rattle.area_pieces.specs.declared.Local.{Local}
 use Rattle.area_pieces.specs.Local.{Laid}
 use Rattle.area_pieces.specs.Inner.{Listed}
+use Rattle.touch_covers.proofs.TouchLaws.{until-le}
 use Rattle.area_ends.specs.Inner.{covering, touchPieces, arrival, Covered, Covers}
 use Rattle.area_pieces.proofs.PushLaws.{pushed, set-other}
 use Rattle.area_pieces.proofs.HullLaws.{gather-append, gather-one, gather-none}
 use Rattle.area_pieces.proofs.SpanLaws.{rises, through-none, through-some, take-touch, touches-length}
 
-until-le : (es : List ℕ) (z b : ℕ) → until es z b ≤ b
-unfolding until
-until-le [] z b = omega arith
-until-le (e ∷ es) z b = go (leb z e) (until-le es z b)
-  where
-    go : (t : Bool) → until es z b ≤ b → cond t (min e (until es z b)) (until es z b) ≤ b
-    go true h = omega arith
-    go false h = h
-
 -- ---- what the code works out
 
 module _ (blocks es : List ℕ) (k y : ℕ) (h : k < length blocks / 3) (small : getD blocks (3 * k + 2) 0 < 2 ^ 32) where
-  pub cover-is : (x a b start point end : ℕ) → a ≡ x / 2 ^ 32 → b ≡ x % 2 ^ 32 → start ≡ max a (getD blocks (3 * k + 1) 0) → point ≡ min b (getD blocks (3 * k + 2) 0)
-      → end ≡ until es point (getD blocks (3 * k + 2) 0) → y ≡ pack (range start end) → unpack y ≡ cover (lineOf blocks []) es k (unpack x)
-  cover-is x a b start point end ea eb es′ ep ee e =
-      let l : end ≤ getD blocks (3 * k + 2) 0 = rw ee (until-le es point (getD blocks (3 * k + 2) 0)) in
-      ap unpack e ∙ unpack-pack start end (omega arith)
-      ∙ rw (start-is blocks k h, end-is blocks k h, ee, es′, ep, ea, eb)
-
   pub arrival-is : (end : ℕ) → end ≡ until es (getD blocks (3 * k + 1) 0) (getD blocks (3 * k + 2) 0) → y ≡ pack (range (getD blocks (3 * k + 1) 0) end)
       → unpack y ≡ arrival (lineOf blocks []) es k
   arrival-is end ee e =

@@ -7,25 +7,13 @@ ghost use lib.ListN.{length};
 ghost use Rattle.ranges.specs.Forms.{unpack};
 ghost use Rattle.graph.specs.Paths.{Edge};
 ghost use Rattle.graph.specs.Line.{blocksOf, Sound};
-ghost use Rattle.areas.specs.Blocks.{cover, inverted};
+ghost use Rattle.areas.specs.Blocks.{inverted};
 ghost use Rattle.spots.specs.Spots.{lineOf, touchesAt, endsAt, Stand};
 ghost use Rattle.area_pieces.specs.Local.{ownBit, markBit, Laid, Bounded, Upright};
 ghost use Rattle.area_ends.specs.Ending.{EndingIn};
 ghost use Rattle.area_ends.specs.Inner.{arrival, Covered, Covers, Arrived, Arriving, Arrivable};
 use area_pieces::Local;
 use spots::Spots;
-
-// The cover of a touch in block k: to the first end at or after its last point there, else to the bottom.
-fn cover(blocks: &[u32], work: &[u64], t: Spots, k: usize, x: u64) -> u64
-    requires { ⌜ (k < length (now blocks) / 3) × Stand t (now work) ⌝ }
-    ensures { λ r. ⌜ unpack r ≡ cover (lineOf (now (blocks .entry)) []) (endsAt t (now (work .entry))) k (unpack x) ⌝ }
-{
-    let bottom = blocks[3 * k + 2];
-    let start = spots::larger(packed::start_of(x), blocks[3 * k + 1]);
-    let point = spots::smaller(packed::end_of(x), bottom);
-    let end = spots::until(work, t.ends, t.stops, point, bottom);
-    packed::pack(start, end)
-}
 
 // Puts the pieces of a touch behind the m pieces: its covers in its first and its last block, and its between-piece.
 fn cover_touch(blocks: &[u32], work: &mut [u64], t: Spots, s: Local, x: u64, m: usize) -> usize
@@ -35,13 +23,13 @@ fn cover_touch(blocks: &[u32], work: &mut [u64], t: Spots, s: Local, x: u64, m: 
 {
     let first = spots::holding(blocks, packed::start_of(x));
     let last = spots::holding(blocks, packed::end_of(x));
-    let one = cover(blocks, work, t, first, x);
+    let one = touch_covers::cover(blocks, work, t, first, x);
     work[s.to + m] = one;
     let next = m + 1;
     if last <= first {
         return next;
     }
-    let two = cover(blocks, work, t, last, x);
+    let two = touch_covers::cover(blocks, work, t, last, x);
     work[s.to + next] = two;
     let third = next + 1;
     if last <= first + 1 {

@@ -4,9 +4,9 @@ use Prim.Native.Nat.{_+_, _-_, _*_}
 use denote.Ref.{now}
 use borrow.Author.Needs.{needs}
 use Rattle.spots.specs.Spots.{endsAt}
-use Rattle.area_ends.proofs.CoverLaws.{cover-is}
-use Rattle.area_ends.proofs.cover.Statement.{statement}
-use Rattle.area_ends.proofs.cover.Tie as tie
+use Rattle.touch_covers.proofs.TouchLaws.{cover-is}
+use Rattle.touch_covers.proofs.cover.Statement.{statement}
+use Rattle.touch_covers.proofs.cover.Tie as tie
 
 mul-bottom : tie.Need-mul-bottom
 mul-bottom c = search needs
