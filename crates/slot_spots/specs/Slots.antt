@@ -2,7 +2,6 @@
 use Prim.Native.Nat.{ℕ, _+_, _-_, _≤_}
 use mathlib.Core.Path.{_≡_}
 use mathlib.Core.Bool.{cond}
-use mathlib.Core.Option.{Option, some, none}
 use mathlib.Core.List.{List, [], _∷_, _++_}
 use lib.ListN.{length}
 use lib.Dec.{eqb}
@@ -16,12 +15,8 @@ use Rattle.carrying.specs.Lists.{gather}
 use Rattle.carrying.specs.Insts.{Inst, instsOf}
 use Rattle.areas.specs.Slots.{Move, movesOf, around, position}
 use Rattle.chains.specs.Chains.{Chain}
+pub use Rattle.slot_registers.specs.Held.{heldWord}
 use Rattle.slot_spots.specs.declared.Places.{Places}
-
--- the word of a slot: the register that `spilled` gives plus 1, or 0 for none
-abbrev pub heldWord : Option ℕ → ℕ
-heldWord none = 0
-heldWord (some r) = r + 1
 
 -- "a move at point p covers max(p−1, 0) to min(p+1, points)"
 abbrev pub coverOf : ℕ → List Stretch → List Inst → Move → Range

@@ -34,31 +34,13 @@ struct Links {
     nexts: usize,
 }
 
-// The last register assigned to each of `slots` slots plus 1, where there is one.
-fn assign(assigned: &[u32], work: &mut [u64], at: usize, slots: usize)
-    requires { ⌜ (at + slots ≤ length (now work)) × ((s : ℕ) → s < slots → getD (now work) (at + s) 0 ≡ 0) ⌝ }
-    ensures { λ _. ⌜ Region (now (work .entry)) (now (work .exit)) at slots (λ s. heldWord (spilled (assignedOf (now (assigned .entry))) s)) ⌝ }
-{
-    let n = assigned.len() / 2;
-    let mut i = 0;
-    while i < n {
-        let s = assigned[2 * i + 1] as usize;
-        if s < slots {
-            work[at + s] = assigned[2 * i] as u64 + 1;
-            i += 1;
-        } else {
-            i += 1;
-        }
-    }
-}
-
 // A word a slot, from `at` on: the last register assigned to it plus 1, or 0.
 pub fn held(assigned: &[u32], work: &mut [u64], at: usize, slots: usize)
     requires { ⌜ at + slots ≤ length (now work) ⌝ }
     ensures { λ _. ⌜ Region (now (work .entry)) (now (work .exit)) at slots (λ s. heldWord (spilled (assignedOf (now (assigned .entry))) s)) ⌝ }
 {
     words::fill(work, at, slots, 0);
-    assign(assigned, work, at, slots);
+    slot_registers::assign(assigned, work, at, slots);
 }
 
 // The moves of each slot as chains, by the slot that they go to and by the one that they come from.

@@ -3,7 +3,7 @@ use native.Mathlib.Omega.{arith}
 use Prim.Native.Nat.{_+_}
 use mathlib.Core.Path.{refl}
 use borrow.Author.Needs.{needs}
-use Rattle.slot_spots.proofs.HeldLaws.{held-all}
+use Rattle.slot_registers.proofs.HeldLaws.{held-all}
 use Rattle.slot_spots.proofs.held.Statement.{statement}
 use Rattle.slot_spots.proofs.held.Tie as tie
 

@@ -1,13 +1,13 @@
--- `slot_spots::assign` meets its contract: the last of the assignments passed.
+-- `slot_registers::assign` meets its contract: the last of the assignments passed.
 use native.Mathlib.Omega.{arith}
 use native.Mathlib.Nat.{add-zero}
 use Prim.Native.Nat.{ℕ, _+_, _-_, _*_, _/_, _≤_}
 use mathlib.Core.Path.{_≡_, refl, sym, ap}
 use lib.ListN.{length, getD}
 use Rattle.spill_checks.proofs.AssignedLaws.{assignedAt}
-use Rattle.slot_spots.proofs.HeldLaws.{Holding, held-start, held-put, held-skip, held-done}
-use Rattle.slot_spots.proofs.assign.Statement.{statement}
-use Rattle.slot_spots.proofs.assign.Tie as tie
+use Rattle.slot_registers.proofs.HeldLaws.{Holding, held-start, held-put, held-skip, held-done}
+use Rattle.slot_registers.proofs.assign.Statement.{statement}
+use Rattle.slot_registers.proofs.assign.Tie as tie
 
 abbrev Inv-loop : tie.InvT-loop
 Inv-loop assigned work₀ at slots n i₀ work i = (n ≡ length assigned / 2) × (i ≤ n) × Holding (assignedAt assigned) at slots work₀ work i

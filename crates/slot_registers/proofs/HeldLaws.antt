@@ -11,7 +11,7 @@ use Rattle.words.specs.Regions.{Region}
 use Rattle.words.proofs.Points.{stored}
 use Rattle.areas.specs.Slots.{Assigned, spilled}
 use Rattle.spill_checks.proofs.AssignedLaws.{next-same, next-other}
-use Rattle.slot_spots.specs.Slots.{heldWord}
+use Rattle.slot_registers.specs.Held.{heldWord}
 
 module _ (g : ℕ → Assigned) (at n : ℕ) where
   -- the words after some assignments
