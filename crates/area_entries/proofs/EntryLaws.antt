@@ -16,16 +16,18 @@ use Rattle.ranges.specs.declared.Range.{Range}
 use Rattle.graph.specs.Work.{Within}
 use Rattle.components.proofs.Entries.{cleared-same}
 use Rattle.area_measure.specs.Locals.{areaFor, Listed}
-use Rattle.area_entries.specs.declared.Answer.{Answer}
-use Rattle.area_entries.specs.declared.Answer.the-variants.{Refused}
+use Rattle.local_lists.specs.declared.Answer.{Answer}
+use Rattle.local_lists.specs.declared.Answer.the-variants.{Refused}
 use Rattle.lent_areas.specs.declared.Found.{Found}
 use Rattle.lent_areas.specs.declared.Found.the-variants.{Inverted, Ranges}
 use Rattle.area_layout.specs.Layout.{spaceFor}
 use Rattle.area_tables.specs.Tables.{listVerdict}
-use Rattle.area_entries.specs.Entry.{areaVerdict, AnsweredBy, LocalAreas}
+use Rattle.local_lists.specs.Lists.{AnsweredBy}
+use Rattle.local_lists.specs.Inner.{HeldList}
+use Rattle.area_entries.specs.Entry.{areaVerdict, LocalAreas}
 use Rattle.lent_areas.specs.Areas.{graphFor, listing, FoundAs}
 use Rattle.area_checks.specs.Checks.{sizesOf, lentVerdict}
-use Rattle.area_entries.specs.Inner.{Held, HeldList}
+use Rattle.area_entries.specs.Inner.{Held}
 
 module _ (locals room : ℕ) (areas items w : List ℕ) (f : Found) where
   pub tell-inverted : f ≡ Inverted → (bad : Bool) (A : ℕ → Option (List Range)) → FoundAs bad A locals room w f

@@ -1,11 +1,10 @@
 -- What the entry's functions promise each other. No public promise names these.
-use Prim.Native.Nat.{ℕ, _-_}
+use Prim.Native.Nat.{ℕ}
 use mathlib.Core.Bool.{Bool}
 use mathlib.Core.Option.{Option}
 use mathlib.Core.List.{List}
 use Rattle.ranges.specs.declared.Range.{Range}
-use Rattle.lent_areas.specs.Areas.{listing, FoundAs}
-use Rattle.area_measure.specs.Locals.{Listed}
+use Rattle.lent_areas.specs.Areas.{FoundAs}
 use Rattle.lent_areas.specs.declared.Found.{Found}
 
 -- what was found, of some areas
@@ -13,7 +12,3 @@ pub record Held (locals room : ℕ) (w : List ℕ) (f : Found) : Type 0 where
   pub bad : Bool
   pub area : ℕ → Option (List Range)
   pub found : FoundAs bad area locals room w f
-
-pub record HeldList (locals room n : ℕ) (w : List ℕ) : Type 0 where
-  pub area : ℕ → Option (List Range)
-  pub found : Listed (listing room) area locals n w

@@ -7,37 +7,17 @@ ghost use lib.ListN.{length};
 ghost use Rattle.refusals.specs.Verdicts.{first, check};
 ghost use Rattle.refusals.specs.declared.Refusal.the-variants.{Inverted};
 ghost use Rattle.ranges.specs.declared.Range.{Range};
-ghost use Rattle.area_measure.specs.Locals.{Listed};
 ghost use Rattle.area_tables.specs.Tables.{listVerdict};
-ghost use Rattle.area_entries.specs.Entry.{AnsweredBy, LocalAreas};
-ghost use Rattle.lent_areas.specs.Areas.{listing, FoundAs};
-ghost use Rattle.area_entries.specs.Inner.{Held, HeldList};
+ghost use Rattle.local_lists.specs.Lists.{AnsweredBy};
+ghost use Rattle.area_entries.specs.Entry.{LocalAreas};
+ghost use Rattle.lent_areas.specs.Areas.{FoundAs};
+ghost use Rattle.area_entries.specs.Inner.{Held};
 use lent_areas::Found;
+pub use local_lists::Answer;
 use refusals::Refusal;
 use refusals::Verdict;
 
-// How many ranges all areas have, or a refusal with the index of the first offending record.
-pub enum Answer {
-    Given(usize),
-    Refused(Refusal, usize),
-}
-
-// Writes the areas and the items, where all n ranges fit the area list (else 9).
-fn list(n: usize, areas: &mut [u32], items: &mut [u32], work: &[u64], locals: usize) -> Answer
-    requires { ⌜ HeldList locals (length (now areas) / 2) n (now work) × (2 * locals ≤ length (now items)) × (length (now areas) / 2 ≤ 65536) × (length (now areas) / 2 + locals ≤ length (now work)) ⌝ }
-    ensures { λ r. ⌜ ((A : ℕ → Option (List Range)) → Listed (listing (length (now (areas .entry)) / 2)) A locals n (now (work .entry))
-        → AnsweredBy (listVerdict locals A (length (now (areas .entry)) / 2)) locals A (now (areas .entry)) (now (items .entry)) r (now (areas .exit)) (now (items .exit))) ⌝ }
-{
-    let room = areas.len() / 2;
-    if room < n {
-        return Answer::Refused(Refusal::List, 0);
-    }
-    answer_rows::write_rows(areas, work, 0, n, 0);
-    answer_rows::write_rows(items, work, room, locals, 1);
-    Answer::Given(n)
-}
-
-// The same, or number 8.
+// Writes the areas and the items, or number 8, or 9.
 fn tell(f: Found, areas: &mut [u32], items: &mut [u32], work: &[u64], locals: usize) -> Answer
     requires { ⌜ Held locals (length (now areas) / 2) (now work) f × (2 * locals ≤ length (now items)) × (length (now areas) / 2 ≤ 65536) × (length (now areas) / 2 + locals ≤ length (now work)) ⌝ }
     ensures { λ r. ⌜ ((bad : Bool) (A : ℕ → Option (List Range)) → FoundAs bad A locals (length (now (areas .entry)) / 2) (now (work .entry)) f
@@ -45,7 +25,7 @@ fn tell(f: Found, areas: &mut [u32], items: &mut [u32], work: &[u64], locals: us
 {
     match f {
         Found::Inverted => Answer::Refused(Refusal::Inverted, 0),
-        Found::Ranges(n) => list(n, areas, items, work, locals),
+        Found::Ranges(n) => local_lists::list(n, areas, items, work, locals),
     }
 }
 

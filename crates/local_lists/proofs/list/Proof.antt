@@ -4,9 +4,9 @@ use Prim.Native.Nat.{_-_, _/_}
 use lib.ListN.{length}
 use denote.Ref.{now}
 use borrow.Author.Needs.{needs}
-use Rattle.area_entries.proofs.TableLaws.{word-some, refused-list, given-list}
-use Rattle.area_entries.proofs.list.Statement.{statement}
-use Rattle.area_entries.proofs.list.Tie as tie
+use Rattle.local_lists.proofs.TableLaws.{word-some, refused-list, given-list}
+use Rattle.local_lists.proofs.list.Statement.{statement}
+use Rattle.local_lists.proofs.list.Tie as tie
 
 returns : tie.Need-returns
 returns c = λ A D. refused-list A ((c .before .before .before .before .args) .locals) (length (now ((c .before .before .before .before .args) .areas)) / 2) ((c .before .before .before .before .args) .n) (now ((c .before .before .before .before .args) .work)) D (omega arith) _ _

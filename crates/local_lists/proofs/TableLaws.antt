@@ -18,11 +18,10 @@ use Rattle.areas.specs.Job.{rangesIn, rangesOf}
 use Rattle.area_measure.specs.Measure.{itemWord}
 use Rattle.area_measure.specs.Locals.{Listed}
 use Rattle.area_tables.proofs.RowLaws.{rows-areas, rows-long, ranges-below}
-use Rattle.area_entries.specs.declared.Answer.the-variants.{Given, Refused}
+use Rattle.local_lists.specs.declared.Answer.the-variants.{Given, Refused}
 use Rattle.answer_rows.specs.Rows.{halves, rowsIn}
-use Rattle.area_tables.specs.Tables.{listVerdict, areaRows}
-use Rattle.area_entries.specs.Entry.{itemRows, AnsweredBy}
-use Rattle.lent_areas.specs.Areas.{listing}
+use Rattle.area_tables.specs.Tables.{listVerdict, areaRows, listing}
+use Rattle.local_lists.specs.Lists.{itemRows, AnsweredBy}
 
 -- an item's word, less 1
 word-halves : (x a b : ℕ) → x ≡ itemWord a b → b < 2 ^ 32 → halves (x - 1) ≡ a ∷ b ∷ []
@@ -31,7 +30,7 @@ word-halves x a b e h =
     let q : (x - 1) % 2 ^ 32 ≡ b = omega arith in
     rw (p, q) refl
 
-module _ (A : ℕ → Option (List Range)) (locals room n : ℕ) (w : List ℕ) (D : Listed (listing room) A locals n w) where
+module _ (A : ℕ → Option (List Range)) (locals room n : ℕ) (w : List ℕ) (D : Listed (listing room room) A locals n w) where
   -- each item's word is above 0
   pub word-some : (i : ℕ) → i < locals → 1 ≤ getD w (room + i) 0
   word-some i h = omega (arith, D .items i h)

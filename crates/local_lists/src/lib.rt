@@ -1,0 +1,32 @@
+// The answer lists of locals whose touches are lent by themselves, from the work space.
+ghost use mathlib.Core.Option.{Option};
+ghost use mathlib.Core.List.{List};
+ghost use Prim.Native.Nat.{ℕ, _+_, _*_, _/_, _≤_};
+ghost use lib.ListN.{length};
+ghost use Rattle.ranges.specs.declared.Range.{Range};
+ghost use Rattle.area_measure.specs.Locals.{Listed};
+ghost use Rattle.area_tables.specs.Tables.{listVerdict, listing};
+ghost use Rattle.local_lists.specs.Lists.{AnsweredBy};
+ghost use Rattle.local_lists.specs.Inner.{HeldList};
+use refusals::Refusal;
+
+// How many ranges all areas have, or a refusal with the index of the first offending record.
+pub enum Answer {
+    Given(usize),
+    Refused(Refusal, usize),
+}
+
+// Writes the areas and the items, where all n ranges fit the area list (else 9).
+pub fn list(n: usize, areas: &mut [u32], items: &mut [u32], work: &[u64], locals: usize) -> Answer
+    requires { ⌜ HeldList locals (length (now areas) / 2) n (now work) × (2 * locals ≤ length (now items)) × (length (now areas) / 2 ≤ 65536) × (length (now areas) / 2 + locals ≤ length (now work)) ⌝ }
+    ensures { λ r. ⌜ ((A : ℕ → Option (List Range)) → Listed (listing (length (now (areas .entry)) / 2) (length (now (areas .entry)) / 2)) A locals n (now (work .entry))
+        → AnsweredBy (listVerdict locals A (length (now (areas .entry)) / 2)) locals A (now (areas .entry)) (now (items .entry)) r (now (areas .exit)) (now (items .exit))) ⌝ }
+{
+    let room = areas.len() / 2;
+    if room < n {
+        return Answer::Refused(Refusal::List, 0);
+    }
+    answer_rows::write_rows(areas, work, 0, n, 0);
+    answer_rows::write_rows(items, work, room, locals, 1);
+    Answer::Given(n)
+}
