@@ -66,18 +66,16 @@ fn plan(rows: &[u32], counts: &[u32])
     let r = planned(rows, counts, &mut cells, &mut items, &mut areas, &mut work);
     match r {
         Shared::Plan(c, probes, depth) => {
-            if c <= 128 {
-                frame::open(c as u32, n as u32, probes, depth);
-                show(
-                    &rows[3..3 + 3 * b],
-                    &cells,
-                    &items[0..4 * n],
-                    &areas,
-                    counts[6],
-                    c as u32,
-                    n as u32,
-                );
-            }
+            frame::open(c as u32, n as u32, probes, depth);
+            show(
+                &rows[3..3 + 3 * b],
+                &cells,
+                &items[0..4 * n],
+                &areas,
+                counts[6],
+                c as u32,
+                n as u32,
+            );
         }
         Shared::Refused(r, i) => frame::refuse(r, i),
     }
