@@ -15,7 +15,7 @@ use Rattle.graph.specs.Work.{Within}
 use Rattle.flow_rows.specs.declared.Flow.{Flow}
 use Rattle.flow_rows.specs.Flowed.{which, order, begins, ends, target, touchedBit, outBit, Laid, Across, Stays, Joins, Tells}
 use Rattle.flow_rows.proofs.Joins.{row-in, which-kept, target-kept, touched-kept, laid-kept, row-wide, other-row, joins-none, joins-then, joins-as, joins-row, or-true, or-left, or-right, touched-aligned}
-use Rattle.flow_rows.proofs.Places.{small, bytes}
+use Rattle.words.proofs.FitLaws.{small, bytes}
 
 -- the edges of u before e
 abbrev pub AcrossTo : Flow → List ℕ → ℕ → ℕ → ℕ → ℕ → Type 0

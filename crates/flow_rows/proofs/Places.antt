@@ -6,20 +6,10 @@ use mir.Syntax.{w64}
 use mir.Val.{Fits}
 use native.Mathlib.Omega.{arith}
 use lib.ListN.{length}
+use Rattle.words.proofs.FitLaws.{small, bytes}
 use Rattle.flow_rows.specs.declared.Flow.{Flow}
 use Rattle.flow_rows.specs.Flowed.{Laid}
 use Rattle.flow_rows.proofs.Joins.{row-in}
-
--- what is at most the length of a list of words fits, in words and in bytes
-pub small : (a n : ℕ) → a ≤ n → n * 8 < 2 ^ 63 → Fits w64 a
-small a n h r = omega arith
-
-pub bytes : (a n : ℕ) → a ≤ n → n * 8 < 2 ^ 63 → Fits w64 (a * 8)
-bytes a n h r = omega arith
-
--- a list as long has as much room
-pub as-long : (m n : ℕ) → m ≡ n → n * 8 < 2 ^ 63 → m * 8 < 2 ^ 63
-as-long m n e r = omega arith
 
 -- where the order begins
 pub record Orders (f : Flow) : Type 0 where

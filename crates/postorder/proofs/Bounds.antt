@@ -6,21 +6,10 @@ use mir.Syntax.{w64}
 use mir.Val.{Fits}
 use native.Mathlib.Omega.{arith}
 use lib.ListN.{length, getD}
+use Rattle.words.proofs.FitLaws.{Word, word, small}
 use Rattle.postorder.specs.Walk.{ends}
 use Rattle.postorder.specs.Space.{Ready}
 use Rattle.postorder.proofs.Turns.{topOf, nextOf, leadsTo, Top, top, v-ok}
-
--- word a of n is read or written
-pub record Word (a n : ℕ) : Type 0 where
-  pub fits : Fits w64 a
-  pub in-bytes : Fits w64 (a * 8)
-  pub inside : a < n
-
-word : (a n : ℕ) → a < n → n * 8 < 2 ^ 63 → Word a n
-word a n h r = record { fits = omega arith; in-bytes = omega arith; inside = h }
-
-small : (a n : ℕ) → a ≤ n → n * 8 < 2 ^ 63 → Fits w64 a
-small a n h r = omega arith
 
 -- at any turn
 pub record Turning (n at base : ℕ) (w : List ℕ) (depth : ℕ) : Type 0 where

@@ -6,19 +6,8 @@ use mir.Syntax.{w64}
 use mir.Val.{Fits}
 use native.Mathlib.Omega.{arith}
 use lib.ListN.{length, getD}
+use Rattle.words.proofs.FitLaws.{Word, word, small}
 use Rattle.cell_tables.specs.Inner.{orderAt, Ready}
-
--- word a of n is read
-pub record Word (a n : ℕ) : Type 0 where
-  pub fits : Fits w64 a
-  pub in-bytes : Fits w64 (a * 8)
-  pub inside : a < n
-
-word : (a n : ℕ) → a < n → n * 8 < 2 ^ 63 → Word a n
-word a n h r = record { fits = omega arith; in-bytes = omega arith; inside = h }
-
-small : (a n : ℕ) → a ≤ n → n * 8 < 2 ^ 63 → Fits w64 a
-small a n h r = omega arith
 
 -- of item i at place k of the order
 pub record AtItem (items n k i cells m : ℕ) : Type 0 where

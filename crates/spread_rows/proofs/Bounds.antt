@@ -6,22 +6,11 @@ use mir.Syntax.{w64}
 use mir.Val.{Fits}
 use native.Mathlib.Omega.{arith}
 use lib.ListN.{length}
+use Rattle.words.proofs.FitLaws.{Word, word, small}
 use Rattle.words.proofs.RegionLaws.{row-before}
 use Rattle.spread_rows.specs.declared.Layout.{Layout}
 use Rattle.spread_rows.specs.Spread.{Laid, begins, ends, target}
 use Rattle.spread_rows.proofs.Pushes.{Pushing, push-laid, target-lt}
-
--- word a of n is read
-pub record Word (a n : ℕ) : Type 0 where
-  pub fits : Fits w64 a
-  pub in-bytes : Fits w64 (a * 8)
-  pub inside : a < n
-
-word : (a n : ℕ) → a < n → n * 8 < 2 ^ 63 → Word a n
-word a n h r = record { fits = omega arith; in-bytes = omega arith; inside = h }
-
-small : (a n : ℕ) → a ≤ n → n * 8 < 2 ^ 63 → Fits w64 a
-small a n h r = omega arith
 
 -- the rows of a place
 pub record RowsOf (s : Layout) (u n : ℕ) : Type 0 where

@@ -1,5 +1,4 @@
 -- What the turn computes fits and stands in the work space, each bound as the code asks for it.
--- Assumes nothing.
 use Prim.Native.Nat.{ℕ, _+_, _-_, _*_, _^_, _≤_, _<_}
 use mathlib.Core.Path.{_≡_}
 use mathlib.Core.List.{List}
@@ -7,19 +6,8 @@ use mir.Syntax.{w64}
 use mir.Val.{Fits}
 use native.Mathlib.Omega.{arith}
 use lib.ListN.{length, getD}
+use Rattle.words.proofs.FitLaws.{Word, word, small}
 use Rattle.tarjan.proofs.Laws.{Pl, Nd, Ed, Tg, Top}
-
--- word a of n is read or written
-pub record Word (a n : ℕ) : Type 0 where
-  pub fits : Fits w64 a
-  pub in-bytes : Fits w64 (a * 8)
-  pub inside : a < n
-
-word : (a n : ℕ) → a < n → n * 8 < 2 ^ 63 → Word a n
-word a n h r = record { fits = omega arith; in-bytes = omega arith; inside = h }
-
-small : (a n : ℕ) → a ≤ n → n * 8 < 2 ^ 63 → Fits w64 a
-small a n h r = omega arith
 
 pub not-none : (m : ℕ) → (m ≡ 0 → ⊥) → 1 ≤ m
 not-none m h = omega arith

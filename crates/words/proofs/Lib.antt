@@ -5,3 +5,4 @@ pub mod RegionLaws
 pub mod PasteLaws
 pub mod SearchLaws
 pub mod FlatLaws
+pub mod FitLaws

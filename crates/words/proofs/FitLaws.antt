@@ -1,0 +1,26 @@
+-- What is computed from places in a list of words fits 64 bits.
+use Prim.Native.Nat.{ℕ, _*_, _^_, _≤_, _<_}
+use mathlib.Core.Path.{_≡_}
+use mir.Syntax.{w64}
+use mir.Val.{Fits}
+use native.Mathlib.Omega.{arith}
+
+-- what is at most the length of a list of words fits, in words and in bytes
+pub small : (a n : ℕ) → a ≤ n → n * 8 < 2 ^ 63 → Fits w64 a
+small a n h r = omega arith
+
+pub bytes : (a n : ℕ) → a ≤ n → n * 8 < 2 ^ 63 → Fits w64 (a * 8)
+bytes a n h r = omega arith
+
+-- a list as long has as much room
+pub as-long : (m n : ℕ) → m ≡ n → n * 8 < 2 ^ 63 → m * 8 < 2 ^ 63
+as-long m n e r = omega arith
+
+-- word a of n is read or written
+pub record Word (a n : ℕ) : Type 0 where
+  pub fits : Fits w64 a
+  pub in-bytes : Fits w64 (a * 8)
+  pub inside : a < n
+
+pub word : (a n : ℕ) → a < n → n * 8 < 2 ^ 63 → Word a n
+word a n h r = record { fits = omega arith; in-bytes = omega arith; inside = h }
