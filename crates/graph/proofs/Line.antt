@@ -5,6 +5,7 @@ use mathlib.Core.Logic.{_≢_, _⊎_, inl, inr}
 use mathlib.Core.Bool.{Bool, true, false, cond, not, _||_}
 use mathlib.Core.List.{List, [], _∷_, map, List·Memᴰ, List·Memᴰ·head, List·Memᴰ·tail, List·Memᴰ·cases-cons, List·Memᴰ·not-nil}
 use native.Mathlib.Nat.{add-zero}
+use native.Mathlib.Numerals.{add-one}
 use native.Mathlib.Omega.{arith}
 use lib.Dec.{eqb, leb, ltb}
 use lib.ListN.{length, getD, length-map, List·getD-map}
@@ -14,7 +15,8 @@ use Rattle.refusals.specs.declared.Verdict.the-variants.{Fine}
 use Rattle.refusals.specs.declared.Refusal.the-variants.{Line, Edge as EdgeWord}
 use Rattle.refusals.specs.Verdicts.{scan}
 use Rattle.refusals.proofs.Laws.{scan-fine}
-use Rattle.words.specs.Rows.{tabulate, records, rowCount}
+use Rattle.words.specs.Rows.{tabulate, records, rowCount, field}
+use Rattle.words.specs.Sort.{Rising}
 use Rattle.words.proofs.RowLaws.{length-tabulate, getD-tabulate}
 use Rattle.words.proofs.Points.{cut, same}
 use Rattle.graph.specs.declared.Block.{Block}
@@ -87,6 +89,16 @@ module _ (s : List ℕ) where
 
     pub to-is : k < length s / 2 → getD (jumpsOf s) k (record { from = 0; to = 0 }) .to ≡ getD s (2 * k + 1) 0
     to-is h = ap (λ (j : Jump). j .to) (jump-at h)
+
+  -- the starts of blocks in the form of number 2 rise
+  pub starts-rise : Sound (blocksOf s) → Rising (λ i. field 3 s i 1) (length s / 3)
+  starts-rise S k h =
+      let n = blocks-length in
+      let a = start-is k (omega arith) in
+      let b = start-is (k + 1) h in
+      let g = rw (← add-one k) at (S .gapless k (let z = add-one k in omega arith)) in
+      let u = S .upright k (omega arith) in
+      omega arith
 
 -- ---- numbers and places
 

@@ -28,7 +28,6 @@ use Rattle.carrying.specs.Lists.{any}
 use Rattle.carrying.specs.Insts.{Operand, Inst, instOf, instsOf, instAt, isSet}
 use Rattle.carrying.specs.Carried.{Mention, mentionsOf}
 use Rattle.carrying.specs.Checks.{misplaced, badRegister, badOperand, badFlags, badPositions, badInst, instVerdict, crossingVerdict, absent, mentionAt, addressVerdict, endVerdict}
-use Rattle.inst_parts.proofs.PartLaws.{held}
 use Rattle.insts.specs.Counts.{badRows, rowsVerdict, mostVerdict, blockCounts, offset, addUp, instCounts, codeCounts}
 use Rattle.insts.specs.Rows.{operandAt, operandsFrom, placing, rowInst, AddsUp}
 use Rattle.insts.proofs.DealtLaws.{scan-same, insts-length, inst-at, placed-is}
@@ -138,13 +137,13 @@ module _ (s : List ℕ) (S : Sound (blocksOf s)) where
       → blockAt (blocksOf s) k .start ≤ e → e ≤ blockAt (blocksOf s) k .end → r ≡ k + 1
   search-found r k e p h a b =
       cut r k
-      (λ l. absurd (let z = leb-false (field 3 s k 1) e (p .fails k l h) in let q = held s S k h .start in omega arith))
+      (λ l. absurd (let z = leb-false (field 3 s k 1) e (p .fails k l h) in let q = start-is s k h in omega arith))
       (λ l. cut r (k + 1) (λ m. omega arith)
       (λ m. absurd (
       let z = p .holds (k + 1) m in
       let n = blocks-length s in
       let w = p .within in
-      let q = held s S (k + 1) (omega arith) .start in
+      let q = start-is s (k + 1) (omega arith) in
       let g = rw (← add-one k) at (S .gapless k (let y = add-one k in omega arith)) in
       cut (field 3 s (k + 1) 1) e (λ y. omega arith) (λ y. let o : _≡_ {A = ℕ} 0 1 = cc (lt-leb (field 3 s (k + 1) 1) e y) in omega arith))))
 
@@ -172,15 +171,15 @@ module _ (s : List ℕ) (S : Sound (blocksOf s)) where
     pub found-in : (k : ℕ) → k < length s / 3 → getD s (3 * k) 0 ≡ number → field 3 s k 1 ≤ early
         → ltb (field 3 s k 2) late ≡ misplaced (blocksOf s) (placing number early late)
     found-in k h e l =
-        let a = held s S k h in
-        let n : blockAt (blocksOf s) k .number ≡ number = a .number ∙ e in
-        let b : number < length (blocksOf s) = rw n at (S .numbered k (a .here)) in
-        let p : placeIn (blocksOf s) number ≡ k = rw n at (place-of-number S k (a .here)) in
-        let st = a .start in
+        let a : k < length (blocksOf s) = rw (blocks-length s) h in
+        let n : blockAt (blocksOf s) k .number ≡ number = number-is s k h ∙ e in
+        let b : number < length (blocksOf s) = rw n at (S .numbered k a) in
+        let p : placeIn (blocksOf s) number ≡ k = rw n at (place-of-number S k a) in
+        let st = start-is s k h in
         rw (lt-leb (length (blocksOf s)) number b)
         (rw p
         (rw (le-ltb early (blockAt (blocksOf s) k .start) (omega arith))
-        (ap (λ (x : ℕ). ltb x late) (sym (a .end)))))
+        (ap (λ (x : ℕ). ltb x late) (sym (end-is s k h)))))
 
 -- ---- number 4: an instruction
 

@@ -27,20 +27,11 @@ use Rattle.carrying.specs.Lists.{any}
 use Rattle.carrying.proofs.ListLaws.{any-true, false-any}
 use Rattle.areas.specs.Blocks.{Graph, top, bottom, holding, blockOf, clip, reversed, inverted, until}
 use Rattle.areas.specs.Areas.{UpTo}
-use Rattle.areas.proofs.BlockLaws.{tops, block-below}
+use Rattle.areas.proofs.BlockLaws.{block-below}
 use Rattle.areas.proofs.EndLaws.{until-has, until-only}
 use Rattle.spots.specs.Spots.{lineOf, Held}
 
 -- ---- the block of a point
-
--- the starts rise
-pub starts-rise : (blocks : List ℕ) → Sound (blocksOf blocks) → Rising (λ i. field 3 blocks i 1) (length blocks / 3)
-starts-rise blocks S k h =
-    let l = blocks-length blocks in
-    let t = tops (lineOf blocks []) S k (k + 1) (omega arith) (omega arith) in
-    let a = start-is blocks k (omega arith) in
-    let b = start-is blocks (k + 1) h in
-    omega arith
 
 -- of n blocks the first r start no later than x
 holding-split : (G : Graph) (n x r : ℕ) → Splits (λ i. leb (top G i) x) n r → holding G n x ≡ r - 1

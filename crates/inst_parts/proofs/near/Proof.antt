@@ -1,7 +1,8 @@
 -- `near` meets its contract: the block that was tried has the point, or the search finds how many there are.
 use native.Mathlib.Omega.{arith}
 use Prim.Native.Nat.{_-_, _*_}
-use Rattle.inst_parts.proofs.PartLaws.{starts-rise, near-found}
+use Rattle.graph.proofs.Line.{starts-rise}
+use Rattle.inst_parts.proofs.PartLaws.{near-found}
 use Rattle.inst_parts.proofs.near.Statement.{statement}
 use Rattle.inst_parts.proofs.near.Tie as tie
 

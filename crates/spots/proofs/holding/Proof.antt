@@ -1,5 +1,6 @@
 -- `spots::holding` meets its contract: the block is the last of those that start no later.
-use Rattle.spots.proofs.SpotLaws.{starts-rise, held}
+use Rattle.graph.proofs.Line.{starts-rise}
+use Rattle.spots.proofs.SpotLaws.{held}
 use native.Mathlib.Omega.{arith}
 use borrow.Author.Needs.{needs}
 use Rattle.spots.proofs.holding.Statement.{statement}
