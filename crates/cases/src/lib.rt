@@ -2,8 +2,7 @@
 ghost use Prim.Native.Nat.{_≤_, _<_};
 ghost use lib.ListN.{length};
 ghost use mathlib.Core.Path.{_≡_};
-ghost use mathlib.Core.Bool.{true};
-ghost use Rattle.cases.specs.Columns.{Rising};
+ghost use Rattle.cases.specs.Columns.{RisingTo, Rising};
 ghost use Rattle.cases.specs.Cuts.{Ordered};
 use refusals::Refusal;
 use refusals::number;
@@ -98,7 +97,10 @@ fn find(text: &[u8], from: usize, byte: u8) -> usize
 }
 
 // Columns that a case does not have are empty.
-fn rest(ends: &mut [usize], from: usize, n: usize) {
+fn rest(ends: &mut [usize], from: usize, n: usize)
+    requires { ⌜ (from ≤ length (now ends)) × RisingTo (now ends) n from ⌝ }
+    ensures { λ _. ⌜ Rising (now (ends .exit)) n ⌝ }
+{
     let mut c = from;
     while c < ends.len() {
         ends[c] = n;
@@ -107,7 +109,9 @@ fn rest(ends: &mut [usize], from: usize, n: usize) {
 }
 
 // The numbers of a case, and where each column ends; what is past the room is left out. A blank before them is no digit.
-fn read(case: &[u8], numbers: &mut [u32], ends: &mut [usize]) {
+fn read(case: &[u8], numbers: &mut [u32], ends: &mut [usize])
+    ensures { λ _. ⌜ Rising (now (ends .exit)) (length (now (numbers .entry))) ⌝ }
+{
     let mut i = 0;
     let mut n = 0;
     let mut c = 0;
@@ -133,26 +137,6 @@ fn read(case: &[u8], numbers: &mut [u32], ends: &mut [usize]) {
         }
     }
     rest(ends, c, n);
-}
-
-// Whether each column ends where or after the one before does, and all within so many numbers.
-fn rising(ends: &[usize], most: usize) -> bool
-    ensures { λ r. ⌜ (r ≡ true → Rising (now (ends .entry)) most) ⌝ }
-{
-    let mut i = 0;
-    let mut last = 0;
-    while i < ends.len() {
-        let end = ends[i];
-        if end < last {
-            return false;
-        }
-        if most < end {
-            return false;
-        }
-        last = end;
-        i += 1;
-    }
-    true
 }
 
 // Where thirteen columns end, and where the next case begins.
@@ -195,32 +179,6 @@ fn cut(ends: &[usize], most: usize, next: usize) -> Cuts
     }
 }
 
-// Where the thirteen columns of a case end, in order and within so many numbers: of what is no such case, all at 0.
-fn columns(ends: &[usize], most: usize, next: usize) -> Cuts
-    requires { ⌜ length (now ends) ≡ 13 ⌝ }
-    ensures { λ r. ⌜ Ordered r most × (r .next ≡ next) ⌝ }
-{
-    if rising(ends, most) {
-        return cut(ends, most, next);
-    }
-    Cuts {
-        c0: 0,
-        c1: 0,
-        c2: 0,
-        c3: 0,
-        c4: 0,
-        c5: 0,
-        c6: 0,
-        c7: 0,
-        c8: 0,
-        c9: 0,
-        c10: 0,
-        c11: 0,
-        c12: 0,
-        next,
-    }
-}
-
 // The case of the line that begins there: prints its name, and reads its numbers, of which there is room for 1,024.
 pub fn case(text: &[u8], from: usize, numbers: &mut [u32]) -> Cuts
     requires { ⌜ (from ≤ length (now text)) × (length (now numbers) ≡ 1024) ⌝ }
@@ -231,5 +189,5 @@ pub fn case(text: &[u8], from: usize, numbers: &mut [u32]) -> Cuts
     let end = find(text, blank, b'\n');
     io::write_all(1, &text[from..blank]);
     read(&text[blank..end], numbers, &mut ends);
-    columns(&ends, 1024, end + 1)
+    cut(&ends, 1024, end + 1)
 }

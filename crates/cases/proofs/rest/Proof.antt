@@ -1,19 +1,21 @@
--- `rest` is safe and ends: it counts up to the length.
+-- `rest` meets its contract: so far the columns rise.
 use native.Mathlib.Omega.{arith}
-use Prim.Native.Nat.{_-_}
-use mathlib.Core.Path.{_≡_, refl}
+use Prim.Native.Nat.{_-_, _≤_}
+use mathlib.Core.Path.{_≡_, refl, subst}
 use lib.ListN.{length, length-set}
+use Rattle.cases.specs.Columns.{RisingTo}
+use Rattle.cases.proofs.ColumnLaws.{rising-more}
 use Rattle.cases.proofs.rest.Statement.{statement}
 use Rattle.cases.proofs.rest.Tie as tie
 
 abbrev Inv-loop : tie.InvT-loop
-Inv-loop ends₀ from n c₀ ends c = length ends ≡ length ends₀
+Inv-loop ends₀ from n c₀ ends c = (c ≤ length ends₀) × (length ends ≡ length ends₀) × RisingTo ends n c
 
 abbrev μ-loop : tie.MeasureT-loop
 μ-loop ends₀ from n c₀ ends c = length ends₀ - c
 
 loop-holds : tie.Need-loop-holds Inv-loop μ-loop
-loop-holds c = refl
+loop-holds c = ((c .pre) .0, refl, (c .pre) .1)
 
 mul-ends : tie.Need-mul-ends Inv-loop μ-loop
 mul-ends c = omega arith
@@ -28,13 +30,13 @@ loop-less : tie.Need-loop-less Inv-loop μ-loop
 loop-less c = omega arith
 
 loop-again : tie.Need-loop-again Inv-loop μ-loop
-loop-again c = simp length-set (omega arith)
+loop-again c = (omega arith, simp length-set (omega arith), rising-more (omega arith) ((c .before .loop) .inv .2))
 
 same-length : tie.Need-same-length Inv-loop μ-loop
 same-length c = omega arith
 
 returns : tie.Need-returns Inv-loop μ-loop
-returns c = omega arith
+returns c = subst (RisingTo _ _) (let e : (c .before .loop) .c ≡ length ((c .before .loop) .ends) = omega arith in e) ((c .before .loop) .inv .2)
 
 pub rest-spec : {M : Type 1} → statement M
 rest-spec =
