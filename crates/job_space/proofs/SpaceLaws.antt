@@ -8,7 +8,7 @@ use mathlib.Core.List.{List, [], _∷_}
 use lib.Dec.{eqb}
 use borrow.Author.Tests.{lt-ltb, le-ltb, eq-eqb, ne-eqb}
 use Rattle.job_space.specs.declared.Sizes.{Sizes}
-use Rattle.job_space.specs.Space.{rowWords, sizesOf, spaceOf, Small, badShape}
+use Rattle.job_space.specs.Space.{rowWords, sizesOf, spaceOf, Counted, Small, badShape}
 
 -- the rows of the places are short
 pub rows-small : {z : Sizes} → Small z → z .blocks * rowWords (z .locals) ≤ 131072
@@ -23,12 +23,30 @@ pub star-1-space : spaceOf (sizesOf 0 (0 ∷ 0 ∷ 19 ∷ []) []
     (8 ∷ 8 ∷ 4 ∷ 4 ∷ []) [] (0 ∷ 0 ∷ 1 ∷ 1 ∷ []) [] [] [] [] 128) ≡ 576
 star-1-space = refl
 
--- W of any 32-bit numbers: the rows of the blocks are far below 64 bits
-pub rows-few : (b l : ℕ) → b < 2 ^ 32 → l < 2 ^ 32 → b * rowWords l ≤ 288230376151711744
-rows-few b l hb hl =
-    let w : rowWords l ≤ 67108864 = omega arith in
-    let a = mul-le-mul-left b w in
-    omega arith
+-- W of any 32-bit numbers is far below 64 bits
+pub space-fits : {z : Sizes} → Counted z → spaceOf z < 2 ^ 62
+space-fits {z} C =
+    let w : rowWords (z .locals) ≤ 67108864 = omega (arith, C .locals) in
+    let a = mul-le-mul-left (z .blocks) w in
+    omega (arith, C .registers, C .blocks, C .edges, C .insts, C .operands, C .crossings, C .locals, C .slots, C .addresses, C .ends, C .pieces, C .assigned, C .moves, C .ranges)
+
+pub small-counted : {z : Sizes} → Small z → Counted z
+small-counted S = record {
+  registers = omega (arith, S .registers);
+  blocks = omega (arith, S .few-blocks);
+  edges = omega (arith, S .few-edges);
+  insts = omega (arith, S .few-insts);
+  operands = omega (arith, S .few-operands);
+  crossings = omega (arith, S .few-crossings);
+  locals = omega (arith, S .few-locals);
+  slots = omega (arith, S .few-slots);
+  addresses = omega (arith, S .few-addresses);
+  ends = omega (arith, S .few-ends);
+  pieces = omega (arith, S .few-pieces);
+  assigned = omega (arith, S .few-assigned);
+  moves = omega (arith, S .few-moves);
+  ranges = omega (arith, S .few-ranges);
+}
 
 -- ---- number 1 of the budget, the cells and the items
 

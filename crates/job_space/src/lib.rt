@@ -1,6 +1,6 @@
 // The counts of a job's records as they are lent, W, and what only fitting takes.
 ghost use mathlib.Core.Path.{_≡_};
-ghost use Rattle.job_space.specs.Space.{spaceOf, Small, badShape};
+ghost use Rattle.job_space.specs.Space.{spaceOf, Counted, badShape};
 
 pub mod records; // records.rt: how many are lent
 
@@ -24,9 +24,9 @@ pub struct Sizes {
     pub room: usize,
 }
 
-// W, the words of work space that are needed.
+// W, the words of work space that are needed. No sum is too large for numbers of 32 bits.
 pub fn needed(z: Sizes) -> usize
-    requires { ⌜ Small z ⌝ }
+    requires { ⌜ Counted z ⌝ }
     ensures { λ r. ⌜ r ≡ spaceOf z ⌝ }
 {
     let code = z.blocks + z.edges + z.insts + z.operands + z.crossings;
@@ -36,7 +36,7 @@ pub fn needed(z: Sizes) -> usize
     8 * (code + items + live + rows + z.room + (z.v + 63) / 64)
 }
 
-// W by numbers of records. No sum is too large for any 32-bit numbers.
+// W by numbers of records, for any numbers.
 pub fn words(
     v: u32,
     blocks: u32,
@@ -55,11 +55,22 @@ pub fn words(
 ) -> u64
     ensures { λ r. ⌜ r ≡ spaceOf (record { v = v; blocks = blocks; edges = edges; insts = insts; operands = operands; crossings = crossings; locals = locals; slots = slots; addresses = addresses; ends = ends; pieces = pieces; assigned = assigned; moves = moves; room = ranges }) ⌝ }
 {
-    let code = blocks as u64 + edges as u64 + insts as u64 + operands as u64 + crossings as u64;
-    let items = locals as u64 + slots as u64 + addresses as u64 + ends as u64;
-    let live = pieces as u64 + assigned as u64 + moves as u64;
-    let rows = blocks as u64 * ((locals as u64 + 63) / 64);
-    8 * (code + items + live + rows + ranges as u64 + (v as u64 + 63) / 64)
+    needed(Sizes {
+        v: v as usize,
+        blocks: blocks as usize,
+        edges: edges as usize,
+        insts: insts as usize,
+        operands: operands as usize,
+        crossings: crossings as usize,
+        locals: locals as usize,
+        slots: slots as usize,
+        addresses: addresses as usize,
+        ends: ends as usize,
+        pieces: pieces as usize,
+        assigned: assigned as usize,
+        moves: moves as usize,
+        room: ranges as usize,
+    }) as u64
 }
 
 // Refusal 1 of what only fitting takes: a budget over its limit, or a cell or an item list that is no whole rows.
