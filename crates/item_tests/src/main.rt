@@ -14,8 +14,8 @@ fn given(a: Answer) {
     }
 }
 
-// The areas of the records that stand in `n`, a group from where one column ends to where the next one does.
-fn answer(n: &[u32], e: Cuts, areas: &mut [u32], items: &mut [u32], work: &mut [u64])
+// What `item_areas` answers for the records that stand in `n`, a group from where one column ends to where the next one does.
+fn measured(n: &[u32], e: Cuts, areas: &mut [u32], items: &mut [u32], work: &mut [u64]) -> Answer
     requires { ⌜ (length (now n) ≡ 1024) × Ordered e 1024 ⌝ }
 {
     let c0 = e.c0;
@@ -31,7 +31,7 @@ fn answer(n: &[u32], e: Cuts, areas: &mut [u32], items: &mut [u32], work: &mut [
     let c10 = e.c10;
     let c11 = e.c11;
     let c12 = e.c12;
-    given(item_areas::item_areas(
+    item_areas::item_areas(
         n[0],
         n[1],
         &n[c0..c1],
@@ -49,7 +49,13 @@ fn answer(n: &[u32], e: Cuts, areas: &mut [u32], items: &mut [u32], work: &mut [
         areas,
         items,
         work,
-    ));
+    )
+}
+
+fn answer(n: &[u32], e: Cuts, areas: &mut [u32], items: &mut [u32], work: &mut [u64])
+    requires { ⌜ (length (now n) ≡ 1024) × Ordered e 1024 ⌝ }
+{
+    given(measured(n, e, areas, items, work));
     cases::listed(areas);
     cases::left(items, work);
 }

@@ -40,15 +40,15 @@ fn show(cells: &[u32], items: &[u32], areas: &[u32], work: &[u64]) {
     cases::left(areas, work);
 }
 
-// The plan of the records that stand in `n`, a group from where one column ends to where the next one does.
-fn plan(
+// What `share` answers for the records that stand in `n`, a group from where one column ends to where the next one does.
+fn shared(
     n: &[u32],
     e: Cuts,
     cells: &mut [u32],
     items: &mut [u32],
     areas: &mut [u32],
     work: &mut [u64],
-)
+) -> Shared
     requires { ⌜ (length (now n) ≡ 1024) × Ordered e 1024 ⌝ }
 {
     let c0 = e.c0;
@@ -64,7 +64,7 @@ fn plan(
     let c10 = e.c10;
     let c11 = e.c11;
     let c12 = e.c12;
-    told(job::share(
+    job::share(
         n[0],
         n[1],
         n[2],
@@ -84,7 +84,20 @@ fn plan(
         items,
         areas,
         work,
-    ));
+    )
+}
+
+fn plan(
+    n: &[u32],
+    e: Cuts,
+    cells: &mut [u32],
+    items: &mut [u32],
+    areas: &mut [u32],
+    work: &mut [u64],
+)
+    requires { ⌜ (length (now n) ≡ 1024) × Ordered e 1024 ⌝ }
+{
+    told(shared(n, e, cells, items, areas, work));
     show(cells, items, areas, work);
 }
 

@@ -1,9 +1,9 @@
--- `plan` is safe: the columns are in order and within the numbers.
-use native.Mathlib.Omega.{arith}
+-- `shared` is safe: the columns are in order and within the numbers.
 use lib.Dec.{lit≤}
+use borrow.Author.Needs.{needs}
 use Rattle.cases.proofs.ColumnLaws.{begins, stops, here}
-use Rattle.job_tests.proofs.plan.Statement.{statement}
-use Rattle.job_tests.proofs.plan.Tie as tie
+use Rattle.job_tests.proofs.shared.Statement.{statement}
+use Rattle.job_tests.proofs.shared.Tie as tie
 
 shared-slice-read-share : tie.Need-shared-slice-read-share
 shared-slice-read-share c = here 0 ((c .before .before .before .before .before .before .pre) .0) (lit≤ tt)
@@ -161,29 +161,23 @@ part-share-end-12 c = stops ((c .before .before .before .before .before .before 
 share-requires : tie.Need-share-requires
 share-requires c κs = tt
 
-told-requires : tie.Need-told-requires
-told-requires c κs = tt
-
-show-requires : tie.Need-show-requires
-show-requires c κs = tt
-
 same-length : tie.Need-same-length
-same-length c = omega arith
+same-length c = search needs
 
 same-length-2 : tie.Need-same-length-2
-same-length-2 c = omega arith
+same-length-2 c = search needs
 
 same-length-3 : tie.Need-same-length-3
-same-length-3 c = omega arith
+same-length-3 c = search needs
 
 same-length-4 : tie.Need-same-length-4
-same-length-4 c = omega arith
+same-length-4 c = search needs
 
 returns : tie.Need-returns
 returns c = tt
 
-pub plan-spec : {M : Type 1} → statement M
-plan-spec =
+pub shared-spec : {M : Type 1} → statement M
+shared-spec =
     tie.close
     (tie.spec
     shared-slice-read-share
@@ -238,8 +232,6 @@ plan-spec =
     part-share-start-12
     part-share-end-12
     share-requires
-    told-requires
-    show-requires
     same-length
     same-length-2
     same-length-3

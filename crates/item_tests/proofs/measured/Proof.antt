@@ -1,9 +1,9 @@
--- `answer` is safe: the columns are in order and within the numbers.
-use native.Mathlib.Omega.{arith}
+-- `measured` is safe: the columns are in order and within the numbers.
 use lib.Dec.{lit≤}
+use borrow.Author.Needs.{needs}
 use Rattle.cases.proofs.ColumnLaws.{begins, stops, here}
-use Rattle.item_tests.proofs.answer.Statement.{statement}
-use Rattle.item_tests.proofs.answer.Tie as tie
+use Rattle.item_tests.proofs.measured.Statement.{statement}
+use Rattle.item_tests.proofs.measured.Tie as tie
 
 shared-slice-read-item-areas : tie.Need-shared-slice-read-item-areas
 shared-slice-read-item-areas c = here 0 ((c .before .before .before .before .before .pre) .0) (lit≤ tt)
@@ -158,29 +158,20 @@ part-item-areas-end-12 c = stops ((c .before .before .before .before .before .be
 item-areas-requires : tie.Need-item-areas-requires
 item-areas-requires c κs = tt
 
-given-requires : tie.Need-given-requires
-given-requires c κs = tt
-
-listed-requires : tie.Need-listed-requires
-listed-requires c κs = tt
-
-left-requires : tie.Need-left-requires
-left-requires c κs = tt
-
 same-length : tie.Need-same-length
-same-length c = omega arith
+same-length c = search needs
 
 same-length-2 : tie.Need-same-length-2
-same-length-2 c = omega arith
+same-length-2 c = search needs
 
 same-length-3 : tie.Need-same-length-3
-same-length-3 c = omega arith
+same-length-3 c = search needs
 
 returns : tie.Need-returns
 returns c = tt
 
-pub answer-spec : {M : Type 1} → statement M
-answer-spec =
+pub measured-spec : {M : Type 1} → statement M
+measured-spec =
     tie.close
     (tie.spec
     shared-slice-read-item-areas
@@ -234,9 +225,6 @@ answer-spec =
     part-item-areas-start-12
     part-item-areas-end-12
     item-areas-requires
-    given-requires
-    listed-requires
-    left-requires
     same-length
     same-length-2
     same-length-3
