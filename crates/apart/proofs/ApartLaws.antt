@@ -16,7 +16,7 @@ use Rattle.refusals.proofs.Laws.{check-bad, check-fine, check-last}
 use Rattle.words.specs.Rows.{rowCount, wholeRows, field, tabulate, flat}
 use Rattle.words.proofs.RowLaws.{length-tabulate, tabulate-eq, tabulate-add, tabulate-getD, map-tabulate}
 use Rattle.words.proofs.FlatLaws.{flat-length}
-use Rattle.ranges.proofs.PointLaws.{or-none}
+use Rattle.words.proofs.Bools.{or-neither}
 use Rattle.fitting.specs.Wants.{Want}
 use Rattle.fitting.specs.Queries.{Room, apart, roomOf}
 use Rattle.capping.specs.Cap.{roomRow}
@@ -52,11 +52,11 @@ module _ (locals slots : List ℕ) (cells items : ℕ) where
       go true f s g = let q = apart-count f in let z : _≡_ {A = ℕ} 0 1 = cc in absurd (omega arith)
       go false f true g = let q = apart-space f g in let z : _≡_ {A = ℕ} 0 1 = cc in absurd (omega arith)
       go false f false g =
-          let (a, b) = or-none (not (wholeRows 2 locals)) _ f in
-          let (c, d) = or-none (not (eqb (cells % 2) 0)) _ b in
-          let (h, k) = or-none (not (eqb (items % 4) 0)) _ d in
-          let (l, m) = or-none (ltb 2048 (rowCount 2 locals)) (ltb 2048 (length slots)) k in
-          let (s, t) = or-none (ltb (cells / 2) (rowCount 2 locals + length slots)) _ g in
+          let (a, b) = or-neither (not (wholeRows 2 locals)) _ f in
+          let (c, d) = or-neither (not (eqb (cells % 2) 0)) _ b in
+          let (h, k) = or-neither (not (eqb (items % 4) 0)) _ d in
+          let (l, m) = or-neither (ltb 2048 (rowCount 2 locals)) (ltb 2048 (length slots)) k in
+          let (s, t) = or-neither (ltb (cells / 2) (rowCount 2 locals + length slots)) _ g in
           let u = ltb-false 2048 (rowCount 2 locals) l in
           let v = ltb-false 2048 (length slots) m in
           let w = ltb-false (cells / 2) (rowCount 2 locals + length slots) s in

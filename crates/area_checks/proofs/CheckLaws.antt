@@ -7,13 +7,13 @@ use mathlib.Core.List.{List}
 use lib.ListN.{length}
 use lib.Dec.{eqb, ltb}
 use borrow.Author.Tests.{lt-ltb, le-ltb, ltb-false}
+use Rattle.words.proofs.Bools.{or-neither}
 use Rattle.refusals.specs.declared.Verdict.{Verdict}
 use Rattle.refusals.specs.declared.Verdict.the-variants.{Fine, Bad}
 use Rattle.refusals.specs.declared.Refusal.{Refusal}
 use Rattle.refusals.specs.declared.Refusal.the-variants.{Count, Space}
 use Rattle.refusals.specs.Verdicts.{first, check}
-use Rattle.refusals.proofs.Laws.{first-fine, first-bad, first-left, first-right}
-use Rattle.ranges.proofs.PointLaws.{or-none}
+use Rattle.refusals.proofs.Laws.{first-fine, first-bad, first-left, first-right, check-told}
 use Rattle.graph.specs.Checks.{graphVerdict}
 use Rattle.line_checks.proofs.Refusals.{passed}
 use Rattle.insts.specs.Counts.{badRows, rowsVerdict, mostVerdict}
@@ -21,12 +21,8 @@ use Rattle.area_layout.specs.declared.Sizes.{Sizes}
 use Rattle.area_layout.specs.Layout.{spaceFor, Small}
 use Rattle.area_checks.specs.Checks.{rowCounts, sizesOf, spaceVerdict, lentVerdict, Lent}
 
-check-told : (r : Refusal) (t : Bool) → check r t ≡ Fine → t ≡ false
-check-told r true e = absurd (let z : _≡_ {A = ℕ} 0 1 = cc in omega arith)
-check-told r false e = refl
-
 rows-told : (width limit n : ℕ) → rowsVerdict width limit n ≡ Fine → n / width ≤ limit
-rows-told width limit n e = ltb-false limit (n / width) (or-none (not (eqb (n % width) 0)) _ (check-told Count (badRows width limit n) e) .1)
+rows-told width limit n e = ltb-false limit (n / width) (or-neither (not (eqb (n % width) 0)) _ (check-told Count (badRows width limit n) e) .1)
 
 module _ (kinds touches ends areas items : ℕ) where
   pub counts-chain : {a b c d e r₁ r₂ r₃ r : Verdict} → a ≡ mostVerdict 2048 kinds → b ≡ rowsVerdict 3 65536 touches → c ≡ rowsVerdict 2 65536 ends → d ≡ rowsVerdict 2 65536 areas → e ≡ rowsVerdict 2 items items
@@ -106,7 +102,7 @@ module _ (blocks edges : List ℕ) (points : ℕ) (kinds touches ends : List ℕ
       let g = first-left (graphVerdict blocks edges points) _ f in
       let p = passed blocks edges points g in
       let z = sizesOf blocks edges (length kinds) (length touches) (length ends) areas in
-      let (a, b) = or-none (ltb (length w) (spaceFor z)) _ (check-told Space (ltb (length w) (spaceFor z) || ltb (items / 2) (length kinds)) (first-right (graphVerdict blocks edges points) _ f)) in (
+      let (a, b) = or-neither (ltb (length w) (spaceFor z)) _ (check-told Space (ltb (length w) (spaceFor z) || ltb (items / 2) (length kinds)) (first-right (graphVerdict blocks edges points) _ f)) in (
         record {
           small = small blocks edges points (length kinds) (length touches) (length ends) areas items (length w) c g;
           sound = p .sound;

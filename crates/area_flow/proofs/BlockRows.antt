@@ -3,20 +3,21 @@ use Prim.Native.Nat.{ℕ, _+_, _*_, _/_, _%_, _≤_, _<_}
 use native.Mathlib.Omega.{arith}
 use mathlib.Core.Path.{_≡_, refl, sym, ap, _∙_, subst}
 use mathlib.Core.Logic.{_⊎_, inl, inr, ⊎-elim}
-use mathlib.Core.Bool.{Bool, true, false, _&&_, _||_}
+use mathlib.Core.Bool.{Bool, true, false, _&&_, _||_, or-false}
 use mathlib.Core.List.{List}
 use lib.ListN.{length, getD}
 use Rattle.words.specs.Regions.{Region}
 use Rattle.words.proofs.RegionLaws.{row-before}
+use Rattle.words.proofs.Bools.{not-both}
 use Rattle.bits.specs.Bits.{bitOf}
 use Rattle.bits.proofs.DigitLaws.{bit-zero}
 use Rattle.graph.specs.Paths.{Edge, Between, Route, one, more}
 use Rattle.graph.specs.Flow.{Arrives, left, passed}
 use Rattle.graph.specs.Line.{blocksOf}
-use Rattle.graph.proofs.Line.{blocks-length}
 use Rattle.graph.specs.Rounds.{reachedRow, reachingRow, arrivingRow}
 use Rattle.graph.specs.Work.{Within}
 use Rattle.graph.proofs.Within.{within-trans, region-within}
+use Rattle.graph.proofs.Line.{blocks-length}
 use Rattle.graph.proofs.RoundLaws.{reached, reaching}
 use Rattle.graph.proofs.RoundLaws.{arriving as arriving-row}
 use Rattle.flow_rows.proofs.Moved.{reaching-as}
@@ -108,9 +109,6 @@ false-when : (t : Bool) → (t ≡ true → ⊥) → t ≡ false
 false-when true f = absurd (f refl)
 false-when false f = refl
 
-never : {b : Bool} → b ≡ true → b ≡ false → ⊥
-never p q = let z : _≡_ {A = ℕ} 0 1 = cc in omega arith
-
 and-left : (a b : Bool) → a ≡ false → (a && b) ≡ false
 and-left a b e = rw e refl
 
@@ -145,10 +143,10 @@ module _ {es : List Edge} {n : ℕ} (B : Between n es) where
 
   -- where no place is touched, or left, none is reached
   pub reached-none : (f : ℕ → Bool) → ((j : ℕ) → j < n → f j ≡ false) → (k : ℕ) → reachedRow n es f k ≡ false
-  reached-none f e k = false-when (reachedRow n es f k) (λ o. let r = reached es n B f k .0 o in never (r .1) (e (r .0) (route-start B (r .2))))
+  reached-none f e k = false-when (reachedRow n es f k) (λ o. let r = reached es n B f k .0 o in not-both (r .1) (e (r .0) (route-start B (r .2))))
 
   pub arriving-none : (f p : ℕ → Bool) → ((j : ℕ) → j < n → f j ≡ false) → (k : ℕ) → arrivingRow n es f p k ≡ false
-  arriving-none f p e k = false-when (arrivingRow n es f p k) (λ o. let (j, h, x) = arrives-start B (arriving-row es n B f p k .0 o) in never x (e j h))
+  arriving-none f p e k = false-when (arrivingRow n es f p k) (λ o. let (j, h, x) = arrives-start B (arriving-row es n B f p k .0 o) in not-both x (e j h))
 
 module _ (es : List Edge) (g : Grid) (n e : ℕ) {w₀ w₁ : List ℕ} (L : Laid g n e w₀) (F : Flowing es g n w₀ w₁) where
   pub still : Quiet g n w₀ → Still g n w₁
@@ -196,10 +194,6 @@ module _ (es : List Edge) (g : Grid) (n e : ℕ) {w₀ w₁ : List ℕ} (L : Lai
 pub by-line : {es : List Edge} {g : Grid} {w₀ w : List ℕ} (blocks : List ℕ) → AreaRows es g (length blocks / 3) w₀ w → AreaRows es g (length (blocksOf blocks)) w₀ w
 by-line {es} {g} {w₀} {w} blocks A = subst (λ (n : ℕ). AreaRows es g n w₀ w) (sym (blocks-length blocks)) A
 
-or-none : (a : Bool) → (a || false) ≡ a
-or-none true = refl
-or-none false = refl
-
 module _ (G : Graph) (g : Grid) {w₀ w : List ℕ} (A : AreaRows (G .edges) g (length (G .blocks)) w₀ w) (ts : List Range) (ends : List ℕ) (l k : ℕ) (local : l < g .locals) (long : l < g .words * 64) (h : k < length (G .blocks)) where
   -- of a plain local, whose touched places are marked
   module _ (marks : (j : ℕ) → j < length (G .blocks) → rowBit g (g .touched) w₀ j l ≡ touched G ts j) where
@@ -213,7 +207,7 @@ module _ (G : Graph) (g : Grid) {w₀ w : List ℕ} (A : AreaRows (G .edges) g (
     plain-blocks none =
         A .blocks l k local h
         ∙ ap (λ (x : Bool). (reachedRow (length (G .blocks)) (G .edges) (λ j. rowBit g (g .touched) w₀ j l) k && reachingRow (length (G .blocks)) (G .edges) (λ j. rowBit g (g .touched) w₀ j l) k) || x) (arriving-none (A .between) (λ j. rowBit g (g .leaves) w₀ j l) (λ j. rowBit g (g .passes) w₀ j l) none k)
-        ∙ or-none (reachedRow (length (G .blocks)) (G .edges) (λ j. rowBit g (g .touched) w₀ j l) k && reachingRow (length (G .blocks)) (G .edges) (λ j. rowBit g (g .touched) w₀ j l) k)
+        ∙ or-false (reachedRow (length (G .blocks)) (G .edges) (λ j. rowBit g (g .touched) w₀ j l) k && reachingRow (length (G .blocks)) (G .edges) (λ j. rowBit g (g .touched) w₀ j l) k)
         ∙ ap (λ (x : Bool). x && reachingRow (length (G .blocks)) (G .edges) (λ j. rowBit g (g .touched) w₀ j l) k) (reached-same (A .between) (λ j. rowBit g (g .touched) w₀ j l) (touched G ts) marks k)
         ∙ ap (λ (x : Bool). beforeRow G ts k && x) (reaching-same (A .between) (λ j. rowBit g (g .touched) w₀ j l) (touched G ts) marks k)
 

@@ -11,8 +11,6 @@ use Rattle.bits.specs.Bits.{bit, bitOf}
 use Rattle.graph.specs.Paths.{Edge, Between}
 use Rattle.graph.specs.Flow.{Reaching}
 use Rattle.graph.specs.Work.{EdgeRows, Neighbours}
-use Rattle.graph.proofs.RoundLaws.{reached, reaching}
-use Rattle.graph.proofs.RoundLaws.{arriving as arriving-row}
 use Rattle.tarjan.specs.Components.{Walkable, Found}
 use Rattle.flow_rows.specs.declared.Flow.{Flow}
 use Rattle.flow.specs.declared.Over.{Over}
@@ -20,8 +18,11 @@ use Rattle.flow.specs.declared.Over.the-variants.{Predecessors, Successors}
 use Rattle.flow_rows.specs.Flowed.{order, Flowed}
 use Rattle.flow_rows.specs.Flowed.{Laid as FlowLaid}
 use Rattle.flow.specs.Entry.{FlowsTo, wayOf}
+use Rattle.flow.proofs.Ways.{flows-as}
 use Rattle.flow_rows.proofs.Routes.{reached-turned}
 use Rattle.graph.proofs.Within.{rows-moved}
+use Rattle.graph.proofs.RoundLaws.{reached, reaching}
+use Rattle.graph.proofs.RoundLaws.{arriving as arriving-row}
 use Rattle.flow_rows.proofs.Moved.{reaching-as}
 use Rattle.spread_rows.specs.declared.Layout.{Layout}
 use Rattle.postorder.specs.Settling.{Settling, Ordered}
@@ -64,11 +65,6 @@ bit-outside from n words K a b k l h m =
     (⊎-elim (λ x. inl (omega arith)) (λ x. inr (omega arith)) a) (⊎-elim (λ x. inl (omega arith)) (λ x. inr (omega arith)) b))
 
 -- ---- flowed
-
--- both ways of following the edges
-flows-as : (over : Over) (es : List Edge) (touched : ℕ → Bool) (k : ℕ) → Reaching (wayOf over es) touched k ↔ FlowsTo over es touched k
-flows-as Predecessors es touched k = reached-turned es touched k
-flows-as Successors es touched k = ((λ r. r), (λ r. r))
 
 module _ (over : Over) (es : List Edge) (g : Grid) (n e out : ℕ) (w₀ w₁ : List ℕ) (L : Laid g n e w₀) (low : g .touched + n * g .words ≤ out) (fits : out + n * g .words ≤ length w₀)
     (N : Neighbours (wayOf over es) n e (g .base) w₀ w₁) where

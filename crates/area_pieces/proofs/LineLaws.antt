@@ -3,7 +3,7 @@ use Prim.Native.Nat.{ℕ, zero, suc, _+_, _-_, _*_, _/_, _%_, _^_, _≤_, _<_, m
 use native.Mathlib.Omega.{arith}
 use mathlib.Core.Path.{_≡_, refl, sym, ap, _∙_}
 use mathlib.Core.Logic.{_≢_}
-use mathlib.Core.Bool.{Bool, true, false, cond, _&&_, _||_, true≢false, false≢true}
+use mathlib.Core.Bool.{Bool, true, false, cond, _&&_, _||_, true≢false, false≢true, or-true}
 use mathlib.Core.List.{List, [], _∷_}
 use lib.ListN.{length, getD}
 use Rattle.words.specs.Regions.{part}
@@ -37,10 +37,6 @@ from-hull G k from to (h ∷ hs) = range (cond from (top G k) (h .start)) (cond 
 span-hull : (G : Graph) (k : ℕ) (from to : Bool) (cs : List Range) → span G k from to cs ≡ from-hull G k from to (hull cs)
 span-hull G k from to [] = refl
 span-hull G k from to (c ∷ cs) = refl
-
-or-neither : (a b : Bool) → (a || b) ≡ false → (a ≡ false) × (b ≡ false)
-or-neither true b e = absurd (true≢false e)
-or-neither false b e = (refl, e)
 
 module _ (G : Graph) (s : Local) (n : ℕ) (ts : List Range) (w : List ℕ) (p : Spans G s n ts w) (k : ℕ) (h : k < n) (own : ownBit s w k ≡ (writtenBit s w k && readBit s w k)) where
   by-span : blockPiece G ts (writtenBit s w) (readBit s w) k ≡ cond (ownBit s w k) (whole G k ∷ []) (from-hull G k (writtenBit s w k) (readBit s w k) (spanAt s w k))
@@ -333,10 +329,6 @@ module _ (blocks : List ℕ) {s : Local} {n from : ℕ} {w₀ w₁ : List ℕ} (
   both-covered = record {
     marked = λ c l e. row .bits c l ∙ ap (λ (t : Bool). markBit s w₀ c || t) (sym (own-kept s n w₀ w₁ (a .flowing) (row .before) (a .row-fits) c l) ∙ e) ∙ or-true (markBit s w₀ c);
   }
-    where
-      or-true : (b : Bool) → (b || true) ≡ true
-      or-true true = refl
-      or-true false = refl
 
   pieced : (es : List Edge) (ts : List Range) → Spans (lineOf blocks es) s n ts w₀ → Pieced (lineOf blocks es) ts (writtenBit s w₀) (readBit s w₀) s n w₁
   pieced es ts p = record {

@@ -4,7 +4,7 @@ use native.Mathlib.Nat.{mul-add, mul-assoc, mul-comm, mul-le-mul-left, mul-le-mu
 use native.Mathlib.Omega.{arith}
 use mathlib.Core.Path.{_≡_, refl, sym, ap, _∙_, subst}
 use mathlib.Core.Logic.{_⊎_, ⊎-elim}
-use mathlib.Core.Bool.{Bool, true, false, _&&_, _||_}
+use mathlib.Core.Bool.{Bool, true, false, _&&_, _||_, or-false, and-true}
 use mathlib.Core.List.{List}
 use lib.Dec.{eqb}
 use Rattle.words.specs.Regions.{Region}
@@ -60,21 +60,13 @@ module _ {n base words : ℕ} {f : ℕ → ℕ → Bool} {i : ℕ} {w : List ℕ
       → Marked (record { n = n; base = base; words = words; bit = i }) (λ k. t k || marked (record { n = n; base = base; words = words; bit = i }) w k) w w'
       → ((k : ℕ) → k < n → t k ≡ f i k) → Columns n base words false f (i + 1) w'
   columns-set t h C M e = next (λ k. t k || marked (record { n = n; base = base; words = words; bit = i }) w k) C M
-      (λ k q. ap (λ (x : Bool). t k || x) (C .rest i k (omega arith) h q) ∙ or-none (t k) ∙ e k q)
-    where
-      or-none : (a : Bool) → (a || false) ≡ a
-      or-none true = refl
-      or-none false = refl
+      (λ k q. ap (λ (x : Bool). t k || x) (C .rest i k (omega arith) h q) ∙ or-false (t k) ∙ e k q)
 
   pub columns-unset : {w' : List ℕ} (t : ℕ → Bool) → i < words * 64 → Columns n base words true f i w
       → Marked (record { n = n; base = base; words = words; bit = i }) (λ k. t k && marked (record { n = n; base = base; words = words; bit = i }) w k) w w'
       → ((k : ℕ) → k < n → t k ≡ f i k) → Columns n base words true f (i + 1) w'
   columns-unset t h C M e = next (λ k. t k && marked (record { n = n; base = base; words = words; bit = i }) w k) C M
-      (λ k q. ap (λ (x : Bool). t k && x) (C .rest i k (omega arith) h q) ∙ and-all (t k) ∙ e k q)
-    where
-      and-all : (a : Bool) → (a && true) ≡ a
-      and-all true = refl
-      and-all false = refl
+      (λ k q. ap (λ (x : Bool). t k && x) (C .rest i k (omega arith) h q) ∙ and-true (t k) ∙ e k q)
 
   -- a local that is not marked
   pub columns-skip : {v : Bool} → i < words * 64 → Columns n base words v f i w → ((k : ℕ) → k < n → f i k ≡ v) → Columns n base words v f (i + 1) w

@@ -9,15 +9,14 @@ use lib.ListN.{length, getD}
 use borrow.Author.Tests.{leb-true, le-leb}
 use Rattle.words.specs.Regions.{Kept}
 use Rattle.words.proofs.Points.{same}
+use Rattle.words.proofs.Bools.{and-both, or-cases, and-pair, both-ways}
 use Rattle.ranges.specs.declared.Range.{Range}
 use Rattle.ranges.specs.Points.{range, overlaps}
 use Rattle.ranges.specs.Forms.{unpack}
-use Rattle.ranges.proofs.PointLaws.{and-both, or-cases}
 use Rattle.graph.specs.Paths.{Edge}
 use Rattle.graph.specs.Line.{Sound}
 use Rattle.graph.specs.Work.{Within}
 use Rattle.graph.proofs.Line.{blocks-length}
-use Rattle.graph.proofs.RoundLaws.{and-pair}
 use Rattle.carrying.specs.Lists.{any}
 use Rattle.carrying.proofs.ListLaws.{any-true, any-entry, any-false}
 use Rattle.areas.specs.Blocks.{Graph, top, bottom, whole, blockOf, inverted, touched}
@@ -29,12 +28,6 @@ use Rattle.area_rows.specs.declared.Column.{Column}
 use Rattle.area_rows.specs.Marks.{marked, Fits, Marked, TouchesReady}
 use Rattle.area_rows.specs.Inner.{Put, spans}
 use Rattle.area_rows.proofs.PutLaws.{put-none, put-then, put-as, put-fits, put-set}
-
--- two tests that hold together are one
-pub both-ways : (s t : Bool) → (s ≡ true → t ≡ true) → (t ≡ true → s ≡ true) → s ≡ t
-both-ways true t f g = sym (f refl)
-both-ways false true f g = g refl
-both-ways false false f g = refl
 
 pub any-same : {A : Type 0} (f g : A → Bool) (l : List A) → ((a : A) → List·Memᴰ a l → f a ≡ g a) → any f l ≡ any g l
 unfolding any

@@ -2,9 +2,9 @@
 use Prim.Native.Nat.{ℕ, _+_, _-_, _*_, _≤_, _<_}
 use native.Mathlib.Omega.{arith}
 use mathlib.Core.Path.{_≡_, refl, sym, ap, _∙_}
-use mathlib.Core.Option.{Option}
+use mathlib.Core.Option.{Option, some, none}
 use mathlib.Core.List.{List, [], _∷_, map}
-use lib.ListN.{length, getD}
+use lib.ListN.{length, getD, length-append}
 use Rattle.words.specs.Rows.{tabulate, flat}
 use Rattle.words.specs.Regions.{part}
 use Rattle.words.proofs.RowLaws.{tabulate-getD, tabulate-eq, map-tabulate, tabulate-add}
@@ -48,3 +48,14 @@ ranges-below A i n h =
     let c = ranges-append (tabulate (i + 1) A) (tabulate (n - (i + 1)) (λ j. A (i + 1 + j))) in
     let d = ranges-more A i in
     omega arith
+
+-- ---- how many ranges areas have
+
+listed-long : (a : Option (List Range)) → length (listed a) ≡ rangesIn a
+listed-long none = refl
+listed-long (some rs) = refl
+
+pub gathered-long : (l : List (Option (List Range))) → length (gather listed l) ≡ rangesOf l
+unfolding gather rangesOf
+gathered-long [] = refl
+gathered-long (a ∷ l) = length-append (listed a) (gather listed l) ∙ omega (arith, listed-long a, gathered-long l)

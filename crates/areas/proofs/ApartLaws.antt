@@ -8,21 +8,22 @@ use mathlib.Core.List.{List, [], _∷_, _++_, map, List·Memᴰ, Memᴰ·of-map}
 use lib.ListN.{length}
 use lib.Dec.{eqb, leb, ltb}
 use borrow.Author.Tests.{ltb-true, ltb-false, leb-false, eq-eqb, not-false}
+use Rattle.words.proofs.Bools.{or-neither}
 use Rattle.refusals.specs.declared.Verdict.the-variants.{Fine}
 use Rattle.refusals.specs.declared.Refusal.the-variants.{Line, Stray}
 use Rattle.refusals.proofs.Laws.{scan-fine}
 use Rattle.ranges.specs.declared.Range.{Range}
 use Rattle.ranges.specs.Points.{range, Upright, Apart}
-use Rattle.ranges.proofs.PointLaws.{or-none, upright-none, upright-cons, upright-append}
+use Rattle.ranges.proofs.PointLaws.{upright-none, upright-cons, upright-append}
 use Rattle.ranges.proofs.MergeLaws.{merged-apart}
 use Rattle.graph.specs.Paths.{Between}
 use Rattle.graph.specs.Line.{Sound, Stretch, blockAt, usedBefore, placeIn, badBlock, pastPoints, gapAt}
-use Rattle.graph.proofs.Line.{place-lt}
+use Rattle.graph.proofs.Line.{place-lt, at-mem}
 use Rattle.carrying.specs.declared.Kind.{Kind}
 use Rattle.carrying.specs.declared.Kind.the-variants.{Unfollowed, Plain, Ending}
 use Rattle.carrying.specs.Lists.{keep, gather}
 use Rattle.carrying.specs.Carried.{kindOf, endsOf, livePieces}
-use Rattle.carrying.proofs.ListLaws.{of-kept, of-gathered, member-getD}
+use Rattle.carrying.proofs.ListLaws.{of-kept, of-gathered}
 use Rattle.areas.specs.Blocks.{Graph, top, bottom, blockOf, bounds, clip, inverted, until, cover}
 use Rattle.areas.specs.Pieces.{through, throughs, endPieces, endLine, arrivesRow, plainArea, endingArea}
 use Rattle.areas.specs.Slots.{Move, position, around, covering, moved, spilled, liveArea, slotArea, badMove, moveAt, moveVerdict}
@@ -93,10 +94,10 @@ module _ (G : Graph) (S : Sound (G .blocks)) (B : Between (length (G .blocks)) (
 not-past : (bs : List Stretch) (points i : ℕ) → badBlock bs points i ≡ false → pastPoints bs points i ≡ false
 unfolding badBlock
 not-past bs points i e =
-    let r = or-none (leb (length bs) (blockAt bs i .number)) _ e .1 in
-    let r₂ = or-none (usedBefore bs (blockAt bs i .number) i) _ r .1 in
-    let r₃ = or-none (ltb (blockAt bs i .end) (blockAt bs i .start)) _ r₂ .1 in
-    or-none (gapAt bs i) _ r₃ .1
+    let r = or-neither (leb (length bs) (blockAt bs i .number)) _ e .1 in
+    let r₂ = or-neither (usedBefore bs (blockAt bs i .number) i) _ r .1 in
+    let r₃ = or-neither (ltb (blockAt bs i .end) (blockAt bs i .start)) _ r₂ .1 in
+    or-neither (gapAt bs i) _ r₃ .1
 
 module _ (J : Job) (C : Checked J) (some-block : 0 < length (J .blocks)) where
   -- "last end > points" is refused
@@ -122,11 +123,11 @@ module _ (J : Job) (C : Checked J) (some-block : 0 < length (J .blocks)) where
   -- a move's position is a point of the job
   position-in : (k n : ℕ) → badMove (J .blocks) (J .code .insts) k n ≡ false → position (J .blocks) (J .code .insts) k n ≤ J .points
   position-in zero n e =
-      let (a, b) = or-none _ _ e in
+      let (a, b) = or-neither _ _ e in
       let (k, h, x, y) = placed-in J C some-block n (leb-false _ _ a) (not-false _ b) in
       in-line k _ h (omega arith)
   position-in (suc zero) n e =
-      let (a, b) = or-none _ _ e in
+      let (a, b) = or-neither _ _ e in
       let (k, h, x, y) = placed-in J C some-block n (leb-false _ _ a) (not-false _ b) in
       in-line k _ h y
   position-in (suc (suc zero)) n e =
@@ -142,7 +143,7 @@ module _ (J : Job) (C : Checked J) (some-block : 0 < length (J .blocks)) where
     where
       each : (m : Move) → List·Memᴰ m (J .moves) → Upright (covering (J .points) (J .blocks) (J .code .insts) s m)
       each m l =
-          let (i, h, e) = member-getD (J .moves) m (record { kind = 0; number = 0; to = 0; from = 0 }) l in
+          let (i, h, e) = at-mem (J .moves) m (record { kind = 0; number = 0; to = 0; from = 0 }) l in
           let c : badMove (J .blocks) (J .code .insts) (m .kind) (m .number) ≡ false =
           rw e at (scan-fine Stray (λ n. badMove (J .blocks) (J .code .insts) (moveAt (J .moves) n .kind) (moveAt (J .moves) n .number)) (length (J .moves)) moves-fine i h) in
           two (eqb (m .to) s) (eqb (m .from) s) (position-in (m .kind) (m .number) c)

@@ -9,11 +9,11 @@ use mathlib.Core.List.{List, List·Memᴰ}
 use lib.ListN.{length}
 use lib.Dec.{eqb, leb}
 use borrow.Author.Tests.{leb-true, leb-false, ltb-true, ltb-false, le-leb, lt-leb, lt-ltb, eqb-true, eq-eqb}
+use Rattle.words.proofs.Bools.{or-right, and-both, or-cases, or-neither, or-left, and-pair}
 use Rattle.ranges.specs.declared.Range.{Range}
 use Rattle.ranges.specs.Points.{overlaps}
-use Rattle.ranges.proofs.PointLaws.{and-both, or-cases, or-right, or-none}
 use Rattle.graph.specs.Line.{Sound}
-use Rattle.graph.proofs.RoundLaws.{or-left, and-pair, last-or-less}
+use Rattle.graph.proofs.RoundLaws.{last-or-less}
 use Rattle.carrying.proofs.ListLaws.{any-true}
 use Rattle.areas.specs.Blocks.{Graph, top, bottom, whole, InBlock, holding, blockOf, bounds, between, clip, reversed, inverted, touched}
 
@@ -44,7 +44,7 @@ pub clip-up : (G : Graph) (t : Range) → inverted G t ≡ false → (k : ℕ) �
 clip-up G t i k b = go (bounds-cases G k t b)
   where
     parts : (reversed (clip G (blockOf G (t .start)) t) ≡ false) × (reversed (clip G (blockOf G (t .end)) t) ≡ false)
-    parts = or-none _ _ i
+    parts = or-neither _ _ i
 
     up : (j : ℕ) → reversed (clip G j t) ≡ false → clip G j t .start ≤ clip G j t .end
     up j e = ltb-false (clip G j t .end) (clip G j t .start) e

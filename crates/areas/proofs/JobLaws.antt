@@ -8,6 +8,7 @@ use mathlib.Core.List.{List, _∷_, map, List·Memᴰ, List·Memᴰ·append-case
 use lib.ListN.{length, getD}
 use lib.Dec.{eqb}
 use borrow.Author.Tests.{leb-false, ltb-false, le-ltb, not-false}
+use Rattle.words.proofs.Bools.{or-neither}
 use Rattle.refusals.specs.declared.Verdict.{Verdict}
 use Rattle.refusals.specs.declared.Verdict.the-variants.{Fine, Bad}
 use Rattle.refusals.specs.declared.Refusal.the-variants.{Inst as InstWord, Stray, Piece as PieceWord, Inverted}
@@ -15,15 +16,14 @@ use Rattle.refusals.specs.Verdicts.{inOrder}
 use Rattle.refusals.proofs.Laws.{first-left, first-right, scan-fine}
 use Rattle.ranges.specs.declared.Range.{Range}
 use Rattle.ranges.specs.Points.{range}
-use Rattle.ranges.proofs.PointLaws.{or-none}
 use Rattle.graph.specs.Paths.{Between}
 use Rattle.graph.specs.Line.{Sound, placeIn, lineVerdict}
-use Rattle.graph.proofs.Line.{line-sound, place-lt, edges-between}
+use Rattle.graph.proofs.Line.{line-sound, place-lt, edges-between, at-mem}
 use Rattle.carrying.specs.Lists.{any, keep, gather}
 use Rattle.carrying.specs.Insts.{Inst, instAt, isSet}
 use Rattle.carrying.specs.Carried.{Mention, Piece, mentions, mentioned, carried, livePieces, touchesOf}
 use Rattle.carrying.specs.Checks.{misplaced, badInst, instVerdict, absent, mentionAt, addressVerdict}
-use Rattle.carrying.proofs.ListLaws.{member-getD, of-kept, of-gathered, any-false, false-any}
+use Rattle.carrying.proofs.ListLaws.{of-kept, of-gathered, any-false, false-any}
 use Rattle.areas.specs.Blocks.{Graph, top, bottom, InBlock, blockOf, clip, reversed, inverted, invertedVerdict}
 use Rattle.areas.specs.Slots.{badPiece, pieceVerdict}
 use Rattle.areas.specs.Job.{Job, Checked, graphOf, touchesIn}
@@ -88,12 +88,12 @@ module _ (J : Job) (C : Checked J) (some-block : 0 < length (J .blocks)) where
   pub piece-in : (p : Piece) → List·Memᴰ p (J .pieces) → (p .start ≤ p .end) × (top (graphOf J) 0 ≤ p .start) × (p .end ≤ bottom (graphOf J) (length (J .blocks) - 1))
   unfolding badPiece
   piece-in p m =
-      let (i, h, e) = member-getD (J .pieces) p (record { register = 0; start = 0; end = 0 }) m in
+      let (i, h, e) = at-mem (J .pieces) p (record { register = 0; start = 0; end = 0 }) m in
       let c : badPiece (J .blocks) (J .code .numbered) p ≡ false =
       rw e at (scan-fine PieceWord (λ n. badPiece (J .blocks) (J .code .numbered) (getD (J .pieces) n (record { register = 0; start = 0; end = 0 }))) (length (J .pieces)) pieces-fine i h) in
-      let (a, r) = or-none _ _ c in
-      let (b, r₂) = or-none _ _ r in
-      let (d, f) = or-none _ _ r₂ in
+      let (a, r) = or-neither _ _ c in
+      let (b, r₂) = or-neither _ _ r in
+      let (d, f) = or-neither _ _ r₂ in
       (ltb-false _ _ a, ltb-false _ _ b, ltb-false _ _ d)
 
   piece-fine : (p : Piece) → List·Memᴰ p (J .pieces) → inverted (graphOf J) (range (p .start) (p .end)) ≡ false
@@ -109,15 +109,15 @@ module _ (J : Job) (C : Checked J) (some-block : 0 < length (J .blocks)) where
   placed-in n h s =
       let c : badInst (J .blocks) (J .code .numbered) (instAt (J .code .insts) n) ≡ false =
       scan-fine InstWord (λ k. badInst (J .blocks) (J .code .numbered) (instAt (J .code .insts) k)) (length (J .code .insts)) insts-fine n h in
-      let (d, r) = or-none _ _ c in
-      let (f, g) = or-none (isSet (instAt (J .code .insts) n .placed) && misplaced (J .blocks) (instAt (J .code .insts) n)) _ r in
+      let (d, r) = or-neither _ _ c in
+      let (f, g) = or-neither (isSet (instAt (J .code .insts) n .placed) && misplaced (J .blocks) (instAt (J .code .insts) n)) _ r in
       go (instAt (J .code .insts) n) (ltb-false _ _ d) (and-rest _ _ s f)
     where
       go : (i : Inst) → i .early ≤ i .late → misplaced (J .blocks) i ≡ false
           → (k : ℕ) × (k < length (J .blocks)) × ((top (graphOf J) k ≤ i .early) × (i .early ≤ i .late)) × (i .late ≤ bottom (graphOf J) k)
       go i u f =
-          let (a, r) = or-none _ _ f in
-          let (b, c) = or-none _ _ r in
+          let (a, r) = or-neither _ _ f in
+          let (b, c) = or-neither _ _ r in
           (placeIn (J .blocks) (i .block), place-lt job-line (i .block) (leb-false _ _ a), (ltb-false _ _ b, u), ltb-false _ _ c)
 
   inst-fine : (n : ℕ) → n < length (J .code .insts) → isSet (instAt (J .code .insts) n .placed) ≡ true
@@ -131,11 +131,11 @@ module _ (J : Job) (C : Checked J) (some-block : 0 < length (J .blocks)) where
   listed-fine : (m : Mention) → List·Memᴰ m (J .code .addresses)
       → inverted (graphOf J) (range (mentioned (J .code) m .early) (mentioned (J .code) m .late)) ≡ false
   listed-fine m l =
-      let (i, h, e) = member-getD (J .code .addresses) m (record { inst = 0; local = 0 }) l in
+      let (i, h, e) = at-mem (J .code .addresses) m (record { inst = 0; local = 0 }) l in
       let c : absent (J .code .insts) (m .inst) || not (isSet (instAt (J .code .insts) (m .inst) .placed)) ≡ false =
       rw e at (scan-fine Stray (λ n. absent (J .code .insts) (mentionAt (J .code .addresses) n .inst) || not (isSet (instAt (J .code .insts) (mentionAt (J .code .addresses) n .inst) .placed)))
       (length (J .code .addresses)) addresses-fine i h) in
-      let (a, b) = or-none _ _ c in
+      let (a, b) = or-neither _ _ c in
       inst-fine (m .inst) (leb-false _ _ a) (not-false _ b)
 
   pub touches-fine : (l : ℕ) (t : Range) → List·Memᴰ t (touchesIn J l) → inverted (graphOf J) t ≡ false

@@ -7,14 +7,15 @@ use mathlib.Core.Logic.{_⊎_, inl, inr, _↔_}
 use mathlib.Core.Bool.{Bool, true, false, cond, _&&_, false≢true}
 use mathlib.Core.List.{List, [], _∷_, _++_, List·Memᴰ, List·Memᴰ·head, List·Memᴰ·tail, List·Memᴰ·cases-cons, List·Memᴰ·not-nil, Memᴰ·map, Memᴰ·of-map}
 use lib.ListN.{length}
+use Rattle.words.proofs.Bools.{and-both, and-pair}
 use Rattle.ranges.specs.declared.Range.{Range}
 use Rattle.ranges.specs.Points.{range, Within, Point, Upright}
-use Rattle.ranges.proofs.PointLaws.{and-both, point-none, point-cases, point-head, point-left, point-right, point-split, upright-none, upright-cons}
+use Rattle.ranges.proofs.PointLaws.{point-none, point-cases, point-head, point-left, point-right, point-split, upright-none, upright-cons}
 use Rattle.ranges.proofs.MergeLaws.{merged-keeps, merged-only}
 use Rattle.graph.specs.Paths.{Between}
 use Rattle.graph.specs.Line.{Sound}
 use Rattle.graph.specs.Flow.{Reached, Reaching}
-use Rattle.graph.proofs.RoundLaws.{reached, reaching, and-pair, last-or-less}
+use Rattle.graph.proofs.RoundLaws.{reached, reaching, last-or-less}
 use Rattle.carrying.specs.Lists.{keep}
 use Rattle.carrying.proofs.ListLaws.{kept, of-kept}
 use Rattle.areas.specs.Blocks.{Graph, top, bottom, whole, InBlock, bounds, clip, inverted, touched}

@@ -16,12 +16,12 @@ use Rattle.words.specs.Rows.{tabulate, rowCount}
 use Rattle.words.specs.Sort.{sortOf}
 use Rattle.words.specs.Regions.{Region, part, cleared}
 use Rattle.words.proofs.RowLaws.{tabulate-getD}
-use Rattle.words.proofs.RegionLaws.{length-part, getD-part, region-front}
 use Rattle.words.proofs.SortLaws.{mem-sort, mem-of-sort, length-sort}
+use Rattle.words.proofs.RegionLaws.{length-part, getD-part, region-front}
 use Rattle.graph.specs.Work.{Within}
 use Rattle.graph.proofs.Within.{within-refl, within-trans, within-wider, region-within}
+use Rattle.graph.proofs.Line.{mem-at, at-mem}
 use Rattle.carrying.specs.Carried.{Code, Carries, carries, carried}
-use Rattle.carrying.proofs.ListLaws.{getD-member, member-getD}
 use Rattle.carrying.proofs.CarryLaws.{carries-below, carried-least}
 use Rattle.reach.specs.declared.Lay.{Lay}
 use Rattle.reach.specs.Prepared.{wordsOf, codeOf, Readied}
@@ -72,14 +72,14 @@ module _ (C : Code) (lay : Lay) (z : Sizes) (l : ℕ) {w : List ℕ} {f : Follow
 
   mem-carries : (x : ℕ) → List·Memᴰ x P → Carries C l x
   mem-carries x m =
-      let (k, h, e) = member-getD P x 0 m in
+      let (k, h, e) = at-mem P x 0 m in
       let g : k < f .count = (let q = size in omega arith) in
       subst (Carries C l) (sym (at k g) ∙ e) (p .only k g)
 
   carries-mem : (x : ℕ) → Carries C l x → List·Memᴰ x P
   carries-mem x c =
       let (k, h, e) = p .all (inl refl) x c in
-      subst (λ (y : ℕ). List·Memᴰ y P) (at k h ∙ e) (getD-member P k 0 (let q = size in omega arith))
+      subst (λ (y : ℕ). List·Memᴰ y P) (at k h ∙ e) (mem-at P k 0 (let q = size in omega arith))
 
   pub sorted-is : sortOf P ≡ carried C l
   sorted-is =
@@ -101,7 +101,7 @@ module _ (C : Code) (lay : Lay) (z : Sizes) (l : ℕ) {w : List ℕ} {f : Follow
     sorted-small : C .numbered ≤ 65535 → (k : ℕ) → k < f .count → getD w' (lay .queue + k) 0 < 2 ^ 32
     sorted-small v k h =
         let e = sorted-at k h in
-        let m = getD-member (carried C l) k 0 (let q = count-is in omega arith) in
+        let m = mem-at (carried C l) k 0 (let q = count-is in omega arith) in
         let b = carries-below C l (getD (carried C l) k 0) (carried-least C l (getD (carried C l) k 0) .0 m) in
         omega arith
 

@@ -4,14 +4,15 @@ use native.Mathlib.Omega.{arith}
 use mathlib.Core.Path.{_≡_, refl, sym, ap, _∙_, subst}
 use mathlib.Core.Logic.{_≢_, _⊎_, inl, inr}
 use mathlib.Core.Bool.{Bool, true, false, cond}
-use mathlib.Core.List.{List, [], _∷_, _++_, List·Memᴰ, List·Memᴰ·head, List·Memᴰ·tail, List·Memᴰ·cases-cons, List·Memᴰ·not-nil, List·Memᴰ·append-cases}
+use mathlib.Core.List.{List, [], _∷_, _++_, List·Memᴰ, List·Memᴰ·head, List·Memᴰ·tail, List·Memᴰ·cases-cons, List·Memᴰ·not-nil, List·Memᴰ·append-cases, append-nil}
 use lib.ListN.{length, getD, length-append}
 use lib.Dec.{leb}
 use borrow.Author.Tests.{leb-true, leb-false}
 use Rattle.words.specs.Sort.{insert, sortOf}
 use Rattle.words.proofs.SortLaws.{mem-insert, mem-of-sort}
+use Rattle.graph.proofs.Line.{at-mem}
 use Rattle.carrying.specs.Lists.{below}
-use Rattle.carrying.proofs.ListLaws.{of-below, member-getD}
+use Rattle.carrying.proofs.ListLaws.{of-below}
 
 -- each entry is below all that follow
 abbrev pub Up : List ℕ → Type 0
@@ -27,7 +28,7 @@ pub apart-of : (l : List ℕ) → ((j k : ℕ) → j < k → k < length l → ge
 apart-of [] f = 0
 apart-of (x ∷ l) f = (
   λ m.
-      let (k, h, e) = member-getD l x 0 m in
+      let (k, h, e) = at-mem l x 0 m in
       f 0 (suc k) (omega arith) (omega arith) (sym e),
   apart-of l (λ j k a b e. f (suc j) (suc k) (omega arith) (omega arith) e),
 )
@@ -66,10 +67,6 @@ up-snoc (x ∷ l) n u f = (λ y m. go y (List·Memᴰ·append-cases l m), up-sno
     go y (inl m) = u .0 y m
     go y (inr m) = last y (List·Memᴰ·cases-cons m)
 
-append-none : (l : List ℕ) → l ++ [] ≡ l
-append-none [] = refl
-append-none (a ∷ l) = ap (λ (k : List ℕ). a ∷ k) (append-none l)
-
 pub up-below : (n : ℕ) (f : ℕ → Bool) → Up (below n f)
 unfolding below
 up-below zero f = 0
@@ -77,7 +74,7 @@ up-below (suc n) f = go (f n) (up-below n f)
   where
     go : (t : Bool) → Up (below n f) → Up (below n f ++ cond t (n ∷ []) [])
     go true u = up-snoc (below n f) n u (λ y m. of-below f n y m .0)
-    go false u = rw (append-none (below n f)) u
+    go false u = rw (append-nil (below n f)) u
 
 pub below-length : (n : ℕ) (f : ℕ → Bool) → length (below n f) ≤ n
 unfolding below

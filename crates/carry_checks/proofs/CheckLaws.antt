@@ -13,9 +13,10 @@ use Rattle.refusals.specs.declared.Verdict.the-variants.{Fine, Bad}
 use Rattle.refusals.specs.declared.Refusal.{Refusal}
 use Rattle.refusals.specs.declared.Refusal.the-variants.{Space, Stray}
 use Rattle.refusals.specs.Verdicts.{first, check}
-use Rattle.refusals.proofs.Laws.{first-fine, first-bad, first-left, first-right, scan-fine}
+use Rattle.refusals.proofs.Laws.{first-fine, first-bad, first-left, first-right, scan-fine, bad-fine}
 use Rattle.words.specs.Rows.{rowCount}
 use Rattle.words.proofs.Points.{cut}
+use Rattle.words.proofs.Bools.{or-neither}
 use Rattle.graph.specs.Line.{blocksOf, lineVerdict}
 use Rattle.carrying.specs.Insts.{instsOf, instAt, isSet}
 use Rattle.carrying.specs.Carried.{Mention, mentionsOf}
@@ -23,7 +24,7 @@ use Rattle.carrying.specs.Checks.{instVerdict, crossingVerdict, addressVerdict,
 use Rattle.insts.specs.Counts.{rowsVerdict, mostVerdict, blockCounts, instCounts, codeCounts}
 use Rattle.insts.specs.Rows.{AddsUp}
 use Rattle.insts.proofs.DealtLaws.{insts-length}
-use Rattle.insts.proofs.CheckLaws.{bad-fine, most-few, rows-few, blocks-few, blocks-some, insts-counted, inst-is, address-whatever, end-whatever}
+use Rattle.insts.proofs.CheckLaws.{most-few, rows-few, blocks-few, blocks-some, insts-counted, inst-is, address-whatever, end-whatever}
 use Rattle.reach.specs.Prepared.{wordsOf}
 use Rattle.reach.proofs.ReadyLaws.{mentions-count}
 use Rattle.rooms.proofs.RoomLaws.{room-answer, room-work}
@@ -98,17 +99,13 @@ module _ (v : ℕ) (insts operands crossings addresses ends : List ℕ) where
       (λ h. absurd (true≢false (sym (le-leb (length (instsOf insts operands)) n (let q = insts-length insts operands in omega arith)) ∙ e)))
       (λ h. h)
 
-  or-first : (a b : Bool) → (a || b) ≡ false → a ≡ false
-  or-first true b e = absurd (true≢false e)
-  or-first false b e = refl
-
   pub addresses-found : strayVerdict v insts operands crossings addresses ends ≡ Fine → (a : ℕ) → a < length addresses / 2 → getD addresses (2 * a) 0 < length insts / 9
   addresses-found e a h =
       let f = first-left (addressVerdict (instsOf insts operands) (mentionsOf addresses)) _ (first-right (crossingVerdict v crossings) _ e) in
       let t = scan-fine Stray (λ n. absent (instsOf insts operands) (mentionAt (mentionsOf addresses) n .inst) || not (isSet (instAt (instsOf insts operands) (mentionAt (mentionsOf addresses) n .inst) .placed)))
       (length (mentionsOf addresses)) f a (let q = mentions-count addresses in omega arith) in
       let z = inst-is insts operands addresses a h in
-      let g = present (mentionAt (mentionsOf addresses) a .inst) (or-first _ _ t) in
+      let g = present (mentionAt (mentionsOf addresses) a .inst) (or-neither _ _ t .0) in
       omega arith
 
   pub ends-found : strayVerdict v insts operands crossings addresses ends ≡ Fine → (k : ℕ) → k < length ends / 2 → getD ends (2 * k) 0 < length insts / 9

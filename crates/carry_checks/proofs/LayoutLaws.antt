@@ -6,6 +6,7 @@ use mathlib.Core.List.{List, _++_}
 use lib.ListN.{length, getD, drop, replicate, length-replicate, length-drop}
 use lib.Seq.{ext-getD, getD-drop}
 use Rattle.words.specs.Regions.{cleared}
+use Rattle.words.proofs.RegionLaws.{drop-same}
 use Rattle.graph.specs.Work.{Within}
 use Rattle.reach.specs.declared.Lay.{Lay}
 use Rattle.reach.specs.Prepared.{Laid, wordsOf, codeOf, Readied}
@@ -36,11 +37,6 @@ module _ (v : ℕ) (insts operands crossings locals addresses ends : List ℕ) (
   measure-ready =
       made-ready insts operands crossings addresses ends lay (record { v = v; insts = length insts / 9; locals = length locals / 2; edges = n }) (length operands / 2) b refl
       (laid-longer a (length w₀) (c .room)) (c .registers) (c .few-insts) (c .found)
-
-drop-same : (n : ℕ) (l m : List ℕ) → length m ≡ length l → ((i : ℕ) → n ≤ i → getD m i 0 ≡ getD l i 0) → drop n m ≡ drop n l
-drop-same n l m e h =
-    ext-getD 0 (drop n m) (drop n l) (length-drop n m ∙ ap (λ (k : ℕ). k - n) e ∙ sym (length-drop n l))
-    (λ i q. getD-drop n m i 0 ∙ h (n + i) (omega arith) ∙ sym (getD-drop n l i 0))
 
 -- the work space after an answer
 pub cleared-all : (words used : ℕ) (w₀ w₁ : List ℕ) → used ≤ words → Within 0 used w₀ w₁ → cleared words w₁ ≡ replicate words 0 ++ drop (length {A = ℕ} (replicate words 0)) w₀

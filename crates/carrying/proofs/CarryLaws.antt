@@ -7,11 +7,11 @@ use mathlib.Core.Option.{Option, some, none, Option·none-ne-some, Option·some-
 use mathlib.Core.List.{List, [], _∷_, List·Memᴰ, List·Memᴰ·head, List·Memᴰ·cases-cons, List·Memᴰ·not-nil}
 use lib.Dec.{eqb, ltb}
 use borrow.Author.Tests.{eqb-true, eq-eqb, ltb-true, lt-ltb}
-use Rattle.ranges.proofs.PointLaws.{and-both, or-cases, or-right}
+use Rattle.words.proofs.Bools.{or-right, and-both, or-cases, or-left, and-pair}
 use Rattle.graph.specs.Paths.{Edge, edge, Link, Route, one, more, Between}
 use Rattle.graph.specs.Flow.{Reached}
 use Rattle.graph.specs.Rounds.{reachedRow}
-use Rattle.graph.proofs.RoundLaws.{or-left, and-pair, reached}
+use Rattle.graph.proofs.RoundLaws.{reached}
 use Rattle.carrying.specs.Lists.{any, keep, gather}
 use Rattle.carrying.specs.Insts.{Operand, Inst, isSet, onlyOne, defOf, isUse, reads}
 use Rattle.carrying.specs.Carried.{Code, mentions, isSome, edgeTo, mentioned, hands, Carries, taken, followed, handing, handings, isTaken, carries, carried}

@@ -6,8 +6,8 @@ use mathlib.Core.Logic.{_⊎_, inl, inr}
 use mathlib.Core.Bool.{Bool, true, false, cond, _||_, true≢false, false≢true}
 use mathlib.Core.List.{List, [], _∷_, _++_, List·Memᴰ, List·Memᴰ·head, List·Memᴰ·tail, List·Memᴰ·cases-cons, List·Memᴰ·not-nil, Memᴰ·append-left, Memᴰ·append-right, List·Memᴰ·append-cases}
 use lib.ListN.{length, getD}
-use Rattle.ranges.proofs.PointLaws.{or-cases, or-right}
-use Rattle.graph.proofs.RoundLaws.{or-left, last-or-less}
+use Rattle.words.proofs.Bools.{or-right, or-cases, or-left}
+use Rattle.graph.proofs.RoundLaws.{last-or-less}
 use Rattle.carrying.specs.Lists.{any, keep, gather, below}
 
 module _ {A : Type 0} (f : A → Bool) where
@@ -126,18 +126,3 @@ module _ (f : ℕ → Bool) where
           let (h, t) = ih l in
           (omega arith, t)
       go (inr l) ih = last (f n) refl l
-
-pub getD-member : {A : Type 0} (l : List A) (i : ℕ) (d : A) → i < length l → List·Memᴰ (getD l i d) l
-getD-member [] i d h = absurd (omega arith)
-getD-member (a ∷ l) zero d h = List·Memᴰ·head refl
-getD-member (a ∷ l) (suc i) d h = List·Memᴰ·tail (getD-member l i d (omega arith))
-
-pub member-getD : {A : Type 0} (l : List A) (a d : A) → List·Memᴰ a l → (i : ℕ) × (i < length l) × (getD l i d ≡ a)
-member-getD [] a d m = absurd (List·Memᴰ·not-nil m)
-member-getD (b ∷ l) a d m = go (List·Memᴰ·cases-cons m) (member-getD l a d)
-  where
-    go : (a ≡ b) ⊎ List·Memᴰ a l → (List·Memᴰ a l → (i : ℕ) × (i < length l) × (getD l i d ≡ a)) → (i : ℕ) × (i < suc (length l)) × (getD (b ∷ l) i d ≡ a)
-    go (inl z) ih = (0, omega arith, sym z)
-    go (inr n) ih =
-        let (i, h, e) = ih n in
-        (suc i, omega arith, e)

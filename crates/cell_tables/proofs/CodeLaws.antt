@@ -10,6 +10,7 @@ use lib.ListN.{length, getD, take, drop}
 use lib.Seq.{take-suc, take-all}
 use Rattle.words.specs.Regions.{part}
 use Rattle.words.proofs.Points.{same}
+use Rattle.words.proofs.RegionLaws.{lent-part}
 use Rattle.ranges.specs.declared.Range.{Range}
 use Rattle.ranges.specs.Points.{Apart}
 use Rattle.ranges.specs.Merged.{clashes}
@@ -21,11 +22,6 @@ use Rattle.cell_tables.specs.Inner.{Summed}
 use Rattle.cell_tables.proofs.TableLaws.{area-none, area-some}
 
 -- ---- one member
-
-lent-part : (w : List ℕ) (f e n : ℕ) → e ≡ f + n → take (e - f) (drop f w) ≡ part f n w
-lent-part w f e n h =
-    let z : e - f ≡ n = omega arith in
-    ap (λ (k : ℕ). take k (drop f w)) z
 
 pub part-apart : (w : List ℕ) (f e n : ℕ) → e ≡ f + n → Apart (unpacked (part f n w)) → Apart (unpacked (take (e - f) (drop f w)))
 part-apart w f e n h a = subst (λ (l : List ℕ). Apart (unpacked l)) (sym (lent-part w f e n h)) a

@@ -9,19 +9,16 @@ use lib.ListN.{length, getD, take, drop, set, length-drop, length-map}
 use lib.Seq.{set-getD, ext-getD, getD-drop}
 use native.Mathlib.Nat.{zero-add}
 use Rattle.words.specs.Regions.{Region}
-use Rattle.words.proofs.RegionLaws.{part-is}
+use Rattle.words.proofs.RegionLaws.{part-is, drop-same}
 use Rattle.ranges.specs.declared.Range.{Range}
 use Rattle.ranges.specs.Points.{range, rangeAt}
 use Rattle.ranges.specs.Merged.{joined}
 use Rattle.ranges.specs.Forms.{columns, starts, ends}
 use Rattle.ranges.specs.Inner.{TakenUp, Listing}
-use Rattle.ranges.proofs.FormLaws.{columns-at, columns-length, columns-set, starts-columns, ends-columns, columns-take, columns-drop, map-append}
-use Rattle.ranges.proofs.FormLaws.{start-at, end-at}
 use Rattle.ranges.proofs.ListingLaws.{up-first, up-next, up-wider, up-kept, listing-all, listing-length, listing-raise, listing-push}
 use Rattle.ranges.proofs.TakeLaws.{joined-first, joined-longer, joined-next}
-
-pub kept-drop : (n : ℕ) (l m : List ℕ) → length m ≡ length l → ((i : ℕ) → n ≤ i → getD m i 0 ≡ getD l i 0) → drop n m ≡ drop n l
-kept-drop n l m h f = ext-getD 0 (drop n m) (drop n l) (simp length-drop (omega arith)) (λ i q. rw (getD-drop, getD-drop) (f (n + i) (omega arith)))
+use Rattle.ranges.proofs.FormLaws.{columns-at, columns-length, columns-set, starts-columns, ends-columns, columns-take, columns-drop, map-append}
+use Rattle.ranges.proofs.FormLaws.{start-at, end-at}
 
 -- ---- one range taken up
 
@@ -93,10 +90,10 @@ module _ (ss es os oe : List ℕ) (even : length ss ≡ length es) (even′ : le
   front-is′ = part-is 0 n oe₁ es (let a = copied′ .len in omega arith) (sym even) (λ i h. copied′ .inside (0 + i) i refl h ∙ ap (λ (k : ℕ). getD es k 0) (zero-add i))
 
   rest-is : drop n os₁ ≡ drop n os
-  rest-is = kept-drop n os os₁ (copied .len) (λ i h. copied .after i (omega arith))
+  rest-is = drop-same n os os₁ (copied .len) (λ i h. copied .after i (omega arith))
 
   rest-is′ : drop n oe₁ ≡ drop n oe
-  rest-is′ = kept-drop n oe oe₁ (copied′ .len) (λ i h. copied′ .after i (omega arith))
+  rest-is′ = drop-same n oe oe₁ (copied′ .len) (λ i h. copied′ .after i (omega arith))
 
   even₁ : length os₁ ≡ length oe₁
   even₁ = let a = copied .len in let b = copied′ .len in omega arith

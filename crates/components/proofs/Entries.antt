@@ -9,24 +9,21 @@ use Rattle.refusals.specs.declared.Refusal.{Refusal}
 use Rattle.refusals.specs.declared.Verdict.{Verdict}
 use Rattle.refusals.specs.declared.Verdict.the-variants.{Fine, Bad}
 use Rattle.refusals.specs.Verdicts.{first}
+use Rattle.refusals.proofs.Laws.{first-fine, first-bad, first-left, first-right, bad-fine}
 use Rattle.words.specs.Regions.{cleared}
-use Rattle.refusals.proofs.Laws.{first-fine, first-bad, first-left, first-right}
 use Rattle.words.specs.Rows.{rowCount}
 use Rattle.words.specs.Regions.{Region}
 use Rattle.graph.specs.Line.{blocksOf, jumpsOf, edgeVerdict, Sound}
 use Rattle.graph.specs.Checks.{graphVerdict, spaceOf, spaceVerdict}
 use Rattle.graph.specs.Paths.{Between}
 use Rattle.graph.specs.Work.{Within, EdgeRows, Neighbours}
-use Rattle.graph.proofs.Line.{blocks-length, edges-between}
 use Rattle.graph.proofs.Within.{within-trans, within-wider}
+use Rattle.graph.proofs.Line.{blocks-length, edges-between}
 use Rattle.line_checks.proofs.Refusals.{Passed, passed, space-told}
 use Rattle.tarjan.specs.Components.{Components, Walkable, Found}
 use Rattle.components.specs.declared.Answer.{Answer}
 use Rattle.components.specs.declared.Answer.the-variants.{Given, Refused}
 use Rattle.components.specs.Entry.{verdictOf, edgesIn, Numbered, Turned, Answered, Solved}
-
-bad-fine : {A : Type 0} {k : Refusal} {i : ℕ} → Bad k i ≡ Fine → A
-bad-fine e = absurd (let z : _≡_ {A = ℕ} 0 1 = cc in omega arith)
 
 -- ---- the refusals
 

@@ -11,12 +11,13 @@ use mathlib.Core.List.{List}
 use lib.ListN.{length, getD}
 use Rattle.words.specs.Regions.{Kept}
 use Rattle.words.proofs.Points.{cut, same as same-or}
+use Rattle.words.proofs.Bools.{or-cases}
 use Rattle.bits.specs.Bits.{bitOf, bit}
 use Rattle.bits.proofs.BitLaws.{bit-at, bit-kept, row-keeps}
 use Rattle.ranges.specs.declared.Range.{Range}
 use Rattle.ranges.specs.Points.{Upright, Point}
 use Rattle.ranges.specs.Merged.{clashes}
-use Rattle.ranges.proofs.PointLaws.{apart-upright, or-cases}
+use Rattle.ranges.proofs.PointLaws.{apart-upright}
 use Rattle.ranges.proofs.ClashLaws.{common-clashes}
 use Rattle.fitting.specs.Wants.{Want, wantAt}
 use Rattle.fitting.specs.Plan.{cellAt, joinable, Plan, put}

@@ -10,6 +10,7 @@ use lib.ListN.{length, getD, set, length-set, length-append, List·getD-append}
 use lib.Seq.{getD-set-same, getD-set-other, getD-append-seam}
 use borrow.Author.Tests.{eq-eqb}
 use Rattle.words.proofs.Points.{same as same-or}
+use Rattle.words.proofs.Bools.{and-not}
 use Rattle.ranges.specs.declared.Range.{Range}
 use Rattle.ranges.specs.Points.{Upright, Apart}
 use Rattle.ranges.proofs.PointLaws.{apart-upright}
@@ -36,10 +37,6 @@ join-none : (o : Option (List Range)) (a : List Range) → ((rs : List Range) �
 join-none none a f = refl
 join-none (some rs) a f = ap not (f rs refl)
 
-and-false : (s t : Bool) → t ≡ false → (s && t) ≡ false
-and-false true t e = e
-and-false false t e = refl
-
 grew-open : (x : Want) (i probes : ℕ) (p : Plan) → Grew x i p (opened x i probes p) (length (p .cells))
 grew-open x i probes p = record {
   is = rw (eq-eqb i i refl);
@@ -61,7 +58,7 @@ grew-enter x i probes p rs m e h f neat v = record {
   fresh = λ l. absurd (omega arith);
   below = λ c l d. rw (length-set (p .cells) m wide) at l;
   old = λ c l a u g. same-or c m
-      (λ q. rw q (seat a u ∙ and-false (joinable (some rs) a) (joinable (cellAt (p .cells) m .area) a) (ap (λ (k : ℕ). joinable (cellAt (p .cells) k .area) a) (sym q) ∙ g)))
+      (λ q. rw q (seat a u ∙ and-not (joinable (some rs) a) (joinable (cellAt (p .cells) m .area) a) (ap (λ (k : ℕ). joinable (cellAt (p .cells) k .area) a) (sym q) ∙ g)))
       (λ d. ap (λ (z : Cell). joinable (z .area) a) (getD-set-other (p .cells) m c wide noCell d) ∙ g);
   item = λ a u g. seat a u ∙ ap (λ (t : Bool). not t && joinable (cellAt (p .cells) m .area) a) (g rs e);
 }

@@ -9,10 +9,11 @@ use mathlib.Core.Option.{Option, some, none, Option·none-ne-some, Option·some-
 use mathlib.Core.List.{List, [], _∷_, _++_, List·Memᴰ·not-nil}
 use lib.ListN.{length, set, length-append, List·getD-append, List·getD-eq-default}
 use lib.Seq.{getD-set-same, getD-set-other, getD-append-seam}
+use Rattle.words.proofs.Bools.{or-right, or-cases, both-ways}
 use Rattle.ranges.specs.declared.Range.{Range}
 use Rattle.ranges.specs.Points.{Point, Upright, Apart}
 use Rattle.ranges.specs.Merged.{union, clashes}
-use Rattle.ranges.proofs.PointLaws.{apart-upright, upright-append, or-cases, or-right}
+use Rattle.ranges.proofs.PointLaws.{apart-upright, upright-append}
 use Rattle.ranges.proofs.MergeLaws.{merged-apart, merged-upright, union-left, union-right, union-only}
 use Rattle.ranges.proofs.ClashLaws.{clashes-common, common-clashes}
 use Rattle.fitting.specs.Wants.{Want, wantAt}
@@ -21,13 +22,8 @@ use Rattle.fitting.proofs.SearchLaws.{lowest-found}
 
 -- ---- a clash with a union is a clash with one of the two
 
-same-bit : (s t : Bool) → (s ≡ true → t ≡ true) → (t ≡ true → s ≡ true) → s ≡ t
-same-bit true t f g = sym (f refl)
-same-bit false true f g = g refl
-same-bit false false f g = refl
-
 pub union-clashes : (rs ss a : List Range) → Upright rs → Upright ss → Upright a → clashes (union rs ss) a ≡ clashes rs a || clashes ss a
-union-clashes rs ss a u v w = same-bit _ _ down up
+union-clashes rs ss a u v w = both-ways _ _ down up
   where
     split : (x : ℕ) → Point a x → Point rs x ⊎ Point ss x → clashes rs a || clashes ss a ≡ true
     split x q (inl p) = rw (common-clashes rs a (x, p, q))

@@ -8,14 +8,16 @@ use mathlib.Core.Bool.{Bool, true, false, _||_}
 use mathlib.Core.List.{List}
 use native.Mathlib.Omega.{arith}
 use lib.ListN.{length, getD}
-use Rattle.bits.specs.Bits.{bit, Row, Aligned}
 use Rattle.words.proofs.Points.{cut, same}
+use Rattle.words.proofs.FitLaws.{small, bytes}
+use Rattle.words.proofs.Bools.{or-right, or-left, or-cases, never}
+use Rattle.words.proofs.RegionLaws.{row-before}
+use Rattle.bits.specs.Bits.{bit, Row, Aligned}
 use Rattle.bits.proofs.BitLaws.{aligned-rows}
 use Rattle.graph.specs.Work.{Within}
 use Rattle.flow_rows.specs.declared.Flow.{Flow}
 use Rattle.flow_rows.specs.Flowed.{which, order, begins, ends, target, touchedBit, outBit, Laid, Across, Stays, Joins, Tells}
-use Rattle.flow_rows.proofs.Joins.{row-in, which-kept, target-kept, touched-kept, laid-kept, row-wide, other-row, joins-none, joins-then, joins-as, joins-row, or-true, or-left, or-right, touched-aligned}
-use Rattle.words.proofs.FitLaws.{small, bytes}
+use Rattle.flow_rows.proofs.Joins.{which-kept, target-kept, touched-kept, laid-kept, row-wide, other-row, joins-none, joins-then, joins-as, joins-row, touched-aligned}
 
 -- the edges of u before e
 abbrev pub AcrossTo : Flow → List ℕ → ℕ → ℕ → ℕ → ℕ → Type 0
@@ -35,9 +37,6 @@ pub record Gathering (f : Flow) (u c x : ℕ) (w₀ w : List ℕ) (k : ℕ) (loo
   pub joins : Joins f x (AcrossTo f w₀ u c k) w₀ w
   pub tells : Tells (StaysTo f w₀ u c k) looped
 
-true-false : {A : Type 0} → false ≡ true → A
-true-false e = absurd (let z : _≡_ {A = ℕ} 0 1 = cc in omega arith)
-
 pub gather-start : (f : Flow) (u c x : ℕ) (w : List ℕ) → Laid f w → u < f .n → x < f .n → which f w x ≡ c → Gathering f u c x w w (begins f w u) false
 gather-start f u c x w L h k e = record {
   laid = L;
@@ -47,7 +46,7 @@ gather-start f u c x w L h k e = record {
   from = omega arith;
   to = L .rising u h;
   joins = joins-as (AcrossTo f w u c (begins f w u)) (joins-none w) (λ b l s. absurd s) (λ b l s. absurd (omega (arith, s .1, s .2)));
-  tells = record { yes-so = λ q. true-false q; so-yes = λ s. absurd (omega (arith, s .1, s .2)) };
+  tells = record { yes-so = λ q. never q; so-yes = λ s. absurd (omega (arith, s .1, s .2)) };
 }
 
 -- what is computed before the first edge fits
@@ -68,7 +67,7 @@ before-edges {f} {w} u x L h k r =
     let o = L .out-fits in
     let top : f .at + u + 1 < length w = omega (arith, L .below, L .base-fits) in
     let all : f .at + f .n + 1 ≤ length w = omega (arith, L .below, L .base-fits) in
-    let row : f .out + x * f .words ≤ length w = omega (arith, row-in x (f .n) (f .words) k) in
+    let row : f .out + x * f .words ≤ length w = omega (arith, row-before x (f .n) (f .words) k) in
     record {
       to = small _ (length w) (omega arith) r;
       to-one = small _ (length w) all r;
@@ -105,8 +104,8 @@ at-node {f} {w₀} u x k g L h l e m r =
     let t = L .touched-fits in
     let to : f .at + f .n + 1 + k < n = omega (arith, L .rows-fit u h, L .base-fits) in
     let which : f .base + g < n = omega (arith, L .base-fits) in
-    let in-x : f .out + x * f .words + f .words ≤ n = omega (arith, row-in x (f .n) (f .words) l) in
-    let in-g = row-in g (f .n) (f .words) m in
+    let in-x : f .out + x * f .words + f .words ≤ n = omega (arith, row-before x (f .n) (f .words) l) in
+    let in-g = row-before g (f .n) (f .words) m in
     let out : f .out + g * f .words + f .words ≤ n = omega arith in
     let touched : f .touched + g * f .words + f .words ≤ n = omega arith in
     record {
@@ -182,7 +181,7 @@ module _ {f : Flow} {u c x : ℕ} {w₀ w : List ℕ} {k : ℕ} {looped : Bool} 
         joins = joins-as (AcrossTo f w₀ u c (k + 1)) (joins-then (t .joins) J)
             (λ b l s. ⊎-elim
             (λ o. (o .0, o .1, omega (arith, o .2), o .3, o .4))
-            (λ o. (k, t .from, omega arith, q, ⊎-elim (λ a. inl (sym (out-is b l) ∙ a)) (λ a. inr (sym (touched-is b l) ∙ a)) (or-true (outBit f w (target f w k) b) (touchedBit f w (target f w k) b) o)))
+            (λ o. (k, t .from, omega arith, q, ⊎-elim (λ a. inl (sym (out-is b l) ∙ a)) (λ a. inr (sym (touched-is b l) ∙ a)) (or-cases (outBit f w (target f w k) b) (touchedBit f w (target f w k) b) o)))
             s)
             (λ b l s. same (s .0) k
             (λ o. inr (⊎-elim

@@ -8,33 +8,15 @@ use native.Mathlib.Nat.{mul-le-mul-right}
 use native.Mathlib.Omega.{arith}
 use lib.ListN.{length, getD}
 use Rattle.bits.specs.Bits.{bit, bitOf, Row, Aligned, apart}
+use Rattle.bits.proofs.BitLaws.{aligned-rows, bit-kept}
 use Rattle.words.specs.Regions.{Region, Disjoint, below, above}
 use Rattle.words.proofs.Points.{cut, same}
 use Rattle.words.proofs.RegionLaws.{row-before}
-use Rattle.bits.proofs.BitLaws.{aligned-rows}
+use Rattle.words.proofs.Bools.{or-right, or-left, or-cases}
 use Rattle.graph.specs.Work.{Within}
 use Rattle.graph.proofs.Within.{within-refl, within-trans, within-wider}
 use Rattle.flow_rows.specs.declared.Flow.{Flow}
 use Rattle.flow_rows.specs.Flowed.{which, order, begins, ends, target, touchedBit, outBit, Laid, Across, Stays, Member, Joins, Tells}
-
-pub or-true : (a b : Bool) → (a || b) ≡ true → (a ≡ true) ⊎ (b ≡ true)
-or-true true b e = inl refl
-or-true false b e = inr e
-
-pub or-left : (a b : Bool) → a ≡ true → (a || b) ≡ true
-or-left a b e = rw e refl
-
-pub or-right : (a b : Bool) → b ≡ true → (a || b) ≡ true
-or-right true b e = refl
-or-right false b e = e
-
--- a row in n rows of a table
-pub row-in : (v n words : ℕ) → v < n → v * words + words ≤ n * words
-row-in v n words h = row-before v n words h
-
--- the bits of a row that no number of was changed
-pub bit-kept : (w₀ w : List ℕ) (base n b : ℕ) → b < n * 64 → ((i : ℕ) → base ≤ i → i < base + n → getD w i 0 ≡ getD w₀ i 0) → bit w base b ≡ bit w₀ base b
-bit-kept w₀ w base n b h f = ap (λ (y : ℕ). bitOf y (b % 64)) (f (base + b / 64) (omega arith) (omega arith))
 
 module _ {f : Flow} {w₀ w : List ℕ} (L : Laid f w₀) where
   -- what is read is apart from the answer's rows
@@ -55,8 +37,8 @@ module _ {f : Flow} {w₀ w : List ℕ} (L : Laid f w₀) where
     target-kept u k h l = K .below (f .at + f .n + 1 + k) (omega (arith, L .base-fits, L .rows-fit u h))
 
     pub touched-kept : (v b : ℕ) → v < f .n → b < f .words * 64 → touchedBit f w v b ≡ touchedBit f w₀ v b
-    touched-kept v b h l = bit-kept w₀ w (f .touched + v * f .words) (f .words) b l
-        (λ i p q. let r = row-in v (f .n) (f .words) h in ⊎-elim (λ a. K .below i (omega arith)) (λ a. K .past i (omega arith)) (L .apart))
+    touched-kept v b h l = bit-kept {w₀ = w₀} {w = w} {base = f .touched + v * f .words} {n = f .words}
+        (record { same = λ i p q. let r = row-before v (f .n) (f .words) h in ⊎-elim (λ a. K .below i (omega arith)) (λ a. K .past i (omega arith)) (L .apart) }) b l
 
     pub laid-kept : Laid f w
     laid-kept = record {
@@ -75,14 +57,14 @@ module _ {f : Flow} {w₀ w : List ℕ} (L : Laid f w₀) where
 
   -- one row of the answer is in it
   pub row-wide : (x : ℕ) → x < f .n → Within (f .out + x * f .words) (f .out + x * f .words + f .words) w₀ w → Within (f .out) (f .out + f .n * f .words) w₀ w
-  row-wide x h K = let r = row-in x (f .n) (f .words) h in within-wider (f .out) (f .out + f .n * f .words) (omega arith) (omega arith) K
+  row-wide x h K = let r = row-before x (f .n) (f .words) h in within-wider (f .out) (f .out + f .n * f .words) (omega arith) (omega arith) K
 
   -- the other rows are as they were
   pub other-row : (x v b : ℕ) → v ≢ x → b < f .words * 64 → Within (f .out + x * f .words) (f .out + x * f .words + f .words) w₀ w → outBit f w v b ≡ outBit f w₀ v b
-  other-row x v b ne h K = bit-kept w₀ w (f .out + v * f .words) (f .words) b h
-      (λ i p q. cut v x
+  other-row x v b ne h K = bit-kept {w₀ = w₀} {w = w} {base = f .out + v * f .words} {n = f .words}
+      (record { same = λ i p q. cut v x
       (λ l. K .below i (omega (arith, row-before v x (f .words) (omega arith))))
-      (λ l. K .past i (omega (arith, row-before x v (f .words) l))))
+      (λ l. K .past i (omega (arith, row-before x v (f .words) l))) }) b h
 
 -- ---- several steps as one
 
@@ -125,12 +107,12 @@ module _ {f : Flow} {x : ℕ} where
     kept = record { len = r .len; below = r .before; past = r .after };
     old = λ b h o. r .bits b h ∙ or-left _ _ o;
     new = λ b h e. r .bits b h ∙ or-right (outBit f w₀ x b) _ e;
-    only = λ b h o. or-true (outBit f w₀ x b) (s b) (sym (r .bits b h) ∙ o);
+    only = λ b h o. or-cases (outBit f w₀ x b) (s b) (sym (r .bits b h) ∙ o);
   }
 
 -- a touched row and a row of the answer have no word in common
 pub touched-aligned : (f : Flow) (w : List ℕ) (x v : ℕ) → Laid f w → x < f .n → v < f .n → Aligned (f .out + x * f .words) (f .touched + v * f .words) (f .words)
 touched-aligned f w x v L h k =
-    let a = row-in x (f .n) (f .words) h in
-    let b = row-in v (f .n) (f .words) k in
+    let a = row-before x (f .n) (f .words) h in
+    let b = row-before v (f .n) (f .words) k in
     ⊎-elim (λ p. apart (above (omega arith))) (λ p. apart (below (omega arith))) (L .apart)

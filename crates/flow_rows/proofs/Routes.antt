@@ -8,6 +8,7 @@ use native.Mathlib.Omega.{arith}
 use Rattle.words.proofs.Points.{same}
 use Rattle.graph.specs.Paths.{Edge, edge, Link, Route, one, more, turned, Together, same as alone, loop, Between}
 use Rattle.graph.specs.Flow.{Reached, Reaching}
+use Rattle.graph.proofs.RoundLaws.{turned-route, route-turned}
 use Rattle.tarjan.specs.Components.{Components}
 
 -- ---- paths
@@ -16,40 +17,9 @@ pub route-then : {es : List Edge} {j k l : ℕ} → Route es j k → Route es k 
 route-then r (one e) = more r e
 route-then r (more s e) = more (route-then r s) e
 
--- the edges turned round: the paths the other way
-pub link-turned : (es : List Edge) (j k : ℕ) → Link es j k → Link (turned es) k j
-link-turned [] j k m = absurd (List·Memᴰ·not-nil m)
-link-turned (e ∷ es) j k m = go (List·Memᴰ·cases-cons m) (link-turned es j k)
-  where
-    go : (edge j k ≡ e) ⊎ Link es j k → (Link es j k → Link (turned es) k j) → Link (turned (e ∷ es)) k j
-    go (inl q) f = List·Memᴰ·head (ap (λ (x : Edge). edge (x .dst) (x .src)) q)
-    go (inr r) f = List·Memᴰ·tail (f r)
-
-pub link-back : (es : List Edge) (j k : ℕ) → Link (turned es) k j → Link es j k
-link-back [] j k m = absurd (List·Memᴰ·not-nil m)
-link-back (e ∷ es) j k m = go (List·Memᴰ·cases-cons m) (link-back es j k)
-  where
-    go : (edge k j ≡ edge (e .dst) (e .src)) ⊎ Link (turned es) k j → (Link (turned es) k j → Link es j k) → Link (e ∷ es) j k
-    go (inl q) f = List·Memᴰ·head (ap (λ (x : Edge). edge (x .dst) (x .src)) q)
-    go (inr r) f = List·Memᴰ·tail (f r)
-
-pub route-turned : {es : List Edge} {j k : ℕ} → Route es j k → Route (turned es) k j
-route-turned {es} {j} {k} (one e) = one (link-turned es j k e)
-route-turned {es} (more {j} {k} {l} r e) = route-then (one (link-turned es k l e)) (route-turned r)
-
-pub route-back : {es : List Edge} {j k : ℕ} → Route (turned es) k j → Route es j k
-route-back {es} {j} {k} (one e) = one (link-back es j k e)
-route-back {es} (more {j} {k} {l} r e) = route-then (one (link-back es l k e)) (route-back r)
-
-pub turned-between : (n : ℕ) (es : List Edge) → Between n es → Between n (turned es)
-turned-between n es B = record {
-  from = λ e m. B .to (edge (e .dst) (e .src)) (link-back es (e .dst) (e .src) m);
-  to = λ e m. B .from (edge (e .dst) (e .src)) (link-back es (e .dst) (e .src) m);
-}
-
 -- "over predecessors, and over successors": one the other over turned edges
 pub reached-turned : (es : List Edge) (touched : ℕ → Bool) (k : ℕ) → Reaching (turned es) touched k ↔ Reached es touched k
-reached-turned es touched k = ((λ r. (r .0, r .1, route-back (r .2))), (λ r. (r .0, r .1, route-turned (r .2))))
+reached-turned es touched k = ((λ r. (r .0, r .1, route-turned es (r .2))), (λ r. (r .0, r .1, turned-route es (r .2))))
 
 -- ---- where a bit of v's row comes from: an edge out of v's component, or a touch in it, if an edge stays in it
 

@@ -45,6 +45,3 @@ module _ {w : List ℕ} {at items n end k top : ℕ} (T : Topped w at items n en
 
 pub as-long : {items n m m′ q : ℕ} → m′ ≡ m → AtPlace items n m q → AtPlace items n m′ q
 as-long {items} {n} {m} {m′} {q} e a = subst (λ (y : ℕ). AtPlace items n y q) (sym e) a
-
-pub room-kept : (m n : ℕ) → m ≡ n → n * 8 < 2 ^ 63 → m * 8 < 2 ^ 63
-room-kept m n e r = omega arith

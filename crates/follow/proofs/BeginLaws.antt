@@ -3,15 +3,14 @@ use Prim.Native.Nat.{ℕ, zero, suc, _+_, _-_, _*_, _/_, _≤_, _<_}
 use native.Mathlib.Omega.{arith}
 use mathlib.Core.Path.{_≡_, refl, sym, ap, _∙_, subst}
 use mathlib.Core.Logic.{_≢_, _⊎_, inl, inr}
-use mathlib.Core.Bool.{Bool, true, false, cond, _&&_, _||_, true≢false}
+use mathlib.Core.Bool.{Bool, true, false, cond, _&&_, _||_, true≢false, or-false, and-false, or-true}
 use mathlib.Core.List.{List}
 use lib.ListN.{length, getD}
 use lib.Dec.{eqb}
 use borrow.Author.Tests.{eqb-true, eq-eqb, ne-eqb}
-use Rattle.ranges.proofs.PointLaws.{and-both, or-cases}
-use Rattle.graph.proofs.RoundLaws.{or-left}
 use Rattle.words.specs.Rows.{rowCount, field}
 use Rattle.words.proofs.Points.{cut, same}
+use Rattle.words.proofs.Bools.{and-both, or-cases, or-left}
 use Rattle.carrying.specs.Insts.{isSet}
 use Rattle.reach.specs.declared.Lay.{Lay}
 use Rattle.reach.specs.Prepared.{Laid, latest}
@@ -55,31 +54,19 @@ module _ (f : ℕ → ℕ) (l : ℕ) where
 
 -- ---- one entry
 
-or-none : (u : Bool) → (u || false) ≡ u
-or-none true = refl
-or-none false = refl
-
-or-one : (u : Bool) → (u || true) ≡ true
-or-one true = refl
-or-one false = refl
-
-and-no : (u : Bool) → (u && false) ≡ false
-and-no true = refl
-and-no false = refl
-
 module _ (lay : Lay) (z : Sizes) (insts w : List ℕ) (i : ℕ) (b : Begun) where
   pub took-other : Held (z .v) (z .insts) lay w (b .count) → field 9 insts i 4 ≢ 1 → Took lay z insts w w i b b
   took-other h e = record {
     grew = grew-none h (λ j. (j ≡ i) × (field 9 insts i 4 ≡ 1));
     has = λ f. absurd (e f);
-    lost = sym (ap (λ (t : Bool). b .lost || (t && eqb (defAt lay w i) 0)) (ne-eqb (field 9 insts i 4) 1 e) ∙ or-none (b .lost));
+    lost = sym (ap (λ (t : Bool). b .lost || (t && eqb (defAt lay w i) 0)) (ne-eqb (field 9 insts i 4) 1 e) ∙ or-false (b .lost));
   }
 
   pub took-lost : Held (z .v) (z .insts) lay w (b .count) → field 9 insts i 4 ≡ 1 → defAt lay w i ≡ 0 → Took lay z insts w w i b (record { lost = true; count = b .count })
   took-lost h e d = record {
     grew = grew-none h (λ j. (j ≡ i) × (field 9 insts i 4 ≡ 1));
     has = λ f g. absurd (omega arith);
-    lost = sym (ap (λ (t : Bool). b .lost || (t && eqb (defAt lay w i) 0)) (eq-eqb (field 9 insts i 4) 1 e) ∙ ap (λ (t : Bool). b .lost || t) (eq-eqb (defAt lay w i) 0 d) ∙ or-one (b .lost));
+    lost = sym (ap (λ (t : Bool). b .lost || (t && eqb (defAt lay w i) 0)) (eq-eqb (field 9 insts i 4) 1 e) ∙ ap (λ (t : Bool). b .lost || t) (eq-eqb (defAt lay w i) 0 d) ∙ or-true (b .lost));
   }
 
   pub took-new : {w' : List ℕ} {n : ℕ} → Joined (z .v) (z .insts) lay w w' i (b .count) n → field 9 insts i 4 ≡ 1 → defAt lay w i ≢ 0
@@ -87,7 +74,7 @@ module _ (lay : Lay) (z : Sizes) (insts w : List ℕ) (i : ℕ) (b : Begun) wher
   took-new j e d = record {
     grew = record { held = j .grew .held; len = j .grew .len; outside = j .grew .outside; more = j .grew .more; old = j .grew .old; new = λ k a c. (j .grew .new k a c, e) };
     has = λ f g. j .has;
-    lost = sym (ap (λ (t : Bool). b .lost || (isSet (field 9 insts i 4) && t)) (ne-eqb (defAt lay w i) 0 d) ∙ ap (λ (t : Bool). b .lost || t) (and-no (isSet (field 9 insts i 4))) ∙ or-none (b .lost));
+    lost = sym (ap (λ (t : Bool). b .lost || (isSet (field 9 insts i 4) && t)) (ne-eqb (defAt lay w i) 0 d) ∙ ap (λ (t : Bool). b .lost || t) (and-false (isSet (field 9 insts i 4))) ∙ or-false (b .lost));
   }
 
 -- ---- the chain
@@ -186,7 +173,7 @@ module _ {lay : Lay} {z : Sizes} {insts addresses : List ℕ} {l : ℕ} {w₀ w 
           let v : i ≡ getD addresses (2 * x) 0 = ei ∙ ap (λ (t : ℕ). getD addresses (2 * t) 0) (sym u) in
           let o : defAt lay w i ≡ 0 = sym (grew-def (k .grew) i low) ∙ ap (defAt lay w') v ∙ r in
           k .lost ∙ ap (λ (t : Bool). b .lost || (t && eqb (defAt lay w i) 0)) (eq-eqb (field 9 insts i 4) 1 (ap (λ (t : ℕ). field 9 insts t 4) v ∙ p))
-          ∙ ap (λ (t : Bool). b .lost || t) (eq-eqb (defAt lay w i) 0 o) ∙ or-one (b .lost)
+          ∙ ap (λ (t : Bool). b .lost || t) (eq-eqb (defAt lay w i) 0 o) ∙ or-true (b .lost)
 
       gone : (b .lost ≡ true) ⊎ ((isSet (field 9 insts i 4) && eqb (defAt lay w i) 0) ≡ true) → (x : ℕ) × Entry insts addresses l x × (defAt lay w' x ≡ 0)
       gone (inl e) =

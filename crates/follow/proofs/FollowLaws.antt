@@ -10,12 +10,12 @@ use mathlib.Core.List.{List, [], _∷_, List·Memᴰ}
 use lib.ListN.{length, getD}
 use lib.Dec.{eqb, ltb}
 use borrow.Author.Tests.{eqb-true, eq-eqb, ne-eqb}
-use Rattle.ranges.proofs.PointLaws.{and-both, or-cases, or-right}
-use Rattle.graph.proofs.RoundLaws.{or-left, and-pair}
 use Rattle.graph.specs.Work.{Within}
+use Rattle.graph.proofs.Line.{mem-at, at-mem}
 use Rattle.words.specs.Rows.{tabulate, rowCount, field, records}
-use Rattle.words.proofs.Points.{cut, same}
 use Rattle.words.proofs.RowLaws.{mem-tabulate, mem-of-tabulate}
+use Rattle.words.proofs.Points.{cut, same}
+use Rattle.words.proofs.Bools.{or-right, and-both, or-cases, or-left, and-pair, both-ways}
 use Rattle.bits.specs.Bits.{bit, bitOf}
 use Rattle.bits.proofs.DigitLaws.{bit-zero}
 use Rattle.carrying.specs.declared.Kind.{Kind}
@@ -23,16 +23,16 @@ use Rattle.carrying.specs.declared.Kind.the-variants.{Unfollowed, Plain, Ending
 use Rattle.carrying.specs.Lists.{any, keep}
 use Rattle.carrying.specs.Insts.{Inst, instsOf, instAt, noInst, defOf, isSet, reads, addressed}
 use Rattle.carrying.specs.Carried.{Code, Mention, mentionsOf, mentions, mentioned, isNone, hands, Carries, taken, followed, carried, lost, dead, stuck, escapes, escaping, endsOf, empty, kindOf}
-use Rattle.carrying.proofs.ListLaws.{any-true, any-entry, any-false, false-any, kept, of-kept, getD-member, member-getD}
+use Rattle.carrying.proofs.ListLaws.{any-true, any-entry, any-false, false-any, kept, of-kept}
 use Rattle.carrying.proofs.CarryLaws.{def-below, carries-below, carried-least}
 use Rattle.insts.proofs.DealtLaws.{insts-length, lea-is}
 use Rattle.reach.specs.declared.Lay.{Lay}
 use Rattle.operands.specs.Numbers.{defNumber}
 use Rattle.reach.specs.Prepared.{Laid, wordsOf, key, latest, leaReader, Hands, codeOf, Prepared}
 use Rattle.reach.specs.Steps.{rowLocal}
-use Rattle.reach.proofs.UseLaws.{bool-ext, by-bool, not-false, Some, some-at, some-index}
-use Rattle.reach.proofs.ScanLaws.{same-bit}
+use Rattle.reach.proofs.UseLaws.{by-bool, not-false, Some, some-at, some-index}
 use Rattle.reach.proofs.ReadyLaws.{empty-keep, any-rows}
+use Rattle.reach.proofs.ScanLaws.{same-bit, number-is, none-number}
 use Rattle.follow.specs.declared.Sizes.{Sizes}
 use Rattle.follow.specs.declared.Begun.{Begun}
 use Rattle.follow.specs.declared.Walk.{Walk}
@@ -83,16 +83,8 @@ follow-kept {lay} {z} {w₀ = w₀} {w₃ = w₃} {s = s} t e₀ bg wk un = reco
     whole-way : (k : ℕ) → (k < lay .seen) ⊎ (lay .seen + wordsOf (z .v) ≤ k) → (k < lay .queue) ⊎ (lay .queue + z .insts ≤ k) → getD w₃ k 0 ≡ getD w₀ k 0
     whole-way k a c = un .outside k a (left k c) ∙ wk .walking .grew .outside k a c ∙ bg .grew .outside k a c
 
-number-some : (o : Option ℕ) (r : ℕ) → defNumber o ≡ suc r → o ≡ some r
-number-some none r e = absurd (omega arith)
-number-some (some s) r e = let z : s ≡ r = omega arith in ap some z
-
 some-number : (o : Option ℕ) (r : ℕ) → o ≡ some r → defNumber o ≡ suc r
 some-number o r e = ap defNumber e ∙ omega arith
-
-none-number : (o : Option ℕ) → defNumber o ≡ 0 → isNone o ≡ true
-none-number none e = refl
-none-number (some s) e = absurd (omega arith)
 
 number-none : (o : Option ℕ) → isNone o ≡ true → defNumber o ≡ 0
 number-none none e = refl
@@ -194,7 +186,7 @@ module _ (insts operands crossings addresses ends : List ℕ) (lay : Lay) (z : S
       reg-def k h =
           let a = g .grew .held .low k h in
           let d = g .grew .held .defined k h in
-          number-some _ (registerAt lay w₂ k) (sym (def₂ (queued lay w₂ k) a) ∙ (let o : defAt lay w₂ (queued lay w₂ k) ≡ suc (registerAt lay w₂ k) = omega arith in o))
+          number-is _ (registerAt lay w₂ k) (sym (def₂ (queued lay w₂ k) a) ∙ (let o : defAt lay w₂ (queued lay w₂ k) ≡ suc (registerAt lay w₂ k) = omega arith in o))
 
       -- ---- each is carried
 
@@ -212,7 +204,7 @@ module _ (insts operands crossings addresses ends : List ℕ) (lay : Lay) (z : S
           later : (x : ℕ) × (x < k) × Edge lay z w₁ (registerAt lay w₂ x) (queued lay w₂ k) → ((x : ℕ) → x < k → Carries C l (registerAt lay w₂ x)) → Carries C l (registerAt lay w₂ k)
           later (x, y, e) ih =
               let o = edge-hands (registerAt lay w₂ x) (queued lay w₂ k) (edge₁ (registerAt lay w₂ x) (queued lay w₂ k) e) in
-              followed (ih x y) (instAt Is (queued lay w₂ k)) (getD-member Is (queued lay w₂ k) noInst (o .listed)) (o .handing) (reg-def k h)
+              followed (ih x y) (instAt Is (queued lay w₂ k)) (mem-at Is (queued lay w₂ k) noInst (o .listed)) (o .handing) (reg-def k h)
 
       sound : (k : ℕ) → k < s .count → Carries C l (registerAt lay w₂ k)
       sound k h = sound-to (suc k) k (omega arith) h
@@ -230,7 +222,7 @@ module _ (insts operands crossings addresses ends : List ℕ) (lay : Lay) (z : S
             rw o at y
         complete q (followed {q = r} c i n h d) =
             let x = complete r c in
-            let (j, a, e) = member-getD Is i noInst n in
+            let (j, a, e) = at-mem Is i noInst n in
             let o : Hands (z .v) Is r j = record {
               numbered = carries-below C l r c;
               listed = a;
@@ -275,12 +267,12 @@ module _ (insts operands crossings addresses ends : List ℕ) (lay : Lay) (z : S
 
       escapes-is : s .count ≤ wk .upto → s .escapes ≡ escaping C l
       escapes-is end =
-          g .escapes ∙ bool-ext _ _
+          g .escapes ∙ both-ways _ _
           (some-carried (lay .escapes) (escapes C) (let y = t .laid in omega arith) (p .tables .escaping) (wk .upto) upto-le)
           (carried-some (lay .escapes) (escapes C) (let y = t .laid in omega arith) (p .tables .escaping) end)
 
       lost-is : b .lost ≡ lost C l
-      lost-is = bool-ext _ _ to from
+      lost-is = both-ways _ _ to from
         where
           to : b .lost ≡ true → lost C l ≡ true
           to e =
@@ -322,13 +314,13 @@ module _ (insts operands crossings addresses ends : List ℕ) (lay : Lay) (z : S
       bad-is : s .bad ≡ (lost C l || dead C l)
       bad-is = by-bool (s .bad)
           (λ e. e ∙ sym (bad-true e))
-          (λ e. bool-ext _ _ bad-true (true-bad (fine-end e)))
+          (λ e. both-ways _ _ bad-true (true-bad (fine-end e)))
 
       -- ---- the kind
 
       none-is : eqb (getD w₀ (lay .heads + l) 0) 0 ≡ empty (mentions (C .addresses) l)
       none-is =
-          bool-ext (eqb (getD w₀ (lay .heads + l) 0) 0) (not (Some (rowCount 2 addresses) (λ k. eqb (rowLocal addresses k) l))) to from
+          both-ways (eqb (getD w₀ (lay .heads + l) 0) 0) (not (Some (rowCount 2 addresses) (λ k. eqb (rowLocal addresses k) l))) to from
           ∙ sym (empty-keep (λ m. eqb (m .local) l) (C .addresses) ∙ ap not (any-rows (λ m. eqb (m .local) l) addresses (λ k. eqb (rowLocal addresses k) l) (λ k h. refl)))
         where
           to : eqb (getD w₀ (lay .heads + l) 0) 0 ≡ true → not (Some (rowCount 2 addresses) (λ k. eqb (rowLocal addresses k) l)) ≡ true

@@ -17,9 +17,9 @@ use Rattle.reach.specs.declared.Lay.{Lay}
 use Rattle.operands.specs.Numbers.{defNumber}
 use Rattle.reach.specs.Prepared.{Laid, wordsOf, key, latest, localOf, codeOf, Prepared, Readied}
 use Rattle.reach.specs.Steps.{rowLocal}
-use Rattle.reach.proofs.ScanLaws.{same-bit}
 use Rattle.reach.proofs.StepLaws.{splits-same}
 use Rattle.reach.proofs.ReadyLaws.{latest-same, local-is, mentions-count, def-small}
+use Rattle.reach.proofs.ScanLaws.{same-bit, number-is}
 use Rattle.follow.specs.declared.Sizes.{Sizes}
 use Rattle.queue.specs.Walk.{defAt}
 use Rattle.follow.specs.Steps.{Walkable, Chain}
@@ -30,10 +30,6 @@ use Rattle.follow.specs.Followed.{Empty, Ready}
 has-number : (o : Option ℕ) → isNone o ≡ false → 0 < defNumber o
 has-number none e = absurd (true≢false e)
 has-number (some r) e = omega arith
-
-number-is : (o : Option ℕ) (r : ℕ) → defNumber o ≡ suc r → o ≡ some r
-number-is none r e = absurd (omega arith)
-number-is (some s) r e = let z : s ≡ r = omega arith in ap some z
 
 module _ (insts operands crossings addresses ends : List ℕ) (lay : Lay) (z : Sizes) (o : ℕ) {w₀ w : List ℕ}
     (r : Readied (codeOf (z .v) insts operands crossings addresses ends) lay o (z .locals) (z .edges) w₀ w)

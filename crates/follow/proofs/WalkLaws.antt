@@ -4,7 +4,7 @@ use native.Mathlib.Omega.{arith}
 use native.Mathlib.Numerals.{add-one}
 use mathlib.Core.Path.{_≡_, refl, sym, ap, _∙_, subst}
 use mathlib.Core.Logic.{_≢_, _⊎_, inl, inr}
-use mathlib.Core.Bool.{Bool, true, false, cond, not, _&&_, _||_, true≢false}
+use mathlib.Core.Bool.{Bool, true, false, cond, not, _&&_, _||_, true≢false, or-false, or-assoc}
 use mathlib.Core.List.{List}
 use lib.ListN.{length, getD, set, length-set}
 use lib.Seq.{getD-set-same, getD-set-other}
@@ -12,16 +12,17 @@ use lib.Dec.{eqb, ltb}
 use borrow.Author.Tests.{eq-eqb, ne-eqb, ltb-true, ltb-false}
 use Rattle.words.specs.Rows.{tabulate}
 use Rattle.words.specs.Search.{Splits}
-use Rattle.words.proofs.Points.{cut, same, stored}
 use Rattle.words.proofs.SortLaws.{rising-le}
+use Rattle.words.proofs.Points.{cut, same, stored}
+use Rattle.words.proofs.Bools.{both-ways}
 use Rattle.bits.specs.Bits.{bit}
 use Rattle.carrying.specs.Lists.{any}
 use Rattle.insts.proofs.DealtLaws.{any-none, any-next}
 use Rattle.reach.specs.declared.Lay.{Lay}
 use Rattle.reach.specs.Prepared.{Laid, wordsOf, key}
-use Rattle.reach.proofs.ScanLaws.{same-bit}
 use Rattle.reach.proofs.StepLaws.{splits-same}
-use Rattle.reach.proofs.UseLaws.{bool-ext, Some, some-at, some-index}
+use Rattle.reach.proofs.UseLaws.{Some, some-at, some-index}
+use Rattle.reach.proofs.ScanLaws.{same-bit}
 use Rattle.follow.specs.declared.Sizes.{Sizes}
 use Rattle.follow.specs.declared.Begun.{Begun}
 use Rattle.follow.specs.declared.Walk.{Walk}
@@ -152,17 +153,9 @@ module _ {lay : Lay} {z : Sizes} {w₀ : List ℕ} {q first n₀ : ℕ} {w : Lis
 -- ---- the registers of the queue
 
 some-same : (n : ℕ) (f g : ℕ → Bool) → ((k : ℕ) → k < n → f k ≡ g k) → Some n f ≡ Some n g
-some-same n f g e = bool-ext _ _
+some-same n f g e = both-ways _ _
     (λ t. let (k, h, u) = some-index n f t in some-at n g k h (sym (e k h) ∙ u))
     (λ t. let (k, h, u) = some-index n g t in some-at n f k h (e k h ∙ u))
-
-or-none : (u : Bool) → (u || false) ≡ u
-or-none true = refl
-or-none false = refl
-
-or-more : (a b c : Bool) → ((a || b) || c) ≡ (a || (b || c))
-or-more true b c = refl
-or-more false b c = refl
 
 pub walk-start : (lay : Lay) (z : Sizes) (w : List ℕ) (b : Begun) → Held (z .v) (z .insts) lay w (b .count)
     → Walking lay z w w b 0 (record { bad = b .lost; escapes = false; count = b .count })
@@ -172,7 +165,7 @@ walk-start lay z w b h = record {
   from = λ k a c. absurd (omega arith);
   closed = λ k j a. absurd (omega arith);
   escapes = sym (any-none (λ k. bit w (lay .escapes) (registerAt lay w k)) (λ k. k));
-  bad = sym (ap (λ (u : Bool). b .lost || u) (any-none (λ k. bit w (lay .dead) (registerAt lay w k)) (λ k. k)) ∙ or-none (b .lost));
+  bad = sym (ap (λ (u : Bool). b .lost || u) (any-none (λ k. bit w (lay .dead) (registerAt lay w k)) (λ k. k)) ∙ or-false (b .lost));
 }
 
 module _ {lay : Lay} {z : Sizes} {w₀ w : List ℕ} {b : Begun} {h : ℕ} {s : Walk} (t : Walkable lay z w₀) (d : Walking lay z w₀ w b h s) where
@@ -216,7 +209,7 @@ module _ {lay : Lay} {z : Sizes} {w₀ w : List ℕ} {b : Begun} {h : ℕ} {s : 
         ∙ flags (lay .escapes) (λ x a c. d .grew .outside x (inl (let q = t .laid in omega arith)) (inl (let q = t .laid in omega arith)));
     bad =
         p .bad ∙ ap (λ (u : Bool). u || bit w (lay .dead) (registerAt lay w h)) (d .bad)
-        ∙ or-more (b .lost) _ _
+        ∙ or-assoc (b .lost) _ _
         ∙ ap (λ (u : Bool). b .lost || u) (flags (lay .dead) (λ x a c. d .grew .outside x (inl (let q = t .laid in omega arith)) (inl (let q = t .laid in omega arith))));
   }
     where

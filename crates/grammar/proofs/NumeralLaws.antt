@@ -3,7 +3,7 @@ use Prim.Native.Nat.{ℕ, zero, suc, _+_, _-_, _*_, _≤_, _<_}
 use native.Mathlib.Omega.{arith}
 use native.Mathlib.Numerals.{add-one}
 use mathlib.Core.Path.{_≡_, refl, ap, sym, _∙_}
-use mathlib.Core.Bool.{Bool, true, false, cond, _&&_}
+use mathlib.Core.Bool.{Bool, true, false, cond, _&&_, and-false}
 use mathlib.Core.List.{List, [], _∷_}
 use lib.ListN.{length, getD, drop, drop-of-length-le}
 use lib.Seq.{drop-cons}
@@ -18,10 +18,6 @@ unfolding valueFrom
 value-rises v [] = omega arith
 value-rises v (b ∷ s) = omega (arith, value-rises (10 * v + (b - 48)) s)
 
-and-none : (t : Bool) → (t && false) ≡ false
-and-none true = refl
-and-none false = refl
-
 pub number-end : (v : ℕ) → v < limit → numberFrom v [] ≡ v
 unfolding numberFrom valueFrom digits
 number-end v h = rw (lt-ltb v limit h)
@@ -29,7 +25,7 @@ number-end v h = rw (lt-ltb v limit h)
 pub number-over : (v : ℕ) (s : List ℕ) → limit ≤ v → numberFrom v s ≡ noField
 unfolding numberFrom
 number-over v s h =
-    let l : limit ≤ valueFrom v s = omega (arith, value-rises v s) in rw (le-ltb (valueFrom v s) limit l, and-none (digits s))
+    let l : limit ≤ valueFrom v s = omega (arith, value-rises v s) in rw (le-ltb (valueFrom v s) limit l, and-false (digits s))
 
 pub number-digit : (v b : ℕ) (s : List ℕ) → 48 ≤ b → b ≤ 57 → numberFrom v (b ∷ s) ≡ numberFrom (10 * v + (b - 48)) s
 unfolding numberFrom valueFrom digits
@@ -101,14 +97,14 @@ field-dash (x ∷ y ∷ s) e h = absurd (omega arith)
 pub field-single : (s : List ℕ) → length s ≡ 1 → (getD s 0 0 ≡ 45 → ⊥) → numberFrom 0 s ≡ fieldOf s
 unfolding fieldOf
 field-single [] e h = absurd (omega arith)
-field-single (x ∷ []) e h = rw (ne-eqb x 45 h, and-none (eqb x 48))
+field-single (x ∷ []) e h = rw (ne-eqb x 45 h, and-false (eqb x 48))
 field-single (x ∷ y ∷ s) e h = absurd (omega arith)
 
 module _ (s : List ℕ) (d : length s ≡ 0 → ⊥) (e : length s ≡ 1 → ⊥) where
   pub field-zero : getD s 0 0 ≡ 48 → noField ≡ fieldOf s
   unfolding fieldOf
-  field-zero h = simp (ne-eqb (length s) 1 e, ne-eqb (length s) 0 d, and-none, eq-eqb (getD s 0 0) 48 h, lt-ltb 1 (length s) (more (length s) d e))
+  field-zero h = simp (ne-eqb (length s) 1 e, ne-eqb (length s) 0 d, and-false, eq-eqb (getD s 0 0) 48 h, lt-ltb 1 (length s) (more (length s) d e))
 
   pub field-long : (getD s 0 0 ≡ 48 → ⊥) → numberFrom 0 s ≡ fieldOf s
   unfolding fieldOf
-  field-long h = simp (ne-eqb (length s) 1 e, ne-eqb (length s) 0 d, and-none, ne-eqb (getD s 0 0) 48 h)
+  field-long h = simp (ne-eqb (length s) 1 e, ne-eqb (length s) 0 d, and-false, ne-eqb (getD s 0 0) 48 h)

@@ -9,6 +9,7 @@ use lib.ListN.{length, getD, take}
 use lib.Seq.{take-suc, take-length}
 use lib.Dec.{leb, ltb}
 use borrow.Author.Tests.{eq-eqb, ltb-true, leb-true, not-false}
+use Rattle.words.proofs.Bools.{and-both, never}
 use Rattle.refusals.specs.declared.Verdict.the-variants.{Fine}
 use Rattle.refusals.specs.declared.Refusal.the-variants.{Text as TextRefused}
 use Rattle.refusals.proofs.Laws.{scan-fine}
@@ -16,22 +17,17 @@ use Rattle.grammar.specs.Groups.{none, mayFollow, operandGroup}
 use Rattle.grammar.specs.Lines.{lineGroup}
 use Rattle.grammar.specs.Text.{placeBefore, malformed, badLine}
 use Rattle.grammar.proofs.TableLaws.{open-place}
-use Rattle.grammar.proofs.RowLaws.{never}
 use Rattle.grammar.proofs.OperandLaws.{opens, open-inst, open-operand}
 use Rattle.grammar.proofs.OrderLaws.{soFar}
-
-both : (a b : Bool) → (a && b) ≡ true → (a ≡ true) × (b ≡ true)
-both true b e = (refl, e)
-both false b e = never e
 
 -- a line that is not malformed has a group that may follow
 pub follows-of : (p : ℕ) (l : List ℕ) → malformed p l ≡ false → (lineGroup l < none) × (mayFollow p (lineGroup l) ≡ true)
 follows-of p l e =
-    let r = both (ltb (lineGroup l) none) (mayFollow p (lineGroup l)) (not-false (ltb (lineGroup l) none && mayFollow p (lineGroup l)) e) in
+    let r = and-both (ltb (lineGroup l) none) (mayFollow p (lineGroup l)) (not-false (ltb (lineGroup l) none && mayFollow p (lineGroup l)) e) in
     (ltb-true (lineGroup l) none (r .0), r .1)
 
 operand-place : (p : ℕ) → mayFollow p operandGroup ≡ true → p ≡ 4
-operand-place p e = let r = both (leb 4 p) (leb p 4) e in omega (arith, leb-true 4 p (r .0), leb-true p 4 (r .1))
+operand-place p e = let r = and-both (leb 4 p) (leb p 4) e in omega (arith, leb-true 4 p (r .0), leb-true p 4 (r .1))
 
 bad-not : (ls : List (List ℕ)) → soFar ls ≡ Fine → (n : ℕ) → n < length ls → malformed (placeBefore ls n) (getD ls n []) ≡ false
 unfolding badLine

@@ -8,10 +8,10 @@ use lib.ListN.{length}
 use lib.Dec.{eqb}
 use borrow.Author.Tests.{eq-eqb, ne-eqb, eqb-true}
 use Rattle.words.specs.Rows.{flat}
+use Rattle.words.proofs.Bools.{never}
 use Rattle.grammar.specs.Groups.{groupAt, instGroup, operandGroup}
 use Rattle.grammar.specs.Lines.{lineGroup, lineFields}
 use Rattle.grammar.specs.Text.{numbers, placed, rowWith, operandsAfter, rowsIn, countOf}
-use Rattle.grammar.proofs.RowLaws.{never}
 
 unfoldable pub operandsOnly : List (List ℕ) → Bool
 operandsOnly [] = true

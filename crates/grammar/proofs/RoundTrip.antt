@@ -3,7 +3,7 @@ use Prim.Native.Nat.{ℕ, zero, suc, _+_, _-_, _*_, _/_, _%_, _^_, _≤_, _<_}
 use native.Mathlib.Omega.{arith}
 use native.Mathlib.Nat.{pow-suc}
 use mathlib.Core.Path.{_≡_, refl, ap, _∙_}
-use mathlib.Core.Bool.{Bool, true, false, cond, _&&_, _||_}
+use mathlib.Core.Bool.{Bool, true, false, cond, _&&_, _||_, and-false}
 use mathlib.Core.List.{List, [], _∷_, _++_}
 use lib.ListN.{length, getD, length-append, List·getD-append}
 use lib.Dec.{eqb, leb, ltb, lit≤}
@@ -68,10 +68,6 @@ numeral (suc most) n h =
     (λ l. rw (le-ltb n 10 l) (numeral-more (digitsOf (suc most) (n / 10)) n l (numeral most (n / 10) (let p : 10 ^ suc (suc most) ≡ 10 ^ suc most * 10 = pow-suc 10 (suc most) in omega arith))))
     (λ l. rw (lt-ltb n 10 l) (numeral-one n l))
 
-and-none : (t : Bool) → (t && false) ≡ false
-and-none true = refl
-and-none false = refl
-
 field-numeral : (s : List ℕ) (n : ℕ) → n < limit → Numeral s n → fieldOf s ≡ n
 unfolding fieldOf numberFrom
 field-numeral s n h r =
@@ -85,7 +81,7 @@ field-numeral s n h r =
     no-lead : leadingZero s ≡ false
     no-lead =
         cut 1 n (λ l. ap (λ (t : Bool). t && ltb 1 (length s)) (ne-eqb (getD s 0 0) 48 (λ e. let x = r .lead l in omega arith)))
-        (λ l. ap (λ (t : Bool). eqb (getD s 0 0) 48 && t) (le-ltb 1 (length s) (let x = r .zero-alone (omega arith) in omega arith)) ∙ and-none (eqb (getD s 0 0) 48))
+        (λ l. ap (λ (t : Bool). eqb (getD s 0 0) 48 && t) (le-ltb 1 (length s) (let x = r .zero-alone (omega arith) in omega arith)) ∙ and-false (eqb (getD s 0 0) 48))
 
 pub field-decimal : (n : ℕ) → n < limit → fieldOf (decimal n) ≡ n
 field-decimal n h = field-numeral (decimal n) n h (numeral 19 n (let p : 4294967296 ≤ 10 ^ 20 = lit≤ tt in omega arith))

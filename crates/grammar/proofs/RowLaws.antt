@@ -10,23 +10,13 @@ use lib.Dec.{eqb, leb, ltb, eqb→eq}
 use borrow.Author.Tests.{eq-eqb, ne-eqb, eqb-true}
 use Rattle.words.specs.Rows.{flat}
 use Rattle.words.proofs.Points.{same}
+use Rattle.words.proofs.Bools.{and-both, never}
 use Rattle.grammar.specs.Groups.{groupAt, none, instGroup, operandGroup}
 use Rattle.grammar.specs.Lines.{meant, fits, groupOf, formed, wellFormed, body, ended, lineGroup, lineFields}
 use Rattle.grammar.specs.Text.{numbers, placed, rowWith, operandsAfter, rowsIn, countOf}
 use Rattle.grammar.proofs.TableLaws.{at}
 
 -- ---- a line that has a group is well formed, and its row has the group's width
-
-pub never : {A : Type 0} → _≡_ {A = Bool} false true → A
-never e = absurd (let z : _≡_ {A = ℕ} 0 1 = ap (λ (b : Bool). cond b 1 0) e in omega arith)
-
-and-right : (a b : Bool) → (a && b) ≡ true → b ≡ true
-and-right true b e = e
-and-right false b e = never e
-
-and-left : (a b : Bool) → (a && b) ≡ true → a ≡ true
-and-left true b e = refl
-and-left false b e = never e
 
 has-group : (l : List ℕ) → lineGroup l < none → (wellFormed l ≡ true) × (lineGroup l ≡ groupOf (body l))
 unfolding lineGroup
@@ -40,7 +30,7 @@ pub group-fits : (l : List ℕ) → lineGroup l < none → fits (groupAt (lineGr
 unfolding wellFormed formed
 group-fits l h =
     ap (λ (k : ℕ). fits (groupAt k .dashes) (lineFields l)) (has-group l h .1)
-    ∙ and-right (ltb (groupOf (body l)) none) _ (and-right (ended l) _ (and-right (leb (length l) 128) _ (has-group l h .0)))
+    ∙ and-both (ltb (groupOf (body l)) none) _ (and-both (ended l) _ (and-both (leb (length l) 128) _ (has-group l h .0) .1) .1) .1
 
 pub length-numbers : (ds fs : List ℕ) → fits ds fs ≡ true → (length (numbers ds fs) ≡ length ds) × (length fs ≡ length ds)
 unfolding fits numbers
@@ -48,7 +38,7 @@ length-numbers [] [] e = (refl, refl)
 length-numbers [] (f ∷ fs) e = never e
 length-numbers (d ∷ ds) [] e = never e
 length-numbers (d ∷ ds) (f ∷ fs) e =
-    let r = length-numbers ds fs (and-right (ltb (meant d f) 4294967296) (fits ds fs) e) in (ap suc (r .0), ap suc (r .1))
+    let r = length-numbers ds fs (and-both (ltb (meant d f) 4294967296) (fits ds fs) e .1) in (ap suc (r .0), ap suc (r .1))
 
 wide-entry : ℕ → Bool
 wide-entry k = eqb (groupAt k .width) (cond (eqb k instGroup) (suc (length (groupAt k .dashes) + 1)) (length (groupAt k .dashes)))

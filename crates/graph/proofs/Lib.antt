@@ -1,3 +1,4 @@
+pub mod Sums
 pub mod Counting
 pub mod Line
 pub mod Within

@@ -19,6 +19,7 @@ use Rattle.words.specs.Rows.{tabulate, records, rowCount, field}
 use Rattle.words.specs.Sort.{Rising}
 use Rattle.words.proofs.RowLaws.{length-tabulate, getD-tabulate}
 use Rattle.words.proofs.Points.{cut, same}
+use Rattle.words.proofs.Bools.{or-neither}
 use Rattle.graph.specs.declared.Block.{Block}
 use Rattle.graph.specs.declared.Place.{Place}
 use Rattle.graph.specs.Paths.{Edge, edge, Link, Between, turned}
@@ -151,21 +152,13 @@ module _ {bs : List Stretch} (S : Sound bs) where
 
 -- ---- what number 2 leaves
 
-or-left : (a b : Bool) → (a || b) ≡ false → a ≡ false
-or-left true b e = e
-or-left false b e = refl
-
-or-right : (a b : Bool) → (a || b) ≡ false → b ≡ false
-or-right true b e = absurd (let z : _≡_ {A = ℕ} 0 1 = cc in omega arith)
-or-right false b e = e
-
 pub unused : (bs : List Stretch) (n i : ℕ) → usedBefore bs n i ≡ false → (j : ℕ) → j < i → blockAt bs j .number ≢ n
 unfolding usedBefore
 unused bs n zero e j h = absurd (omega arith)
 unused bs n (suc i) e j h =
     same j i
-    (λ q. rw q (eqb-false _ _ (or-right (usedBefore bs n i) _ e)))
-    (λ q. unused bs n i (or-left (usedBefore bs n i) _ e) j (omega arith))
+    (λ q. rw q (eqb-false _ _ (or-neither (usedBefore bs n i) _ e .1)))
+    (λ q. unused bs n i (or-neither (usedBefore bs n i) _ e .0) j (omega arith))
 
 -- a block that is fine
 pub record Good (bs : List Stretch) (i : ℕ) : Type 0 where
@@ -177,14 +170,14 @@ pub record Good (bs : List Stretch) (i : ℕ) : Type 0 where
 pub good : (bs : List Stretch) (points i : ℕ) → badBlock bs points i ≡ false → Good bs i
 unfolding badBlock
 good bs points i e =
-    let a = or-right (leb (length bs) (blockAt bs i .number)) _ e in
-    let b = or-right (usedBefore bs (blockAt bs i .number) i) _ a in
-    let c = or-right (ltb (blockAt bs i .end) (blockAt bs i .start)) _ b in
+    let a = or-neither (leb (length bs) (blockAt bs i .number)) _ e .1 in
+    let b = or-neither (usedBefore bs (blockAt bs i .number) i) _ a .1 in
+    let c = or-neither (ltb (blockAt bs i .end) (blockAt bs i .start)) _ b .1 in
     record {
-      numbered = leb-false _ _ (or-left _ _ e);
-      unused = or-left _ _ a;
-      upright = ltb-false _ _ (or-left _ _ b);
-      gapless = or-left _ _ c;
+      numbered = leb-false _ _ (or-neither _ _ e .0);
+      unused = or-neither _ _ a .0;
+      upright = ltb-false _ _ (or-neither _ _ b .0);
+      gapless = or-neither _ _ c .0;
     }
 
 -- "a block number ≥ B or repeated, a reversed block, a start not the last end plus 1" are ruled out
@@ -211,10 +204,10 @@ edges-length bs js = length-map js (linked bs)
 
 module _ (bs : List Stretch) (js : List Jump) (e : edgeVerdict bs js ≡ Fine) where
   pub from-lt : (k : ℕ) → k < length js → getD js k (record { from = 0; to = 0 }) .from < length bs
-  from-lt k h = leb-false _ _ (or-left _ _ (scan-fine EdgeWord (badEdge (length bs) js) (length js) e k h))
+  from-lt k h = leb-false _ _ (or-neither _ _ (scan-fine EdgeWord (badEdge (length bs) js) (length js) e k h) .0)
 
   pub to-lt : (k : ℕ) → k < length js → getD js k (record { from = 0; to = 0 }) .to < length bs
-  to-lt k h = leb-false _ _ (or-right (leb (length bs) (getD js k (record { from = 0; to = 0 }) .from)) _ (scan-fine EdgeWord (badEdge (length bs) js) (length js) e k h))
+  to-lt k h = leb-false _ _ (or-neither (leb (length bs) (getD js k (record { from = 0; to = 0 }) .from)) _ (scan-fine EdgeWord (badEdge (length bs) js) (length js) e k h) .1)
 
 -- an edge by place, from the edge as it is lent
 pub edge-at : (bs : List Stretch) (js : List Jump) (k : ℕ) (d : Edge) → k < length js → getD (edgesOf bs js) k d ≡ linked bs (getD js k (record { from = 0; to = 0 }))

@@ -8,18 +8,10 @@ use mathlib.Core.Bool.{Bool, true, false, _&&_, _||_, false≢true}
 use mathlib.Core.List.{List, [], _∷_, List·Memᴰ, List·Memᴰ·head, List·Memᴰ·tail, List·Memᴰ·cases-cons, List·Memᴰ·not-nil}
 use lib.Dec.{eqb}
 use borrow.Author.Tests.{eq-eqb, eqb-true}
-use Rattle.ranges.proofs.PointLaws.{and-both, or-cases, or-right}
+use Rattle.words.proofs.Bools.{or-right, and-both, or-cases, or-left, and-pair, both-ways}
 use Rattle.graph.specs.Paths.{Edge, edge, Link, Route, one, more, turned, Between}
 use Rattle.graph.specs.Flow.{Reached, Reaching, Arrives, left, passed}
 use Rattle.graph.specs.Rounds.{brings, fed, round, reachedRow, reachingRow, arrivingRow}
-
-pub or-left : (s t : Bool) → s ≡ true → s || t ≡ true
-or-left true t e = refl
-or-left false t e = absurd (false≢true e)
-
-pub and-pair : (s t : Bool) → s ≡ true → t ≡ true → s && t ≡ true
-and-pair true t e f = f
-and-pair false t e f = e
 
 pub last-or-less : (m n : ℕ) → m < suc n → (m ≡ n) ⊎ (m < n)
 last-or-less m n h = elim (ℕ-discrete m n) [ yes e ↦ inl e | no d ↦ inr (omega arith) ]
@@ -169,14 +161,9 @@ module _ (leaves passes : ℕ → Bool) where
     closed j k m e = still k (B .to (edge j k) m) (edge-fed (round es leaves passes size) es (edge j k) m e)
 
     -- "the first round that changes no bit is the last": rounds beyond the block count change nothing
-    same-bit : (s t : Bool) → (s ≡ true → t ≡ true) → (t ≡ true → s ≡ true) → s ≡ t
-    same-bit true t f g = sym (f refl)
-    same-bit false true f g = g refl
-    same-bit false false f g = refl
-
     pub settled : (k : ℕ) → round es leaves passes (suc size) k ≡ round es leaves passes size k
     unfolding round
-    settled k = same-bit _ _ down up
+    settled k = both-ways _ _ down up
       where
         down : round es leaves passes (suc size) k ≡ true → round es leaves passes size k ≡ true
         down e =

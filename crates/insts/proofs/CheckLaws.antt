@@ -15,13 +15,13 @@ use Rattle.refusals.specs.declared.Verdict.the-variants.{Fine, Bad}
 use Rattle.refusals.specs.declared.Refusal.{Refusal}
 use Rattle.refusals.specs.declared.Refusal.the-variants.{Count, Inst as InstWord, Stray}
 use Rattle.refusals.specs.Verdicts.{first, scan, check}
-use Rattle.refusals.proofs.Laws.{first-fine, first-bad, first-left, first-right}
+use Rattle.refusals.proofs.Laws.{first-fine, first-bad, first-left, first-right, bad-fine}
 use Rattle.words.specs.Rows.{tabulate, rowCount, field, records}
 use Rattle.words.specs.Sort.{Rising}
 use Rattle.words.specs.Search.{Splits}
-use Rattle.words.proofs.Points.{cut, same}
 use Rattle.words.proofs.SortLaws.{rising-le}
 use Rattle.words.proofs.RowLaws.{length-records, getD-records}
+use Rattle.words.proofs.Points.{cut, same}
 use Rattle.graph.specs.Line.{Stretch, blocksOf, blockAt, placeIn, Sound}
 use Rattle.graph.proofs.Line.{blocks-length, number-is, start-is, end-is, place-of-number, place-lt, number-of-place}
 use Rattle.carrying.specs.Lists.{any}
@@ -33,9 +33,6 @@ use Rattle.insts.specs.Rows.{operandAt, operandsFrom, placing, rowInst, 
 use Rattle.insts.proofs.DealtLaws.{scan-same, insts-length, inst-at, placed-is}
 
 -- ---- number 1
-
-pub bad-fine : {r : Refusal} {i : ℕ} → Bad r i ≡ Fine → ⊥
-bad-fine e = let z : _≡_ {A = ℕ} 0 1 = cc in omega arith
 
 module _ (w m n : ℕ) where
   pub rows-cut : n % w ≢ 0 → Bad Count 0 ≡ rowsVerdict w m n

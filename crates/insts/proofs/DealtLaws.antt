@@ -4,17 +4,18 @@ use native.Mathlib.Numerals.{add-one}
 use native.Mathlib.Nat.{add-assoc, add-zero, zero-add}
 use native.Mathlib.Omega.{arith}
 use mathlib.Core.Path.{_≡_, refl, sym, ap, _∙_}
-use mathlib.Core.Bool.{Bool, true, false, cond, _||_}
+use mathlib.Core.Bool.{Bool, true, false, cond, _||_, or-false, or-assoc}
 use mathlib.Core.List.{List, [], _∷_, _++_}
 use lib.ListN.{length, getD, take, drop}
 use lib.Seq.{drop-drop}
 use Rattle.refusals.specs.declared.Refusal.{Refusal}
 use Rattle.refusals.specs.declared.Verdict.the-variants.{Fine, Bad}
 use Rattle.refusals.specs.Verdicts.{first, scan}
-use Rattle.words.proofs.Points.{same}
 use Rattle.words.specs.Rows.{tabulate, rowCount, field, records}
 use Rattle.words.proofs.RowLaws.{length-tabulate, getD-tabulate, take-tabulate, drop-tabulate, tabulate-suc, tabulate-eq, mem-tabulate, length-records}
+use Rattle.words.proofs.Points.{same}
 use Rattle.graph.specs.Work.{sumOf}
+use Rattle.graph.proofs.Sums.{sum-start, sum-within}
 use Rattle.carrying.specs.Lists.{any}
 use Rattle.carrying.specs.Insts.{Operand, Inst, instOf, dealt, instsOf, noInst, instAt}
 use Rattle.carrying.proofs.ListLaws.{any-true}
@@ -33,16 +34,8 @@ scan-same r t u (suc n) h = rw (scan-same r t u n (λ i l. h i (omega arith)), h
 module _ {A : Type 0} (f : A → Bool) where
   any-last : (l : List A) (a : A) → any f (l ++ (a ∷ [])) ≡ any f l || f a
   unfolding any
-  any-last [] a = or-no (f a)
-    where
-      or-no : (t : Bool) → t || false ≡ t
-      or-no true = refl
-      or-no false = refl
-  any-last (b ∷ l) a = ap (λ (t : Bool). f b || t) (any-last l a) ∙ shift (f b) (any f l) (f a)
-    where
-      shift : (s t u : Bool) → s || (t || u) ≡ (s || t) || u
-      shift true t u = refl
-      shift false t u = refl
+  any-last [] a = or-false (f a)
+  any-last (b ∷ l) a = ap (λ (t : Bool). f b || t) (any-last l a) ∙ sym (or-assoc (f b) (any f l) (f a))
 
   module _ (g : ℕ → A) where
     pub any-none : any f (tabulate 0 g) ≡ false
@@ -64,20 +57,6 @@ pub sum-front : (f : ℕ → ℕ) (n : ℕ) → sumOf f (suc n) ≡ f 0 + sumOf 
 unfolding sumOf
 sum-front f zero = zero-add (f 0) ∙ sym (add-zero (f 0))
 sum-front f (suc n) = ap (λ (x : ℕ). x + f (suc n)) (sum-front f n) ∙ add-assoc (f 0) (sumOf (λ k. f (suc k)) n) (f (suc n))
-
-pub sum-start : (f : ℕ → ℕ) → 0 ≡ sumOf f 0
-unfolding sumOf
-sum-start f = refl
-
-pub sum-next : (f : ℕ → ℕ) (n : ℕ) → sumOf f (n + 1) ≡ sumOf f n + f n
-unfolding sumOf
-sum-next f n = rw add-one
-
-pub sum-within : (f : ℕ → ℕ) (n m : ℕ) → n < m → sumOf f n + f n ≤ sumOf f m
-unfolding sumOf
-sum-within f n zero h = absurd (omega arith)
-sum-within f n (suc m) h =
-    same n m (λ e. rw e (omega arith)) (λ e. let l = sum-within f n m (omega arith) in omega arith)
 
 -- ---- an instruction by its index
 

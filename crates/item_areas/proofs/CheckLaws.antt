@@ -7,13 +7,13 @@ use mathlib.Core.List.{List}
 use lib.ListN.{length}
 use lib.Dec.{ltb}
 use borrow.Author.Tests.{lt-ltb, le-ltb, ltb-false}
+use Rattle.words.proofs.Bools.{or-neither}
 use Rattle.refusals.specs.declared.Verdict.{Verdict}
 use Rattle.refusals.specs.declared.Verdict.the-variants.{Fine, Bad}
 use Rattle.refusals.specs.declared.Refusal.{Refusal}
 use Rattle.refusals.specs.declared.Refusal.the-variants.{Space}
 use Rattle.refusals.specs.Verdicts.{first, check}
-use Rattle.refusals.proofs.Laws.{first-fine, first-bad, first-left, first-right}
-use Rattle.ranges.proofs.PointLaws.{or-none}
+use Rattle.refusals.proofs.Laws.{first-fine, first-bad, first-left, first-right, check-told}
 use Rattle.insts.specs.Counts.{rowsVerdict}
 use Rattle.job_space.specs.declared.Sizes.{Sizes}
 use Rattle.job_space.specs.Space.{sizesOf, spaceOf, Small}
@@ -21,10 +21,6 @@ use Rattle.job_checks.specs.Job.{recordsVerdict}
 use Rattle.job_checks.proofs.CheckLaws.{records-checked}
 use Rattle.job_areas.specs.Areas.{Lent}
 use Rattle.item_areas.specs.Entry.{spaceVerdict, lentVerdict}
-
-check-told : (r : Refusal) (t : Bool) → check r t ≡ Fine → t ≡ false
-check-told r true e = absurd (let z : _≡_ {A = ℕ} 0 1 = cc in omega arith)
-check-told r false e = refl
 
 -- ---- number 7
 
@@ -69,7 +65,7 @@ module _ (points v : ℕ) (blocks edges insts operands crossings locals slots ad
       let f = first-right (rowsVerdict 3 items items) _ e in
       let p = records-checked points v blocks edges insts operands crossings locals slots addresses ends pieces assigned moves areas (first-left (recordsVerdict points v blocks edges insts operands crossings locals slots addresses ends pieces assigned moves areas) _ f) in
       let z = sizesOf v blocks edges insts operands crossings locals slots addresses ends pieces assigned moves areas in
-      let (a, b) = or-none (ltb (length w) (spaceOf z)) _ (check-told Space (ltb (length w) (spaceOf z) || ltb (items / 3) (z .locals + z .slots)) (first-right (recordsVerdict points v blocks edges insts operands crossings locals slots addresses ends pieces assigned moves areas) _ f)) in (
+      let (a, b) = or-neither (ltb (length w) (spaceOf z)) _ (check-told Space (ltb (length w) (spaceOf z) || ltb (items / 3) (z .locals + z .slots)) (first-right (recordsVerdict points v blocks edges insts operands crossings locals slots addresses ends pieces assigned moves areas) _ f)) in (
         record { passed = p; space = ltb-false (length w) (spaceOf z) a },
         (let q = ltb-false (items / 3) (z .locals + z .slots) b in omega arith),
       )

@@ -7,23 +7,19 @@ use mathlib.Core.List.{List}
 use lib.ListN.{length}
 use lib.Dec.{ltb}
 use borrow.Author.Tests.{lt-ltb, le-ltb, ltb-false}
+use Rattle.words.proofs.Bools.{or-neither}
 use Rattle.refusals.specs.declared.Verdict.{Verdict}
 use Rattle.refusals.specs.declared.Verdict.the-variants.{Fine, Bad}
 use Rattle.refusals.specs.declared.Refusal.{Refusal}
 use Rattle.refusals.specs.declared.Refusal.the-variants.{Count, Space}
 use Rattle.refusals.specs.Verdicts.{first, check}
-use Rattle.refusals.proofs.Laws.{first-fine, first-bad, first-left, first-right}
-use Rattle.ranges.proofs.PointLaws.{or-none}
+use Rattle.refusals.proofs.Laws.{first-fine, first-bad, first-left, first-right, check-told}
 use Rattle.job_space.specs.declared.Sizes.{Sizes}
 use Rattle.job_space.specs.Space.{sizesOf, spaceOf, Small, badShape}
 use Rattle.job_checks.specs.Job.{recordsVerdict}
 use Rattle.job_checks.proofs.CheckLaws.{records-checked}
 use Rattle.job_areas.specs.Areas.{Lent}
 use Rattle.job.specs.Entry.{spaceVerdict, lentVerdict}
-
-pub check-told : (r : Refusal) (t : Bool) → check r t ≡ Fine → t ≡ false
-check-told r true e = absurd (let z : _≡_ {A = ℕ} 0 1 = cc in omega arith)
-check-told r false e = refl
 
 -- ---- number 7
 
@@ -73,8 +69,8 @@ module _ (points v budget : ℕ) (blocks edges insts operands crossings locals s
       let f = first-right (check Count (badShape budget cells items)) _ e in
       let p = records-checked points v blocks edges insts operands crossings locals slots addresses ends pieces assigned moves areas (first-left (recordsVerdict points v blocks edges insts operands crossings locals slots addresses ends pieces assigned moves areas) _ f) in
       let z = sizesOf v blocks edges insts operands crossings locals slots addresses ends pieces assigned moves areas in
-      let (a, b) = or-none (ltb (length w) (spaceOf z)) _ (check-told Space (ltb (length w) (spaceOf z) || (ltb (cells / 2) (z .locals + z .slots) || ltb (items / 4) (z .locals + z .slots))) (first-right (recordsVerdict points v blocks edges insts operands crossings locals slots addresses ends pieces assigned moves areas) _ f)) in
-      let (c, d) = or-none (ltb (cells / 2) (z .locals + z .slots)) _ b in
+      let (a, b) = or-neither (ltb (length w) (spaceOf z)) _ (check-told Space (ltb (length w) (spaceOf z) || (ltb (cells / 2) (z .locals + z .slots) || ltb (items / 4) (z .locals + z .slots))) (first-right (recordsVerdict points v blocks edges insts operands crossings locals slots addresses ends pieces assigned moves areas) _ f)) in
+      let (c, d) = or-neither (ltb (cells / 2) (z .locals + z .slots)) _ b in
       let q = ltb-false (cells / 2) (z .locals + z .slots) c in
       let s = ltb-false (items / 4) (z .locals + z .slots) d in
       record { lent = record { passed = p; space = ltb-false (length w) (spaceOf z) a }; in-cells = omega arith; in-items = omega arith }

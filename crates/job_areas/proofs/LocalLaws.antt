@@ -19,6 +19,7 @@ use Rattle.areas.proofs.JobLaws.{touches-fine}
 use Rattle.reach.specs.declared.Lay.{Lay}
 use Rattle.reach.specs.Prepared.{codeOf}
 use Rattle.spots.specs.Spots.{lineOf}
+use Rattle.spots.proofs.SpotLaws.{holding-edges}
 use Rattle.area_flow.specs.declared.Grid.{Grid}
 use Rattle.area_layout.specs.Layout.{Gridded, markOf}
 use Rattle.area_pieces.specs.Local.{Upright}
@@ -39,16 +40,10 @@ use Rattle.job_layout.proofs.FitLaws.{ranges-small, locals-laid, layout-fits}
 use Rattle.area_tables.specs.Tables.{listing}
 use Rattle.job_areas.specs.Areas.{Lent, LocalsDone}
 
--- number 8 does not go by the edges
-same-block : (blocks : List ℕ) (d e : List Edge) (n x : ℕ) → holding (lineOf blocks d) n x ≡ holding (lineOf blocks e) n x
-unfolding holding
-same-block blocks d e zero x = refl
-same-block blocks d e (suc n) x = ap (cond (leb (top (lineOf blocks e) n) x) n) (same-block blocks d e n x)
-
 same-inverted : (blocks : List ℕ) (d e : List Edge) (t : Range) → inverted (lineOf blocks d) t ≡ inverted (lineOf blocks e) t
 same-inverted blocks d e t =
-    let a = same-block blocks d e (length (blocksOf blocks)) (t .start) in
-    let b = same-block blocks d e (length (blocksOf blocks)) (t .end) in
+    let a = holding-edges blocks d e (length (blocksOf blocks)) (t .start) in
+    let b = holding-edges blocks d e (length (blocksOf blocks)) (t .end) in
     ap (λ (k : ℕ). reversed (clip (lineOf blocks e) k t) || reversed (clip (lineOf blocks e) (blockOf (lineOf blocks d) (t .end)) t)) a
     ∙ ap (λ (k : ℕ). reversed (clip (lineOf blocks e) (blockOf (lineOf blocks e) (t .start)) t) || reversed (clip (lineOf blocks e) k t)) b
 

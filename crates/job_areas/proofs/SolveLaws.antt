@@ -15,8 +15,8 @@ use Rattle.ranges.specs.declared.Range.{Range}
 use Rattle.refusals.specs.declared.Refusal.the-variants.{Piece as PieceWord}
 use Rattle.refusals.proofs.Laws.{scan-fine}
 use Rattle.graph.proofs.Within.{within-wider}
-use Rattle.carrying.proofs.ListLaws.{member-getD}
 use Rattle.graph.specs.Line.{blocksOf}
+use Rattle.graph.proofs.Line.{at-mem}
 use Rattle.carrying.specs.Carried.{piecesOf}
 use Rattle.areas.specs.Slots.{Assigned, assignedOf, movesOf, spilled, slotArea}
 use Rattle.spill_checks.proofs.OperandLaws.{moved-whatever}
@@ -110,7 +110,7 @@ module _ (points v : ℕ) (blocks edges insts operands crossings locals slots ad
   registers-small : (s : ℕ) → heldWord (spilled (assignedOf assigned) s) ≤ 4294967296
   registers-small s = held-bound 4294967296 (assignedOf assigned) s
       (λ a m.
-      let (k, h, e) = member-getD (assignedOf assigned) a (record { register = 0; slot = 0 }) m in
+      let (k, h, e) = at-mem (assignedOf assigned) a (record { register = 0; slot = 0 }) m in
       let f = scan-fine PieceWord (λ n. leb v (getD (assignedOf assigned) n (record { register = 0; slot = 0 }) .register)) (length (assignedOf assigned)) (N .passed .assigned-fine) k h in
       let g = leb-false v (getD (assignedOf assigned) k (record { register = 0; slot = 0 }) .register) f in
       let x : getD (assignedOf assigned) k (record { register = 0; slot = 0 }) .register ≡ a .register = ap (λ (b : Assigned). b .register) e in

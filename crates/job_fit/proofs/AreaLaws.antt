@@ -22,6 +22,7 @@ use Rattle.area_measure.proofs.ListLaws.{ranges-append, ranges-more, gather-mor
 use Rattle.cell_tables.specs.Tables.{firstOf, countOf, rangesAt, areaIn, Proper}
 use Rattle.cell_tables.proofs.TableLaws.{area-none, area-some}
 use Rattle.area_tables.specs.Tables.{listing}
+use Rattle.area_tables.proofs.RowLaws.{gathered-long}
 
 -- ---- lists
 
@@ -40,16 +41,6 @@ module _ {A : Type 0} where
       rest : (x y : List A) → drop (length x) (x ++ y) ≡ y
       rest [] y = refl
       rest (z ∷ x) y = rest x y
-
--- how many ranges an area has
-listed-long : (a : Option (List Range)) → length (listed a) ≡ rangesIn a
-listed-long none = refl
-listed-long (some rs) = refl
-
-gathered-long : (l : List (Option (List Range))) → length (gather listed l) ≡ rangesOf l
-unfolding gather rangesOf
-gathered-long [] = refl
-gathered-long (a ∷ l) = length-append (listed a) (gather listed l) ∙ omega (arith, listed-long a, gathered-long l)
 
 module _ (A : ℕ → Option (List Range)) (count i : ℕ) (h : i < count) where
   abbrev later : ℕ → Option (List Range)

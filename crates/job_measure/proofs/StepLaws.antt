@@ -44,7 +44,7 @@ use Rattle.area_measure.proofs.ListLaws.{listed-more}
 use Rattle.job_spots.specs.declared.Places.{Places}
 use Rattle.job_spots.specs.declared.JobLocal.{JobLocal}
 use Rattle.job_spots.specs.Fetch.{isUnfollowed, FetchedTo, FetchedAny}
-use Rattle.job_spots.proofs.FetchLaws.{prepared-stays, ready-stays}
+use Rattle.job_spots.proofs.FetchLaws.{prepared-stays, ready-stays, is-unfollowed}
 use Rattle.job_measure.specs.Measure.{numberFor, mostIn, Fits, RowsOf, Ready, Spared, areaIn, Next}
 
 -- ---- kinds
@@ -53,11 +53,6 @@ followed : (k : Kind) → isUnfollowed k ≡ false → k ≢ Unfollowed
 followed Unfollowed e = λ _. true≢false e
 followed Plain e = λ q. true≢false (sym (ap isUnfollowed q))
 followed Ending e = λ q. true≢false (sym (ap isUnfollowed q))
-
-unfollowed-is : (k : Kind) → isUnfollowed k ≡ true → k ≡ Unfollowed
-unfollowed-is Unfollowed e = refl
-unfollowed-is Plain e = absurd (true≢false (sym e))
-unfollowed-is Ending e = absurd (true≢false (sym e))
 
 kind-number : (k : Kind) → isUnfollowed k ≡ false → kindBy (numberFor k) ≡ k
 kind-number Unfollowed e = absurd (true≢false e)
@@ -246,7 +241,7 @@ module _ (blocks insts addresses ends pieces : List ℕ) (lay : Lay) (p : Places
       stays i d = set-other w₁ at 0 i item-in d
 
       no-area : (operands crossings : List ℕ) → Prepared (code operands crossings) lay w₀ (z .locals) (z .edges) → (G : Graph) → areaIn G (code operands crossings) ps l ≡ none
-      no-area operands crossings P G = ap (λ (k : Kind). areaBy G k (touchesOf (code operands crossings) ps l) (endsOf (code operands crossings) l)) (sym (C .code operands crossings P .kind) ∙ unfollowed-is (f .kind) u)
+      no-area operands crossings P G = ap (λ (k : Kind). areaBy G k (touchesOf (code operands crossings) ps l) (endsOf (code operands crossings) l)) (sym (C .code operands crossings P .kind) ∙ is-unfollowed (f .kind) u)
 
       pub next-none : Next blocks insts addresses ends pieces lay p z g mark o l total w₀ (set w₁ at 0) total
       next-none =

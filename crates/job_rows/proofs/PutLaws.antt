@@ -12,11 +12,12 @@ use native.Mathlib.Numerals.{add-one}
 use borrow.Author.Tests.{eq-eqb, ne-eqb, ltb-true}
 use Rattle.words.specs.Regions.{Region}
 use Rattle.words.proofs.Points.{cut, same, stored}
+use Rattle.words.proofs.Bools.{and-both, never}
 use Rattle.grammar.specs.Numerals.{dash, limit}
 use Rattle.grammar.specs.Groups.{groupAt, none, instGroup}
 use Rattle.grammar.specs.Lines.{meant, fits, lineGroup, lineFields}
 use Rattle.grammar.specs.Text.{numbers, placed, rowWith}
-use Rattle.grammar.proofs.RowLaws.{never, group-fits, length-numbers}
+use Rattle.grammar.proofs.RowLaws.{group-fits, length-numbers}
 use Rattle.grammar.proofs.TableLaws.{at}
 use Rattle.job_rows.specs.Put.{Meant}
 
@@ -26,10 +27,6 @@ numbers-at [] fs j h l = absurd (not-suc-le-zero h)
 numbers-at (d ∷ ds) [] j h l = absurd (not-suc-le-zero l)
 numbers-at (d ∷ ds) (f ∷ fs) zero h l = refl
 numbers-at (d ∷ ds) (f ∷ fs) (suc j) h l = numbers-at ds fs j (le-of-suc-le-suc h) (le-of-suc-le-suc l)
-
-and-both : (a b : Bool) → (a && b) ≡ true → (a ≡ true) × (b ≡ true)
-and-both true b e = (refl, e)
-and-both false b e = never e
 
 pub fits-at : (ds fs : List ℕ) → fits ds fs ≡ true → (j : ℕ) → j < length ds → meant (getD ds j 0) (getD fs j 0) < limit
 unfolding fits

@@ -7,12 +7,13 @@ use mathlib.Core.List.{List, [], _∷_, _++_}
 use lib.ListN.{length, getD, drop}
 use lib.Dec.{ltb, leb}
 use borrow.Author.Tests.{eq-eqb, leb-true, leb-false, not-true, ltb-true}
+use Rattle.words.proofs.Bools.{and-both, or-neither, never}
 use Rattle.refusals.specs.declared.Verdict.the-variants.{Fine, Bad}
 use Rattle.refusals.specs.declared.Refusal.the-variants.{Text as TextRefused}
 use Rattle.grammar.specs.Groups.{groupAt, none, mayFollow, operandGroup}
 use Rattle.grammar.specs.Lines.{lineGroup, lineFields}
 use Rattle.grammar.specs.Text.{placeBefore, malformed, rowWith, countOf}
-use Rattle.grammar.proofs.RowLaws.{never, count-more}
+use Rattle.grammar.proofs.RowLaws.{count-more}
 use Rattle.grammar.proofs.OrderLaws.{soFar, far-bad, far-fine, far-found, length-more, place-last}
 use Rattle.grammar.proofs.OperandLaws.{opens}
 use Rattle.grammar.proofs.OpenLaws.{operand-opens}
@@ -22,14 +23,6 @@ use Rattle.job_rows.specs.Put.{Meant, Storable, Put}
 use Rattle.job_rows.specs.Taken.{Stored, Over, Taken, Reads, Takes, Refuses, accepts, crowds}
 use Rattle.job_rows.proofs.PutLaws.{front-meant, front-row}
 use Rattle.job_rows.proofs.TakeLaws.{storable, stored-more, lengths-more}
-
-and-both : (a b : Bool) → (a && b) ≡ true → (a ≡ true) × (b ≡ true)
-and-both true b e = (refl, e)
-and-both false b e = never e
-
-or-none : (a b : Bool) → (a || b) ≡ false → (a ≡ false) × (b ≡ false)
-or-none true b e = never (sym e)
-or-none false b e = (refl, e)
 
 -- more lines than rows stay more
 over-more : {ls : List (List ℕ)} (l : List ℕ) → Over ls → Over (ls ++ (l ∷ []))
@@ -111,10 +104,10 @@ module _ {ls : List (List ℕ)} {r : Reader} {rows counts : List ℕ} (t : Taken
 
     module _ (e : crowds r (groupAt (lineGroup l) .room) (getD counts (lineGroup l) 0) ≡ false) where
       held : Stored ls rows counts
-      held = t .stored fine-so-far (or-none (r .full) _ e .0)
+      held = t .stored fine-so-far (or-neither (r .full) _ e .0)
 
       has-room : countOf (lineGroup l) ls < groupAt (lineGroup l) .room
-      has-room = let c = held .counted (lineGroup l) known in let m = leb-false (groupAt (lineGroup l) .room) (getD counts (lineGroup l) 0) (or-none (r .full) _ e .1) in omega arith
+      has-room = let c = held .counted (lineGroup l) known in let m = leb-false (groupAt (lineGroup l) .room) (getD counts (lineGroup l) 0) (or-neither (r .full) _ e .1) in omega arith
 
       pub store-ready : (fields out : List ℕ) → fields ≡ onFront (lineFields l) out → Storable (lineGroup l) fields rows counts
       store-ready fields out f =

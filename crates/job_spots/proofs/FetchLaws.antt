@@ -37,7 +37,7 @@ use Rattle.job_spots.specs.Spots.{TouchesIn, EndsIn}
 use Rattle.job_spots.specs.Fetch.{isUnfollowed, Laid, Ready, FetchedAny}
 use Rattle.job_spots.proofs.FollowLaws.{once, touches-are, ends-are}
 
-is-unfollowed : (k : Kind) → isUnfollowed k ≡ true → k ≡ Unfollowed
+pub is-unfollowed : (k : Kind) → isUnfollowed k ≡ true → k ≡ Unfollowed
 is-unfollowed Unfollowed e = refl
 is-unfollowed Plain e = absurd (true≢false (sym e))
 is-unfollowed Ending e = absurd (true≢false (sym e))

@@ -14,9 +14,9 @@ use Rattle.words.proofs.RegionLaws.{length-part, getD-part, part-is}
 use Rattle.sorting.proofs.RankLaws.{distinct-tabulate}
 use Rattle.ranges.specs.Forms.{unpacked}
 use Rattle.ranges.specs.Inner.{Permuted}
+use Rattle.graph.proofs.Line.{mem-at, at-mem}
 use Rattle.carrying.specs.declared.Kind.the-variants.{Unfollowed}
 use Rattle.carrying.specs.Carried.{Code, Carries, piecesOf, touchesOf, endsOf}
-use Rattle.carrying.proofs.ListLaws.{getD-member, member-getD}
 use Rattle.areas.proofs.PermuteLaws.{perm-is}
 use Rattle.reach.specs.declared.Lay.{Lay}
 use Rattle.reach.specs.Prepared.{codeOf}
@@ -42,12 +42,12 @@ module _ (lay : Lay) (w : List ℕ) (n : ℕ) (fits : lay .queue + n ≤ length 
 
   pub in-queue : {r : ℕ} → List·Memᴰ r registers → (k : ℕ) × (k < n) × (queued lay w k ≡ r)
   in-queue {r} m =
-      let (k, h, e) = member-getD registers r 0 m in
+      let (k, h, e) = at-mem registers r 0 m in
       let q : k < n = omega (arith, h, long) in
       (k, q, sym (getD-part (lay .queue) n w k q) ∙ e)
 
   pub of-queue : (k : ℕ) → k < n → List·Memᴰ (queued lay w k) registers
-  of-queue k h = subst (λ (r : ℕ). List·Memᴰ r registers) (getD-part (lay .queue) n w k h) (getD-member registers k 0 (omega (arith, long)))
+  of-queue k h = subst (λ (r : ℕ). List·Memᴰ r registers) (getD-part (lay .queue) n w k h) (mem-at registers k 0 (omega (arith, long)))
 
 module _ (v : ℕ) (insts operands crossings addresses ends pieces : List ℕ) (lay : Lay) (z : Sizes) (l : ℕ) where
   abbrev code : Code

@@ -11,12 +11,10 @@ use Rattle.words.specs.Sort.{Rising}
 use Rattle.words.proofs.RegionLaws.{kept-part-list}
 use Rattle.ranges.specs.declared.Range.{Range}
 use Rattle.ranges.specs.Points.{range}
-use Rattle.ranges.proofs.PointLaws.{and-both, or-cases, or-right}
 use Rattle.graph.specs.Paths.{Edge}
 use Rattle.graph.specs.Line.{blocksOf}
 use Rattle.graph.specs.Work.{Within}
 use Rattle.graph.proofs.Line.{end-is}
-use Rattle.graph.proofs.RoundLaws.{or-left, and-pair}
 use Rattle.carrying.specs.Lists.{any}
 use Rattle.areas.specs.Blocks.{Graph, top, bottom, holding, blockOf, bounds, between, until, cover, leaves}
 use Rattle.areas.proofs.BlockLaws.{bounds-cases, bounds-first, bounds-last, between-cases, between-test}
@@ -28,12 +26,8 @@ use Rattle.area_rows.specs.Inner.{Put, leavesBy}
 use Rattle.area_rows.proofs.PutLaws.{put-then, put-as}
 -- two tests that hold together are one
 use Rattle.area_rows.proofs.MarkLaws.{any-same, marked-as, beside, kept-beside}
-
--- the block of a point is the same whatever the edges
-holding-edges : (blocks : List ℕ) (es fs : List Edge) (n x : ℕ) → holding (lineOf blocks es) n x ≡ holding (lineOf blocks fs) n x
-unfolding holding
-holding-edges blocks es fs zero x = refl
-holding-edges blocks es fs (suc n) x = ap (λ (h : ℕ). cond (leb (top (lineOf blocks es) n) x) n h) (holding-edges blocks es fs n x)
+use Rattle.words.proofs.Bools.{or-right, and-both, or-cases, or-left, and-pair}
+use Rattle.spots.proofs.SpotLaws.{holding-edges}
 
 leave-edges : (blocks : List ℕ) (es fs : List Edge) (ends : List ℕ) (k : ℕ) (t : Range) → leavesBy (lineOf blocks es) ends k t ≡ leavesBy (lineOf blocks fs) ends k t
 leave-edges blocks es fs ends k t =

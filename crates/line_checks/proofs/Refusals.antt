@@ -20,6 +20,7 @@ use Rattle.bits.specs.Bits.{bit, bitOf, PutBit}
 use Rattle.bits.proofs.DigitLaws.{bit-zero}
 use Rattle.words.specs.Rows.{rowCount, wholeRows}
 use Rattle.words.proofs.Points.{cut, same}
+use Rattle.words.proofs.Bools.{or-cond}
 use Rattle.graph.specs.Line.{Stretch, blocksOf, jumpsOf, blockAt, usedBefore, gapAt, pastPoints, badBlock, lineVerdict, badEdge, edgeVerdict, Sound}
 use Rattle.graph.specs.Checks.{badCount, countVerdict, badSpan, graphVerdict, rowsVerdict, spaceOf, spaceVerdict}
 use Rattle.graph.proofs.Line.{blocks-length, jumps-length, start-is, end-is, number-is, from-is, to-is, line-sound}
@@ -120,15 +121,6 @@ used-none bs x h = ap (λ (y : ℕ). bitOf y (x % 64)) (ap (λ (y : ℕ). getD (
   where
     zero-plus : (y : ℕ) → 0 + y ≡ y
     zero-plus y = omega arith
-
-or-cond : (u : Bool) (x b : ℕ) → cond (eqb x b) true u ≡ (u || eqb b x)
-or-cond u x b = same x b
-    (λ e. rw (eq-eqb x b e, eq-eqb b x (sym e)) (sym (or-one u)))
-    (λ e. rw (ne-eqb x b e, ne-eqb b x (λ q. e (sym q))) (sym (or-none u)))
-  where
-    or-one : (u : Bool) → (u || true) ≡ true
-    or-one true = refl
-    or-one false = refl
 
     or-none : (u : Bool) → (u || false) ≡ u
     or-none true = refl

@@ -10,6 +10,7 @@ use lib.Seq.{drop-cons, drop-drop, take-suc, take-all, take-length, set-at, leng
 use lib.Dec.{eqb, ltb}
 use borrow.Author.Tests.{eq-eqb, ne-eqb, lt-ltb, le-ltb, ltb-true, ltb-false}
 use Rattle.words.proofs.Points.{cut, same}
+use Rattle.words.proofs.Bools.{never}
 use Rattle.grammar.specs.Numerals.{fieldOf, limit}
 use Rattle.grammar.specs.Groups.{indexOf, groupAt}
 use Rattle.grammar.specs.Lines.{comma, parts, meant, fits}
@@ -53,9 +54,6 @@ taking-start s ds out h = record { at-le = omega arith; j-le = omega arith; room
 -- the parts that are lent: what starts at `at`, and its first part
 pub part-found : (s : List ℕ) (at p n : ℕ) → n ≡ length s - at → p ≡ indexOf comma (take n (drop at s)) → p ≡ indexOf comma (drop at s)
 part-found s at p n e q = q ∙ ap (indexOf comma) (take-all n (drop at s) (let h : length (drop at s) ≡ length s - at = length-drop at s in omega arith))
-
-never : {A : Type 0} → _≡_ {A = Bool} false true → A
-never e = absurd (let z : _≡_ {A = ℕ} 0 1 = ap (λ (b : Bool). cond b 1 0) e in omega arith)
 
 pub refused : {k : ℕ} {s out₀ out : List ℕ} → length out ≡ length out₀ → false ≡ fits (groupAt k .dashes) (fieldsIn s) → FieldsRead k s out₀ false out
 refused l e = record { answer = e; kept = l; fields = never }

@@ -2,13 +2,13 @@
 use Prim.Native.Nat.{ℕ, _+_, _*_, _≤_, _<_}
 use native.Mathlib.Omega.{arith}
 use mathlib.Core.Path.{_≡_, refl, sym, ap, _∙_, subst}
-use mathlib.Core.Bool.{Bool, true, false, cond, not, _&&_, _||_}
+use mathlib.Core.Bool.{Bool, true, false, cond, not, _&&_, _||_, or-false, and-true}
 use mathlib.Core.List.{List}
 use lib.ListN.{getD}
 use lib.Dec.{eqb}
 use Rattle.words.specs.Rows.{tabulate, rowCount}
-use Rattle.words.proofs.Points.{same}
 use Rattle.words.proofs.RowLaws.{mem-tabulate, mem-of-tabulate}
+use Rattle.words.proofs.Points.{same}
 use Rattle.bits.specs.Bits.{bit}
 use Rattle.ranges.specs.declared.Range.{Range}
 use Rattle.graph.specs.Paths.{Edge}
@@ -55,14 +55,6 @@ columns-next {g} {from} {n} {i} {v} {f} {h} {w} {w'} C B e = record {
   rest = λ l k a m q. B .others k l q m (λ z. absurd (omega arith)) ∙ C .rest l k (omega arith) m q;
 }
 
-or-none : (a : Bool) → (a || false) ≡ a
-or-none true = refl
-or-none false = refl
-
-and-all : (a : Bool) → (a && true) ≡ a
-and-all true = refl
-and-all false = refl
-
 -- the marks of the first l locals
 pub record MarkedTo (G : Graph) (K : ℕ → Kind) (T : ℕ → List Range) (E : ℕ → List ℕ) (g : Grid) (n l : ℕ) (w : List ℕ) : Type 0 where
   pub touched-columns : Columns n (g .touched) (g .words) false (λ m k. isPlain (K m) && touched G (T m) k) l w
@@ -80,9 +72,9 @@ module _ {G : Graph} {K : ℕ → Kind} {T : ℕ → List Range} {E : ℕ → Li
   pub marked-next : {l : ℕ} {w w' : List ℕ} → MarkedTo G K T E g n l w → l < g .words * 64
       → Marking g n l (isPlain (K l)) (isEnding (K l)) (touched G (T l)) (leaves G (T l) (E l)) (passes G (E l)) w w' → MarkedTo G K T E g n (l + 1) w'
   marked-next {l} D m M = record {
-    touched-columns = columns-next (D .touched-columns) (M .touches-bits) (λ k q. ap (λ (x : Bool). isPlain (K l) && touched G (T l) k || x) (D .touched-columns .rest l k (omega arith) m q) ∙ or-none _);
-    leaves-columns = columns-next (D .leaves-columns) (M .leaves-bits) (λ k q. ap (λ (x : Bool). isEnding (K l) && leaves G (T l) (E l) k || x) (D .leaves-columns .rest l k (omega arith) m q) ∙ or-none _);
-    passes-columns = columns-next (D .passes-columns) (M .passes-bits) (λ k q. ap (λ (x : Bool). (not (isEnding (K l)) || passes G (E l) k) && x) (D .passes-columns .rest l k (omega arith) m q) ∙ and-all _);
+    touched-columns = columns-next (D .touched-columns) (M .touches-bits) (λ k q. ap (λ (x : Bool). isPlain (K l) && touched G (T l) k || x) (D .touched-columns .rest l k (omega arith) m q) ∙ or-false _);
+    leaves-columns = columns-next (D .leaves-columns) (M .leaves-bits) (λ k q. ap (λ (x : Bool). isEnding (K l) && leaves G (T l) (E l) k || x) (D .leaves-columns .rest l k (omega arith) m q) ∙ or-false _);
+    passes-columns = columns-next (D .passes-columns) (M .passes-bits) (λ k q. ap (λ (x : Bool). (not (isEnding (K l)) || passes G (E l) k) && x) (D .passes-columns .rest l k (omega arith) m q) ∙ and-true _);
   }
 
   pub marked-done : {l : ℕ} {w : List ℕ} → MarkedTo G K T E g n l w → l ≡ g .locals → g .locals ≤ g .words * 64 → Marks G K T E g n w

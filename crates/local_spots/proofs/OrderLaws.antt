@@ -7,6 +7,7 @@ use lib.ListN.{length}
 use lib.Dec.{leb}
 use Rattle.words.specs.Sort.{sortOf}
 use Rattle.words.proofs.SortLaws.{mem-sort, mem-of-sort}
+use Rattle.words.proofs.Bools.{both-ways}
 use Rattle.ranges.specs.declared.Range.{Range}
 use Rattle.ranges.specs.Points.{range}
 use Rattle.ranges.specs.Merged.{merged}
@@ -15,7 +16,6 @@ use Rattle.carrying.specs.Lists.{any, keep}
 use Rattle.carrying.proofs.ListLaws.{any-true, any-entry}
 use Rattle.areas.specs.Blocks.{Graph, top, bottom, bounds, between, clip, until, leaves, passes}
 use Rattle.areas.specs.Pieces.{throughs, arrivesRow, endLine, endingArea}
-use Rattle.reach.proofs.UseLaws.{bool-ext}
 use Rattle.spots.proofs.SpotLaws.{until-order}
 
 module _ (G : Graph) (es : List ℕ) where
@@ -23,7 +23,7 @@ module _ (G : Graph) (es : List ℕ) where
   until-sorted = fun-ext (λ z. fun-ext (λ b. until-order (sortOf es) es z b (λ e m. mem-of-sort es m) (λ e m. mem-sort es m)))
 
   pub passes-sorted : passes G (sortOf es) ≡ passes G es
-  passes-sorted = fun-ext (λ k. ap not (bool-ext _ _
+  passes-sorted = fun-ext (λ k. ap not (both-ways _ _
       (λ s. let (e, m, t) = any-entry (λ e. leb (top G k) e && leb e (bottom G k)) (sortOf es) s in any-true (λ e. leb (top G k) e && leb e (bottom G k)) es e (mem-of-sort es m) t)
       (λ s. let (e, m, t) = any-entry (λ e. leb (top G k) e && leb e (bottom G k)) es s in any-true (λ e. leb (top G k) e && leb e (bottom G k)) (sortOf es) e (mem-sort es m) t)))
 

@@ -6,13 +6,14 @@ use native.Mathlib.Numerals.{add-one}
 use mathlib.Core.Path.{_≡_, refl, ap, sym, _∙_}
 use mathlib.Core.Logic.{_≢_}
 use mathlib.Core.Bool.{Bool, true, false, cond}
-use mathlib.Core.List.{List, [], _∷_, _++_, append-assoc}
+use mathlib.Core.List.{List, [], _∷_, _++_, append-assoc, append-nil}
 use lib.ListN.{length, getD, set, drop, length-set, length-append}
 use lib.Seq.{drop-cons, set-at}
 use lib.Dec.{ltb, eqb}
 use borrow.Author.Tests.{eq-eqb, ne-eqb}
 use Rattle.words.specs.Rows.{rowCount, field}
 use Rattle.words.proofs.Points.{stored}
+use Rattle.words.proofs.RegionLaws.{push}
 use Rattle.members.specs.Members.{members, Counted, picks, crowdedSlot, Picked}
 
 -- ---- one item more
@@ -78,10 +79,6 @@ module _ {items counts₀ counts : List ℕ} {i : ℕ} (d : Counting items count
 
 -- ---- the slots that are not alone
 
-append-none : (l : List ℕ) → l ++ [] ≡ l
-append-none [] = refl
-append-none (a ∷ l) = ap (λ (k : List ℕ). a ∷ k) (append-none l)
-
 module _ (t : ℕ → Bool) (s : ℕ) where
   picks-hit : t s ≡ true → picks t (s + 1) ≡ picks t s ++ (s ∷ [])
   unfolding picks
@@ -89,7 +86,7 @@ module _ (t : ℕ → Bool) (s : ℕ) where
 
   picks-miss : t s ≡ false → picks t (s + 1) ≡ picks t s
   unfolding picks
-  picks-miss e = ap (picks t) (add-one s) ∙ ap (λ (b : Bool). picks t s ++ cond b (s ∷ []) []) e ∙ append-none (picks t s)
+  picks-miss e = ap (picks t) (add-one s) ∙ ap (λ (b : Bool). picks t s ++ cond b (s ∷ []) []) e ∙ append-nil (picks t s)
 
 pub record Picking (t : ℕ → Bool) (n : ℕ) (out₀ out : List ℕ) (k s : ℕ) : Type 0 where
   pub s-le : s ≤ n
@@ -102,11 +99,6 @@ pub record Picking (t : ℕ → Bool) (n : ℕ) (out₀ out : List ℕ) (k s : �
 pub picking-start : (t : ℕ → Bool) (n : ℕ) (out : List ℕ) → n ≤ length out → Picking t n out out 0 0
 unfolding picks
 picking-start t n out h = record { s-le = omega arith; k-le = omega arith; room = h; len = refl; count = refl; list = refl }
-
-push : (xs o : List ℕ) (n v : ℕ) → length xs ≡ n → n < length o → set (xs ++ drop n o) n v ≡ (xs ++ (v ∷ [])) ++ drop (n + 1) o
-push xs o n v e h =
-    ap (λ (l : List ℕ). set (xs ++ l) n v) (drop-cons o n 0 h) ∙ set-at xs (getD o n 0) (drop (suc n) o) v n e
-    ∙ sym (append-assoc xs (v ∷ []) (drop (n + 1) o) ∙ ap (λ (k : ℕ). xs ++ (v ∷ drop k o)) (add-one n))
 
 module _ {t : ℕ → Bool} {n : ℕ} {out₀ out : List ℕ} {k s : ℕ} (d : Picking t n out₀ out k s) (h : s < n) where
   pub picking-hit : t s ≡ true → Picking t n out₀ (set out k s) (k + 1) (s + 1)

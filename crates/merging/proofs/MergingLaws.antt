@@ -7,14 +7,13 @@ use native.Mathlib.Nat.{zero-add}
 use lib.ListN.{length, getD, take, drop}
 use lib.Seq.{ext-getD, getD-take, length-take-le}
 use Rattle.words.specs.Regions.{Region, part}
-use Rattle.words.proofs.RegionLaws.{length-part, getD-part}
+use Rattle.words.proofs.RegionLaws.{length-part, getD-part, drop-same}
 use Rattle.packed.specs.Work.{MergedIn}
 use Rattle.ranges.specs.Points.{range}
 use Rattle.ranges.specs.Merged.{merged}
 use Rattle.ranges.specs.Forms.{columns, pack, unpack, unpacked}
 use Rattle.ranges.specs.Inner.{Listing}
 use Rattle.ranges.proofs.FormLaws.{columns-length, columns-at, columns-drop, unpacked-at, unpacked-length, unpack-pack}
-use Rattle.columns.proofs.ColumnLaws.{kept-drop}
 
 module _ (ss es : List ℕ) (even : length ss ≡ length es) (small : (i : ℕ) → getD es i 0 < 2 ^ 32) where
   packed-columns : (w₀ w : List ℕ) → length ss ≤ length w₀ → Region w₀ w 0 (length ss) (λ i. pack (range (getD ss i 0) (getD es i 0))) → unpacked (part 0 (length ss) w) ≡ columns ss es
@@ -42,8 +41,8 @@ unpacked-columns os oe os′ oe′ w k even room h r q =
       len = columns-length os′ oe′ even′ ∙ r .len ∙ sym (columns-length os oe even);
       room = rw (columns-length os oe even) room;
       is = ext-getD (range 0 0) (take k (columns os′ oe′)) (unpacked (part 0 k w)) lengths (λ i l. at-i i (rw long at l));
-      past = sym (columns-drop k os′ oe′ even′) ∙ ap (λ (l : List ℕ). columns l (drop k oe′)) (kept-drop k os os′ (r .len) (λ i l. r .after i (omega arith)))
-          ∙ ap (columns (drop k os)) (kept-drop k oe oe′ (q .len) (λ i l. q .after i (omega arith))) ∙ columns-drop k os oe even;
+      past = sym (columns-drop k os′ oe′ even′) ∙ ap (λ (l : List ℕ). columns l (drop k oe′)) (drop-same k os os′ (r .len) (λ i l. r .after i (omega arith)))
+          ∙ ap (columns (drop k os)) (drop-same k oe oe′ (q .len) (λ i l. q .after i (omega arith))) ∙ columns-drop k os oe even;
     }
   where
     even′ : length os′ ≡ length oe′

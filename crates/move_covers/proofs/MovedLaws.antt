@@ -12,6 +12,7 @@ use Rattle.refusals.specs.declared.Verdict.the-variants.{Fine, Bad}
 use Rattle.refusals.specs.declared.Refusal.the-variants.{Stray}
 use Rattle.words.specs.Rows.{tabulate}
 use Rattle.words.proofs.RowLaws.{tabulate-suc}
+use Rattle.words.proofs.RegionLaws.{push}
 use Rattle.ranges.specs.declared.Range.{Range}
 use Rattle.graph.specs.Line.{Stretch, Sound}
 use Rattle.carrying.specs.Lists.{gather}
@@ -36,12 +37,6 @@ rows-length (r ∷ rs) = let e = rows-length rs in omega arith
 append-none : {A : Type 0} (l : List A) → l ++ [] ≡ l
 append-none [] = refl
 append-none {A} (a ∷ l) = ap (λ (k : List A). a ∷ k) (append-none l)
-
--- one number more
-push : (xs o : List ℕ) (n v : ℕ) → length xs ≡ n → n < length o → set (xs ++ drop n o) n v ≡ (xs ++ (v ∷ [])) ++ drop (n + 1) o
-push xs o n v e h =
-    ap (λ (l : List ℕ). set (xs ++ l) n v) (drop-cons o n 0 h) ∙ set-at xs (getD o n 0) (drop (suc n) o) v n e
-    ∙ sym (append-assoc xs (v ∷ []) (drop (n + 1) o) ∙ ap (λ (k : ℕ). xs ++ (v ∷ drop k o)) (add-one n))
 
 two : (a b : ℕ) (r : Range) (xs : List ℕ) → r .start ≡ a → r .end ≡ b → (xs ++ (a ∷ [])) ++ (b ∷ []) ≡ xs ++ rowsOf (r ∷ [])
 unfolding rowsOf

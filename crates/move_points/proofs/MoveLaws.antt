@@ -12,8 +12,8 @@ use Rattle.refusals.specs.declared.Verdict.the-variants.{Fine}
 use Rattle.refusals.specs.declared.Refusal.the-variants.{Stray}
 use Rattle.refusals.proofs.Laws.{scan-fine}
 use Rattle.words.specs.Rows.{rowCount, field}
+use Rattle.words.proofs.Bools.{or-neither}
 use Rattle.ranges.specs.declared.Range.{Range}
-use Rattle.ranges.proofs.PointLaws.{or-none}
 use Rattle.graph.specs.Line.{Stretch, blocksOf, blockAt, placeIn}
 use Rattle.graph.proofs.Line.{start-is, end-is}
 use Rattle.carrying.specs.Insts.{Inst, instsOf, instAt, isSet}
@@ -30,7 +30,7 @@ use Rattle.spill_checks.proofs.CheckLaws.{kind-0, kind-1, kind-2, kind-3, move-
 module _ (bs : List Stretch) (insts : List ℕ) (k n : ℕ) (fine : badMove bs (instsOf insts []) k n ≡ false) where
   there : (absent (instsOf insts []) n || not (isSet (instAt (instsOf insts []) n .placed))) ≡ false → n < rowCount 9 insts
   there e =
-      let a = or-none (absent (instsOf insts []) n) _ e .0 in
+      let a = or-neither (absent (instsOf insts []) n) _ e .0 in
       let l = leb-false (length (instsOf insts [])) n a in
       let q = insts-length insts [] in
       omega arith

@@ -13,10 +13,11 @@ use Rattle.refusals.specs.declared.Refusal.{Refusal}
 use Rattle.refusals.specs.declared.Refusal.the-variants.{Space, Stray}
 use Rattle.refusals.specs.Verdicts.{first}
 use Rattle.refusals.specs.Outcomes.{Outcome, given}
-use Rattle.refusals.proofs.Laws.{first-fine, first-bad, first-left, first-right}
+use Rattle.refusals.proofs.Laws.{first-fine, first-bad, first-left, first-right, bad-fine}
 use Rattle.words.specs.Rows.{rowCount}
 use Rattle.words.specs.Regions.{cleared}
 use Rattle.words.proofs.Points.{cut}
+use Rattle.words.proofs.RegionLaws.{drop-same}
 use Rattle.ranges.specs.declared.Range.{Range}
 use Rattle.graph.specs.Line.{Stretch, blocksOf, lineVerdict, Sound}
 use Rattle.graph.specs.Work.{Within}
@@ -25,7 +26,7 @@ use Rattle.carrying.specs.Insts.{Inst, instsOf}
 use Rattle.carrying.specs.Checks.{instVerdict}
 use Rattle.insts.specs.Counts.{rowsVerdict, mostVerdict, blockCounts, instCounts}
 use Rattle.insts.specs.Rows.{AddsUp}
-use Rattle.insts.proofs.CheckLaws.{bad-fine, most-few, rows-few, blocks-few, blocks-some, insts-counted}
+use Rattle.insts.proofs.CheckLaws.{most-few, rows-few, blocks-few, blocks-some, insts-counted}
 use Rattle.areas.specs.Slots.{Move, movesOf, moved, moveVerdict}
 use Rattle.spill_checks.specs.declared.Answer.{Answer}
 use Rattle.spill_checks.specs.declared.Answer.the-variants.{Given, Refused}
@@ -131,11 +132,6 @@ module _ (points v : ℕ) (blocks insts operands moves : List ℕ) (lent work : 
 rows-none : (o : List ℕ) → o ≡ rowsOf [] ++ drop (2 * 0) o
 unfolding rowsOf
 rows-none o = refl
-
-drop-same : (n : ℕ) (l m : List ℕ) → length m ≡ length l → ((i : ℕ) → n ≤ i → getD m i 0 ≡ getD l i 0) → drop n m ≡ drop n l
-drop-same n l m e h =
-    ext-getD 0 (drop n m) (drop n l) (length-drop n m ∙ ap (λ (k : ℕ). k - n) e ∙ sym (length-drop n l))
-    (λ i q. getD-drop n m i 0 ∙ h (n + i) (omega arith) ∙ sym (getD-drop n l i 0))
 
 module _ (points v : ℕ) (blocks insts operands moves : List ℕ) (slot : ℕ) (out₀ work₀ : List ℕ) where
   pub moved-refused : (r : Refusal) (i : ℕ) → movedVerdict points v blocks insts operands moves (length out₀) (length work₀) ≡ Bad r i

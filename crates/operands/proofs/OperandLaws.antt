@@ -7,7 +7,7 @@ use mathlib.Core.Path.{_≡_, refl, sym, ap, _∙_}
 use mathlib.Core.Logic.{_≢_}
 use mathlib.Core.Bool.{Bool, true, false, cond, not, _&&_, _||_}
 use mathlib.Core.Option.{Option, some, none}
-use mathlib.Core.List.{List, [], _∷_, _++_, map, append-assoc}
+use mathlib.Core.List.{List, [], _∷_, _++_, map, append-assoc, append-nil}
 use lib.ListN.{length, getD, drop, drop-of-length-le}
 use lib.Seq.{drop-cons}
 use lib.Dec.{eqb, leb, ltb}
@@ -52,10 +52,6 @@ unfolding registersOf
 map-append [] k = refl
 map-append (o ∷ l) k = ap (λ (r : List ℕ). o .register ∷ r) (map-append l k)
 
-append-none : (l : List ℕ) → l ++ [] ≡ l
-append-none [] = refl
-append-none (a ∷ l) = ap (λ (k : List ℕ). a ∷ k) (append-none l)
-
 -- no register, or one
 abbrev pub held : ℕ → ℕ → List ℕ
 held zero r = []
@@ -84,11 +80,11 @@ module _ (g : ℕ → Operand) where
   unfolding registersOf
   defs-use p e =
       ap defs (add-one p) ∙ defs-suc p
-      ∙ ap (λ (t : Bool). defs p ++ registersOf (cond t (g p ∷ []) [])) (ne-eqb (g p .def) 1 e) ∙ append-none (defs p)
+      ∙ ap (λ (t : Bool). defs p ++ registersOf (cond t (g p ∷ []) [])) (ne-eqb (g p .def) 1 e) ∙ append-nil (defs p)
 
   defs-rest : (p n : ℕ) → p ≤ n → (rest : List ℕ) × (defs n ≡ defs p ++ rest)
   defs-rest p n h =
-      le-ind {n = p} (λ m. (rest : List ℕ) × (defs m ≡ defs p ++ rest)) ([], sym (append-none (defs p)))
+      le-ind {n = p} (λ m. (rest : List ℕ) × (defs m ≡ defs p ++ rest)) ([], sym (append-nil (defs p)))
       (λ m _ q. (
         q .0 ++ registersOf (cond (isSet (g m .def)) (g m ∷ []) []),
         defs-suc m ∙ ap (λ (l : List ℕ). l ++ registersOf (cond (isSet (g m .def)) (g m ∷ []) [])) (q .1) ∙ append-assoc (defs p) (q .0) _,

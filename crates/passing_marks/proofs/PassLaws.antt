@@ -7,13 +7,11 @@ use mathlib.Core.Bool.{Bool, true, false, not, _&&_}
 use mathlib.Core.List.{List, []}
 use lib.ListN.{length, getD}
 use lib.Dec.{leb}
-use borrow.Author.Tests.{leb-true, le-leb}
+use borrow.Author.Tests.{leb-true, le-leb, not-false}
 use Rattle.words.proofs.Points.{same}
-use Rattle.ranges.proofs.PointLaws.{and-both}
 use Rattle.graph.specs.Paths.{Edge}
 use Rattle.graph.specs.Line.{blocksOf, Sound}
 use Rattle.graph.proofs.Line.{blocks-length, start-is, end-is}
-use Rattle.graph.proofs.RoundLaws.{and-pair}
 use Rattle.carrying.specs.Lists.{any}
 use Rattle.carrying.proofs.ListLaws.{any-true, any-entry}
 use Rattle.areas.specs.Blocks.{InBlock, top, bottom, passes}
@@ -27,6 +25,7 @@ use Rattle.area_rows.specs.Inner.{Put, Stopped}
 use Rattle.area_rows.proofs.PutLaws.{put-none, put-then, put-as, put-fits, put-unset}
 -- two tests that hold together are one
 use Rattle.area_rows.proofs.MarkLaws.{beside}
+use Rattle.words.proofs.Bools.{and-both, and-pair}
 
 module _ (blocks : List ℕ) (S : Sound (blocksOf blocks)) where
   pub stopped-far : (point : ℕ) → 2 ^ 32 ≤ point → ((i : ℕ) → getD blocks i 0 < 2 ^ 32) → Stopped blocks point (length blocks / 3)
@@ -105,15 +104,11 @@ module _ {blocks : List ℕ} {s : Spots} {c : Column} {w₀ w : List ℕ} {i : �
   not-true : (b : Bool) → b ≡ true → not b ≡ false
   not-true b e = rw e refl
 
-  not-back : (b : Bool) → not b ≡ false → b ≡ true
-  not-back true e = refl
-  not-back false e = absurd (let z : _≡_ {A = ℕ} 0 1 = cc in omega arith)
-
   pub ending-done : s .stops ≤ i → (es : List Edge) → Marked c (λ k. passes (lineOf blocks es) (endsAt s w₀) k && marked c w₀ k) w₀ w
   ending-done h es = put-unset (λ k. passes (lineOf blocks es) (endsAt s w₀) k) (p .put)
       (λ k l t. let (m, g, b) = t in not-true (any (inside k) (endsAt s w₀)) (any-true (inside k) (endsAt s w₀) (getD w₀ (s .ends + m) 0)
       (end-in w₀ (s .ends) (s .stops) (p .ready .stand) m (let q = p .at-most in omega arith)) (and-pair _ _ (le-leb _ _ (b .above)) (le-leb _ _ (b .under)))))
-      (λ k l e. let (x, m, z) = any-entry (inside k) (endsAt s w₀) (not-back (any (inside k) (endsAt s w₀)) e) in
+      (λ k l e. let (x, m, z) = any-entry (inside k) (endsAt s w₀) (not-false (any (inside k) (endsAt s w₀)) e) in
       let (j, g, q) = end-of w₀ (s .ends) (s .stops) (p .ready .stand) x m in
       let (u, v) = and-both (leb (top (lineOf blocks []) k) x) (leb x (bottom (lineOf blocks []) k)) z in (
         j,

@@ -16,7 +16,9 @@ use Rattle.refusals.specs.declared.Refusal.{Refusal}
 use Rattle.refusals.specs.declared.Refusal.the-variants.{Space}
 use Rattle.refusals.specs.Verdicts.{numberOf, first, check}
 use Rattle.refusals.specs.Outcomes.{Outcome, given, refused, unless}
+use Rattle.refusals.proofs.Laws.{bad-fine}
 use Rattle.words.specs.Rows.{rowCount, wholeRows}
+use Rattle.words.proofs.Bools.{or-neither}
 use Rattle.ranges.specs.declared.Range.{Range}
 use Rattle.fitting.specs.Queries.{slotsOf, shared, areasOf}
 use Rattle.queries.specs.Shares.{SharedBy, shareOf}
@@ -31,9 +33,6 @@ use Rattle.plan_text.proofs.LineLaws.{line-length, rows-length}
 
 -- ---- a plan that is not refused
 
-fine-bad : {A : Type 0} {r : Refusal} {i : ℕ} → _≡_ {A = Verdict} (Bad r i) Fine → A
-fine-bad e = absurd (let z : _≡_ {A = ℕ} 0 1 = cc in omega arith)
-
 pub record Whole (cells items areas : List ℕ) (locals : ℕ) : Type 0 where
   pub locals-in : locals ≤ rowCount 4 items
   pub few : rowCount 4 items ≤ 4096
@@ -45,13 +44,9 @@ whole-of cells items areas locals e =
     let s = shared-sound cells items areas locals e in
     record { locals-in = s .whole .0; few = s .whole .1; enough = s .enough; ranges = go (badAreas areas) refl }
   where
-    or-right : (a b : Bool) → (a || b) ≡ false → b ≡ false
-    or-right true b q = absurd (let z : _≡_ {A = ℕ} 0 1 = ap (λ (x : Bool). cond x 1 0) (sym q) in omega arith)
-    or-right false b q = q
-
     go : (t : Bool) → badAreas areas ≡ t → rowCount 2 areas ≤ 65536
-    go true q = fine-bad (parts-areas cells items areas locals q ∙ e)
-    go false q = ltb-false 65536 (rowCount 2 areas) (or-right (not (wholeRows 2 areas)) _ q)
+    go true q = bad-fine (parts-areas cells items areas locals q ∙ e)
+    go false q = ltb-false 65536 (rowCount 2 areas) (or-neither (not (wholeRows 2 areas)) _ q .1)
 
 pub cells-length : (cells : List ℕ) → length (cellLines cells) ≤ 128 * rowCount 2 cells
 cells-length cells = rows-length (cellLine cells) 128 (λ i. line-length 67 _ (lit≤ tt)) (rowCount 2 cells)

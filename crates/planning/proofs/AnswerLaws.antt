@@ -16,11 +16,11 @@ use Rattle.refusals.specs.declared.Refusal.{Refusal}
 use Rattle.refusals.specs.declared.Refusal.the-variants.{Count, Space}
 use Rattle.refusals.specs.Verdicts.{numberOf, first, check}
 use Rattle.refusals.specs.Outcomes.{Outcome, given, refused, unless, after}
-use Rattle.refusals.proofs.Laws.{first-left, first-right}
+use Rattle.refusals.proofs.Laws.{first-left, first-right, check-told}
 use Rattle.words.specs.Regions.{part}
-use Rattle.words.proofs.RegionLaws.{length-part}
 use Rattle.words.proofs.RowLaws.{length-records}
-use Rattle.ranges.proofs.PointLaws.{or-none}
+use Rattle.words.proofs.RegionLaws.{length-part}
+use Rattle.words.proofs.Bools.{or-neither}
 use Rattle.areas.specs.Job.{Job, Local, itemCount, itemArea, listVerdict}
 use Rattle.fitting.specs.Plan.{Plan}
 use Rattle.query_checks.specs.Checks.{sharedVerdict}
@@ -31,11 +31,10 @@ use Rattle.job_answers.specs.declared.Shared.{Shared}
 use Rattle.job_answers.specs.declared.Shared.the-variants.{Plan as Planned, Refused}
 use Rattle.job_answers.specs.Answers.{answered, itemRows}
 use Rattle.job.specs.Entry.{lentVerdict, verdictOf}
-use Rattle.job.proofs.CheckLaws.{check-told}
 use Rattle.grammar.specs.Groups.{groupAt, none, rowNumbers}
 use Rattle.grammar.specs.Lines.{linesOf}
 use Rattle.grammar.specs.Text.{countOf, crowded, tooMany, linesVerdict, readVerdict, registers as registersIn}
-use Rattle.grammar.proofs.TableLaws.{at}
+use Rattle.grammar.proofs.TableLaws.{at, room-most}
 use Rattle.job_rows.specs.declared.Reader.{Reader}
 use Rattle.text.specs.Read.{Ready, Records, Finishes}
 use Rattle.text.proofs.EndLaws.{head-counted}
@@ -47,7 +46,7 @@ use Rattle.planning.specs.Program.{told, jobText, job, refusal, printedF
 use Rattle.row_plans.specs.Groups.{points, registers, budget, numbersAt, Few, SharedFor}
 use Rattle.planning.specs.Answer.{Finished, Read, Stands, Answers, roomFor}
 use Rattle.planning.proofs.GroupLaws.{same-printed}
-use Rattle.planning.proofs.PrintLaws.{Printable, cells-long, items-long, plan-fine, text-before, text-short}
+use Rattle.planning.proofs.PrintLaws.{Printable, cells-long, items-long, plan-fine, text-before, text-short, printed-same}
 use Rattle.planning.proofs.JobLaws.{job-printable}
 
 -- ---- a text that was written
@@ -89,7 +88,7 @@ not-crowded : (ls : List (List ℕ)) (n k : ℕ) → crowded n ls ≡ false → 
 unfolding crowded
 not-crowded ls zero k e h = absurd (not-suc-le-zero h)
 not-crowded ls (suc n) k e h =
-    let p = or-none (crowded n ls) (ltb (groupAt n .room) (countOf n ls)) e in
+    let p = or-neither (crowded n ls) (ltb (groupAt n .room) (countOf n ls)) e in
     elim (ℕ-discrete k n) [
       | yes q ↦ rw q (ltb-false (groupAt n .room) (countOf n ls) (p .1))
       | no d ↦ not-crowded ls n k (p .0) (below d)
@@ -98,20 +97,17 @@ not-crowded ls (suc n) k e h =
     below : (k ≡ n → ⊥) → k < n
     below d = elim (ℕ-discrete k n) [ yes q ↦ absurd (d q) | no q ↦ omega arith ]
 
-rooms : (k : ℕ) → k < none → groupAt k .room ≤ 64
-rooms k h = leb→le (groupAt k .room) 64 (at none (λ j. leb (groupAt j .room) 64) tt k h)
-
 pub few-of : (text rows counts : List ℕ) {w : Verdict} → w ≡ Fine → Finished text w rows counts → Few counts
 few-of text rows counts e F =
     let R = F .records e in
     let v = sym (F .verdict) ∙ e in
     let t = check-told Count (tooMany (linesOf text)) (first-right (linesVerdict (linesOf text)) _ v) in
-    let c = or-none (crowded none (linesOf text)) (ltb 64 (registersIn (linesOf text))) t .0 in
+    let c = or-neither (crowded none (linesOf text)) (ltb 64 (registersIn (linesOf text))) t .0 in
     record {
       head = rw (R .counted 0 (lit< tt)) (head-counted (linesOf text) (first-left (linesVerdict (linesOf text)) _ v));
       few = λ k h.
           let a = not-crowded (linesOf text) none k c h in
-          let b = rooms k h in
+          let b = room-most k h in
           let d = R .counted k h in
           omega arith;
     }
@@ -158,9 +154,6 @@ take-front l more b e = let f : b - 0 ≡ length l = omega arith in ap (λ (k : 
 abbrev held-tally : Outcome Tally → Tally
 held-tally (given t) = t
 held-tally (refused n i) = record { cells = 0; probes = 0; depth = 0 }
-
-printed-same : {c c′ i i′ a a′ : List ℕ} {l l′ p p′ d d′ : ℕ} → c ≡ c′ → i ≡ i′ → a ≡ a′ → l ≡ l′ → p ≡ p′ → d ≡ d′ → printed c i a l p d ≡ printed c′ i′ a′ l′ p′ d′
-printed-same e f g h k m = rw (e, f, g, h, k, m) refl
 
 fine-same : (a : List ℕ) {c c′ i i′ : List ℕ} {l l′ : ℕ} → c ≡ c′ → i ≡ i′ → l ≡ l′ → sharedVerdict c′ i′ a l′ ≡ Fine → sharedVerdict c i a l ≡ Fine
 fine-same a e f g h = rw (e, f, g) h

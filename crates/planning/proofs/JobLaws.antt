@@ -9,6 +9,7 @@ use lib.ListN.{length, length-append, length-set}
 use borrow.Author.Tests.{ltb-false}
 use Rattle.refusals.specs.declared.Verdict.the-variants.{Fine}
 use Rattle.refusals.specs.declared.Refusal.the-variants.{List as ListWord}
+use Rattle.refusals.proofs.Laws.{check-told}
 use Rattle.words.specs.Rows.{tabulate}
 use Rattle.words.proofs.RowLaws.{length-tabulate}
 use Rattle.ranges.specs.declared.Range.{Range}
@@ -16,9 +17,9 @@ use Rattle.areas.specs.Job.{Job, itemCount, itemArea, rangesOf, listVerdict}
 use Rattle.fitting.specs.Wants.{Want, wantAt, before, insert, ordered, orderOf}
 use Rattle.fitting.specs.Plan.{Plan, lowest, cellOf, settled, placedBy, put, fit, nothing}
 use Rattle.fitting.proofs.PlanLaws.{facts}
+use Rattle.fitting.proofs.OrderLaws.{length-ordered}
 use Rattle.soundness.specs.Demand.{wantOf, wantsOf, jobPlan}
 use Rattle.soundness.proofs.Demand.{job-order}
-use Rattle.job.proofs.CheckLaws.{check-told}
 use Rattle.planning.proofs.PrintLaws.{Printable}
 
 -- ---- a plan has no more cells than items
@@ -41,20 +42,6 @@ fit-few ws budget (i ∷ order) p =
     let b = put-few budget (wantAt ws i) (wantAt ws i .area) i p in
     omega arith
 
-insert-long : (ws : List Want) (i : ℕ) (order : List ℕ) → length (insert ws i order) ≡ suc (length order)
-unfolding insert
-insert-long ws i [] = refl
-insert-long ws i (j ∷ order) = go (before ws i j) (insert-long ws i order)
-  where
-    go : (t : Bool) → length (insert ws i order) ≡ suc (length order) → length (cond t (i ∷ j ∷ order) (j ∷ insert ws i order)) ≡ suc (suc (length order))
-    go true e = refl
-    go false e = ap (λ (k : ℕ). suc k) e
-
-ordered-long : (ws : List Want) (n : ℕ) → length (ordered ws n) ≡ n
-unfolding ordered
-ordered-long ws zero = refl
-ordered-long ws (suc n) = insert-long ws n (ordered ws n) ∙ ap (λ (k : ℕ). suc k) (ordered-long ws n)
-
 -- ---- the plan of a job within the program's limits is printed
 
 pub job-printable : (J : Job) (budget : ℕ) → length (J .locals) ≤ 64 → length (J .slots) ≤ 64 → listVerdict J 64 ≡ Fine
@@ -62,7 +49,7 @@ pub job-printable : (J : Job) (budget : ℕ) → length (J .locals) ≤ 64 → l
 job-printable J budget l s e =
     let order = orderOf (wantsOf J) in
     let a = fit-few (wantsOf J) budget order nothing in
-    let b = ordered-long (wantsOf J) (length (wantsOf J)) in
+    let b = length-ordered (wantsOf J) (length (wantsOf J)) in
     let c = length-tabulate (itemCount J) (wantOf J) in
     record {
       known = facts (wantsOf J) budget (itemCount J) order (job-order J) .known;

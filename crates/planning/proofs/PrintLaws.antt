@@ -23,7 +23,7 @@ use Rattle.carrying.specs.Lists.{gather}
 use Rattle.areas.specs.Job.{rangesIn, rangesOf}
 use Rattle.area_measure.specs.Locals.{listed}
 use Rattle.area_tables.specs.Tables.{areaRows}
-use Rattle.area_tables.proofs.RowLaws.{ranges-below}
+use Rattle.area_tables.proofs.RowLaws.{ranges-below, gathered-long}
 use Rattle.fitting.specs.Plan.{Plan, Cell, depthOf}
 use Rattle.fitting.specs.Queries.{areasOf, partOf, slotsOf, shared}
 use Rattle.members.specs.Members.{membersIn}
@@ -50,12 +50,6 @@ ranges-long : (rs : List Range) → length (flat (map (λ (r : Range). r .start 
 unfolding flat
 ranges-long [] = refl
 ranges-long (r ∷ rs) = omega (arith, ranges-long rs)
-
-gathered-long : (l : List (Option (List Range))) → length (gather listed l) ≡ rangesOf l
-unfolding gather rangesOf
-gathered-long [] = refl
-gathered-long (none ∷ l) = omega (arith, gathered-long l)
-gathered-long (some rs ∷ l) = length-append rs (gather listed l) ∙ ap (λ (k : ℕ). length rs + k) (gathered-long l)
 
 pub areas-long : (n : ℕ) (A : ℕ → Option (List Range)) → length (areaRows n A) ≡ 2 * rangesOf (tabulate n A)
 areas-long n A = ranges-long (gather listed (tabulate n A)) ∙ ap (λ (k : ℕ). 2 * k) (gathered-long (tabulate n A))
@@ -259,3 +253,6 @@ module _ {n locals : ℕ} {A : ℕ → Option (List Range)} {p : Plan} (P : Prin
       let e₃ = length-append (itemLines 83 (itemRows n A p) locals (rowCount 4 (itemRows n A p) - locals)) (sharedLines (cellRows p) (itemRows n A p) (areaRows n A) locals ++ totalLine (cellRows p) (itemRows n A p) (p .probes) (depthOf (p .cells))) in
       let e₄ = length-append (sharedLines (cellRows p) (itemRows n A p) (areaRows n A) locals) (totalLine (cellRows p) (itemRows n A p) (p .probes) (depthOf (p .cells))) in
       omega (arith, P .few, P .locals-in, P .few-locals, P .few-slots)
+
+pub printed-same : {c c′ i i′ a a′ : List ℕ} {l l′ p p′ d d′ : ℕ} → c ≡ c′ → i ≡ i′ → a ≡ a′ → l ≡ l′ → p ≡ p′ → d ≡ d′ → printed c i a l p d ≡ printed c′ i′ a′ l′ p′ d′
+printed-same e f g h k m = rw (e, f, g, h, k, m) refl

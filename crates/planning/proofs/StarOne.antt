@@ -28,6 +28,7 @@ use Rattle.job.specs.Entry.{lentVerdict}
 use Rattle.grammar.proofs.Stars.{star, star-1 as star-1-read}
 use Rattle.plan_text.specs.Printed.{printed}
 use Rattle.plan_text.proofs.Stars.{star as starText, star-1 as star-1-printed}
+use Rattle.planning.proofs.PrintLaws.{printed-same}
 use Rattle.planning.specs.Program.{told, jobText, job, refusal, printedFor, numbersIn, programText}
 use Rattle.planning.proofs.GroupLaws.{same-printed}
 
@@ -113,13 +114,10 @@ second-cell : jobPlan star-1-job 1048576 .cell 1 ≡ 0
 unfolding tabulate
 second-cell = Option·some-injective _ _ (star-1-plan .locals .1)
 
-printed-as : {c c′ i i′ a a′ : List ℕ} {l l′ p p′ d d′ : ℕ} → c ≡ c′ → i ≡ i′ → a ≡ a′ → l ≡ l′ → p ≡ p′ → d ≡ d′ → printed c i a l p d ≡ printed c′ i′ a′ l′ p′ d′
-printed-as e f g h k m = rw (e, f, g, h, k, m) refl
-
 planned : jobText star-1-job 1048576 ≡ starText
 unfolding jobText tabulate
 planned =
-    printed-as {l = 2} {l′ = 2} cells (rows (itemArea star-1-job) (jobPlan star-1-job 1048576) (star-1-areas .0) (star-1-areas .1) first-cell second-cell)
+    printed-same {l = 2} {l′ = 2} cells (rows (itemArea star-1-job) (jobPlan star-1-job 1048576) (star-1-areas .0) (star-1-areas .1) first-cell second-cell)
     (area-rows (itemArea star-1-job) (jobPlan star-1-job 1048576) (star-1-areas .0) (star-1-areas .1)) refl (star-1-plan .counts .1) (star-1-plan .counts .2)
     ∙ star-1-printed
 

@@ -12,15 +12,15 @@ use Rattle.words.specs.Rows.{tabulate, rowCount, field}
 use Rattle.words.specs.Sort.{sortOf}
 use Rattle.words.specs.Regions.{Region, part}
 use Rattle.words.proofs.RowLaws.{tabulate-getD}
-use Rattle.words.proofs.RegionLaws.{length-part, getD-part}
 use Rattle.words.proofs.SortLaws.{sorted-rising, mem-sort, mem-of-sort, length-sort}
+use Rattle.words.proofs.RegionLaws.{length-part, getD-part}
 use Rattle.bits.specs.Bits.{bitOf}
 use Rattle.bits.proofs.DigitLaws.{bit-zero}
 use Rattle.graph.proofs.Within.{within-trans, within-wider, region-within}
+use Rattle.graph.proofs.Line.{mem-at, at-mem}
 use Rattle.carrying.specs.Lists.{any, keep}
 use Rattle.carrying.specs.Insts.{Inst, instsOf, instAt, defOf, isSet}
 use Rattle.carrying.specs.Carried.{Code, mentionsOf, mentions, mentioned, isNone, escapes, endsOf, empty}
-use Rattle.carrying.proofs.ListLaws.{getD-member, member-getD}
 use Rattle.insts.specs.Rows.{AddsUp}
 use Rattle.insts.proofs.DealtLaws.{insts-length, placed-is}
 use Rattle.reach.specs.declared.Lay.{Lay}
@@ -31,9 +31,9 @@ use Rattle.reach.specs.Steps.{rowLocal}
 use Rattle.chains.specs.Chains.{Linked}
 use Rattle.preparing.specs.Steps.{Indexed, placedEnd, Ends, Cleared, Emptied, ByLocal}
 use Rattle.reach.proofs.UseLaws.{Some}
-use Rattle.reach.proofs.ScanLaws.{same-bit}
 use Rattle.reach.proofs.StepLaws.{splits-same}
 use Rattle.reach.proofs.ReadyLaws.{def-small, latest-same, local-is, mentions-count, empty-keep, any-keep, any-rows}
+use Rattle.reach.proofs.ScanLaws.{same-bit}
 
 -- ---- zeros
 
@@ -132,16 +132,16 @@ module _ (v : ℕ) (insts operands crossings : List ℕ) (lay : Lay) where
           rising = sorted-rising (part (lay .edges) n w₃) w (lay .edges) n (let q = length-part (lay .edges) n w₃ inside in omega arith) (d .edges);
           only = λ k l.
               let p : List·Memᴰ (getD (sortOf (part (lay .edges) n w₃)) k 0) (part (lay .edges) n w₃) = mem-of-sort (part (lay .edges) n w₃)
-              (getD-member (sortOf (part (lay .edges) n w₃)) k 0 (rw (length-sort (part (lay .edges) n w₃), length-part (lay .edges) n w₃ inside) l)) in
-              let (j, h, z) = member-getD (part (lay .edges) n w₃) (getD (sortOf (part (lay .edges) n w₃)) k 0) 0 p in
+              (mem-at (sortOf (part (lay .edges) n w₃)) k 0 (rw (length-sort (part (lay .edges) n w₃), length-part (lay .edges) n w₃ inside) l)) in
+              let (j, h, z) = at-mem (part (lay .edges) n w₃) (getD (sortOf (part (lay .edges) n w₃)) k 0) 0 p in
               let g : j < n = rw (length-part (lay .edges) n w₃ inside) at h in
               let (q, x, _, f, y) = b .only j g in
               (q, x, f, d .edges k l ∙ sym z ∙ getD-part (lay .edges) n w₃ j g ∙ old j ∙ y);
           has = λ q j f.
               let (k, l, y) = b .has q j (rw (insts-length insts operands) at (f .listed)) f in
               let p : List·Memᴰ (getD (part (lay .edges) n w₃) k 0) (sortOf (part (lay .edges) n w₃)) = mem-sort (part (lay .edges) n w₃)
-              (getD-member (part (lay .edges) n w₃) k 0 (rw (length-part (lay .edges) n w₃ inside) l)) in
-              let (i, h, z) = member-getD (sortOf (part (lay .edges) n w₃)) (getD (part (lay .edges) n w₃) k 0) 0 p in
+              (mem-at (part (lay .edges) n w₃) k 0 (rw (length-part (lay .edges) n w₃ inside) l)) in
+              let (i, h, z) = at-mem (sortOf (part (lay .edges) n w₃)) (getD (part (lay .edges) n w₃) k 0) 0 p in
               let g : i < n = rw (length-sort (part (lay .edges) n w₃), length-part (lay .edges) n w₃ inside) at h in
               (i, g, d .edges i g ∙ z ∙ getD-part (lay .edges) n w₃ k l ∙ old k ∙ y);
         }

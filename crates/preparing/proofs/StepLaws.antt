@@ -4,48 +4,48 @@ use native.Mathlib.Omega.{arith}
 use native.Mathlib.Nat.{add-zero}
 use mathlib.Core.Path.{_≡_, refl, sym, ap, _∙_, subst}
 use mathlib.Core.Logic.{_≢_}
-use mathlib.Core.Bool.{Bool, true, false, not, _&&_, _||_}
+use mathlib.Core.Bool.{Bool, true, false, not, _&&_, _||_, or-false, and-false}
 use mathlib.Core.List.{List}
 use lib.ListN.{length, getD, set}
 use lib.Seq.{getD-set-same, getD-set-other}
 use lib.Dec.{eqb, ltb}
 use borrow.Author.Tests.{eqb-true, eq-eqb, ne-eqb, lt-ltb}
-use Rattle.ranges.proofs.PointLaws.{and-both}
-use Rattle.graph.proofs.RoundLaws.{and-pair}
 use Rattle.words.specs.Rows.{rowCount, field}
 use Rattle.words.specs.Sort.{Rising, sortOf}
 use Rattle.words.specs.Search.{Splits}
 use Rattle.words.specs.Regions.{Region, part}
+use Rattle.words.proofs.SortLaws.{sorted-rising}
 use Rattle.words.proofs.Points.{same, stored}
 use Rattle.words.proofs.RegionLaws.{length-part}
-use Rattle.words.proofs.SortLaws.{sorted-rising}
+use Rattle.words.proofs.Bools.{and-both, and-pair, both-ways}
 use Rattle.graph.specs.Work.{Within}
 use Rattle.graph.proofs.Within.{within-refl, within-set, within-trans, within-wider, region-within}
+use Rattle.graph.proofs.Line.{mem-at, at-mem}
 use Rattle.carrying.specs.Lists.{any}
 use Rattle.carrying.specs.Insts.{isSet}
-use Rattle.carrying.proofs.ListLaws.{any-true, any-entry, getD-member, member-getD}
+use Rattle.carrying.proofs.ListLaws.{any-true, any-entry}
 use Rattle.insts.proofs.DealtLaws.{any-none, any-next}
 use Rattle.reach.specs.declared.Lay.{Lay}
 use Rattle.reach.specs.Steps.{rowLocal}
 use Rattle.preparing.specs.Steps.{Firsts, Indexed, placedEnd, Ends}
-use Rattle.reach.proofs.UseLaws.{bool-ext, Some, some-at, some-index}
+use Rattle.reach.proofs.UseLaws.{Some, some-at, some-index}
 use Rattle.reach.proofs.StepLaws.{splits-same}
 
 -- ---- crossings
 
 pub cross-found : (xs : List ℕ) (v r : ℕ) → r < v → Some (length xs) (λ k. ltb (getD xs k 0) v && eqb (getD xs k 0) r) ≡ any (eqb r) xs
-cross-found xs v r l = bool-ext _ _ to from
+cross-found xs v r l = both-ways _ _ to from
   where
     to : Some (length xs) (λ k. ltb (getD xs k 0) v && eqb (getD xs k 0) r) ≡ true → any (eqb r) xs ≡ true
     to e =
         let (k, h, t) = some-index (length xs) (λ k. ltb (getD xs k 0) v && eqb (getD xs k 0) r) e in
         let (a, b) = and-both (ltb (getD xs k 0) v) (eqb (getD xs k 0) r) t in
-        any-true (eqb r) xs (getD xs k 0) (getD-member xs k 0 h) (eq-eqb r (getD xs k 0) (sym (eqb-true _ _ b)))
+        any-true (eqb r) xs (getD xs k 0) (mem-at xs k 0 h) (eq-eqb r (getD xs k 0) (sym (eqb-true _ _ b)))
 
     from : any (eqb r) xs ≡ true → Some (length xs) (λ k. ltb (getD xs k 0) v && eqb (getD xs k 0) r) ≡ true
     from e =
         let (x, m, t) = any-entry (eqb r) xs e in
-        let (k, h, z) = member-getD xs x 0 m in
+        let (k, h, z) = at-mem xs x 0 m in
         let y = eqb-true r x t in
         some-at (length xs) (λ k. ltb (getD xs k 0) v && eqb (getD xs k 0) r) k h
         (and-pair (ltb (getD xs k 0) v) _ (lt-ltb (getD xs k 0) v (omega arith)) (eq-eqb _ _ (z ∙ sym y)))
@@ -137,14 +137,6 @@ not-or : (a : Bool) → not (a || true) ≡ false
 not-or true = refl
 not-or false = refl
 
-or-none : (u : Bool) → (u || false) ≡ u
-or-none true = refl
-or-none false = refl
-
-and-no : (u : Bool) → (u && false) ≡ false
-and-no true = refl
-and-no false = refl
-
 pub record Ending (ended : ℕ) (insts s : List ℕ) (l : ℕ) (w₀ w : List ℕ) (k : ℕ) : Type 0 where
   pub high : ended + l ≤ length w₀
   pub k-le : k ≤ rowCount 2 s
@@ -165,13 +157,13 @@ module _ {ended : ℕ} {insts s : List ℕ} {l : ℕ} {w₀ w : List ℕ} {k : �
     high = d .high;
     k-le = omega arith;
     kept = d .kept;
-    is = λ m g. d .is m g ∙ ap not (sym (any-next (placedEnd insts s m) (λ j. j) k ∙ ap (λ (t : Bool). Some k (placedEnd insts s m) || t) (e m g) ∙ or-none (Some k (placedEnd insts s m))));
+    is = λ m g. d .is m g ∙ ap not (sym (any-next (placedEnd insts s m) (λ j. j) k ∙ ap (λ (t : Bool). Some k (placedEnd insts s m) || t) (e m g) ∙ or-false (Some k (placedEnd insts s m))));
   }
 
   pub end-unplaced : (i : ℕ) → k < rowCount 2 s → i ≡ getD s (2 * k) 0 → getD insts (9 * i) 0 ≢ 1 → Ending ended insts s l w₀ w (k + 1)
   end-unplaced i h z e =
       end-none h
-      (λ m g. ap (λ (t : Bool). eqb (rowLocal s k) m && t) (ne-eqb (field 9 insts (getD s (2 * k) 0) 0) 1 (λ q. e (ap (λ (c : ℕ). getD insts c 0) (ap (λ (c : ℕ). 9 * c) z ∙ sym (add-zero (9 * getD s (2 * k) 0))) ∙ q))) ∙ and-no (eqb (rowLocal s k) m))
+      (λ m g. ap (λ (t : Bool). eqb (rowLocal s k) m && t) (ne-eqb (field 9 insts (getD s (2 * k) 0) 0) 1 (λ q. e (ap (λ (c : ℕ). getD insts c 0) (ap (λ (c : ℕ). 9 * c) z ∙ sym (add-zero (9 * getD s (2 * k) 0))) ∙ q))) ∙ and-false (eqb (rowLocal s k) m))
 
   pub end-past : k < rowCount 2 s → l ≤ rowLocal s k → Ending ended insts s l w₀ w (k + 1)
   end-past h p = end-none h (λ m g. ap (λ (t : Bool). t && isSet (field 9 insts (getD s (2 * k) 0) 0)) (ne-eqb (rowLocal s k) m (λ z. absurd (omega arith))))
@@ -185,7 +177,7 @@ module _ {ended : ℕ} {insts s : List ℕ} {l : ℕ} {w₀ w : List ℕ} {k : �
         (λ q. sym (ap not (any-next (placedEnd insts s m) (λ j. j) k
         ∙ ap (λ (t : Bool). Some k (placedEnd insts s m) || t) (and-pair (eqb (rowLocal s k) m) _ (eq-eqb (rowLocal s k) m (omega arith)) placed)) ∙ not-or (Some k (placedEnd insts s m))))
         (λ q. d .is m g ∙ ap not (sym (any-next (placedEnd insts s m) (λ j. j) k
-        ∙ ap (λ (t : Bool). Some k (placedEnd insts s m) || (t && isSet (field 9 insts (getD s (2 * k) 0) 0))) (ne-eqb (rowLocal s k) m (λ y. q (omega arith))) ∙ or-none (Some k (placedEnd insts s m)))));
+        ∙ ap (λ (t : Bool). Some k (placedEnd insts s m) || (t && isSet (field 9 insts (getD s (2 * k) 0) 0))) (ne-eqb (rowLocal s k) m (λ y. q (omega arith))) ∙ or-false (Some k (placedEnd insts s m)))));
   }
     where
       placed : isSet (field 9 insts (getD s (2 * k) 0) 0) ≡ true

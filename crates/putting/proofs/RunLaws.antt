@@ -13,7 +13,7 @@ use Rattle.words.specs.Regions.{Region}
 use Rattle.words.proofs.RowLaws.{length-tabulate}
 use Rattle.fitting.specs.Wants.{Want, wantAt, before, insert, ordered, orderOf}
 use Rattle.fitting.specs.Plan.{Plan, nothing, put, fit, planOf}
-use Rattle.fitting.proofs.OrderLaws.{order-names}
+use Rattle.fitting.proofs.OrderLaws.{order-names, length-ordered}
 use Rattle.order.specs.Keys.{sizeOf, alignOf, OrderedIn}
 use Rattle.sorting.proofs.RankLaws.{mem-at}
 use Rattle.cell_tables.specs.declared.Progress.{Progress}
@@ -97,20 +97,6 @@ module _ {w₀ : List ℕ} {at items n end k cells top : ℕ} (left : ℕ) (R : 
     }
 
 -- ---- the order
-
-length-insert : (ws : List Want) (i : ℕ) (l : List ℕ) → length (insert ws i l) ≡ suc (length l)
-unfolding insert
-length-insert ws i [] = refl
-length-insert ws i (j ∷ l) = go (before ws i j) (length-insert ws i l)
-  where
-    go : (t : Bool) → length (insert ws i l) ≡ suc (length l) → length (cond t (i ∷ j ∷ l) (j ∷ insert ws i l)) ≡ suc (suc (length l))
-    go true e = refl
-    go false e = ap suc e
-
-length-ordered : (ws : List Want) (n : ℕ) → length (ordered ws n) ≡ n
-unfolding ordered
-length-ordered ws zero = refl
-length-ordered ws (suc n) = length-insert ws n (ordered ws n) ∙ ap suc (length-ordered ws n)
 
 fit-append : (ws : List Want) (budget : ℕ) (l : List ℕ) (i : ℕ) (p : Plan) → fit ws budget (l ++ (i ∷ [])) p ≡ put ws budget i (fit ws budget l p)
 unfolding fit

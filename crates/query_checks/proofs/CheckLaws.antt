@@ -15,7 +15,7 @@ use Rattle.refusals.specs.declared.Refusal.the-variants.{Count, Want, Space}
 use Rattle.refusals.specs.Verdicts.{inOrder, first, check}
 use Rattle.refusals.proofs.Laws.{check-bad, check-fine, check-last, first-fine, first-bad, first-left, first-right, scan-fine, three-first, three-second, three-third}
 use Rattle.words.specs.Rows.{rowCount, wholeRows, field}
-use Rattle.ranges.proofs.PointLaws.{or-none, or-right}
+use Rattle.words.proofs.Bools.{or-right, or-neither}
 use Rattle.query_checks.specs.Checks.{badCount, noCell, itemsVerdict, surplus, planVerdict, badAreas, outside, badItem, partsVerdict, sharedVerdict, crowdedVerdict}
 
 -- ---- the checks
@@ -83,10 +83,10 @@ module _ (cells items : List ℕ) (locals : ℕ) where
 
   pub sound-of : badCount cells items locals ≡ false → surplus cells items ≡ Fine → Sound
   sound-of c s =
-      let (a, b) = or-none (not (wholeRows 2 cells)) _ c in
-      let (d, f) = or-none (not (wholeRows 4 items)) _ b in
-      let (g, h) = or-none (ltb (rowCount 4 items) locals) _ f in
-      let (k, l) = or-none (ltb 2048 locals) _ h in
+      let (a, b) = or-neither (not (wholeRows 2 cells)) _ c in
+      let (d, f) = or-neither (not (wholeRows 4 items)) _ b in
+      let (g, h) = or-neither (ltb (rowCount 4 items) locals) _ f in
+      let (k, l) = or-neither (ltb 2048 locals) _ h in
       record {
         whole = (ltb-false (rowCount 4 items) locals g, omega (arith, ltb-false (rowCount 4 items) locals g, ltb-false 2048 locals k, ltb-false 2048 (rowCount 4 items - locals) l));
         enough = surplus-none s;
@@ -94,9 +94,9 @@ module _ (cells items : List ℕ) (locals : ℕ) where
 
   pub locals-fit : badCount cells items locals ≡ false → locals ≤ rowCount 4 items
   locals-fit c =
-      let (a, b) = or-none (not (wholeRows 2 cells)) _ c in
-      let (d, f) = or-none (not (wholeRows 4 items)) _ b in
-      ltb-false _ _ (or-none (ltb (rowCount 4 items) locals) _ f .0)
+      let (a, b) = or-neither (not (wholeRows 2 cells)) _ c in
+      let (d, f) = or-neither (not (wholeRows 4 items)) _ b in
+      ltb-false _ _ (or-neither (ltb (rowCount 4 items) locals) _ f .0)
 
   pub sound : planVerdict cells items locals ≡ Fine → Sound
   sound e = let p = plan-passed e in sound-of (p .0) (p .2)
@@ -162,11 +162,11 @@ module _ (cells items areas : List ℕ) (locals : ℕ) where
   passed e = checks-passed (badCount cells items locals || badAreas areas) (partsVerdict cells items (rowCount 2 areas)) cells items e
 
   pub shared-sound : sharedVerdict cells items areas locals ≡ Fine → Sound cells items locals
-  shared-sound e = let p = passed e in sound-of cells items locals (or-none (badCount cells items locals) (badAreas areas) (p .0) .0) (p .2)
+  shared-sound e = let p = passed e in sound-of cells items locals (or-neither (badCount cells items locals) (badAreas areas) (p .0) .0) (p .2)
 
   pub part-inside : sharedVerdict cells items areas locals ≡ Fine → (i : ℕ) → i < rowCount 4 items → (field 4 items i 1 ≡ 0 → ⊥) → field 4 items i 2 + field 4 items i 3 ≤ rowCount 2 areas
   part-inside e i h d =
-      let q = or-none (noCell cells items i) _ (scan-fine Want (badItem cells items (rowCount 2 areas)) (rowCount 4 items) (passed e .1) i h) .1 in
+      let q = or-neither (noCell cells items i) _ (scan-fine Want (badItem cells items (rowCount 2 areas)) (rowCount 4 items) (passed e .1) i h) .1 in
       ltb-false _ _ (out-present (rowCount 2 areas) (field 4 items i 1) (field 4 items i 2) (field 4 items i 3) d ∙ q)
 
 -- ---- `crowded`

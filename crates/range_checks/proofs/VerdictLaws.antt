@@ -8,6 +8,7 @@ use native.Mathlib.Omega.{arith}
 use lib.ListN.{length}
 use lib.Dec.{ltb, eqb}
 use borrow.Author.Tests.{lt-ltb, le-ltb, eq-eqb, ne-eqb, eqb-true, ltb-false, not-false}
+use Rattle.words.proofs.Bools.{or-neither}
 use Rattle.refusals.specs.declared.Verdict.{Verdict}
 use Rattle.refusals.specs.declared.Verdict.the-variants.{Fine, Bad}
 use Rattle.refusals.specs.declared.Refusal.{Refusal}
@@ -18,27 +19,19 @@ use Rattle.ranges.specs.declared.Range.{Range}
 use Rattle.ranges.specs.Points.{range}
 use Rattle.ranges.specs.Lent.{listVerdict}
 use Rattle.range_checks.specs.Verdicts.{uneven, badList, pairVerdict, entryVerdict}
-use Rattle.ranges.proofs.PointLaws.{or-none}
 
 -- a list that is no bad one has columns of one length
 pub even-list : (ss es : List ℕ) → badList ss es ≡ false → length ss ≡ length es
-even-list ss es e = eqb-true _ _ (not-false _ (or-none _ _ e .0))
+even-list ss es e = eqb-true _ _ (not-false _ (or-neither _ _ e .0))
 
 pub small-list : (ss es : List ℕ) → badList ss es ≡ false → length ss ≤ 65536
-small-list ss es e = ltb-false 65536 (length ss) (or-none (uneven (length ss) (length es)) (ltb 65536 (length ss)) e .1)
+small-list ss es e = ltb-false 65536 (length ss) (or-neither (uneven (length ss) (length es)) (ltb 65536 (length ss)) e .1)
 
 pub uneven-true : (n m : ℕ) → (n ≡ m → ⊥) → uneven n m ≡ true
 uneven-true n m h = rw (ne-eqb n m h)
 
 pub uneven-false : (n m : ℕ) → n ≡ m → uneven n m ≡ false
 uneven-false n m h = rw (eq-eqb n m h)
-
-pub or-true : (a b : Bool) → b ≡ true → a || b ≡ true
-or-true true b e = refl
-or-true false b e = e
-
-pub or-left : (a b : Bool) → a ≡ true → a || b ≡ true
-or-left a b e = rw e
 
 pub or-false : (a b : Bool) → a ≡ false → b ≡ false → a || b ≡ false
 or-false a b e d = rw (e, d)

@@ -6,13 +6,14 @@ use Prim.Native.Nat.{ℕ, _+_, _≤_}
 use native.Mathlib.Omega.{arith}
 use lib.ListN.{length}
 use borrow.Author.Tests.{ltb-false, eqb-true, not-false}
+use Rattle.words.proofs.Bools.{or-neither}
 use Rattle.refusals.specs.declared.Verdict.{Verdict}
 use Rattle.refusals.specs.declared.Verdict.the-variants.{Fine, Bad}
 use Rattle.refusals.specs.declared.Refusal.{Refusal}
 use Rattle.refusals.specs.declared.Refusal.the-variants.{Count, Space}
 use Rattle.refusals.specs.Verdicts.{inOrder, check, countedOn}
 use Rattle.refusals.specs.Outcomes.{given, unless}
-use Rattle.refusals.proofs.Laws.{first-left, first-right}
+use Rattle.refusals.proofs.Laws.{first-left, first-right, check-told}
 use Rattle.ranges.specs.declared.Range.{Range}
 use Rattle.range_entries.specs.declared.Counted.the-variants.{Ranges, Refused}
 use Rattle.range_entries.specs.declared.Clash.the-variants.{Is, Refused as ClashRefused}
@@ -21,17 +22,12 @@ use Rattle.ranges.specs.Forms.{columns, starts, ends}
 use Rattle.range_checks.specs.Verdicts.{uneven, badList, pairVerdict, entryVerdict, mergedVerdict, joinedVerdict, unionVerdict, clashesVerdict}
 use Rattle.range_entries.specs.Entries.{clashing, Listed}
 use Rattle.ranges.specs.Inner.{Listing}
-use Rattle.ranges.proofs.PointLaws.{or-none}
 use Rattle.ranges.proofs.LentLaws.{fine-apart}
 use Rattle.range_checks.proofs.VerdictLaws.{even-list, small-list}
 use Rattle.ranges.proofs.ListingLaws.{listing-length}
 use Rattle.columns.proofs.ColumnLaws.{starts-are, ends-are}
 
 -- ---- a fine verdict
-
-check-none : (r : Refusal) (t : Bool) → check r t ≡ Fine → t ≡ false
-check-none r true e = absurd (let z : _≡_ {A = ℕ} 0 1 = cc in omega arith)
-check-none r false e = refl
 
 module _ (c t : Bool) (v : Verdict) (e : entryVerdict c t v ≡ Fine) where
   rest : inOrder (check Space t ∷ v ∷ []) ≡ Fine
@@ -40,11 +36,11 @@ module _ (c t : Bool) (v : Verdict) (e : entryVerdict c t v ≡ Fine) where
 
   pub count-fine : c ≡ false
   unfolding entryVerdict inOrder
-  count-fine = check-none Count c (first-left _ _ e)
+  count-fine = check-told Count c (first-left _ _ e)
 
   pub space-fine : t ≡ false
   unfolding inOrder
-  space-fine = check-none Space t (first-left _ _ rest)
+  space-fine = check-told Space t (first-left _ _ rest)
 
   pub lists-fine : v ≡ Fine
   unfolding inOrder
@@ -74,12 +70,12 @@ pub record Columns (ss es : List ℕ) (need : ℕ) (n m : ℕ) : Type 0 where
 
 pub merged-fine : (ss es : List ℕ) (n m : ℕ) → mergedVerdict ss es n m ≡ Fine → Columns ss es (length ss) n m
 merged-fine ss es n m e =
-    let c = or-none (badList ss es) (uneven n m) (count-fine _ _ _ e) in
+    let c = or-neither (badList ss es) (uneven n m) (count-fine _ _ _ e) in
     record { even = even-list ss es (c .0); small = small-list ss es (c .0); answer = even-fine n m (c .1); room = ltb-false n (length ss) (space-fine _ _ _ e) }
 
 pub joined-fine : (ss es : List ℕ) (r : Range) (n m : ℕ) → joinedVerdict ss es r n m ≡ Fine → Columns ss es (length ss + 1) n m
 joined-fine ss es r n m e =
-    let c = or-none (badList ss es) (uneven n m) (count-fine _ _ _ e) in
+    let c = or-neither (badList ss es) (uneven n m) (count-fine _ _ _ e) in
     record { even = even-list ss es (c .0); small = small-list ss es (c .0); answer = even-fine n m (c .1); room = ltb-false n (length ss + 1) (space-fine _ _ _ e) }
 
 pub record Pair (ss es ts fs : List ℕ) : Type 0 where
@@ -90,15 +86,15 @@ pub record Pair (ss es ts fs : List ℕ) : Type 0 where
 
 pub union-fine : (ss es ts fs : List ℕ) (n m : ℕ) → unionVerdict ss es ts fs n m ≡ Fine → Columns ss es (length ss + length ts) n m × Pair ss es ts fs
 union-fine ss es ts fs n m e =
-    let c = or-none (badList ss es) (badList ts fs || uneven n m) (count-fine _ _ _ e) in
-    let d = or-none (badList ts fs) (uneven n m) (c .1) in (
+    let c = or-neither (badList ss es) (badList ts fs || uneven n m) (count-fine _ _ _ e) in
+    let d = or-neither (badList ts fs) (uneven n m) (c .1) in (
       record { even = even-list ss es (c .0); small = small-list ss es (c .0); answer = even-fine n m (d .1); room = ltb-false n (length ss + length ts) (space-fine _ _ _ e) },
       record { even = even-list ss es (c .0); even-two = even-list ts fs (d .0); one = pair-apart-one _ _ (lists-fine _ _ _ e); two = pair-apart-two _ _ (lists-fine _ _ _ e) },
     )
 
 pub clashes-fine : (ss es ts fs : List ℕ) → clashesVerdict ss es ts fs ≡ Fine → Pair ss es ts fs
 clashes-fine ss es ts fs e =
-    let c = or-none (badList ss es) (badList ts fs) (count-fine _ _ _ e) in
+    let c = or-neither (badList ss es) (badList ts fs) (count-fine _ _ _ e) in
     record { even = even-list ss es (c .0); even-two = even-list ts fs (c .1); one = pair-apart-one _ _ (lists-fine _ _ _ e); two = pair-apart-two _ _ (lists-fine _ _ _ e) }
 
 -- ---- what the answer lists hold

@@ -8,6 +8,7 @@ use native.Mathlib.Nat.{min-eq-left}
 use lib.ListN.{length, getD, set, take, length-map}
 use borrow.Author.Tests.{lt-ltb, le-ltb, eq-eqb}
 use Rattle.words.proofs.Points.{stored, cut}
+use Rattle.words.proofs.Bools.{or-right, or-left}
 use Rattle.refusals.specs.declared.Verdict.{Verdict}
 use Rattle.refusals.specs.Outcomes.{Outcome, refused, unless}
 use Rattle.ranges.specs.declared.Range.{Range}
@@ -15,7 +16,7 @@ use Rattle.ranges.specs.Points.{rangeAt}
 use Rattle.ranges.specs.Forms.{starts, ends, columns}
 use Rattle.ranges.specs.Merged.{clashes}
 use Rattle.range_checks.specs.Verdicts.{badList, pairVerdict, entryVerdict}
-use Rattle.range_checks.proofs.VerdictLaws.{entry-count, or-true, or-left}
+use Rattle.range_checks.proofs.VerdictLaws.{entry-count}
 use Rattle.range_entries.specs.Entries.{clashesOf as columnsClash}
 use Rattle.range_forms.specs.Lent.{overLimit, clashesOf}
 use Rattle.range_forms.specs.Inner.{pointOf, Filled, Column, clashesOver}
@@ -88,7 +89,7 @@ module _ (rs ss : List Range) where
 
   second-over : 65536 < length ss → refused 1 0 ≡ clashesOf rs ss
   unfolding clashesOf
-  second-over h = counted-out (overLimit rs || overLimit ss) (clashes rs ss) (pairVerdict true rs ss) (or-true (overLimit rs) (overLimit ss) (lt-ltb 65536 (length ss) h))
+  second-over h = counted-out (overLimit rs || overLimit ss) (clashes rs ss) (pairVerdict true rs ss) (or-right (overLimit rs) (overLimit ss) (lt-ltb 65536 (length ss) h))
 
 -- what is taken of a list by `column`
 pub record Apart (rs : List Range) (s e : List ℕ) : Type 0 where

@@ -7,10 +7,11 @@ use Prim.Native.Nat.{ℕ, _≤_, _<_, max}
 use native.Mathlib.Omega.{arith}
 use lib.Dec.{leb}
 use borrow.Author.Tests.{leb-true, leb-false, le-leb}
+use Rattle.words.proofs.Bools.{or-right, and-both, or-cases}
 use Rattle.ranges.specs.declared.Range.{Range}
 use Rattle.ranges.specs.Points.{Within, Point, overlaps, Upright, Common}
 use Rattle.ranges.specs.Merged.{meets, clashes}
-use Rattle.ranges.proofs.PointLaws.{and-both, or-cases, or-right, point-head, point-tail, point-none, point-cases, upright-head, upright-tail}
+use Rattle.ranges.proofs.PointLaws.{point-head, point-tail, point-none, point-cases, upright-head, upright-tail}
 
 -- two upright ranges overlap exactly when they share a point
 pub overlap-point : (r s : Range) → r .start ≤ r .end → s .start ≤ s .end → overlaps r s ≡ true → (x : ℕ) × Within r x × Within s x

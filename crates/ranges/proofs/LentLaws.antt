@@ -7,6 +7,7 @@ use native.Mathlib.Omega.{arith}
 use native.Mathlib.Numerals.{add-one}
 use lib.ListN.{length}
 use borrow.Author.Tests.{ltb-false, leb-false}
+use Rattle.words.proofs.Bools.{or-neither}
 use Rattle.refusals.specs.declared.Verdict.{Verdict}
 use Rattle.refusals.specs.declared.Verdict.the-variants.{Fine, Bad}
 use Rattle.refusals.specs.declared.Refusal.the-variants.{Want}
@@ -15,7 +16,7 @@ use Rattle.refusals.proofs.Laws.{scan-fine, scan-none, scan-miss}
 use Rattle.ranges.specs.declared.Range.{Range}
 use Rattle.ranges.specs.Points.{Upright, Past, Apart}
 use Rattle.ranges.specs.Lent.{reversedAt, wrongAt, listVerdict, faulty}
-use Rattle.ranges.proofs.PointLaws.{or-none, upright-none, upright-cons}
+use Rattle.ranges.proofs.PointLaws.{upright-none, upright-cons}
 
 right-at : (o : Bool) (rs : List Range) → listVerdict o rs ≡ Fine → (i : ℕ) → i < length rs → wrongAt o rs i ≡ false
 unfolding listVerdict
@@ -27,25 +28,25 @@ upright-all (r ∷ rs) f = upright-cons r rs (ltb-false _ _ (f 0 (omega arith)))
 
 -- in a list that need not be in order, no range is reversed
 pub fine-upright : (o : Bool) (rs : List Range) → listVerdict o rs ≡ Fine → Upright rs
-fine-upright o rs e = upright-all rs (λ i h. or-none _ _ (right-at o rs e i h) .0)
+fine-upright o rs e = upright-all rs (λ i h. or-neither _ _ (right-at o rs e i h) .0)
 
 past-all : (x : ℕ) (r : Range) (rs : List Range) → x ≡ r .end → ((i : ℕ) → i < length (r ∷ rs) → wrongAt true (r ∷ rs) i ≡ false) → Past x rs
 past-all x r [] e f = tt
 past-all x r (s ∷ rs) e f =
-    let p = or-none _ _ (f 1 (omega arith)) in
+    let p = or-neither _ _ (f 1 (omega arith)) in
     let a : r .end < s .start = leb-false _ _ (p .1) in
     let b : s .start ≤ s .end = ltb-false _ _ (p .0) in
     (omega arith, b, past-all (s .end) s rs refl (λ i h. next i h))
   where
     next : (i : ℕ) → i < length (s ∷ rs) → wrongAt true (s ∷ rs) i ≡ false
-    next zero h = let q : reversedAt (s ∷ rs) 0 ≡ false = or-none _ _ (f 1 (omega arith)) .0 in rw q
+    next zero h = let q : reversedAt (s ∷ rs) 0 ≡ false = or-neither _ _ (f 1 (omega arith)) .0 in rw q
     next (suc i) h = f (suc (suc i)) (omega arith)
 
 -- in one that is to be, it is in order and apart
 pub fine-apart : (rs : List Range) → listVerdict true rs ≡ Fine → Apart rs
 fine-apart [] e = tt
 fine-apart (r ∷ rs) e =
-    let a : r .start ≤ r .end = ltb-false _ _ (or-none _ _ (right-at true (r ∷ rs) e 0 (omega arith)) .0) in
+    let a : r .start ≤ r .end = ltb-false _ _ (or-neither _ _ (right-at true (r ∷ rs) e 0 (omega arith)) .0) in
     (a, past-all (r .end) r rs refl (right-at true (r ∷ rs) e))
 
 -- ---- the same as a test

@@ -7,26 +7,11 @@ use Prim.Native.Nat.{ℕ, _≤_, _<_}
 use native.Mathlib.Omega.{arith}
 use lib.Dec.{leb}
 use borrow.Author.Tests.{leb-true, le-leb}
+use Rattle.words.proofs.Bools.{or-right, and-both, or-cases}
 use Rattle.ranges.specs.declared.Range.{Range}
 use Rattle.ranges.specs.Points.{Within, Point, within, inside, Upright, Past, Apart}
 
 -- ---- tests
-
-pub and-both : (s t : Bool) → s && t ≡ true → (s ≡ true) × (t ≡ true)
-and-both true t e = (refl, e)
-and-both false t e = absurd (false≢true e)
-
-pub or-cases : (s t : Bool) → s || t ≡ true → (s ≡ true) ⊎ (t ≡ true)
-or-cases true t e = inl refl
-or-cases false t e = inr e
-
-pub or-right : (s t : Bool) → t ≡ true → s || t ≡ true
-or-right true t e = refl
-or-right false t e = e
-
-pub or-none : (s t : Bool) → s || t ≡ false → (s ≡ false) × (t ≡ false)
-or-none true t e = absurd (true≢false e)
-or-none false t e = (refl, e)
 
 -- ---- points
 

@@ -4,12 +4,13 @@ use native.Mathlib.Omega.{arith}
 use native.Mathlib.Numerals.{add-one}
 use mathlib.Core.Path.{_≡_, refl, sym, ap, _∙_}
 use mathlib.Core.Logic.{_≢_, _⊎_, inl, inr}
-use mathlib.Core.Bool.{Bool, true, false, cond, not, _&&_, _||_}
+use mathlib.Core.Bool.{Bool, true, false, cond, not, _&&_, _||_, or-false, or-assoc}
 use mathlib.Core.List.{List, [], _∷_}
 use lib.ListN.{length, getD, set, length-set}
 use lib.Dec.{eqb, ltb}
 use borrow.Author.Tests.{eqb-true, eq-eqb, ne-eqb}
 use Rattle.words.proofs.Points.{cut, same, stored}
+use Rattle.words.proofs.Bools.{or-cond}
 use Rattle.bits.specs.Bits.{bit, PutBit}
 use Rattle.graph.specs.Work.{Within}
 use Rattle.graph.proofs.Within.{within-refl, within-set, within-trans, within-wider}
@@ -17,23 +18,6 @@ use Rattle.insts.proofs.DealtLaws.{any-none, any-next}
 use Rattle.reach.specs.Prepared.{wordsOf, key}
 use Rattle.reach.specs.Scan.{Marked, Linked}
 use Rattle.reach.proofs.UseLaws.{Some}
-
-or-none : (u : Bool) → (u || false) ≡ u
-or-none true = refl
-or-none false = refl
-
-or-cond : (u : Bool) (x b : ℕ) → cond (eqb x b) true u ≡ (u || eqb b x)
-or-cond u x b = same x b
-    (λ e. rw (eq-eqb x b e, eq-eqb b x (sym e)) (sym (or-one u)))
-    (λ e. rw (ne-eqb x b e, ne-eqb b x (λ q. e (sym q))) (sym (or-none u)))
-  where
-    or-one : (u : Bool) → (u || true) ≡ true
-    or-one true = refl
-    or-one false = refl
-
-or-more : (a b c : Bool) → ((a || b) || c) ≡ (a || (b || c))
-or-more true b c = refl
-or-more false b c = refl
 
 pub put-within : {w₀ w : List ℕ} {row v b : ℕ} {t : Bool} → PutBit w₀ w row b t → b < v → Within row (row + wordsOf v) w₀ w
 put-within p h = record {
@@ -54,7 +38,7 @@ mark-start w row v t reg n h = record {
   p-le = omega arith;
   room = h;
   kept = within-refl row _ w;
-  bits = λ r l. sym (ap (λ (b : Bool). bit w row r || b) (any-none (λ k. t k && eqb (reg k) r) (λ k. k)) ∙ or-none (bit w row r));
+  bits = λ r l. sym (ap (λ (b : Bool). bit w row r || b) (any-none (λ k. t k && eqb (reg k) r) (λ k. k)) ∙ or-false (bit w row r));
 }
 
 module _ {w₀ w : List ℕ} {row v : ℕ} {t : ℕ → Bool} {reg : ℕ → ℕ} {n p : ℕ} (d : Marking w₀ w row v t reg n p) where
@@ -67,7 +51,7 @@ module _ {w₀ w : List ℕ} {row v : ℕ} {t : ℕ → Bool} {reg : ℕ → ℕ
         d .bits r l
         ∙ ap (λ (b : Bool). bit w₀ row r || b)
         (sym (any-next (λ k. t k && eqb (reg k) r) (λ k. k) p
-        ∙ ap (λ (b : Bool). Some p (λ k. t k && eqb (reg k) r) || (b && eqb (reg p) r)) e ∙ or-none _));
+        ∙ ap (λ (b : Bool). Some p (λ k. t k && eqb (reg k) r) || (b && eqb (reg p) r)) e ∙ or-false _));
   }
 
   pub mark-put : {w' : List ℕ} {b : ℕ} → PutBit w w' row b true → p < n → t p ≡ true → b ≡ reg p → reg p < v → Marking w₀ w' row v t reg n (p + 1)
@@ -79,7 +63,7 @@ module _ {w₀ w : List ℕ} {row v : ℕ} {t : ℕ → Bool} {reg : ℕ → ℕ
         q .bits r
         ∙ ap (λ (u : Bool). cond (eqb r b) true u) (d .bits r m)
         ∙ or-cond _ r b
-        ∙ or-more (bit w₀ row r) (Some p (λ k. t k && eqb (reg k) r)) (eqb b r)
+        ∙ or-assoc (bit w₀ row r) (Some p (λ k. t k && eqb (reg k) r)) (eqb b r)
         ∙ ap (λ (u : Bool). bit w₀ row r || u)
         (ap (λ (x : ℕ). Some p (λ k. t k && eqb (reg k) r) || eqb x r) z
         ∙ sym (any-next (λ k. t k && eqb (reg k) r) (λ k. k) p ∙ ap (λ (b : Bool). Some p (λ k. t k && eqb (reg k) r) || (b && eqb (reg p) r)) e));

@@ -9,6 +9,7 @@ use lib.ListN.{length}
 use lib.Dec.{eqb}
 use Rattle.words.specs.Rows.{rowCount, field}
 use Rattle.words.proofs.RowLaws.{length-records, getD-records}
+use Rattle.words.proofs.Bools.{both-ways}
 use Rattle.carrying.specs.Lists.{any, keep}
 use Rattle.carrying.specs.Insts.{Inst, defOf}
 use Rattle.carrying.specs.Carried.{Mention, mentionsOf, empty}
@@ -16,7 +17,7 @@ use Rattle.carrying.proofs.CarryLaws.{def-below}
 use Rattle.operands.specs.Numbers.{defNumber}
 use Rattle.reach.specs.Prepared.{latest, localOf}
 use Rattle.reach.specs.Steps.{rowLocal}
-use Rattle.reach.proofs.UseLaws.{bool-ext, Some, some-at, some-index, entry-index, index-entry}
+use Rattle.reach.proofs.UseLaws.{Some, some-at, some-index, entry-index, index-entry}
 
 pub def-small : (v : ℕ) (x : Inst) → defNumber (defOf v x) ≤ v
 def-small v x = go (defOf v x) refl
@@ -58,7 +59,7 @@ any-keep p q (a ∷ l) = go (q a) (any-keep p q l)
 -- some row passes, by its record or by its numbers
 pub any-rows : (p : Mention → Bool) (s : List ℕ) (f : ℕ → Bool) → ((k : ℕ) → k < rowCount 2 s → p (record { inst = field 2 s k 0; local = field 2 s k 1 }) ≡ f k)
     → any p (mentionsOf s) ≡ Some (rowCount 2 s) f
-any-rows p s f e = bool-ext _ _
+any-rows p s f e = both-ways _ _
     (λ t.
     let (k, h, u) = entry-index p (rowCount 2 s) (λ k. record { inst = field 2 s k 0; local = field 2 s k 1 }) t in
     some-at (rowCount 2 s) f k h (sym (e k h) ∙ u))

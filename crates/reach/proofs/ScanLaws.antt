@@ -4,45 +4,38 @@ use native.Mathlib.Omega.{arith}
 use native.Mathlib.Nat.{add-zero}
 use mathlib.Core.Path.{_≡_, refl, sym, ap, _∙_, subst}
 use mathlib.Core.Logic.{_≢_, _⊎_, inl, inr}
-use mathlib.Core.Bool.{Bool, true, false, cond, not, _&&_, _||_, true≢false}
+use mathlib.Core.Bool.{Bool, true, false, cond, not, _&&_, _||_, true≢false, or-false, and-false, and-true}
 use mathlib.Core.Option.{Option, some, none}
 use mathlib.Core.List.{List, [], _∷_}
 use lib.ListN.{length, getD, set, length-set}
 use lib.Seq.{getD-set-same, getD-set-other}
 use lib.Dec.{eqb, ltb}
-use borrow.Author.Tests.{eq-eqb, ne-eqb}
+use borrow.Author.Tests.{eq-eqb, ne-eqb, not-true, not-false}
 use Rattle.words.specs.Rows.{tabulate, rowCount, field}
 use Rattle.words.specs.Regions.{Kept}
 use Rattle.words.proofs.Points.{cut, same, stored}
 use Rattle.bits.specs.Bits.{bit, bitOf}
 use Rattle.graph.specs.Work.{Within, sumOf}
 use Rattle.graph.proofs.Within.{within-refl, within-set, within-trans, within-wider}
+use Rattle.graph.proofs.Sums.{sum-start, sum-next}
 use Rattle.carrying.specs.Lists.{any}
 use Rattle.carrying.specs.Insts.{Operand, Inst, instOf, instsOf, instAt, defOf, isSet, isUse, addressPosition, eachAddress, reads, addressed}
 use Rattle.carrying.specs.Carried.{isNone}
 use Rattle.insts.specs.Counts.{offset}
 use Rattle.insts.specs.Rows.{operandsFrom, AddsUp}
-use Rattle.insts.proofs.DealtLaws.{any-none, any-next, sum-next, sum-start, inst-at, insts-length, operands-within}
+use Rattle.insts.proofs.DealtLaws.{any-none, any-next, inst-at, insts-length, operands-within}
 use Rattle.reach.specs.declared.Lay.{Lay}
 use Rattle.operands.specs.Numbers.{defNumber, addressing}
 use Rattle.reach.specs.Prepared.{wordsOf, key, leaReader, Hands}
 use Rattle.reach.specs.Scan.{Marked, Linked, escapesIn, handsIn, rowOf, strayReader, Handing, Added, Scanning, Blank}
 
-or-none : (u : Bool) → (u || false) ≡ u
-or-none true = refl
-or-none false = refl
-
-and-no : (u : Bool) → (u && false) ≡ false
-and-no true = refl
-and-no false = refl
-
-and-yes : (u : Bool) → (u && true) ≡ u
-and-yes true = refl
-and-yes false = refl
-
 pub none-number : (o : Option ℕ) → defNumber o ≡ 0 → isNone o ≡ true
 none-number none e = refl
 none-number (some r) e = absurd (omega arith)
+
+pub number-is : (o : Option ℕ) (r : ℕ) → defNumber o ≡ suc r → o ≡ some r
+number-is none r e = absurd (omega arith)
+number-is (some s) r e = let z : s ≡ r = omega arith in ap some z
 
 pub some-number : (o : Option ℕ) → defNumber o ≢ 0 → isNone o ≡ false
 some-number none e = absurd (e refl)
@@ -52,25 +45,17 @@ some-number (some r) e = refl
 pub same-bit : (w₀ w : List ℕ) (row v r : ℕ) → r < v → ((k : ℕ) → row ≤ k → k < row + wordsOf v → getD w k 0 ≡ getD w₀ k 0) → bit w row r ≡ bit w₀ row r
 same-bit w₀ w row v r h f = ap (λ (y : ℕ). bitOf y (r % 64)) (f (row + r / 64) (omega arith) (omega arith))
 
-not-yes : (t : Bool) → not t ≡ true → t ≡ false
-not-yes true e = absurd (true≢false (sym e))
-not-yes false e = refl
-
-not-no : (t : Bool) → not t ≡ false → t ≡ true
-not-no true e = refl
-not-no false e = absurd (true≢false e)
-
 lea-no : (p l m a e : Bool) → (p && (l && m)) ≡ false → ((p && a) && ((m && e) && l)) ≡ false
 lea-no false l m a e h = refl
-lea-no true false m a e h = ap (λ (t : Bool). a && t) (and-no (m && e)) ∙ and-no a
-lea-no true true false a e h = and-no a
+lea-no true false m a e h = ap (λ (t : Bool). a && t) (and-false (m && e)) ∙ and-false a
+lea-no true true false a e h = and-false a
 lea-no true true true a e h = absurd (true≢false h)
 
 lea-yes : (p l m a e : Bool) → (p && (l && m)) ≡ true → (a && e) ≡ ((p && a) && ((m && e) && l))
 lea-yes false l m a e h = absurd (true≢false (sym h))
 lea-yes true false m a e h = absurd (true≢false (sym h))
 lea-yes true true false a e h = absurd (true≢false (sym h))
-lea-yes true true true a e h = ap (λ (t : Bool). a && t) (sym (and-yes e))
+lea-yes true true true a e h = ap (λ (t : Bool). a && t) (sym (and-true e))
 
 -- ---- the rows' instructions
 
@@ -81,13 +66,13 @@ each-row f ps r p (o ∷ os) = ap (λ (t : Bool). (not (isUse r o) || addressPos
 
 module _ (insts operands : List ℕ) (i from : ℕ) where
   pub unplaced-stray : not (isSet (field 9 insts i 0)) ≡ true → (r : ℕ) → strayReader (rowOf insts operands i from) r ≡ false
-  unplaced-stray e r = rw (not-yes (isSet (field 9 insts i 0)) e)
+  unplaced-stray e r = rw (not-true (isSet (field 9 insts i 0)) e)
 
   pub placed-stray : not (isSet (field 9 insts i 0)) ≡ false → (n : ℕ) → n ≡ field 9 insts i 8 → (r : ℕ)
       → escapesIn (field 9 insts i 5) (field 9 insts i 6) (field 9 insts i 7) (operandsFrom operands from n) r ≡ strayReader (rowOf insts operands i from) r
   placed-stray e n q r =
       ap (λ (k : ℕ). escapesIn (field 9 insts i 5) (field 9 insts i 6) (field 9 insts i 7) (operandsFrom operands from k) r) q
-      ∙ rw (not-no (isSet (field 9 insts i 0)) e) (ap (λ (t : Bool). any (isUse r) (operandsFrom operands from (field 9 insts i 8)) && not (isSet (field 9 insts i 5) && t))
+      ∙ rw (not-false (isSet (field 9 insts i 0)) e) (ap (λ (t : Bool). any (isUse r) (operandsFrom operands from (field 9 insts i 8)) && not (isSet (field 9 insts i 5) && t))
       (sym (each-row (field 9 insts i) (operandsFrom operands from (field 9 insts i 8)) r 0 (operandsFrom operands from (field 9 insts i 8)))))
 
   pub no-lea : (isSet (field 9 insts i 0) && (isSet (field 9 insts i 4) && isSet (field 9 insts i 5))) ≡ false → (r : ℕ) → leaReader (rowOf insts operands i from) r ≡ false
@@ -104,7 +89,7 @@ module _ (insts operands : List ℕ) (i from : ℕ) where
 -- ---- one instruction
 
 pub marked-none : (w : List ℕ) (row v : ℕ) (f : ℕ → Bool) → ((r : ℕ) → f r ≡ false) → Marked w w row v f
-marked-none w row v f e = record { kept = within-refl row _ w; bits = λ r l. sym (ap (λ (b : Bool). bit w row r || b) (e r) ∙ or-none (bit w row r)) }
+marked-none w row v f e = record { kept = within-refl row _ w; bits = λ r l. sym (ap (λ (b : Bool). bit w row r || b) (e r) ∙ or-false (bit w row r)) }
 
 pub marked-same : {w₀ w : List ℕ} {row v : ℕ} {f : ℕ → Bool} → Marked w₀ w row v f → (g : ℕ → Bool) → ((r : ℕ) → f r ≡ g r) → Marked w₀ w row v g
 marked-same {w₀} {w} {row} m g e = record { kept = m .kept; bits = λ r l. m .bits r l ∙ ap (λ (b : Bool). bit w₀ row r || b) (e r) }
@@ -114,7 +99,7 @@ module _ (lay : Lay) (v : ℕ) (x : Inst) (i m : ℕ) where
   hand-none w n e = record {
     len = refl;
     outside = λ k a b. refl;
-    dead = λ r l. sym (ap (λ (b : Bool). bit w (lay .dead) r || (b && isNone (defOf v x))) (e r) ∙ or-none _);
+    dead = λ r l. sym (ap (λ (b : Bool). bit w (lay .dead) r || (b && isNone (defOf v x))) (e r) ∙ or-false _);
     more = omega arith;
     few = omega arith;
     only = λ k l h. absurd (omega arith);
@@ -125,7 +110,7 @@ module _ (lay : Lay) (v : ℕ) (x : Inst) (i m : ℕ) where
   hand-stuck {w₀} {w} {f} k n e d = record {
     len = k .kept .len;
     outside = λ j a b. beside j a;
-    dead = λ r l. k .bits r l ∙ ap (λ (b : Bool). bit w₀ (lay .dead) r || b) (e r ∙ sym (and-yes (leaReader x r)) ∙ ap (λ (b : Bool). leaReader x r && b) (sym d));
+    dead = λ r l. k .bits r l ∙ ap (λ (b : Bool). bit w₀ (lay .dead) r || b) (e r ∙ sym (and-true (leaReader x r)) ∙ ap (λ (b : Bool). leaReader x r && b) (sym d));
     more = omega arith;
     few = omega arith;
     only = λ k l h. absurd (omega arith);
@@ -143,7 +128,7 @@ module _ (lay : Lay) (v : ℕ) (x : Inst) (i m : ℕ) where
     outside = λ j a b. beside j b;
     dead = λ r l.
         same-bit w₀ w (lay .dead) v r l (λ j a b. k .kept .below j (omega arith))
-        ∙ sym (ap (λ (b : Bool). bit w₀ (lay .dead) r || (leaReader x r && b)) d ∙ ap (λ (b : Bool). bit w₀ (lay .dead) r || b) (and-no (leaReader x r)) ∙ or-none _);
+        ∙ sym (ap (λ (b : Bool). bit w₀ (lay .dead) r || (leaReader x r && b)) d ∙ ap (λ (b : Bool). bit w₀ (lay .dead) r || b) (and-false (leaReader x r)) ∙ or-false _);
     more = k .more;
     few = let q = k .few in omega arith;
     only = λ j l h.

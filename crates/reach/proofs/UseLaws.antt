@@ -7,31 +7,20 @@ use mathlib.Core.Bool.{Bool, true, false, not, _&&_, _||_, true≢false, false�
 use mathlib.Core.List.{List, [], _∷_}
 use lib.ListN.{length, getD}
 use lib.Dec.{eqb, ltb}
-use borrow.Author.Tests.{eqb-true, eq-eqb, lt-ltb, ltb-true}
-use Rattle.ranges.proofs.PointLaws.{and-both, or-cases}
-use Rattle.graph.proofs.RoundLaws.{and-pair, or-left}
+use borrow.Author.Tests.{eqb-true, eq-eqb, lt-ltb, ltb-true, not-true}
 use Rattle.words.specs.Rows.{tabulate}
 use Rattle.words.proofs.RowLaws.{length-tabulate, getD-tabulate, mem-tabulate, mem-of-tabulate}
+use Rattle.words.proofs.Bools.{and-both, or-cases, or-left, and-pair, both-ways}
 use Rattle.carrying.specs.Lists.{any}
 use Rattle.carrying.specs.Insts.{Operand, Inst, isSet, isUse, addressPosition, eachAddress}
 use Rattle.carrying.proofs.ListLaws.{any-true, any-entry, any-false, false-any}
 use Rattle.operands.specs.Numbers.{addressing}
 use Rattle.reach.specs.Scan.{escapesIn, handsIn}
 
-pub bool-ext : (a b : Bool) → (a ≡ true → b ≡ true) → (b ≡ true → a ≡ true) → a ≡ b
-bool-ext true true f g = refl
-bool-ext true false f g = absurd (false≢true (f refl))
-bool-ext false true f g = absurd (false≢true (g refl))
-bool-ext false false f g = refl
-
 -- the same with a proof by cases kept
 pub by-bool : {A : Type 0} (t : Bool) → (t ≡ true → A) → (t ≡ false → A) → A
 by-bool true f g = f refl
 by-bool false f g = g refl
-
-pub not-true : (t : Bool) → not t ≡ true → t ≡ false
-not-true true e = absurd (false≢true e)
-not-true false e = refl
 
 pub not-false : (t : Bool) → t ≡ false → not t ≡ true
 not-false true e = absurd (true≢false e)
@@ -122,7 +111,7 @@ module _ (v mem base index n : ℕ) (g : ℕ → Operand) where
   use-of r k d e = and-pair _ _ e d
 
   pub straying-found : (r : ℕ) → r < v → Some n (λ k. straying k && eqb (g k .register) r) ≡ escapesIn mem base index (tabulate n g) r
-  straying-found r l = bool-ext _ _ to from
+  straying-found r l = both-ways _ _ to from
     where
       to : Some n (λ k. straying k && eqb (g k .register) r) ≡ true → escapesIn mem base index (tabulate n g) r ≡ true
       to e =
@@ -201,7 +190,7 @@ module _ (v base index n : ℕ) (g : ℕ → Operand) where
 
   pub handing-found : (r : ℕ) → r < v → Some n (λ k. handing k && eqb (g k .register) r) ≡ handsIn base index (tabulate n g) r
   handing-found r l =
-      bool-ext _ _
+      both-ways _ _
       (λ e.
       let (k, h, t) = some-index n (λ k. handing k && eqb (g k .register) r) e in
       let (s, z) = and-both (handing k) (eqb (g k .register) r) t in

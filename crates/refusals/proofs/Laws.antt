@@ -15,6 +15,14 @@ use Rattle.refusals.specs.declared.Refusal.the-variants.{Count, Line, Ed
 use Rattle.refusals.specs.declared.Verdict.{Verdict}
 use Rattle.refusals.specs.declared.Verdict.the-variants.{Fine, Bad}
 
+pub bad-fine : {A : Type 0} {r : Refusal} {i : ℕ} → Bad r i ≡ Fine → A
+bad-fine e = absurd (let z : _≡_ {A = ℕ} 0 1 = cc in omega arith)
+
+-- a check that is fine was not met
+pub check-told : (r : Refusal) (t : Bool) → check r t ≡ Fine → t ≡ false
+check-told r true e = bad-fine e
+check-told r false e = refl
+
 -- ---- the first of two
 
 pub first-fine : (v w : Verdict) → v ≡ Fine → first v w ≡ w

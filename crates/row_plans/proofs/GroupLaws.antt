@@ -6,15 +6,11 @@ use mathlib.Core.Path.{_≡_, sym, ap, _∙_}
 use mathlib.Core.List.{List}
 use lib.ListN.{length, getD, take, drop}
 use Rattle.words.specs.Regions.{part}
-use Rattle.grammar.specs.Groups.{rowNumbers}
 use Rattle.words.proofs.RegionLaws.{getD-part}
+use Rattle.grammar.specs.Groups.{rowNumbers}
 use Rattle.job_answers.specs.declared.Shared.{Shared}
 use Rattle.job.specs.Entry.{SharedAs}
 use Rattle.row_plans.specs.Groups.{numbersAt, Few}
-
--- a part of the rows, from where its group begins
-pub cut-at : (rows : List ℕ) (a b n : ℕ) → b ≡ a + n → take (b - a) (drop a rows) ≡ part a n rows
-cut-at rows a b n e = let f : b - a ≡ n = omega arith in ap (λ (k : ℕ). take k (drop a rows)) f
 
 pub shared-same : {p p′ v v′ b b′ : ℕ} {g1 g2 g3 g4 g5 g6 g7 g8 g9 g10 g11 g12 h1 h2 h3 h4 h5 h6 h7 h8 h9 h10 h11 h12 cells items areas work : List ℕ} {r : Shared} {cells′ items′ areas′ work′ : List ℕ}
     → p ≡ p′ → v ≡ v′ → b ≡ b′ → g1 ≡ h1 → g2 ≡ h2 → g3 ≡ h3 → g4 ≡ h4 → g5 ≡ h5 → g6 ≡ h6 → g7 ≡ h7 → g8 ≡ h8 → g9 ≡ h9 → g10 ≡ h10 → g11 ≡ h11 → g12 ≡ h12

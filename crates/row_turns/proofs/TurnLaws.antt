@@ -10,9 +10,10 @@ use lib.Bits.{bitAnd}
 use borrow.Author.Tests.{eq-eqb, ne-eqb}
 use Rattle.words.proofs.Points.{cut, same}
 use Rattle.words.proofs.RegionLaws.{row-before}
+use Rattle.words.proofs.Bools.{not-both}
 use Rattle.bits.specs.Bits.{bit, bitOf, Lowest, Without}
-use Rattle.bits.proofs.BitLaws.{bit-at}
 use Rattle.bits.proofs.DigitLaws.{bit-and, bit-zero}
+use Rattle.bits.proofs.BitLaws.{bit-at}
 use Rattle.graph.specs.Work.{Within}
 use Rattle.graph.proofs.Within.{within-refl, within-trans}
 use Rattle.area_rows.specs.declared.Column.{Column}
@@ -21,9 +22,6 @@ use Rattle.area_rows.specs.Marks.{marked, Fits, Marked}
 use Rattle.area_rows.specs.Inner.{Put}
 use Rattle.row_turns.specs.Turns.{both, columnOf, Turnable, Turned}
 use Rattle.area_rows.proofs.PutLaws.{put-none, put-then, put-as, put-fits, put-set}
-
-never : {b : Bool} → b ≡ true → b ≡ false → ⊥
-never p q = let z : _≡_ {A = ℕ} 0 1 = cc in omega arith
 
 -- ---- a word's bits
 
@@ -39,7 +37,7 @@ pub record Scattering (c : Column) (i word : ℕ) (w₀ w : List ℕ) (left : �
 pub scatter-start : (c : Column) (i word : ℕ) (w : List ℕ) → Fits c w → Scattering c i word w w word
 scatter-start c i word w f = record {
   fits = f;
-  put = put-as (Gone i word word) (put-none c true w) (λ k h s. absurd s) (λ k h p. absurd (never (p .3) (p .4)));
+  put = put-as (Gone i word word) (put-none c true w) (λ k h s. absurd s) (λ k h p. absurd (not-both (p .3) (p .4)));
   some = λ b e. e;
 }
 
@@ -58,7 +56,7 @@ module _ {c : Column} {i word : ℕ} {w₀ w : List ℕ} {left : ℕ} (p : Scatt
       other d e = wo .bits b lo d ∙ ap (λ (t : Bool). cond t false (bitOf left d)) (ne-eqb d b e)
 
       kept : (d : ℕ) → bitOf y d ≡ true → bitOf left d ≡ true
-      kept d e = same d b (λ z. absurd (never e (gone d z))) (λ z. sym (other d z) ∙ e)
+      kept d e = same d b (λ z. absurd (not-both e (gone d z))) (λ z. sym (other d z) ∙ e)
 
       to : (l : ℕ) → l < c .n → Gone i word left l ⊎ (l ≡ i * 64 + b) → Gone i word y l
       to l h (inl (d, x, e, f, g)) = (d, x, e, f, same d b (λ z. gone d z) (λ z. other d z ∙ g))
@@ -142,7 +140,7 @@ module _ {t : Turn} {k : ℕ} {w₀ w : List ℕ} {i : ℕ} (p : Rowing t k w₀
 
     pub row-word : (b : ℕ) → b < 64 → bitOf word b ≡ true → i * 64 + b < t .locals
     row-word b m s = cut (t .locals) (i * 64 + b)
-        (λ g. absurd (never (sym (is b m) ∙ s) (p .ready .none k (i * 64 + b) (p .place) g (omega arith))))
+        (λ g. absurd (not-both (sym (is b m) ∙ s) (p .ready .none k (i * 64 + b) (p .place) g (omega arith))))
         (λ g. g)
 
     pub row-more : {w' : List ℕ} → Put (columnOf t k) true (λ l. (b : ℕ) × (b < 64) × (l ≡ i * 64 + b) × (bitOf word b ≡ true)) w w' → Rowing t k w₀ w' (i + 1)

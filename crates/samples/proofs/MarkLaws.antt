@@ -12,6 +12,7 @@ use lib.ListN.{getD}
 use borrow.Author.Tests.{eq-eqb}
 use Rattle.words.proofs.RegionLaws.{row-before}
 use Rattle.words.proofs.Points.{cut, same as same-or}
+use Rattle.words.proofs.Bools.{and-both}
 use Rattle.bits.specs.Bits.{bitOf}
 use Rattle.bits.proofs.DigitLaws.{bit-and, bit-zero, lowest-is}
 use Rattle.ranges.specs.declared.Range.{Range}
@@ -19,20 +20,12 @@ use Rattle.cell_tables.specs.Inner.{opens, Sure}
 
 -- ---- one word
 
-and-left : (s t : Bool) → (s && t) ≡ true → s ≡ true
-and-left true t e = refl
-and-left false t e = e
-
-and-right : (s t : Bool) → (s && t) ≡ true → t ≡ true
-and-right true t e = e
-and-right false t e = absurd (false≢true e)
-
 -- words with something in common have a bit in common
 pub shared : (x y : ℕ) → y < 2 ^ 64 → 0 < bitAnd x y → (t : ℕ) × (t < 64) × (bitOf x t ≡ true) × (bitOf y t ≡ true)
 shared x y h p =
     let l = lowest-is (bitAnd x y) p (omega (arith, and-le-r x y)) in
     let b = sym (bit-and x y (trailingZeros 64 (bitAnd x y))) ∙ l .set in
-    (trailingZeros 64 (bitAnd x y), l .within, and-left (bitOf x (trailingZeros 64 (bitAnd x y))) (bitOf y (trailingZeros 64 (bitAnd x y))) b, and-right (bitOf x (trailingZeros 64 (bitAnd x y))) (bitOf y (trailingZeros 64 (bitAnd x y))) b)
+    (trailingZeros 64 (bitAnd x y), l .within, and-both (bitOf x (trailingZeros 64 (bitAnd x y))) (bitOf y (trailingZeros 64 (bitAnd x y))) b .0, and-both (bitOf x (trailingZeros 64 (bitAnd x y))) (bitOf y (trailingZeros 64 (bitAnd x y))) b .1)
 
 pub nonzero : (y : ℕ) → not (eqb y 0) ≡ true → 0 < y
 nonzero y h = same-or y 0 (λ e. absurd (false≢true (ap not (sym (eq-eqb y 0 e)) ∙ h))) (λ d. omega arith)

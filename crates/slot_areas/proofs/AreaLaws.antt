@@ -7,11 +7,13 @@ use mathlib.Core.List.{List, [], _∷_, _++_}
 use lib.ListN.{length, getD}
 use Rattle.words.specs.Rows.{rowCount}
 use Rattle.words.specs.Regions.{part, Kept}
+use Rattle.words.proofs.RegionLaws.{length-part, kept-part-list}
 use Rattle.ranges.specs.declared.Range.{Range}
 use Rattle.ranges.specs.Merged.{merged}
 use Rattle.ranges.specs.Forms.{unpacked}
 use Rattle.ranges.specs.Inner.{Permuted}
 use Rattle.ranges.proofs.MergeLaws.{merged-permuted}
+use Rattle.ranges.proofs.FormLaws.{unpacked-length}
 use Rattle.packed.specs.Work.{MergedIn}
 use Rattle.graph.specs.Line.{blocksOf}
 use Rattle.graph.specs.Work.{Within, Table}
@@ -19,13 +21,12 @@ use Rattle.graph.proofs.Within.{within-trans, within-wider}
 use Rattle.carrying.specs.Insts.{instsOf}
 use Rattle.carrying.specs.Carried.{Piece, piecesOf, livePieces}
 use Rattle.areas.specs.Slots.{movesOf, moved, slotArea, liveArea}
-use Rattle.words.proofs.RegionLaws.{length-part, kept-part-list}
+use Rattle.areas.proofs.PermuteLaws.{perm-refl, perm-append, perm-exchange, perm-turn}
 use Rattle.slot_spots.specs.Slots.{Laid, Chains, Fetched}
 use Rattle.slot_spots.proofs.MoveLaws.{moved-permuted, table-kept, chains-kept}
 use Rattle.slot_spots.specs.declared.Places.{Places}
 use Rattle.live.specs.Live.{Fetched as LiveFetched}
 use Rattle.area_pieces.proofs.AreaLaws.{unpacked-both}
-use Rattle.areas.proofs.PermuteLaws.{perm-refl, perm-append, perm-exchange}
 use Rattle.slot_areas.specs.declared.Found.{Found}
 use Rattle.slot_areas.specs.Areas.{Stands, MovedIn, HeldIn}
 
@@ -35,10 +36,6 @@ perm-length Permuted.none = refl
 perm-length (Permuted.keep r p) = ap suc (perm-length p)
 perm-length (Permuted.swap r s rs) = refl
 perm-length (Permuted.then p q) = perm-length p ∙ perm-length q
-
-unpacked-length : (l : List ℕ) → length (unpacked l) ≡ length l
-unpacked-length [] = refl
-unpacked-length (x ∷ l) = ap suc (unpacked-length l)
 
 no-moves : (ps : List Piece) (ms : List Range) → length ms ≡ 0 → slotArea ps none ms ≡ none
 no-moves ps [] e = refl
@@ -83,13 +80,6 @@ module _ {points : ℕ} {blocks insts moves : List ℕ} {slot to : ℕ} {w₀ w�
       }
 
 -- ---- with a register
-
-append-none : (l : List Range) → l ++ [] ≡ l
-append-none [] = refl
-append-none (a ∷ l) = ap (λ (k : List Range). a ∷ k) (append-none l)
-
-perm-turn : (xs ys : List Range) → Permuted (xs ++ ys) (ys ++ xs)
-perm-turn xs ys = subst (λ (k : List Range). Permuted (xs ++ k) (ys ++ xs)) (append-none ys) (subst (λ (k : List Range). Permuted (xs ++ (ys ++ [])) (ys ++ k)) (append-none xs) (perm-exchange xs ys []))
 
 no-live : (l ms : List Range) → length l ≡ 0 → liveArea l ms ≡ none
 no-live [] ms e = refl

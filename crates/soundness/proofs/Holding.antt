@@ -10,15 +10,17 @@ use mathlib.Core.List.{List, List·Memᴰ}
 use lib.ListN.{length, getElem?}
 use lib.Dec.{eqb, leb}
 use borrow.Author.Tests.{eqb-false, leb-true, le-leb, not-false}
+use Rattle.words.proofs.Bools.{or-right, or-left, and-pair}
 use Rattle.ranges.specs.declared.Range.{Range}
 use Rattle.ranges.specs.Points.{Point, inside}
-use Rattle.ranges.proofs.PointLaws.{or-right, inside-point}
+use Rattle.ranges.proofs.PointLaws.{inside-point}
 use Rattle.graph.specs.Paths.{edge, Link, one, more, Between}
 use Rattle.graph.specs.Flow.{Reached, Reaching, Arrives, left, passed}
 use Rattle.graph.specs.Line.{Sound}
-use Rattle.graph.proofs.RoundLaws.{or-left, and-pair, cons-route}
+use Rattle.graph.proofs.RoundLaws.{cons-route}
+use Rattle.graph.proofs.Line.{mem-at}
 use Rattle.carrying.specs.Lists.{any}
-use Rattle.carrying.proofs.ListLaws.{any-true, any-false, false-any, getD-member}
+use Rattle.carrying.proofs.ListLaws.{any-true, any-false, false-any}
 use Rattle.areas.specs.Blocks.{Graph, top, bottom, InBlock, bounds, between, clip, inverted, touched, cover, leaves, passes}
 use Rattle.areas.specs.Areas.{Started, Stopping, PlainAt, both, part, UpTo, EndAt, covered, arrived, PlainPoint, EndPoint}
 use Rattle.areas.proofs.BlockLaws.{seen, touched-bound, touched-between}
@@ -178,7 +180,7 @@ module _ (F : Frame) (first : ℕ) (w : List Step) where
 
   module _ (S : Sound (F .graph .blocks)) (B : Between (length (F .graph .blocks)) (F .graph .edges)) (L : Legal F first w) where
     edge-in : (e : ℕ) → e < length (F .graph .edges) → Link (F .graph .edges) (source (F .graph) e) (target (F .graph) e)
-    edge-in e h = getD-member (F .graph .edges) e (edge 0 0) h
+    edge-in e h = mem-at (F .graph .edges) e (edge 0 0) h
 
     link : (e n : ℕ) → Crosses F first w e n → Link (F .graph .edges) (place F first w n) (target (F .graph) e)
     link e n c = subst (λ (j : ℕ). Link (F .graph .edges) j (target (F .graph) e)) (c .here) (edge-in e (c .listed))

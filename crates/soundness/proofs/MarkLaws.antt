@@ -6,7 +6,7 @@ use mathlib.Core.Option.{Option, some, none, Option·none-ne-some, Option·some-
 use Prim.Native.Nat.{ℕ, zero, suc, _<_}
 use native.Mathlib.Omega.{arith}
 use borrow.Author.Tests.{eqb-true, eq-eqb}
-use Rattle.ranges.proofs.PointLaws.{and-both}
+use Rattle.words.proofs.Bools.{and-both}
 use Rattle.graph.proofs.RoundLaws.{last-or-less}
 use Rattle.soundness.specs.Walks.{Step, next, over, read, write, mark, wrote}
 

@@ -15,14 +15,13 @@ use Rattle.refusals.specs.declared.Refusal.{Refusal}
 use Rattle.refusals.specs.declared.Refusal.the-variants.{Space}
 use Rattle.refusals.specs.Verdicts.{first}
 use Rattle.refusals.specs.Outcomes.{Outcome, after}
-use Rattle.refusals.proofs.Laws.{first-right}
+use Rattle.refusals.proofs.Laws.{first-right, bad-fine}
 use Rattle.words.specs.Rows.{tabulate}
 use Rattle.words.specs.Regions.{Region}
-use Rattle.words.proofs.Points.{cut, same}
 use Rattle.words.proofs.RowLaws.{length-tabulate}
+use Rattle.words.proofs.Points.{cut, same}
 use Rattle.words.proofs.RegionLaws.{region-front}
 use Rattle.insts.specs.Counts.{rowsVerdict, mostVerdict}
-use Rattle.insts.proofs.CheckLaws.{bad-fine}
 use Rattle.areas.specs.Slots.{Assigned, assignedOf, spilled, assignedVerdict}
 use Rattle.spill_checks.specs.declared.Answer.{Answer}
 use Rattle.spill_checks.specs.declared.Answer.the-variants.{Given, Refused}

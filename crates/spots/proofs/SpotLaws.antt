@@ -3,7 +3,7 @@ use Prim.Native.Nat.{ℕ, zero, suc, _+_, _-_, _*_, _/_, _%_, _^_, _≤_, _<_, m
 use native.Mathlib.Omega.{arith}
 use mathlib.Core.Path.{_≡_, refl, sym, ap, _∙_, subst}
 use mathlib.Core.Logic.{_⊎_, inl, inr}
-use mathlib.Core.Bool.{Bool, true, false}
+use mathlib.Core.Bool.{Bool, true, false, cond}
 use mathlib.Core.List.{List, [], List·Memᴰ}
 use lib.ListN.{length, getD}
 use lib.Dec.{leb, ltb}
@@ -12,9 +12,10 @@ use Rattle.words.specs.Sort.{Rising}
 use Rattle.words.specs.Rows.{field}
 use Rattle.words.specs.Search.{Splits}
 use Rattle.words.specs.Regions.{part}
-use Rattle.words.proofs.Points.{cut}
 use Rattle.words.proofs.SortLaws.{rising-le}
+use Rattle.words.proofs.Points.{cut}
 use Rattle.words.proofs.RegionLaws.{length-part, getD-part}
+use Rattle.words.proofs.Bools.{or-left}
 use Rattle.ranges.specs.declared.Range.{Range}
 use Rattle.ranges.specs.Points.{range}
 use Rattle.ranges.specs.Forms.{unpack, unpacked}
@@ -22,7 +23,6 @@ use Rattle.ranges.proofs.FormLaws.{unpacked-at, unpacked-length}
 use Rattle.graph.specs.Paths.{Edge}
 use Rattle.graph.specs.Line.{blocksOf, blockAt, Sound}
 use Rattle.graph.proofs.Line.{mem-at, at-mem, blocks-length, start-is, end-is}
-use Rattle.graph.proofs.RoundLaws.{or-left}
 use Rattle.carrying.specs.Lists.{any}
 use Rattle.carrying.proofs.ListLaws.{any-true, false-any}
 use Rattle.areas.specs.Blocks.{Graph, top, bottom, holding, blockOf, clip, reversed, inverted, until}
@@ -32,6 +32,12 @@ use Rattle.areas.proofs.EndLaws.{until-has, until-only}
 use Rattle.spots.specs.Spots.{lineOf, Held}
 
 -- ---- the block of a point
+
+-- the block of a point is found without the edges
+pub holding-edges : (blocks : List ℕ) (es fs : List Edge) (n x : ℕ) → holding (lineOf blocks es) n x ≡ holding (lineOf blocks fs) n x
+unfolding holding
+holding-edges blocks es fs zero x = refl
+holding-edges blocks es fs (suc n) x = ap (λ (h : ℕ). cond (leb (top (lineOf blocks es) n) x) n h) (holding-edges blocks es fs n x)
 
 -- of n blocks the first r start no later than x
 holding-split : (G : Graph) (n x r : ℕ) → Splits (λ i. leb (top G i) x) n r → holding G n x ≡ r - 1

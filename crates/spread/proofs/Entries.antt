@@ -10,7 +10,7 @@ use Rattle.refusals.specs.declared.Refusal.{Refusal}
 use Rattle.refusals.specs.declared.Verdict.{Verdict}
 use Rattle.refusals.specs.declared.Verdict.the-variants.{Fine, Bad}
 use Rattle.refusals.specs.Verdicts.{first}
-use Rattle.refusals.proofs.Laws.{first-fine, first-bad, first-left, first-right}
+use Rattle.refusals.proofs.Laws.{first-fine, first-bad, first-left, first-right, bad-fine}
 use Rattle.words.specs.Rows.{rowCount}
 use Rattle.words.specs.Regions.{Region, cleared}
 use Rattle.words.proofs.RegionLaws.{row-before}
@@ -32,9 +32,6 @@ use Rattle.spread.specs.declared.Answer.the-variants.{Given, Refused}
 use Rattle.spread_rows.specs.Spread.{leaveBit, passBit, outBit, Laid, Arrived}
 use Rattle.spread.specs.Entry.{Turned, Ordered, Settled, verdictOf, Filled, Answered, Prepared, lentAt, answerAt, Solved}
 use Rattle.spread_rows.proofs.Turns.{arrives-as}
-
-bad-fine : {A : Type 0} {k : Refusal} {i : ℕ} → Bad k i ≡ Fine → A
-bad-fine e = absurd (let z : _≡_ {A = ℕ} 0 1 = cc in omega arith)
 
 same-bad : (r : Refusal) (i : ℕ) (list work : List ℕ) (k : Refusal) (j : ℕ) → Bad r i ≡ Bad k j → Turned k j list work (Refused r i) list work
 same-bad r i list work k j q = record { outcome = let a : r ≡ k = cc in let b : i ≡ j = cc in rw (a, b) refl; list-kept = refl; work-kept = refl }

@@ -7,6 +7,7 @@ use mathlib.Core.List.{List}
 use native.Mathlib.Omega.{arith}
 use lib.ListN.{length, getD}
 use Rattle.bits.specs.Bits.{bit, bitOf, Aligned, apart}
+use Rattle.bits.proofs.BitLaws.{bit-kept}
 use Rattle.words.specs.Regions.{above}
 use Rattle.words.proofs.Points.{cut}
 use Rattle.words.proofs.RegionLaws.{row-before}
@@ -15,9 +16,6 @@ use Rattle.graph.specs.Work.{Within, EdgeRows}
 use Rattle.graph.proofs.Within.{within-wider}
 use Rattle.spread_rows.specs.declared.Layout.{Layout}
 use Rattle.spread_rows.specs.Spread.{begins, ends, target, orderAt, rankOf, outOf, leaveBit, passBit, outBit, waits, Laid}
-
-pub bit-kept : (w₀ w : List ℕ) (base n b : ℕ) → b < n * 64 → ((i : ℕ) → base ≤ i → i < base + n → getD w i 0 ≡ getD w₀ i 0) → bit w base b ≡ bit w₀ base b
-bit-kept w₀ w base n b h f = ap (λ (y : ℕ). bitOf y (b % 64)) (f (base + b / 64) (omega arith) (omega arith))
 
 module _ {s : Layout} {w₀ w : List ℕ} (L : Laid s w₀) (K : Within (s .wait) (outOf s + s .n * s .words) w₀ w) where
   pub begins-kept : (u : ℕ) → u < s .n → begins s w u ≡ begins s w₀ u
@@ -36,10 +34,10 @@ module _ {s : Layout} {w₀ w : List ℕ} (L : Laid s w₀) (K : Within (s .wait
   rank-kept v h = K .below (s .rank + v) (omega (arith, L .rank-fits))
 
   pub leave-kept : (v b : ℕ) → v < s .n → b < s .words * 64 → leaveBit s w v b ≡ leaveBit s w₀ v b
-  leave-kept v b h l = bit-kept w₀ w (s .leaves + v * s .words) (s .words) b l (λ i p q. K .below i (omega (arith, L .leaves-fit, row-before v (s .n) (s .words) h)))
+  leave-kept v b h l = bit-kept {w₀ = w₀} {w = w} {base = s .leaves + v * s .words} {n = s .words} (record { same = λ i p q. K .below i (omega (arith, L .leaves-fit, row-before v (s .n) (s .words) h)) }) b l
 
   pub pass-kept : (v b : ℕ) → v < s .n → b < s .words * 64 → passBit s w v b ≡ passBit s w₀ v b
-  pass-kept v b h l = bit-kept w₀ w (s .passes + v * s .words) (s .words) b l (λ i p q. K .below i (omega (arith, L .passes-fit, row-before v (s .n) (s .words) h)))
+  pass-kept v b h l = bit-kept {w₀ = w₀} {w = w} {base = s .passes + v * s .words} {n = s .words} (record { same = λ i p q. K .below i (omega (arith, L .passes-fit, row-before v (s .n) (s .words) h)) }) b l
 
   pub laid-kept : Laid s w
   laid-kept = record {
@@ -80,21 +78,21 @@ pub row-wide : (s : Layout) {w₀ w : List ℕ} (v : ℕ) → v < s .n → Withi
 row-wide s v h K = within-wider (s .wait) (outOf s + s .n * s .words) (omega arith) (omega (arith, row-before v (s .n) (s .words) h)) K
 
 pub other-row : (s : Layout) (w₀ w : List ℕ) (x v b : ℕ) → v ≢ x → b < s .words * 64 → Within (outOf s + x * s .words) (outOf s + x * s .words + s .words) w₀ w → outBit s w v b ≡ outBit s w₀ v b
-other-row s w₀ w x v b ne h K = bit-kept w₀ w (outOf s + v * s .words) (s .words) b h
-    (λ i p q. cut v x
+other-row s w₀ w x v b ne h K = bit-kept {w₀ = w₀} {w = w} {base = outOf s + v * s .words} {n = s .words}
+    (record { same = λ i p q. cut v x
     (λ l. K .below i (omega (arith, row-before v x (s .words) (omega arith))))
-    (λ l. K .past i (omega (arith, row-before x v (s .words) l))))
+    (λ l. K .past i (omega (arith, row-before x v (s .words) l))) }) b h
 
 -- the waiting row is below the arriving rows
 pub waits-kept : (s : Layout) (w₀ w : List ℕ) (v r : ℕ) → r < (s .n / 64 + 1) * 64 → Within (outOf s + v * s .words) (outOf s + v * s .words + s .words) w₀ w → waits s w r ≡ waits s w₀ r
-waits-kept s w₀ w v r h K = bit-kept w₀ w (s .wait) (s .n / 64 + 1) r h (λ i p q. K .below i (omega arith))
+waits-kept s w₀ w v r h K = bit-kept {w₀ = w₀} {w = w} {base = s .wait} {n = s .n / 64 + 1} (record { same = λ i p q. K .below i (omega arith) }) r h
 
 pub rank-in : (n r : ℕ) → r < n → r < (n / 64 + 1) * 64
 rank-in n r h = omega arith
 
 -- a word of the waiting row: the arriving rows are as they were
 pub out-kept : (s : Layout) (w₀ w : List ℕ) (r : ℕ) → r < s .n → ((i : ℕ) → (i ≡ s .wait + r / 64 → ⊥) → getD w i 0 ≡ getD w₀ i 0) → (v b : ℕ) → b < s .words * 64 → outBit s w v b ≡ outBit s w₀ v b
-out-kept s w₀ w r h f v b l = bit-kept w₀ w (outOf s + v * s .words) (s .words) b l (λ i p q. f i (λ e. absurd (omega arith)))
+out-kept s w₀ w r h f v b l = bit-kept {w₀ = w₀} {w = w} {base = outOf s + v * s .words} {n = s .words} (record { same = λ i p q. f i (λ e. absurd (omega arith)) }) b l
 
 pub word-within : (s : Layout) (w₀ w : List ℕ) (r : ℕ) → r < s .n → length w ≡ length w₀ → ((i : ℕ) → (i ≡ s .wait + r / 64 → ⊥) → getD w i 0 ≡ getD w₀ i 0) → Within (s .wait) (outOf s + s .n * s .words) w₀ w
 word-within s w₀ w r h len f = record { len = len; below = λ i l. f i (λ e. absurd (omega arith)); past = λ i l. f i (λ e. absurd (omega arith)) }

@@ -8,9 +8,10 @@ use native.Mathlib.Omega.{arith}
 use lib.Dec.{eqb}
 use lib.ListN.{length, getD}
 use borrow.Author.Tests.{eq-eqb, ne-eqb}
-use Rattle.bits.specs.Bits.{bit, Grown, PutBit}
 use Rattle.words.proofs.Points.{cut, same}
 use Rattle.words.proofs.RegionLaws.{row-before}
+use Rattle.words.proofs.Bools.{and-pair, or-right, and-both, or-left, or-cases}
+use Rattle.bits.specs.Bits.{bit, Grown, PutBit}
 use Rattle.graph.specs.Paths.{Edge, Link}
 use Rattle.graph.specs.Flow.{Arrives, left, passed}
 use Rattle.graph.specs.Work.{Within, EdgeRows, one, sumOf}
@@ -21,24 +22,6 @@ use Rattle.spread_rows.proofs.Sums.{sum-le, sum-lt, not-le, not-lt}
 use Rattle.spread_rows.proofs.Kept.{begins-kept, ends-kept, target-kept, rank-kept, leave-kept, pass-kept, laid-kept, row-wide, other-row, waits-kept, rank-in, out-kept, word-within}
 
 -- ---- tests
-
-or-cases : (a b : Bool) → (a || b) ≡ true → (a ≡ true) ⊎ (b ≡ true)
-or-cases true b e = inl refl
-or-cases false b e = inr e
-
-or-left : (a b : Bool) → a ≡ true → (a || b) ≡ true
-or-left a b e = rw e refl
-
-or-right : (a b : Bool) → b ≡ true → (a || b) ≡ true
-or-right true b e = refl
-or-right false b e = e
-
-and-cases : (a b : Bool) → (a && b) ≡ true → (a ≡ true) × (b ≡ true)
-and-cases true b e = (refl, e)
-and-cases false b e = absurd (let z : _≡_ {A = ℕ} 0 1 = cc in omega arith)
-
-and-both : (a b : Bool) → a ≡ true → b ≡ true → (a && b) ≡ true
-and-both a b p q = rw (p, q) refl
 
 pub put-set : {w₀ w : List ℕ} {base b : ℕ} → PutBit w₀ w base b true → bit w base b ≡ true
 put-set {w₀} {w} {base} {b} p = p .bits b ∙ rw (eq-eqb b b refl) refl
@@ -78,13 +61,13 @@ module _ (s : Layout) (u v : ℕ) {w w' : List ℕ} {r : Bool} (G : Passed s u v
 
   pub row-sent : (b : ℕ) → b < s .words * 64 → Sends s w u b → outBit s w' v b ≡ true
   row-sent b l t = G .row .bits b l ∙ or-right (outBit s w v b) _ (⊎-elim
-      (λ p. or-left (outBit s w u b && passBit s w u b) (leaveBit s w u b) (and-both (outBit s w u b) (passBit s w u b) (p .0) (p .1)))
+      (λ p. or-left (outBit s w u b && passBit s w u b) (leaveBit s w u b) (and-pair (outBit s w u b) (passBit s w u b) (p .0) (p .1)))
       (λ p. or-right (outBit s w u b && passBit s w u b) (leaveBit s w u b) p)
       t)
 
   pub row-only : (b : ℕ) → b < s .words * 64 → outBit s w' v b ≡ true → (outBit s w v b ≡ true) ⊎ Sends s w u b
   row-only b l o = ⊎-elim (λ p. inl p)
-      (λ p. inr (⊎-elim (λ q. inl (and-cases (outBit s w u b) (passBit s w u b) q)) (λ q. inr q) (or-cases (outBit s w u b && passBit s w u b) (leaveBit s w u b) p)))
+      (λ p. inr (⊎-elim (λ q. inl (and-both (outBit s w u b) (passBit s w u b) q)) (λ q. inr q) (or-cases (outBit s w u b && passBit s w u b) (leaveBit s w u b) p)))
       (or-cases (outBit s w v b) _ (sym (G .row .bits b l) ∙ o))
 
   pub row-other : (x b : ℕ) → x ≢ v → b < s .words * 64 → outBit s w' x b ≡ outBit s w x b

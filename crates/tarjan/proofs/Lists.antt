@@ -7,16 +7,10 @@ use Prim.Native.Nat.{ℕ, zero, suc, _+_, _-_, _≤_, _<_}
 use native.Mathlib.Omega.{arith}
 use lib.ListN.{length, getD, set, length-set}
 use lib.Seq.{getD-set-same, getD-set-other}
+use Rattle.words.proofs.Points.{cut, same, stored}
 use Rattle.tarjan.specs.Moves.{shutAt, pasted}
 use Rattle.tarjan.specs.Space.{Kept, Begun, Numbered, Closes, Closed}
-use Rattle.tarjan.proofs.Tools.{cut, same, shut-case, pasted-old, pasted-new}
-
--- what holds of the element at j after a store at i
-pub stored : (p : ℕ → Type 0) (l : List ℕ) (i v j : ℕ) → i < length l → (j ≡ i → p v) → (j ≢ i → p (getD l j 0)) → p (getD (set l i v) j 0)
-stored p l i v j h f g =
-    same j i
-    (λ e. subst (λ (k : ℕ). p (getD (set l i v) k 0)) (sym e) (subst p (sym (getD-set-same l i v 0 h)) (f e)))
-    (λ e. subst p (sym (getD-set-other l i j v 0 e)) (g e))
+use Rattle.tarjan.proofs.Tools.{shut-case, pasted-old, pasted-new}
 
 -- after two
 pub stored2 : (p : ℕ → Type 0) (l : List ℕ) (a x b y j : ℕ) → a < length l → b < length l → (j ≡ b → p y) → (j ≡ a → p x) → (j ≢ a → j ≢ b → p (getD l j 0))

@@ -6,11 +6,12 @@ use mathlib.Core.List.{List}
 use Prim.Native.Nat.{ℕ, zero, suc, _+_, _-_, _≤_, _<_, min}
 use native.Mathlib.Omega.{arith}
 use lib.ListN.{length, getD, set, length-set}
+use Rattle.words.proofs.Points.{cut, same}
 use Rattle.tarjan.specs.Graph.{Graph, Sound}
 use Rattle.tarjan.specs.Walk.{State, Walks}
 use Rattle.tarjan.specs.Moves.{upd, view, Agree, pushed}
 use Rattle.tarjan.specs.Space.{Rows, graph, rowsOf, Reads, Held, Ready, Kept, Still, pushList, Turned, Walked, Given, Pieced, Begun, Numbered}
-use Rattle.tarjan.proofs.Tools.{cut, same, upd-case, upd-at, seen-le}
+use Rattle.tarjan.proofs.Tools.{upd-case, upd-at, seen-le}
 use Rattle.tarjan.proofs.Steps.{s-le}
 use Rattle.tarjan.proofs.Whole.{start-walks, last-pieces, last-listed, shut-all}
 use Rattle.tarjan.proofs.Lists.{kept-refl, kept-trans}

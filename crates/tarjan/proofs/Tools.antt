@@ -6,22 +6,9 @@ use Prim.Native.Nat.{ℕ, zero, suc, _+_, _-_, _≤_, _<_}
 use native.Mathlib.Nat.{lt-of-not-le}
 use native.Mathlib.Decide.{decLe, ℕ-discrete}
 use native.Mathlib.Omega.{arith}
+use Rattle.words.proofs.Points.{same}
 use Rattle.tarjan.specs.Walk.{one, seen}
 use Rattle.tarjan.specs.Moves.{pick, upd, shutAt, pasted}
-
-pub cut : {A : Type 0} (x y : ℕ) → (x ≤ y → A) → (y < x → A) → A
-cut {A} x y f g = go (decLe x y)
-  where
-    go : Dec (x ≤ y) → A
-    go (yes h) = f h
-    go (no h) = g (lt-of-not-le h)
-
-pub same : {A : Type 0} (x y : ℕ) → (x ≡ y → A) → (x ≢ y → A) → A
-same {A} x y f g = go (ℕ-discrete x y)
-  where
-    go : Dec (x ≡ y) → A
-    go (yes h) = f h
-    go (no h) = g h
 
 pub upd-case : (P : ℕ → Type 0) (f : ℕ → ℕ) (i x j : ℕ) → (j ≡ i → P x) → (j ≢ i → P (f j)) → P (upd f i x j)
 unfolding upd

@@ -15,10 +15,10 @@ use Rattle.refusals.specs.declared.Refusal.the-variants.{Text as TextRefused}
 use Rattle.refusals.specs.Verdicts.{scan}
 use Rattle.words.specs.Rows.{flat}
 use Rattle.words.specs.Regions.{part}
+use Rattle.words.proofs.Bools.{never}
 use Rattle.grammar.specs.Groups.{groupAt, none, rowNumbers}
 use Rattle.grammar.specs.Text.{rowsIn}
 use Rattle.grammar.specs.Lines.{newline, onto, linesOf, groupOf, ended, body, formed, wellFormed, lineGroup}
-use Rattle.grammar.proofs.RowLaws.{never}
 use Rattle.job_rows.specs.declared.Reader.{Reader}
 use Rattle.job_rows.specs.Taken.{Stored, Taken, Takes, Refuses, accepts}
 use Rattle.job_rows.proofs.ReaderLaws.{taken-malformed}

@@ -21,13 +21,14 @@ use Rattle.words.specs.Rows.{flat}
 use Rattle.words.specs.Regions.{part}
 use Rattle.words.proofs.RegionLaws.{getD-part}
 use Rattle.words.proofs.Points.{cut}
+use Rattle.words.proofs.Bools.{or-right, never}
 use Rattle.grammar.specs.Groups.{groupAt, none, mayFollow}
 use Rattle.grammar.specs.Lines.{newline, linesOf, groupOf, ended, body, formed, wellFormed, lineGroup, lineFields}
 use Rattle.grammar.specs.Text.{placeBefore, malformed, badLine, linesVerdict, rowsIn, rowWith, operandsAfter, countOf, registers, crowded, tooMany, readVerdict}
-use Rattle.grammar.proofs.TableLaws.{at}
-use Rattle.grammar.proofs.RowLaws.{never, group-fits, length-row}
+use Rattle.grammar.proofs.RowLaws.{group-fits, length-row}
 use Rattle.grammar.proofs.OrderLaws.{soFar, far-bad, far-found, verdict-none, verdict-some}
 use Rattle.grammar.proofs.OpenLaws.{follows-of}
+use Rattle.grammar.proofs.TableLaws.{at}
 use Rattle.job_rows.specs.declared.Reader.{Reader}
 use Rattle.job_rows.specs.Taken.{Stored}
 use Rattle.text.specs.Read.{unbroken, Reading, Ready, Records, Feeds}
@@ -71,10 +72,6 @@ module _ {r : Reader} {n : ℕ} {line fields rows counts : List ℕ} where
       subst (λ (x : List ℕ). Feeds x r n line fields rows counts r′ n′ line′ fields′ rows′ counts′) (ap (λ (m : ℕ). take m piece) e ∙ take-length piece) f
 
 -- ---- the groups' counts
-
-or-right : (a b : Bool) → b ≡ true → (a || b) ≡ true
-or-right true b e = refl
-or-right false b e = e
 
 over-found : (ls : List (List ℕ)) (k n : ℕ) → k < n → groupAt k .room < countOf k ls → crowded n ls ≡ true
 unfolding crowded
@@ -269,10 +266,6 @@ head-counted [] e = not-fine (sym e ∙ verdict-none)
 head-counted (l ∷ ls) e =
     let c : countOf 0 (l ∷ ls) ≡ suc (countOf 0 ls) = ap length (head-rows l ls (sym (verdict-some (l ∷ ls) (omega arith)) ∙ e)) in
     omega arith
-
--- a refusal is no answer
-pub absent : {A : Type 0} {q : Refusal} {i : ℕ} → _≡_ {A = Verdict} (Bad q i) Fine → A
-absent e = absurd (let z : _≡_ {A = ℕ} 0 1 = cc in omega arith)
 
 -- ---- for programs that read pieces in a loop
 

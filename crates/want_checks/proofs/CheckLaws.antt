@@ -14,7 +14,7 @@ use Rattle.refusals.specs.declared.Refusal.the-variants.{Count, Space, Want as 
 use Rattle.refusals.specs.Verdicts.{inOrder, check}
 use Rattle.refusals.proofs.Laws.{three-first, three-second, three-third, scan-fine}
 use Rattle.words.specs.Rows.{rowCount, wholeRows}
-use Rattle.ranges.proofs.PointLaws.{or-none}
+use Rattle.words.proofs.Bools.{or-neither}
 use Rattle.ranges.specs.Lent.{faulty}
 use Rattle.fitting.specs.Queries.{areasOf}
 use Rattle.want_checks.specs.Checks.{badPart, badWant, wantsVerdict, overLimit, badCount, badSpace, spaceOf, verdict, Granted}
@@ -34,18 +34,18 @@ part-inside s present first count r d h e =
 -- counts within their limits
 pub limits : (wants ranges locals budget : ℕ) → overLimit wants ranges locals budget ≡ false → (wants ≤ 4096) × (ranges ≤ 65536)
 limits wants ranges locals budget e =
-    let (a, b) = or-none (ltb wants locals) _ e in
-    let (c, d) = or-none (ltb 2048 locals) _ b in
-    let (f, g) = or-none (ltb 2048 (wants - locals)) _ d in
-    let (h, k) = or-none (ltb 65536 ranges) _ g in
+    let (a, b) = or-neither (ltb wants locals) _ e in
+    let (c, d) = or-neither (ltb 2048 locals) _ b in
+    let (f, g) = or-neither (ltb 2048 (wants - locals)) _ d in
+    let (h, k) = or-neither (ltb 65536 ranges) _ g in
     (omega (arith, ltb-false wants locals a, ltb-false 2048 locals c, ltb-false 2048 (wants - locals) f), ltb-false 65536 ranges h)
 
 pub count-fine : (wants areas : List ℕ) (locals budget cells items : ℕ) → badCount wants areas locals budget cells items ≡ false → (rowCount 5 wants ≤ 4096) × (rowCount 2 areas ≤ 65536)
 count-fine wants areas locals budget cells items e =
-    let (a, b) = or-none (not (wholeRows 5 wants)) _ e in
-    let (c, d) = or-none (not (wholeRows 2 areas)) _ b in
-    let (f, g) = or-none (not (eqb (cells % 2) 0)) _ d in
-    let (h, k) = or-none (not (eqb (items % 4) 0)) _ g in
+    let (a, b) = or-neither (not (wholeRows 5 wants)) _ e in
+    let (c, d) = or-neither (not (wholeRows 2 areas)) _ b in
+    let (f, g) = or-neither (not (eqb (cells % 2) 0)) _ d in
+    let (h, k) = or-neither (not (eqb (items % 4) 0)) _ g in
     limits (rowCount 5 wants) (rowCount 2 areas) locals budget k
 
 three-fine : (r q : Refusal) (b t : Bool) (v : Verdict) → inOrder (check r b ∷ check q t ∷ v ∷ []) ≡ Fine → (b ≡ false) × (t ≡ false) × (v ≡ Fine)
@@ -72,8 +72,8 @@ module _ (wants areas : List ℕ) (locals budget cells items work : ℕ) where
   granted e =
       let (a, b, c) = three-fine Count Space (badCount wants areas locals budget cells items) (badSpace wants areas cells items work) (wantsVerdict areas wants) e in
       let (few′, short′) = count-fine wants areas locals budget cells items a in
-      let (f, g) = or-none (ltb work (spaceOf wants areas)) _ b in
-      let (h, k) = or-none (ltb (cells / 2) (rowCount 5 wants)) _ g in
+      let (f, g) = or-neither (ltb work (spaceOf wants areas)) _ b in
+      let (h, k) = or-neither (ltb (cells / 2) (rowCount 5 wants)) _ g in
       record {
         few = few′;
         short = short′;

@@ -13,9 +13,9 @@ use borrow.Author.Tests.{ltb-false, leb-false, lt-ltb, le-ltb, le-leb, lt-leb, e
 use Rattle.words.specs.Rows.{rowCount, field, records}
 use Rattle.words.proofs.RowLaws.{length-records, getD-records}
 use Rattle.words.proofs.Points.{same}
+use Rattle.words.proofs.Bools.{or-right, or-neither}
 use Rattle.ranges.specs.declared.Range.{Range}
 use Rattle.ranges.specs.Points.{range, rangeAt, Apart}
-use Rattle.ranges.proofs.PointLaws.{or-none, or-right}
 use Rattle.ranges.specs.Lent.{reversedAt, wrongAt, faulty}
 use Rattle.ranges.proofs.LentLaws.{faulty-at, faulty-none, faulty-apart}
 use Rattle.fitting.specs.Queries.{areasOf}
@@ -107,5 +107,5 @@ pub part-fine : (areas : List Range) (present first count : ℕ) → badPart are
     → (first + count ≤ length areas) × Apart (take count (drop first areas))
 part-fine areas present first count e d =
     let f = sym (part-present areas present first count _ d refl) in
-    let (a, b) = or-none (ltb (length areas) (first + count)) (faulty (take count (drop first areas))) (sym f ∙ e) in
+    let (a, b) = or-neither (ltb (length areas) (first + count)) (faulty (take count (drop first areas))) (sym f ∙ e) in
     (ltb-false _ _ a, faulty-apart (take count (drop first areas)) b)

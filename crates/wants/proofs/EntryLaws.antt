@@ -17,8 +17,8 @@ use Rattle.words.proofs.RowLaws.{length-tabulate, tabulate-getD, map-tabulate, 
 use Rattle.fitting.specs.Wants.{Want, orderOf}
 use Rattle.fitting.specs.Plan.{Cell, cellAt, Plan, planOf, depthOf}
 use Rattle.fitting.specs.Queries.{areasOf}
-use Rattle.fitting.proofs.OrderLaws.{order-names}
 use Rattle.fitting.proofs.PlanLaws.{facts}
+use Rattle.fitting.proofs.OrderLaws.{order-names}
 use Rattle.order.specs.Keys.{sizeOf, alignOf}
 use Rattle.cell_tables.specs.declared.Counts.{Counts}
 use Rattle.cell_tables.specs.Tables.{wantIn, wantsIn, planIn, Shown, Fitted}
@@ -28,6 +28,7 @@ use Rattle.want_tables.specs.Tables.{itemRow, Loaded, cellRowsIn, itemRowsIn}
 use Rattle.wants.specs.Inner.{Answered}
 use Rattle.want_tables.proofs.TableLaws.{item-wide}
 use Rattle.words.proofs.FlatLaws.{flat-length}
+use Rattle.words.proofs.RegionLaws.{drop-same}
 
 -- ---- a refusal
 
@@ -36,10 +37,6 @@ pub refused-alone : (wants areas : List ℕ) (v : Verdict) (p : Plan) (cells ite
 refused-alone wants areas v p cells items work r i e = rw e (record { answer = refl; in-cells = refl; in-items = refl; in-work = refl })
 
 -- ---- an answer
-
-drop-same : (n : ℕ) (v w : List ℕ) → length v ≡ length w → ((x : ℕ) → n ≤ x → getD v x 0 ≡ getD w x 0) → drop n v ≡ drop n w
-drop-same n v w e f =
-    ext-getD 0 (drop n v) (drop n w) (simp length-drop (ap (λ (k : ℕ). k - n) e)) (λ i h. getD-drop n v i 0 ∙ f (n + i) (omega arith) ∙ sym (getD-drop n w i 0))
 
 pub rows-cells : (cs : List Cell) → flat (map cellRow cs) ≡ flat (tabulate (length cs) (λ i. cellRow (cellAt cs i)))
 rows-cells cs =
@@ -92,7 +89,7 @@ module _ (wants areas cells items work w₁ w₂ cells′ items′ work′ : Lis
   work-is : cleared (8 * (rowCount 5 wants + rowCount 2 areas)) w₂ ≡ cleared (8 * (rowCount 5 wants + rowCount 2 areas)) work
   work-is =
       ap (λ (l : List ℕ). replicate (8 * (rowCount 5 wants + rowCount 2 areas)) 0 ++ l)
-      (drop-same (8 * (rowCount 5 wants + rowCount 2 areas)) w₂ work (F .len ∙ L .len) (λ x h. F .rest x (inr (omega arith)) ∙ L .rest x (omega arith)))
+      (drop-same (8 * (rowCount 5 wants + rowCount 2 areas)) work w₂ (F .len ∙ L .len) (λ x h. F .rest x (inr (omega arith)) ∙ L .rest x (omega arith)))
 
   pub answered : Answered wants areas (planFor wants areas budget) cells items work r cells′ items′ work′
   answered = record {

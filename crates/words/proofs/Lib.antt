@@ -1,4 +1,5 @@
 pub mod Points
+pub mod Bools
 pub mod SortLaws
 pub mod RowLaws
 pub mod RegionLaws

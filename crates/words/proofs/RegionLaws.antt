@@ -1,12 +1,13 @@
 -- Laws of regions: a loop that fills one, one after another, and what a store into one leaves of the others.
 use mathlib.Core.Path.{_≡_, refl, sym, ap, _∙_, subst}
 use mathlib.Core.Logic.{_⊎_, ⊎-elim}
-use mathlib.Core.List.{List, _++_}
-use Prim.Native.Nat.{ℕ, _+_, _-_, _*_, _≤_, _<_}
+use mathlib.Core.List.{List, _++_, append-assoc, [], _∷_}
+use Prim.Native.Nat.{ℕ, _+_, _-_, _*_, _≤_, _<_, suc}
 use native.Mathlib.Nat.{mul-le-mul-right}
 use native.Mathlib.Omega.{arith}
 use lib.ListN.{length, take, drop, getD, set, length-set, length-append, length-drop, List·getD-append}
-use lib.Seq.{ext-getD, getD-take, getD-drop, getD-append-add, length-take-le}
+use lib.Seq.{ext-getD, getD-take, getD-drop, getD-append-add, length-take-le, drop-cons, set-at}
+use native.Mathlib.Numerals.{add-one}
 use Rattle.words.specs.Rows.{tabulate}
 use Rattle.words.specs.Regions.{Region, part, Kept, Disjoint, below, above, cleared}
 use Rattle.words.proofs.Points.{cut, stored}
@@ -207,3 +208,19 @@ region-front {n = n} r h = let e : 0 + n ≡ n = omega arith in rw e at (region-
 
 pub region-cleared : {w₀ w : List ℕ} {n : ℕ} → Region w₀ w 0 n (λ _. 0) → n ≤ length w₀ → w ≡ cleared n w₀
 region-cleared {w₀} {w} {n} r h = region-front r h ∙ ap (λ (l : List ℕ). l ++ drop n w₀) (tabulate-replicate n 0)
+
+-- ---- the front and the rest of a list
+
+-- a list that is the same from n on
+pub drop-same : (n : ℕ) (l m : List ℕ) → length m ≡ length l → ((i : ℕ) → n ≤ i → getD m i 0 ≡ getD l i 0) → drop n m ≡ drop n l
+drop-same n l m e h = ext-getD 0 (drop n m) (drop n l) (simp length-drop (omega arith)) (λ i q. rw (getD-drop, getD-drop) (h (n + i) (omega arith)))
+
+-- one number more in front of what was there
+pub push : (xs o : List ℕ) (n v : ℕ) → length xs ≡ n → n < length o → set (xs ++ drop n o) n v ≡ (xs ++ (v ∷ [])) ++ drop (n + 1) o
+push xs o n v e h =
+    ap (λ (l : List ℕ). set (xs ++ l) n v) (drop-cons o n 0 h) ∙ set-at xs (getD o n 0) (drop (suc n) o) v n e
+    ∙ sym (append-assoc xs (v ∷ []) (drop (n + 1) o) ∙ ap (λ (k : ℕ). xs ++ (v ∷ drop k o)) (add-one n))
+
+-- a part that is lent by where it begins and ends
+pub lent-part : (w : List ℕ) (f e n : ℕ) → e ≡ f + n → take (e - f) (drop f w) ≡ part f n w
+lent-part w f e n h = let z : e - f ≡ n = omega arith in ap (λ (k : ℕ). take k (drop f w)) z

@@ -1,7 +1,8 @@
 -- `fold` meets its contract: each turn unites two lists, and the link falls.
+use Rattle.words.proofs.FitLaws.{as-long}
 use Rattle.cell_tables.specs.Inner.{nextAt, Folded}
 use Rattle.folding.proofs.FoldLaws.{folded-none, folded-then}
-use Rattle.folding.proofs.Bounds.{own-place, next-place, room-kept}
+use Rattle.folding.proofs.Bounds.{own-place, next-place}
 use native.Mathlib.Omega.{arith}
 use Prim.Native.Nat.{_-_}
 use mathlib.Core.Path.{_≡_, refl}
@@ -36,34 +37,34 @@ sub-q : tie.Need-sub-q Inv-loop μ-loop
 sub-q c = (c .loop-test) .taken
 
 mul-together : tie.Need-mul-together Inv-loop μ-loop
-mul-together c = own-place ((c .before .loop) .inv .1 .topped) (room-kept _ _ ((c .before .loop) .inv .1 .len) ((c .before .before .before .before .good) .0 .1)) .seven
+mul-together c = own-place ((c .before .loop) .inv .1 .topped) (as-long _ _ ((c .before .loop) .inv .1 .len) ((c .before .before .before .before .good) .0 .1)) .seven
 
 add-together : tie.Need-add-together Inv-loop μ-loop
-add-together c = own-place ((c .before .loop) .inv .1 .topped) (room-kept _ _ ((c .before .loop) .inv .1 .len) ((c .before .before .before .before .good) .0 .1)) .lists
+add-together c = own-place ((c .before .loop) .inv .1 .topped) (as-long _ _ ((c .before .loop) .inv .1 .len) ((c .before .before .before .before .good) .0 .1)) .lists
 
 add-together-2 : tie.Need-add-together-2 Inv-loop μ-loop
-add-together-2 c = own-place ((c .before .loop) .inv .1 .topped) (room-kept _ _ ((c .before .loop) .inv .1 .len) ((c .before .before .before .before .good) .0 .1)) .list .fits
+add-together-2 c = own-place ((c .before .loop) .inv .1 .topped) (as-long _ _ ((c .before .loop) .inv .1 .len) ((c .before .before .before .before .good) .0 .1)) .list .fits
 
 mul-together-2 : tie.Need-mul-together-2 Inv-loop μ-loop
-mul-together-2 c = own-place ((c .before .loop) .inv .1 .topped) (room-kept _ _ ((c .before .loop) .inv .1 .len) ((c .before .before .before .before .good) .0 .1)) .list .in-bytes
+mul-together-2 c = own-place ((c .before .loop) .inv .1 .topped) (as-long _ _ ((c .before .loop) .inv .1 .len) ((c .before .before .before .before .good) .0 .1)) .list .in-bytes
 
 slice-read-together : tie.Need-slice-read-together Inv-loop μ-loop
-slice-read-together c = own-place ((c .before .before .loop) .inv .1 .topped) (room-kept _ _ ((c .before .before .loop) .inv .1 .len) ((c .before .before .before .before .before .good) .0 .1)) .list .inside
+slice-read-together c = own-place ((c .before .before .loop) .inv .1 .topped) (as-long _ _ ((c .before .before .loop) .inv .1 .len) ((c .before .before .before .before .before .good) .0 .1)) .list .inside
 
 mul-together-3 : tie.Need-mul-together-3 Inv-loop μ-loop
-mul-together-3 c = own-place ((c .before .before .loop) .inv .1 .topped) (room-kept _ _ ((c .before .before .loop) .inv .1 .len) ((c .before .before .before .before .before .good) .0 .1)) .seven
+mul-together-3 c = own-place ((c .before .before .loop) .inv .1 .topped) (as-long _ _ ((c .before .before .loop) .inv .1 .len) ((c .before .before .before .before .before .good) .0 .1)) .seven
 
 add-together-3 : tie.Need-add-together-3 Inv-loop μ-loop
-add-together-3 c = own-place ((c .before .before .loop) .inv .1 .topped) (room-kept _ _ ((c .before .before .loop) .inv .1 .len) ((c .before .before .before .before .before .good) .0 .1)) .lists
+add-together-3 c = own-place ((c .before .before .loop) .inv .1 .topped) (as-long _ _ ((c .before .before .loop) .inv .1 .len) ((c .before .before .before .before .before .good) .0 .1)) .lists
 
 add-together-4 : tie.Need-add-together-4 Inv-loop μ-loop
-add-together-4 c = next-place ((c .before .before .loop) .inv .1 .topped) (room-kept _ _ ((c .before .before .loop) .inv .1 .len) ((c .before .before .before .before .before .good) .0 .1)) _ ((c .before .before .loop) .inv .0) ((c .before .loop-test) .taken) .list .fits
+add-together-4 c = next-place ((c .before .before .loop) .inv .1 .topped) (as-long _ _ ((c .before .before .loop) .inv .1 .len) ((c .before .before .before .before .before .good) .0 .1)) _ ((c .before .before .loop) .inv .0) ((c .before .loop-test) .taken) .list .fits
 
 mul-together-4 : tie.Need-mul-together-4 Inv-loop μ-loop
-mul-together-4 c = next-place ((c .before .before .loop) .inv .1 .topped) (room-kept _ _ ((c .before .before .loop) .inv .1 .len) ((c .before .before .before .before .before .good) .0 .1)) _ ((c .before .before .loop) .inv .0) ((c .before .loop-test) .taken) .list .in-bytes
+mul-together-4 c = next-place ((c .before .before .loop) .inv .1 .topped) (as-long _ _ ((c .before .before .loop) .inv .1 .len) ((c .before .before .before .before .before .good) .0 .1)) _ ((c .before .before .loop) .inv .0) ((c .before .loop-test) .taken) .list .in-bytes
 
 slice-read-together-2 : tie.Need-slice-read-together-2 Inv-loop μ-loop
-slice-read-together-2 c = next-place ((c .before .before .before .loop) .inv .1 .topped) (room-kept _ _ ((c .before .before .before .loop) .inv .1 .len) ((c .before .before .before .before .before .before .good) .0 .1)) _ ((c .before .before .before .loop) .inv .0) ((c .before .before .loop-test) .taken) .list .inside
+slice-read-together-2 c = next-place ((c .before .before .before .loop) .inv .1 .topped) (as-long _ _ ((c .before .before .before .loop) .inv .1 .len) ((c .before .before .before .before .before .before .good) .0 .1)) _ ((c .before .before .before .loop) .inv .0) ((c .before .before .loop-test) .taken) .list .inside
 
 together-requires : tie.Need-together-requires Inv-loop μ-loop
 together-requires c κs = tt
@@ -81,19 +82,19 @@ unite-top-requires : tie.Need-unite-top-requires Inv-loop μ-loop
 unite-top-requires c κs = ((c .before .before .before .before .before .before .loop) .inv .1 .topped, record { next = omega (arith, (c .before .before .before .before .before .before .loop) .inv .0); one = (c .before .before .together) .ensures (omega (arith, (c .before .if1) .left, (c .before .before .before .before .before .before .loop) .inv .1 .topped .linked .low, (c .before .before .before .before .before .before .loop) .inv .1 .topped .linked .k-le)) .0; two = (c .before .before .together) .ensures (omega (arith, (c .before .if1) .left, (c .before .before .before .before .before .before .loop) .inv .1 .topped .linked .low, (c .before .before .before .before .before .before .loop) .inv .1 .topped .linked .k-le)) .1; room = omega (arith, (c .before .before .together) .ensures (omega (arith, (c .before .if1) .left, (c .before .before .before .before .before .before .loop) .inv .1 .topped .linked .low, (c .before .before .before .before .before .before .loop) .inv .1 .topped .linked .k-le)) .2, (c .before .if1) .left, (c .before .before .before .before .before .before .loop) .inv .1 .topped .top-end) })
 
 mul-p-3 : tie.Need-mul-p-3 Inv-loop μ-loop
-mul-p-3 c = own-place ((c .before .before .unite-top) .ensures .0 .topped) (room-kept _ _ ((c .before .before .unite-top) .ensures .0 .len) (room-kept _ _ ((c .before .before .before .before .before .before .before .before .before .loop) .inv .1 .len) ((c .before .before .before .before .before .before .before .before .before .before .before .before .good) .0 .1))) .four
+mul-p-3 c = own-place ((c .before .before .unite-top) .ensures .0 .topped) (as-long _ _ ((c .before .before .unite-top) .ensures .0 .len) (as-long _ _ ((c .before .before .before .before .before .before .before .before .before .loop) .inv .1 .len) ((c .before .before .before .before .before .before .before .before .before .before .before .before .good) .0 .1))) .four
 
 add-p-3 : tie.Need-add-p-3 Inv-loop μ-loop
-add-p-3 c = own-place ((c .before .before .unite-top) .ensures .0 .topped) (room-kept _ _ ((c .before .before .unite-top) .ensures .0 .len) (room-kept _ _ ((c .before .before .before .before .before .before .before .before .before .loop) .inv .1 .len) ((c .before .before .before .before .before .before .before .before .before .before .before .before .good) .0 .1))) .links
+add-p-3 c = own-place ((c .before .before .unite-top) .ensures .0 .topped) (as-long _ _ ((c .before .before .unite-top) .ensures .0 .len) (as-long _ _ ((c .before .before .before .before .before .before .before .before .before .loop) .inv .1 .len) ((c .before .before .before .before .before .before .before .before .before .before .before .before .good) .0 .1))) .links
 
 add-p-4 : tie.Need-add-p-4 Inv-loop μ-loop
-add-p-4 c = own-place ((c .before .before .unite-top) .ensures .0 .topped) (room-kept _ _ ((c .before .before .unite-top) .ensures .0 .len) (room-kept _ _ ((c .before .before .before .before .before .before .before .before .before .loop) .inv .1 .len) ((c .before .before .before .before .before .before .before .before .before .before .before .before .good) .0 .1))) .link .fits
+add-p-4 c = own-place ((c .before .before .unite-top) .ensures .0 .topped) (as-long _ _ ((c .before .before .unite-top) .ensures .0 .len) (as-long _ _ ((c .before .before .before .before .before .before .before .before .before .loop) .inv .1 .len) ((c .before .before .before .before .before .before .before .before .before .before .before .before .good) .0 .1))) .link .fits
 
 mul-p-4 : tie.Need-mul-p-4 Inv-loop μ-loop
-mul-p-4 c = own-place ((c .before .before .unite-top) .ensures .0 .topped) (room-kept _ _ ((c .before .before .unite-top) .ensures .0 .len) (room-kept _ _ ((c .before .before .before .before .before .before .before .before .before .loop) .inv .1 .len) ((c .before .before .before .before .before .before .before .before .before .before .before .before .good) .0 .1))) .link .in-bytes
+mul-p-4 c = own-place ((c .before .before .unite-top) .ensures .0 .topped) (as-long _ _ ((c .before .before .unite-top) .ensures .0 .len) (as-long _ _ ((c .before .before .before .before .before .before .before .before .before .loop) .inv .1 .len) ((c .before .before .before .before .before .before .before .before .before .before .before .before .good) .0 .1))) .link .in-bytes
 
 slice-read-p-2 : tie.Need-slice-read-p-2 Inv-loop μ-loop
-slice-read-p-2 c = own-place ((c .before .before .before .unite-top) .ensures .0 .topped) (room-kept _ _ ((c .before .before .before .unite-top) .ensures .0 .len) (room-kept _ _ ((c .before .before .before .before .before .before .before .before .before .before .loop) .inv .1 .len) ((c .before .before .before .before .before .before .before .before .before .before .before .before .before .good) .0 .1))) .link .inside
+slice-read-p-2 c = own-place ((c .before .before .before .unite-top) .ensures .0 .topped) (as-long _ _ ((c .before .before .before .unite-top) .ensures .0 .len) (as-long _ _ ((c .before .before .before .before .before .before .before .before .before .before .loop) .inv .1 .len) ((c .before .before .before .before .before .before .before .before .before .before .before .before .before .good) .0 .1))) .link .inside
 
 loop-less : tie.Need-loop-less Inv-loop μ-loop
 loop-less c = omega (arith, (c .before .before .before .unite-top) .ensures .1)

@@ -7,12 +7,13 @@ use borrow.Author.Tests.{lt-ltb, le-ltb}
 use mathlib.Core.Bool.{_||_}
 use mathlib.Core.List.{[], _∷_}
 use Prim.Native.Nat.{_+_}
+use Rattle.words.proofs.Bools.{or-right, or-left}
 use Rattle.refusals.proofs.Laws.{counted-from-none}
 use Rattle.ranges.specs.Forms.{columns}
 use Rattle.ranges.specs.Points.{range}
-use Rattle.range_checks.specs.Verdicts.{badList, uneven}
 use Rattle.ranges.proofs.FormLaws.{columns-length}
-use Rattle.range_checks.proofs.VerdictLaws.{even-list, uneven-true, uneven-false, or-true, or-left, or-false, entry-count, entry-space, entry-lists}
+use Rattle.range_checks.specs.Verdicts.{badList, uneven}
+use Rattle.range_checks.proofs.VerdictLaws.{even-list, uneven-true, uneven-false, or-false, entry-count, entry-space, entry-lists}
 use Rattle.range_checks.proofs.union.Statement.{statement}
 use Rattle.range_checks.proofs.union.Tie as tie
 
@@ -30,12 +31,12 @@ bad-list-requires-2 c κs = tt
 returns-2 : tie.Need-returns-2
 returns-2 c =
     let a = (c .before .before .before .before .before .before .before .before .args) in
-    entry-count _ _ _ (or-true (badList (now (a .start)) (now (a .end))) (badList (now (a .other-start)) (now (a .other-end)) || uneven (a .n) (a .m)) (or-left (badList (now (a .other-start)) (now (a .other-end))) (uneven (a .n) (a .m)) (sym ((c .before .bad-list2) .ensures) ∙ (c .if2) .taken)))
+    entry-count _ _ _ (or-right (badList (now (a .start)) (now (a .end))) (badList (now (a .other-start)) (now (a .other-end)) || uneven (a .n) (a .m)) (or-left (badList (now (a .other-start)) (now (a .other-end))) (uneven (a .n) (a .m)) (sym ((c .before .bad-list2) .ensures) ∙ (c .if2) .taken)))
 
 returns-3 : tie.Need-returns-3
 returns-3 c =
     let a = (c .before .before .before .before .before .before .before .before .before .args) in
-    entry-count _ _ _ (or-true (badList (now (a .start)) (now (a .end))) (badList (now (a .other-start)) (now (a .other-end)) || uneven (a .n) (a .m)) (or-true (badList (now (a .other-start)) (now (a .other-end))) (uneven (a .n) (a .m)) (uneven-true (a .n) (a .m) ((c .if3) .taken))))
+    entry-count _ _ _ (or-right (badList (now (a .start)) (now (a .end))) (badList (now (a .other-start)) (now (a .other-end)) || uneven (a .n) (a .m)) (or-right (badList (now (a .other-start)) (now (a .other-end))) (uneven (a .n) (a .m)) (uneven-true (a .n) (a .m) ((c .if3) .taken))))
 
 add-if4 : tie.Need-add-if4
 add-if4 c = omega arith

@@ -5,7 +5,8 @@ use lib.ListN.{getD}
 use lib.Dec.{lit<, lit≤}
 use denote.Ref.{now}
 use borrow.Author.Needs.{needs}
-use Rattle.row_plans.proofs.GroupLaws.{head-at, cut-at, ends-in, reads-in, shared-same}
+use Rattle.words.proofs.RegionLaws.{lent-part}
+use Rattle.row_plans.proofs.GroupLaws.{head-at, ends-in, reads-in, shared-same}
 use Rattle.row_plans.proofs.planned.Statement.{statement}
 use Rattle.row_plans.proofs.planned.Tie as tie
 
@@ -178,7 +179,7 @@ same-length-4 : tie.Need-same-length-4
 same-length-4 c = search needs
 
 returns : tie.Need-returns
-returns c = let a = (c .before .before .before .before .before .before .before .before .before .before .before .before .before .before .before .before .before .before .before .before .before .before .before .before .before .before .before .before .before .before .before .before .before .before .before .before .before .before .before .before .before .before .before .before .before .before .args) in shared-same (head-at (now (a .rows)) (now (a .counts)) ((c .before .before .before .before .before .before .before .before .before .before .before .before .before .before .before .before .before .before .before .before .before .before .before .before .before .before .before .before .before .before .before .before .before .before .before .before .before .before .before .before .before .before .before .before .before .before .pre) .2) 0 (lit< tt)) (head-at (now (a .rows)) (now (a .counts)) ((c .before .before .before .before .before .before .before .before .before .before .before .before .before .before .before .before .before .before .before .before .before .before .before .before .before .before .before .before .before .before .before .before .before .before .before .before .before .before .before .before .before .before .before .before .before .before .pre) .2) 1 (lit< tt)) (head-at (now (a .rows)) (now (a .counts)) ((c .before .before .before .before .before .before .before .before .before .before .before .before .before .before .before .before .before .before .before .before .before .before .before .before .before .before .before .before .before .before .before .before .before .before .before .before .before .before .before .before .before .before .before .before .before .before .pre) .2) 2 (lit< tt)) (cut-at (now (a .rows)) 3 _ (3 * getD (now (a .counts)) 1 0) ((c .before .before .before .before .before .before .before .before .before .before .before .before .before .before .before .before .before .before .before .before .before .before .before .before .before .before .before .before .before .before .before .before .before .before .before .before .before .before .before .past) .ensures .0)) (cut-at (now (a .rows)) 195 _ (2 * getD (now (a .counts)) 2 0) ((c .before .before .before .before .before .before .before .before .before .before .before .before .before .before .before .before .before .before .before .before .before .before .before .before .before .before .before .before .before .before .before .before .before .before .before .before .before .before .past2) .ensures .0)) (cut-at (now (a .rows)) 323 _ (9 * getD (now (a .counts)) 3 0) ((c .before .before .before .before .before .before .before .before .before .before .before .before .before .before .before .before .before .before .before .before .before .before .before .before .before .before .before .before .before .before .before .before .before .before .before .before .before .past3) .ensures .0)) (cut-at (now (a .rows)) 899 _ (2 * getD (now (a .counts)) 4 0) ((c .before .before .before .before .before .before .before .before .before .before .before .before .before .before .before .before .before .before .before .before .before .before .before .before .before .before .before .before .before .before .before .before .before .before .before .before .past4) .ensures .0)) (cut-at (now (a .rows)) 1027 _ (1 * getD (now (a .counts)) 5 0) ((c .before .before .before .before .before .before .before .before .before .before .before .before .before .before .before .before .before .before .before .before .before .before .before .before .before .before .before .before .before .before .before .before .before .before .before .past5) .ensures .0)) (cut-at (now (a .rows)) 1091 _ (2 * getD (now (a .counts)) 6 0) ((c .before .before .before .before .before .before .before .before .before .before .before .before .before .before .before .before .before .before .before .before .before .before .before .before .before .before .before .before .before .before .before .before .before .before .past6) .ensures .0)) (cut-at (now (a .rows)) 1219 _ (1 * getD (now (a .counts)) 7 0) ((c .before .before .before .before .before .before .before .before .before .before .before .before .before .before .before .before .before .before .before .before .before .before .before .before .before .before .before .before .before .before .before .before .before .past7) .ensures .0)) (cut-at (now (a .rows)) 1283 _ (2 * getD (now (a .counts)) 8 0) ((c .before .before .before .before .before .before .before .before .before .before .before .before .before .before .before .before .before .before .before .before .before .before .before .before .before .before .before .before .before .before .before .before .past8) .ensures .0)) (cut-at (now (a .rows)) 1411 _ (2 * getD (now (a .counts)) 9 0) ((c .before .before .before .before .before .before .before .before .before .before .before .before .before .before .before .before .before .before .before .before .before .before .before .before .before .before .before .before .before .before .before .past9) .ensures .0)) (cut-at (now (a .rows)) 1539 _ (3 * getD (now (a .counts)) 10 0) ((c .before .before .before .before .before .before .before .before .before .before .before .before .before .before .before .before .before .before .before .before .before .before .before .before .before .before .before .before .before .before .past10) .ensures .0)) (cut-at (now (a .rows)) 1731 _ (2 * getD (now (a .counts)) 11 0) ((c .before .before .before .before .before .before .before .before .before .before .before .before .before .before .before .before .before .before .before .before .before .before .before .before .before .before .before .before .before .past11) .ensures .0)) (cut-at (now (a .rows)) 1859 _ (4 * getD (now (a .counts)) 12 0) ((c .before .before .before .before .before .before .before .before .before .before .before .before .before .before .before .before .before .before .before .before .before .before .before .before .before .before .before .before .past12) .ensures .0)) ((c .before .before .before .before .before .before .before .before .share) .ensures)
+returns c = let a = (c .before .before .before .before .before .before .before .before .before .before .before .before .before .before .before .before .before .before .before .before .before .before .before .before .before .before .before .before .before .before .before .before .before .before .before .before .before .before .before .before .before .before .before .before .before .before .args) in shared-same (head-at (now (a .rows)) (now (a .counts)) ((c .before .before .before .before .before .before .before .before .before .before .before .before .before .before .before .before .before .before .before .before .before .before .before .before .before .before .before .before .before .before .before .before .before .before .before .before .before .before .before .before .before .before .before .before .before .before .pre) .2) 0 (lit< tt)) (head-at (now (a .rows)) (now (a .counts)) ((c .before .before .before .before .before .before .before .before .before .before .before .before .before .before .before .before .before .before .before .before .before .before .before .before .before .before .before .before .before .before .before .before .before .before .before .before .before .before .before .before .before .before .before .before .before .before .pre) .2) 1 (lit< tt)) (head-at (now (a .rows)) (now (a .counts)) ((c .before .before .before .before .before .before .before .before .before .before .before .before .before .before .before .before .before .before .before .before .before .before .before .before .before .before .before .before .before .before .before .before .before .before .before .before .before .before .before .before .before .before .before .before .before .before .pre) .2) 2 (lit< tt)) (lent-part (now (a .rows)) 3 _ (3 * getD (now (a .counts)) 1 0) ((c .before .before .before .before .before .before .before .before .before .before .before .before .before .before .before .before .before .before .before .before .before .before .before .before .before .before .before .before .before .before .before .before .before .before .before .before .before .before .before .past) .ensures .0)) (lent-part (now (a .rows)) 195 _ (2 * getD (now (a .counts)) 2 0) ((c .before .before .before .before .before .before .before .before .before .before .before .before .before .before .before .before .before .before .before .before .before .before .before .before .before .before .before .before .before .before .before .before .before .before .before .before .before .before .past2) .ensures .0)) (lent-part (now (a .rows)) 323 _ (9 * getD (now (a .counts)) 3 0) ((c .before .before .before .before .before .before .before .before .before .before .before .before .before .before .before .before .before .before .before .before .before .before .before .before .before .before .before .before .before .before .before .before .before .before .before .before .before .past3) .ensures .0)) (lent-part (now (a .rows)) 899 _ (2 * getD (now (a .counts)) 4 0) ((c .before .before .before .before .before .before .before .before .before .before .before .before .before .before .before .before .before .before .before .before .before .before .before .before .before .before .before .before .before .before .before .before .before .before .before .before .past4) .ensures .0)) (lent-part (now (a .rows)) 1027 _ (1 * getD (now (a .counts)) 5 0) ((c .before .before .before .before .before .before .before .before .before .before .before .before .before .before .before .before .before .before .before .before .before .before .before .before .before .before .before .before .before .before .before .before .before .before .before .past5) .ensures .0)) (lent-part (now (a .rows)) 1091 _ (2 * getD (now (a .counts)) 6 0) ((c .before .before .before .before .before .before .before .before .before .before .before .before .before .before .before .before .before .before .before .before .before .before .before .before .before .before .before .before .before .before .before .before .before .before .past6) .ensures .0)) (lent-part (now (a .rows)) 1219 _ (1 * getD (now (a .counts)) 7 0) ((c .before .before .before .before .before .before .before .before .before .before .before .before .before .before .before .before .before .before .before .before .before .before .before .before .before .before .before .before .before .before .before .before .before .past7) .ensures .0)) (lent-part (now (a .rows)) 1283 _ (2 * getD (now (a .counts)) 8 0) ((c .before .before .before .before .before .before .before .before .before .before .before .before .before .before .before .before .before .before .before .before .before .before .before .before .before .before .before .before .before .before .before .before .past8) .ensures .0)) (lent-part (now (a .rows)) 1411 _ (2 * getD (now (a .counts)) 9 0) ((c .before .before .before .before .before .before .before .before .before .before .before .before .before .before .before .before .before .before .before .before .before .before .before .before .before .before .before .before .before .before .before .past9) .ensures .0)) (lent-part (now (a .rows)) 1539 _ (3 * getD (now (a .counts)) 10 0) ((c .before .before .before .before .before .before .before .before .before .before .before .before .before .before .before .before .before .before .before .before .before .before .before .before .before .before .before .before .before .before .past10) .ensures .0)) (lent-part (now (a .rows)) 1731 _ (2 * getD (now (a .counts)) 11 0) ((c .before .before .before .before .before .before .before .before .before .before .before .before .before .before .before .before .before .before .before .before .before .before .before .before .before .before .before .before .before .past11) .ensures .0)) (lent-part (now (a .rows)) 1859 _ (4 * getD (now (a .counts)) 12 0) ((c .before .before .before .before .before .before .before .before .before .before .before .before .before .before .before .before .before .before .before .before .before .before .before .before .before .before .before .before .past12) .ensures .0)) ((c .before .before .before .before .before .before .before .before .share) .ensures)
 
 pub planned-spec : {M : Type 1} → statement M
 planned-spec =

@@ -12,10 +12,11 @@ use Rattle.refusals.specs.declared.Refusal.the-variants.{Count, Inst as InstWor
 use Rattle.refusals.proofs.Laws.{scan-none, scan-miss, scan-hit, scan-end}
 use Rattle.words.specs.Rows.{rowCount, field}
 use Rattle.graph.specs.Line.{blocksOf}
+use Rattle.graph.proofs.Sums.{sum-start, sum-next}
 use Rattle.carrying.specs.Insts.{instsOf, instAt}
 use Rattle.carrying.specs.Checks.{badInst}
 use Rattle.insts.specs.Counts.{offset}
-use Rattle.insts.proofs.DealtLaws.{operands-within, insts-length, sum-start, sum-next}
+use Rattle.insts.proofs.DealtLaws.{operands-within, insts-length}
 use Rattle.insts.proofs.checks.inst.Statement.{statement}
 use Rattle.insts.proofs.checks.inst.Tie as tie
 

@@ -7,8 +7,8 @@ use lib.ListN.{length, getD}
 use denote.Ref.{now}
 use borrow.Author.Needs.{needs}
 use Rattle.graph.specs.Work.{sumOf}
+use Rattle.graph.proofs.Sums.{sum-start, sum-next}
 use Rattle.insts.specs.Counts.{offset}
-use Rattle.insts.proofs.DealtLaws.{sum-next, sum-start}
 use Rattle.words.specs.Rows.{field}
 use Rattle.insts.proofs.counts.operand_sum.Statement.{statement}
 use Rattle.insts.proofs.counts.operand_sum.Tie as tie

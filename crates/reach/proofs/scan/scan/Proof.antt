@@ -5,6 +5,7 @@ use mathlib.Core.Path.{_≡_, refl, sym, ap, _∙_}
 use lib.ListN.{length, take, drop, getD, set, length-set}
 use borrow.Author.Needs.{needs}
 use Rattle.words.specs.Rows.{field}
+use Rattle.graph.proofs.Sums.{sum-start, sum-next}
 use Rattle.insts.specs.Rows.{operandsFrom}
 use Rattle.carrying.specs.Insts.{defOf}
 use Rattle.reach.specs.Scan.{escapesIn, handsIn, rowOf, strayReader}
@@ -12,7 +13,7 @@ use Rattle.reach.proofs.ScanLaws.{scan-start, scan-more}
 use Rattle.carrying.specs.Insts.{instsOf}
 use Rattle.reach.specs.Scan.{Scanning}
 use Rattle.insts.specs.Counts.{offset}
-use Rattle.insts.proofs.DealtLaws.{sum-start, sum-next, operands-within}
+use Rattle.insts.proofs.DealtLaws.{operands-within}
 use Prim.Native.Nat.{_/_}
 use Rattle.reach.proofs.scan.scan.Statement.{statement}
 use Rattle.reach.proofs.scan.scan.Tie as tie
