@@ -7,15 +7,14 @@ use Prim.Native.Nat.{ℕ, zero, suc, _+_, _-_, _≤_, _<_, min}
 use native.Mathlib.Omega.{arith}
 use lib.ListN.{length, getD, set, length-set}
 use lib.Seq.{getD-set-same, getD-set-other}
-use Rattle.words.proofs.Points.{cut, same, stored}
 use Rattle.tarjan.specs.Graph.{Graph, Sound, Edge, Reach}
 use Rattle.tarjan.specs.Walk.{State, Inv, Order, Walks}
 use Rattle.tarjan.specs.Moves.{upd, shutAt, pasted, view, Agree, left, pushed, advanced, lowered, retired, closed}
-use Rattle.tarjan.specs.Space.{Rows, graph, Reads, Held, Ready, Kept, Still, leftOf, pushList, Closes, Closed, Turned}
-use Rattle.tarjan.proofs.Tools.{upd-case, upd-at, upd-off, shut-case, seen-le}
+use Rattle.tarjan.specs.Space.{Rows, graph, Reads, Held, Ready, Kept, Still, leftOf, pushList, Closes, Closed, Turned, Pl, Nd, Ed}
+use Rattle.tarjan.proofs.Tools.{cut, same, upd-case, upd-at, upd-off, shut-case, seen-le}
 use Rattle.tarjan.proofs.Steps.{s-le, d-le, s-lt}
 use Rattle.tarjan.proofs.Whole.{agree-walks, left-same, left-falls}
-use Rattle.tarjan.proofs.Lists.{kept-refl, kept-set, kept-trans}
+use Rattle.tarjan.proofs.Lists.{stored, kept-refl, kept-set, kept-trans}
 use Rattle.tarjan.proofs.Turns.{p-lt, u-lt, v-lt, take-new, take-held, take-shut, lower-frame, leave-held, leave-closed, root-walks}
 
 -- ---- stores in a region
@@ -136,16 +135,7 @@ pub held-agree : {R : Rows} {n at to base : ℕ} {w w' : List ℕ} {s d c e : �
 held-agree z D K W A = record { reads = reads-kept D K; walks = agree-walks (D .sound) (W .inv) A (W .order) }
 
 -- ---- what is known at a turn
--- the place and the node of the top frame, its next edge, and where that goes
-abbrev pub Pl : ℕ → ℕ → List ℕ → ℕ → ℕ
-Pl n base w d = getD w (base + n + n + (d - 1)) 0
-
-abbrev pub Nd : ℕ → ℕ → List ℕ → ℕ → ℕ
-Nd n base w d = getD w (base + n + Pl n base w d) 0
-
-abbrev pub Ed : ℕ → ℕ → List ℕ → ℕ → ℕ
-Ed n base w d = getD w (base + n + n + n + n + Nd n base w d) 0
-
+-- where the next edge of the top frame goes
 abbrev pub Tg : ℕ → ℕ → ℕ → List ℕ → ℕ → ℕ
 Tg n to base w d = getD w (to + Ed n base w d) 0
 

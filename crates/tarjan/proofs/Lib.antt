@@ -8,3 +8,4 @@ pub mod Laws
 pub mod Roots
 pub mod Edges
 pub mod Bounds
+pub mod Parts

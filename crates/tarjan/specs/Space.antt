@@ -81,6 +81,45 @@ pub record Turned (n at to base : ℕ) (w : List ℕ) (s d c e : ℕ) (w' : List
   pub falls : leftOf n at base w' + leftOf n at base w' + d' < leftOf n at base w + leftOf n at base w + d
   pub held : (R : Rows) → Held R n at to base w s d c e → Held R n at to base w' s' d' c' e'
 
+-- the place and the node of the top frame, and the node's next edge
+abbrev pub Pl : ℕ → ℕ → List ℕ → ℕ → ℕ
+Pl n base w d = getD w (base + n + n + (d - 1)) 0
+
+abbrev pub Nd : ℕ → ℕ → List ℕ → ℕ → ℕ
+Nd n base w d = getD w (base + n + Pl n base w d) 0
+
+abbrev pub Ed : ℕ → ℕ → List ℕ → ℕ → ℕ
+Ed n base w d = getD w (base + n + n + n + n + Nd n base w d) 0
+
+-- what `look` asks: the top frame's node has an edge left, k; where the frame's low and the node's next edge stand
+pub record Looking (n to base : ℕ) (w : List ℕ) (s d c e k low next : ℕ) : Type 0 where
+  pub at : ℕ
+  pub some : 0 < d
+  pub ready : Ready n at to base w s d c e
+  pub k-is : k ≡ Ed n base w d
+  pub low-is : low ≡ base + n + n + n + (d - 1)
+  pub next-is : next ≡ base + n + n + n + n + Nd n base w d
+  pub more : Ed n base w d < getD w (at + Nd n base w d + 1) 0
+
+-- and gives: a turn, wherever the rows start
+abbrev pub Looked : ℕ → ℕ → ℕ → List ℕ → ℕ → ℕ → ℕ → ℕ → List ℕ → ℕ → ℕ → ℕ → ℕ → Type 0
+Looked n to base w s d c e w' s' d' c' e' =
+    (at : ℕ) → Ready n at to base w s d c e → Ed n base w d < getD w (at + Nd n base w d + 1) 0 → Turned n at to base w s d c e w' s' d' c' e'
+
+-- what `leave` asks: the top frame's node, at place p, has no edge left
+pub record Leaving (n base : ℕ) (w : List ℕ) (s d c e p low : ℕ) : Type 0 where
+  pub at : ℕ
+  pub to : ℕ
+  pub some : 0 < d
+  pub ready : Ready n at to base w s d c e
+  pub p-is : p ≡ Pl n base w d
+  pub low-is : low ≡ base + n + n + n + (d - 1)
+  pub done : getD w (at + Nd n base w d + 1) 0 ≤ Ed n base w d
+
+abbrev pub Left : ℕ → ℕ → List ℕ → ℕ → ℕ → ℕ → ℕ → List ℕ → ℕ → ℕ → ℕ → ℕ → Type 0
+Left n base w s d c e w' s' d' c' e' =
+    (at to : ℕ) → Ready n at to base w s d c e → getD w (at + Nd n base w d + 1) 0 ≤ Ed n base w d → Turned n at to base w s d c e w' s' d' c' e'
+
 -- a whole walk, from root
 pub record Walked (n at to base root : ℕ) (w : List ℕ) (c e : ℕ) (w' : List ℕ) (c' e' : ℕ) : Type 0 where
   pub kept : Kept n base w w'

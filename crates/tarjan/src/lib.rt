@@ -4,7 +4,7 @@
 ghost use mathlib.Core.Path.{_≡_};
 ghost use Prim.Native.Nat.{ℕ, suc, _+_, _-_, _≤_, _<_, min};
 ghost use lib.ListN.{length, getD, set};
-ghost use Rattle.tarjan.specs.Space.{Ready, Turned, Walked, Given, Begun, Numbered, Closes, Closed, pushList, Pieced};
+ghost use Rattle.tarjan.specs.Space.{Ready, Turned, Walked, Given, Begun, Numbered, Closes, Closed, pushList, Looking, Looked, Leaving, Left, Pieced};
 ghost use Rattle.tarjan.specs.Components.{Walkable, Found};
 
 // The counts of a walk: held nodes, frames, pieces, closed nodes.
@@ -56,71 +56,81 @@ fn close(w: &mut [u64], n: usize, base: usize, p: usize, s: usize, x: u64, e: us
     }
 }
 
+// An edge is looked at: edge k, the next of the top frame's node. The frame's low stands at low, the node's next edge at next.
+fn look(
+    w: &mut [u64],
+    n: usize,
+    to: usize,
+    base: usize,
+    k: usize,
+    low: usize,
+    next: usize,
+    z: Counts,
+) -> Counts
+    requires { ⌜ Looking n to base (now w) (z .s) (z .d) (z .c) (z .e) k low next ⌝ }
+    ensures { λ r. ⌜ Looked n to base (now (w .entry)) (z .s) (z .d) (z .c) (z .e) (now (w .exit)) (r .s) (r .d) (r .c) (r .e) ⌝ }
+{
+    let v = w[to + k] as usize;
+    let m = w[base + v] as usize;
+    w[next] = (k + 1) as u64;
+    if m == 0 {
+        push(w, n, base, v, z.s, z.d);
+        return Counts {
+            s: z.s + 1,
+            d: z.d + 1,
+            c: z.c,
+            e: z.e,
+        };
+    }
+    if m <= n {
+        lower(w, low, (m - 1) as u64);
+        return z;
+    }
+    z
+}
+
+// The top frame is left, at place p of the stack: its node stays held, or its component is closed. The frame's low stands at low.
+fn leave(w: &mut [u64], n: usize, base: usize, p: usize, low: usize, z: Counts) -> Counts
+    requires { ⌜ Leaving n base (now w) (z .s) (z .d) (z .c) (z .e) p low ⌝ }
+    ensures { λ r. ⌜ Left n base (now (w .entry)) (z .s) (z .d) (z .c) (z .e) (now (w .exit)) (r .s) (r .d) (r .c) (r .e) ⌝ }
+{
+    let d = z.d - 1;
+    let l = w[low];
+    if l < p as u64 {
+        lower(w, low - 1, l);
+        return Counts {
+            s: z.s,
+            d: d,
+            c: z.c,
+            e: z.e,
+        };
+    }
+    close(w, n, base, p, z.s, (n + 1 + z.c) as u64, z.e);
+    Counts {
+        s: p,
+        d: d,
+        c: z.c + 1,
+        e: z.e + (z.s - p),
+    }
+}
+
 // One turn of the walk.
 fn turn(w: &mut [u64], n: usize, at: usize, to: usize, base: usize, z: Counts) -> Counts
     requires { ⌜ 0 < z .d ⌝ }
     requires { ⌜ Ready n at to base (now w) (z .s) (z .d) (z .c) (z .e) ⌝ }
     ensures { λ r. ⌜ Turned n at to base (now (w .entry)) (z .s) (z .d) (z .c) (z .e) (now (w .exit)) (r .s) (r .d) (r .c) (r .e) ⌝ }
 {
-    let s = z.s;
-    let d = z.d;
-    let c = z.c;
-    let e = z.e;
-    let f = d - 1;
     let stk = base + n;
     let fr = stk + n;
-    let lw = fr + n;
-    let nxt = lw + n;
-    let p = w[fr + f] as usize;
+    let frame = fr + (z.d - 1);
+    let p = w[frame] as usize;
     let u = w[stk + p] as usize;
-    let k = w[nxt + u] as usize;
-    let end = w[at + u + 1] as usize;
-    if k < end {
-        let v = w[to + k] as usize;
-        let m = w[base + v] as usize;
-        w[nxt + u] = (k + 1) as u64;
-        if m == 0 {
-            push(w, n, base, v, s, d);
-            return Counts {
-                s: s + 1,
-                d: d + 1,
-                c: c,
-                e: e,
-            };
-        }
-        if m <= n {
-            lower(w, lw + f, (m - 1) as u64);
-            return Counts {
-                s: s,
-                d: d,
-                c: c,
-                e: e,
-            };
-        }
-        return Counts {
-            s: s,
-            d: d,
-            c: c,
-            e: e,
-        };
+    let next = fr + n + n + u;
+    let k = w[next] as usize;
+    if k < w[at + u + 1] as usize {
+        return look(w, n, to, base, k, frame + n, next, z);
     }
-    let l = w[lw + f];
-    if l < p as u64 {
-        lower(w, lw + (f - 1), l);
-        return Counts {
-            s: s,
-            d: f,
-            c: c,
-            e: e,
-        };
-    }
-    close(w, n, base, p, s, (n + 1 + c) as u64, e);
-    Counts {
-        s: p,
-        d: f,
-        c: c + 1,
-        e: e + (s - p),
-    }
+    leave(w, n, base, p, frame + n, z)
 }
 
 // The walk from a node that was not seen.
