@@ -1,4 +1,5 @@
 pub mod WalkLaws
 pub mod BeginLaws
+pub mod PlaceLaws
 pub mod FollowLaws
 pub mod KeptLaws

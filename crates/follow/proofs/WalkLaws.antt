@@ -89,9 +89,6 @@ grow-start lay z w i q n x t h l d e ex = record {
     s = rw ex (t .first i q l (omega arith))
 
 module _ {lay : Lay} {z : Sizes} {w₀ : List ℕ} {q first n₀ : ℕ} {w : List ℕ} {n x : ℕ} (d : Growing lay z w₀ q first n₀ w n x) where
-  pub grow-tables : Walkable lay z w
-  grow-tables = walkable-still (d .tables) (d .grew)
-
   -- the edge at x is of the register
   pub record Turn (i : ℕ) : Type 0 where
     pub low : i < z .insts
@@ -347,13 +344,3 @@ unsee-done {lay} {z} {w₀} {w} {n} {k} d h = record {
     go : (x : ℕ) → (getD w (lay .seen + x) 0 ≡ 0) ⊎ ((j : ℕ) × (k ≤ j) × (j < n) × ((defAt lay w₀ (queued lay w₀ j) - 1) / 64 ≡ x)) → getD w (lay .seen + x) 0 ≡ 0
     go x (inl e) = e
     go x (inr (j, a, b, c)) = absurd (omega arith)
-
--- what stands at a place of the queue
-pub record At (v m : ℕ) (lay : Lay) (w : List ℕ) (k : ℕ) : Type 0 where
-  pub low : queued lay w k < m
-  pub has-def : 0 < defAt lay w (queued lay w k)
-  pub small : defAt lay w (queued lay w k) ≤ v
-  pub room : k < m
-
-pub held-at : {v m : ℕ} {lay : Lay} {w : List ℕ} {n : ℕ} → Held v m lay w n → (k : ℕ) → k < n → At v m lay w k
-held-at {lay = lay} {w = w} h k l = record { low = h .low k l; has-def = h .defined k l; small = h .def-le (queued lay w k) (h .low k l); room = (let q = h .n-le in omega arith) }

@@ -106,3 +106,13 @@ pub record Unseen (lay : Lay) (z : Sizes) (w₀ w : List ℕ) (n : ℕ) : Type 0
   pub outside : (k : ℕ) → (k < lay .seen) ⊎ (lay .seen + wordsOf (z .v) ≤ k) → (k < lay .queue) ⊎ (lay .queue + n ≤ k) → getD w k 0 ≡ getD w₀ k 0
   pub seen : (k : ℕ) → k < wordsOf (z .v) → getD w (lay .seen + k) 0 ≡ 0
   pub registers : (k : ℕ) → k < n → suc (queued lay w k) ≡ defAt lay w₀ (queued lay w₀ k)
+
+-- what taking the instruction at k out of the queue asks: it is there, and its def is a numbered register
+pub record Forgetting (lay : Lay) (z : Sizes) (w : List ℕ) (k : ℕ) : Type 0 where
+  pub seen-fits : lay .seen + wordsOf (z .v) ≤ lay .defs
+  pub defs-fits : lay .defs + z .insts ≤ lay .queue
+  pub queue-fits : lay .queue + z .insts ≤ length w
+  pub room : k < z .insts
+  pub low : queued lay w k < z .insts
+  pub has-def : 0 < defAt lay w (queued lay w k)
+  pub small : defAt lay w (queued lay w k) ≤ z .v

@@ -3,10 +3,9 @@ ghost use mathlib.Core.Path.{_≡_};
 ghost use mathlib.Core.Bool.{not, _&&_, _||_};
 ghost use Prim.Native.Nat.{_+_, _-_, _/_, _≤_, _<_};
 ghost use lib.ListN.{length, set};
-ghost use Rattle.reach.specs.Prepared.{wordsOf};
-ghost use Rattle.queue.specs.Walk.{defAt, queued, Held};
+ghost use Rattle.queue.specs.Walk.{defAt, Held};
 ghost use Rattle.follow.specs.Followed.{kindBy, Ready, FollowsAny};
-ghost use Rattle.follow.specs.Steps.{Walkable, Grown, Chain, Took, Began, registerAt, Stepped, Walked, Unseen};
+ghost use Rattle.follow.specs.Steps.{Walkable, Grown, Chain, Took, Began, registerAt, Stepped, Walked, Unseen, Forgetting};
 use crate::Begun;
 use crate::Followed;
 use crate::Sizes;
@@ -144,8 +143,7 @@ fn walk(work: &mut [u64], lay: Lay, z: Sizes, b: Begun, whole: bool) -> Walk
 
 // The instruction at `k` in the queue gives way to its def, which is seen no more.
 fn forget(work: &mut [u64], lay: Lay, z: Sizes, k: usize)
-    requires { ⌜ (lay .seen + wordsOf (z .v) ≤ lay .defs) × (lay .defs + z .insts ≤ lay .queue) × (lay .queue + z .insts ≤ length (now work)) × (k < z .insts) ⌝ }
-    requires { ⌜ (queued lay (now work) k < z .insts) × (0 < defAt lay (now work) (queued lay (now work) k)) × (defAt lay (now work) (queued lay (now work) k) ≤ z .v) ⌝ }
+    requires { ⌜ Forgetting lay z (now work) k ⌝ }
     ensures { λ _. ⌜ now (work .exit) ≡ set (set (now (work .entry)) (lay .queue + k) (registerAt lay (now (work .entry)) k)) (lay .seen + registerAt lay (now (work .entry)) k / 64) 0 ⌝ }
 {
     let i = work[lay.queue + k] as usize;

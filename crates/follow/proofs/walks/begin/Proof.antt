@@ -1,10 +1,9 @@
 -- `follow::walks::begin` meets its contract: the entries from c on were taken.
-use native.Mathlib.Omega.{arith}
-use Prim.Native.Nat.{ℕ, suc, _+_, _-_, _*_, _≤_, _<_}
-use mathlib.Core.Path.{_≡_, refl, sym, ap, _∙_}
-use lib.ListN.{length, take, drop, getD, set, length-set}
-use borrow.Author.Needs.{needs}
-use Rattle.follow.proofs.BeginLaws.{Beginning, begin-start, begin-found, begin-more, begin-done}
+use Prim.Native.Nat.{ℕ, _+_, _-_, _*_, _≤_, _<_}
+use mathlib.Core.Path.{_≡_, refl}
+use lib.ListN.{length, getD}
+use Rattle.follow.proofs.BeginLaws.{Beginning, begin-start, begin-more, begin-done}
+use Rattle.follow.proofs.PlaceLaws.{head-at, entry-at}
 use Rattle.follow.proofs.walks.begin.Statement.{statement}
 use Rattle.follow.proofs.walks.begin.Tie as tie
 
@@ -15,55 +14,55 @@ abbrev μ-loop : tie.MeasureT-loop
 μ-loop insts addresses work₀ lay z local b₀ c₀ work b c = c
 
 add-c : tie.Need-add-c Inv-loop μ-loop
-add-c c = let l = ((c .before .before .before .before .pre)) .0 .laid in let d = ((c .before .before .before .before .pre)) .2 in omega arith
+add-c c = head-at ((c .before .before .before .before .pre) .0) ((c .before .before .before .before) .good .1 .1 .0 .1) ((c .before .before .before .before) .args .local) ((c .before .before .before .before .pre) .2 .here) .fits
 
 mul-c : tie.Need-mul-c Inv-loop μ-loop
-mul-c c = omega arith
+mul-c c = head-at ((c .before .before .before .before .pre) .0) ((c .before .before .before .before) .good .1 .1 .0 .1) ((c .before .before .before .before) .args .local) ((c .before .before .before .before .pre) .2 .here) .in-bytes
 
 slice-read-c : tie.Need-slice-read-c Inv-loop μ-loop
-slice-read-c c = let l = ((c .before .before .before .before .before .pre)) .0 .laid in let d = ((c .before .before .before .before .before .pre)) .2 in omega arith
+slice-read-c c = head-at ((c .before .before .before .before .before .pre) .0) ((c .before .before .before .before .before) .good .1 .1 .0 .1) ((c .before .before .before .before .before) .args .local) ((c .before .before .before .before .before .pre) .2 .here) .inside
 
 loop-holds : tie.Need-loop-holds Inv-loop μ-loop
 loop-holds c = begin-start (((c .before .before .before .before .before .args)) .lay) (((c .before .before .before .before .before .args)) .z) (((c .before .before .before .before .before .args)) .insts .now) (((c .before .before .before .before .before .args)) .addresses .now) (((c .before .before .before .before .before .args)) .local) (((c .before .before .before .before .before .args)) .work .now) _ (((c .before .before .before .before .before .pre)) .0) (((c .before .before .before .before .before .pre)) .1) (((c .before .before .before .before .before .pre)) .2) refl
 
 sub-a : tie.Need-sub-a Inv-loop μ-loop
-sub-a c = omega arith
+sub-a c = (c .loop-test) .taken
 
 mul-wide : tie.Need-mul-wide Inv-loop μ-loop
-mul-wide c = let t = ((c .before .before .loop)) .inv .tables in let l = t .laid in let d = ((c .before .before .loop)) .inv .chain in let a = ((c .before .before .loop)) .inv .c-le in let n = ((c .before .before .loop)) .inv .grew .len in omega arith
+mul-wide c = entry-at ((c .before .before .loop) .inv) ((c .before .before .before .before .before .before .before .before) .good .1 .0 .1) ((c .before .before .before .before .before .before .before .before) .good .1 .1 .0 .1) ((c .before .loop-test) .taken) .twice
 
 mul-wide-2 : tie.Need-mul-wide-2 Inv-loop μ-loop
-mul-wide-2 c = let t = ((c .before .before .loop)) .inv .tables in let l = t .laid in let d = ((c .before .before .loop)) .inv .chain in let a = ((c .before .before .loop)) .inv .c-le in let n = ((c .before .before .loop)) .inv .grew .len in omega arith
+mul-wide-2 c = entry-at ((c .before .before .loop) .inv) ((c .before .before .before .before .before .before .before .before) .good .1 .0 .1) ((c .before .before .before .before .before .before .before .before) .good .1 .1 .0 .1) ((c .before .loop-test) .taken) .in-bytes
 
 shared-slice-read-wide : tie.Need-shared-slice-read-wide Inv-loop μ-loop
-shared-slice-read-wide c = let t = ((c .before .before .before .loop)) .inv .tables in let l = t .laid in let d = ((c .before .before .before .loop)) .inv .chain in let a = ((c .before .before .before .loop)) .inv .c-le in let n = ((c .before .before .before .loop)) .inv .grew .len in omega arith
+shared-slice-read-wide c = entry-at ((c .before .before .before .loop) .inv) ((c .before .before .before .before .before .before .before .before .before) .good .1 .0 .1) ((c .before .before .before .before .before .before .before .before .before) .good .1 .1 .0 .1) ((c .before .before .loop-test) .taken) .inside
 
 wide-requires : tie.Need-wide-requires Inv-loop μ-loop
-wide-requires c κs = omega arith
+wide-requires c κs = tt
 
 take-requires : tie.Need-take-requires Inv-loop μ-loop
-take-requires c κs = let f = begin-found (((c .before .before .before .before .loop)) .inv) (((c .before .before .before .before .loop)) .c - 1) (omega arith) in let d = ((c .before .before .before .before .loop)) .inv .chain .rows in let e = ((c .wide)) .ensures in (omega arith, omega arith, ((c .before .before .before .before .loop)) .inv .grew .held)
+take-requires c κs = let a = entry-at ((c .before .before .before .before .loop) .inv) ((c .before .before .before .before .before .before .before .before .before .before) .good .1 .0 .1) ((c .before .before .before .before .before .before .before .before .before .before) .good .1 .1 .0 .1) ((c .before .before .before .loop-test) .taken) in (rw ((c .wide) .ensures) (a .listed), rw ((c .wide) .ensures) (a .low), (c .before .before .before .before .loop) .inv .grew .held)
 
 add-c-2 : tie.Need-add-c-2 Inv-loop μ-loop
-add-c-2 c = let t = ((c .before .before .before .before .before .before .before .before .loop)) .inv .tables in let l = t .laid in let d = ((c .before .before .before .before .before .before .before .before .loop)) .inv .chain in let a = ((c .before .before .before .before .before .before .before .before .loop)) .inv .c-le in let n = ((c .before .before .before .before .before .before .before .before .loop)) .inv .grew .len in omega arith
+add-c-2 c = entry-at ((c .before .before .before .before .before .before .before .before .loop) .inv) ((c .before .before .before .before .before .before .before .before .before .before .before .before .before .before) .good .1 .0 .1) ((c .before .before .before .before .before .before .before .before .before .before .before .before .before .before) .good .1 .1 .0 .1) ((c .before .before .before .before .before .before .before .loop-test) .taken) .next .fits
 
 mul-c-2 : tie.Need-mul-c-2 Inv-loop μ-loop
-mul-c-2 c = omega arith
+mul-c-2 c = entry-at ((c .before .before .before .before .before .before .before .before .loop) .inv) ((c .before .before .before .before .before .before .before .before .before .before .before .before .before .before) .good .1 .0 .1) ((c .before .before .before .before .before .before .before .before .before .before .before .before .before .before) .good .1 .1 .0 .1) ((c .before .before .before .before .before .before .before .loop-test) .taken) .next .in-bytes
 
 slice-read-c-2 : tie.Need-slice-read-c-2 Inv-loop μ-loop
-slice-read-c-2 c = let t = ((c .before .before .before .before .before .before .before .before .before .loop)) .inv .tables in let l = t .laid in let d = ((c .before .before .before .before .before .before .before .before .before .loop)) .inv .chain in let a = ((c .before .before .before .before .before .before .before .before .before .loop)) .inv .c-le in let n = ((c .before .before .before .before .before .before .before .before .before .loop)) .inv .grew .len in let m = ((c .before .before .before .before .take)) .ensures .grew .len in omega arith
+slice-read-c-2 c = rw ((c .before .before .before .before .take) .ensures .grew .len) (entry-at ((c .before .before .before .before .before .before .before .before .before .loop) .inv) ((c .before .before .before .before .before .before .before .before .before .before .before .before .before .before .before) .good .1 .0 .1) ((c .before .before .before .before .before .before .before .before .before .before .before .before .before .before .before) .good .1 .1 .0 .1) ((c .before .before .before .before .before .before .before .before .loop-test) .taken) .next .inside)
 
 loop-less : tie.Need-loop-less Inv-loop μ-loop
-loop-less c = begin-more (((c .before .before .before .before .before .before .before .before .before .loop)) .inv) (((c .before .before .before .before .before .before .before .before .before .loop)) .c - 1) _ _ (omega arith) (((c .before .before .before .before .before .wide)) .ensures) (((c .before .before .before .before .take)) .ensures) refl .1
+loop-less c = begin-more ((c .before .before .before .before .before .before .before .before .before .loop) .inv) ((c .before .before .before .before .before .before .before .before .before .loop) .c - 1) _ _ (entry-at ((c .before .before .before .before .before .before .before .before .before .loop) .inv) ((c .before .before .before .before .before .before .before .before .before .before .before .before .before .before .before) .good .1 .0 .1) ((c .before .before .before .before .before .before .before .before .before .before .before .before .before .before .before) .good .1 .1 .0 .1) ((c .before .before .before .before .before .before .before .before .loop-test) .taken) .is) ((c .before .before .before .before .before .wide) .ensures) ((c .before .before .before .before .take) .ensures) refl .1
 
 loop-again : tie.Need-loop-again Inv-loop μ-loop
-loop-again c = begin-more (((c .before .before .before .before .before .before .before .before .before .loop)) .inv) (((c .before .before .before .before .before .before .before .before .before .loop)) .c - 1) _ _ (omega arith) (((c .before .before .before .before .before .wide)) .ensures) (((c .before .before .before .before .take)) .ensures) refl .0
+loop-again c = begin-more ((c .before .before .before .before .before .before .before .before .before .loop) .inv) ((c .before .before .before .before .before .before .before .before .before .loop) .c - 1) _ _ (entry-at ((c .before .before .before .before .before .before .before .before .before .loop) .inv) ((c .before .before .before .before .before .before .before .before .before .before .before .before .before .before .before) .good .1 .0 .1) ((c .before .before .before .before .before .before .before .before .before .before .before .before .before .before .before) .good .1 .1 .0 .1) ((c .before .before .before .before .before .before .before .before .loop-test) .taken) .is) ((c .before .before .before .before .before .wide) .ensures) ((c .before .before .before .before .take) .ensures) refl .0
 
 same-length : tie.Need-same-length Inv-loop μ-loop
 same-length c = ((c .before .loop)) .inv .grew .len
 
 returns : tie.Need-returns Inv-loop μ-loop
-returns c = begin-done (((c .before .loop)) .inv) (omega arith)
+returns c = begin-done ((c .before .loop) .inv) ((c .loop-test) .left)
 
 pub begin-spec : {M : Type 1} → statement M
 begin-spec =

@@ -1,31 +1,30 @@
 -- `follow::walks::follow` meets its contract: the walk finds what the definitions say.
-use native.Mathlib.Omega.{arith}
-use Prim.Native.Nat.{ℕ, suc, _+_, _-_, _*_, _≤_, _<_}
-use mathlib.Core.Path.{_≡_, refl, sym, ap, _∙_}
-use lib.ListN.{length, take, drop, getD, set, length-set}
-use borrow.Author.Needs.{needs}
+use Prim.Native.Nat.{ℕ, _+_, _-_, _*_, _≤_, _<_}
+use mathlib.Core.Path.{_≡_, refl, _∙_}
+use lib.ListN.{length, getD}
 use Rattle.follow.proofs.WalkLaws.{walkable-still}
 use Rattle.follow.proofs.FollowLaws.{held-none, follow-kept, follows}
+use Rattle.follow.proofs.PlaceLaws.{head-at, ended-at}
 use Rattle.follow.proofs.walks.follow.Statement.{statement}
 use Rattle.follow.proofs.walks.follow.Tie as tie
 
 add-none : tie.Need-add-none
-add-none c = let l = ((c .before .before .before .before .pre)) .0 .tables .laid in let d = ((c .before .before .before .before .pre)) .0 .chain (((c .before .before .before .before .args)) .local) (((c .before .before .before .before .pre)) .1) in omega arith
+add-none c = head-at ((c .before .before .before .before .pre) .0 .tables) ((c .before .before .before .before) .good .1 .1 .0 .1) ((c .before .before .before .before) .args .local) ((c .before .before .before .before .pre) .1) .fits
 
 mul-none : tie.Need-mul-none
-mul-none c = let l = ((c .before .before .before .before .pre)) .0 .tables .laid in let d = ((c .before .before .before .before .pre)) .0 .chain (((c .before .before .before .before .args)) .local) (((c .before .before .before .before .pre)) .1) in omega arith
+mul-none c = head-at ((c .before .before .before .before .pre) .0 .tables) ((c .before .before .before .before) .good .1 .1 .0 .1) ((c .before .before .before .before) .args .local) ((c .before .before .before .before .pre) .1) .in-bytes
 
 slice-read-none : tie.Need-slice-read-none
-slice-read-none c = let l = ((c .before .before .before .before .before .pre)) .0 .tables .laid in let d = ((c .before .before .before .before .before .pre)) .0 .chain (((c .before .before .before .before .before .args)) .local) (((c .before .before .before .before .before .pre)) .1) in omega arith
+slice-read-none c = head-at ((c .before .before .before .before .before .pre) .0 .tables) ((c .before .before .before .before .before) .good .1 .1 .0 .1) ((c .before .before .before .before .before) .args .local) ((c .before .before .before .before .before .pre) .1) .inside
 
 add-endless : tie.Need-add-endless
-add-endless c = let l = ((c .before .before .before .before .before .before .pre)) .0 .tables .laid in let d = ((c .before .before .before .before .before .before .pre)) .0 .chain (((c .before .before .before .before .before .before .args)) .local) (((c .before .before .before .before .before .before .pre)) .1) in omega arith
+add-endless c = ended-at ((c .before .before .before .before .before .before .pre) .0 .tables) ((c .before .before .before .before .before .before) .good .1 .1 .0 .1) ((c .before .before .before .before .before .before) .args .local) ((c .before .before .before .before .before .before .pre) .1) .fits
 
 mul-endless : tie.Need-mul-endless
-mul-endless c = let l = ((c .before .before .before .before .before .before .pre)) .0 .tables .laid in let d = ((c .before .before .before .before .before .before .pre)) .0 .chain (((c .before .before .before .before .before .before .args)) .local) (((c .before .before .before .before .before .before .pre)) .1) in omega arith
+mul-endless c = ended-at ((c .before .before .before .before .before .before .pre) .0 .tables) ((c .before .before .before .before .before .before) .good .1 .1 .0 .1) ((c .before .before .before .before .before .before) .args .local) ((c .before .before .before .before .before .before .pre) .1) .in-bytes
 
 slice-read-endless : tie.Need-slice-read-endless
-slice-read-endless c = let l = ((c .before .before .before .before .before .before .before .pre)) .0 .tables .laid in let d = ((c .before .before .before .before .before .before .before .pre)) .0 .chain (((c .before .before .before .before .before .before .before .args)) .local) (((c .before .before .before .before .before .before .before .pre)) .1) in omega arith
+slice-read-endless c = ended-at ((c .before .before .before .before .before .before .before .pre) .0 .tables) ((c .before .before .before .before .before .before .before) .good .1 .1 .0 .1) ((c .before .before .before .before .before .before .before) .args .local) ((c .before .before .before .before .before .before .before .pre) .1) .inside
 
 begin-requires : tie.Need-begin-requires
 begin-requires c κs = (((c .before .before .before .before .before .before .before .before .pre)) .0 .tables, held-none (((c .before .before .before .before .before .before .before .before .args)) .lay) (((c .before .before .before .before .before .before .before .before .args)) .z) (((c .before .before .before .before .before .before .before .before .args)) .work .now) (((c .before .before .before .before .before .before .before .before .pre)) .0 .tables) (((c .before .before .before .before .before .before .before .before .pre)) .0 .unseen), ((c .before .before .before .before .before .before .before .before .pre)) .0 .chain (((c .before .before .before .before .before .before .before .before .args)) .local) (((c .before .before .before .before .before .before .before .before .pre)) .1))
@@ -37,7 +36,7 @@ unsee-requires : tie.Need-unsee-requires
 unsee-requires c κs = ((c .before .before .before .walk)) .ensures .walking .grew .held
 
 kind-requires : tie.Need-kind-requires
-kind-requires c κs = search needs
+kind-requires c κs = tt
 
 same-length : tie.Need-same-length
 same-length c = ((c .before .before .before .unsee)) .ensures .len ∙ ((c .before .before .before .before .before .before .before .walk)) .ensures .walking .grew .len ∙ ((c .before .before .before .before .before .before .before .before .before .before .before .begin)) .ensures .grew .len

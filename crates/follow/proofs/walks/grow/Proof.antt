@@ -1,11 +1,9 @@
 -- `follow::walks::grow` meets its contract: the edges of the register before x were taken.
-use native.Mathlib.Omega.{arith}
-use Prim.Native.Nat.{ℕ, suc, _+_, _-_, _*_, _≤_, _<_}
-use mathlib.Core.Path.{_≡_, refl, sym, ap, _∙_}
-use lib.ListN.{length, take, drop, getD, set, length-set}
-use borrow.Author.Needs.{needs}
-use Rattle.follow.proofs.WalkLaws.{Growing, grow-start, grow-tables, grow-turn, grow-more, grow-done, grow-stop, Unseeing, unsee-start, unsee-back, unsee-more, unsee-done}
-use Prim.Native.Nat.{_/_}
+use Prim.Native.Nat.{ℕ, _+_, _-_, _*_, _/_, _≤_, _<_}
+use mathlib.Core.Path.{_≡_, refl}
+use lib.ListN.{length, getD}
+use Rattle.follow.proofs.WalkLaws.{Growing, grow-start, grow-turn, grow-more, grow-done, grow-stop}
+use Rattle.follow.proofs.PlaceLaws.{less-left, def-at, first-at, edge-at}
 use Rattle.follow.proofs.walks.grow.Statement.{statement}
 use Rattle.follow.proofs.walks.grow.Tie as tie
 
@@ -16,61 +14,61 @@ abbrev μ-loop : tie.MeasureT-loop
 μ-loop work₀ lay z i n q k₀ x₀ work k x = z .edges - x
 
 add-q : tie.Need-add-q Inv-loop μ-loop
-add-q c = let l = ((c .before .before .pre)) .0 .laid in omega arith
+add-q c = def-at ((c .before .before .pre) .0) ((c .before .before) .good .0 .1) ((c .before .before) .args .i) ((c .before .before .pre) .2) .fits
 
 mul-q : tie.Need-mul-q Inv-loop μ-loop
-mul-q c = omega arith
+mul-q c = def-at ((c .before .before .pre) .0) ((c .before .before) .good .0 .1) ((c .before .before) .args .i) ((c .before .before .pre) .2) .in-bytes
 
 slice-read-q : tie.Need-slice-read-q Inv-loop μ-loop
-slice-read-q c = let l = ((c .before .before .before .pre)) .0 .laid in omega arith
+slice-read-q c = def-at ((c .before .before .before .pre) .0) ((c .before .before .before) .good .0 .1) ((c .before .before .before) .args .i) ((c .before .before .before .pre) .2) .inside
 
 sub-q : tie.Need-sub-q Inv-loop μ-loop
-sub-q c = omega arith
+sub-q c = (c .before .before .before .pre) .3
 
 add-x : tie.Need-add-x Inv-loop μ-loop
-add-x c = let l = ((c .before .before .before .before .pre)) .0 .laid in omega arith
+add-x c = first-at ((c .before .before .before .before .pre) .0) ((c .before .before .before .before) .good .0 .1) ((c .before .before .before .before) .args .i) ((c .before .before .before .before .pre) .2) .fits
 
 mul-x : tie.Need-mul-x Inv-loop μ-loop
-mul-x c = omega arith
+mul-x c = first-at ((c .before .before .before .before .pre) .0) ((c .before .before .before .before) .good .0 .1) ((c .before .before .before .before) .args .i) ((c .before .before .before .before .pre) .2) .in-bytes
 
 slice-read-x : tie.Need-slice-read-x Inv-loop μ-loop
-slice-read-x c = let l = ((c .before .before .before .before .before .pre)) .0 .laid in omega arith
+slice-read-x c = first-at ((c .before .before .before .before .before .pre) .0) ((c .before .before .before .before .before) .good .0 .1) ((c .before .before .before .before .before) .args .i) ((c .before .before .before .before .before .pre) .2) .inside
 
 loop-holds : tie.Need-loop-holds Inv-loop μ-loop
 loop-holds c = grow-start (((c .before .before .before .before .before .args)) .lay) (((c .before .before .before .before .before .args)) .z) (((c .before .before .before .before .before .args)) .work .now) (((c .before .before .before .before .before .args)) .i) _ _ _ (((c .before .before .before .before .before .pre)) .0) (((c .before .before .before .before .before .pre)) .1) (((c .before .before .before .before .before .pre)) .2) (((c .before .before .before .before .before .pre)) .3) refl refl
 
 add-y : tie.Need-add-y Inv-loop μ-loop
-add-y c = let t = ((c .before .before .before .loop)) .inv .tables in let l = t .laid in let f = t .few in let e = ((c .before .before .before .loop)) .inv .grew .len in omega arith
+add-y c = edge-at ((c .before .before .before .loop) .inv) ((c .before .before .before .before .before .before .before .before .before) .good .0 .1) ((c .before .if1) .taken) .key .fits
 
 mul-y : tie.Need-mul-y Inv-loop μ-loop
-mul-y c = omega arith
+mul-y c = edge-at ((c .before .before .before .loop) .inv) ((c .before .before .before .before .before .before .before .before .before) .good .0 .1) ((c .before .if1) .taken) .key .in-bytes
 
 slice-read-y : tie.Need-slice-read-y Inv-loop μ-loop
-slice-read-y c = let t = ((c .before .before .before .before .loop)) .inv .tables in let l = t .laid in let f = t .few in let e = ((c .before .before .before .before .loop)) .inv .grew .len in omega arith
+slice-read-y c = edge-at ((c .before .before .before .before .loop) .inv) ((c .before .before .before .before .before .before .before .before .before .before) .good .0 .1) ((c .before .before .if1) .taken) .key .inside
 
 same-length : tie.Need-same-length Inv-loop μ-loop
 same-length c = ((c .before .before .before .before .before .loop)) .inv .grew .len
 
 returns : tie.Need-returns Inv-loop μ-loop
-returns c = grow-stop (((c .before .before .before .before .before .loop)) .inv) _ (omega arith) refl (((c .if2)) .taken)
+returns c = grow-stop ((c .before .before .before .before .before .loop) .inv) _ ((c .before .before .before .if1) .taken) refl ((c .if2) .taken)
 
 join-requires : tie.Need-join-requires Inv-loop μ-loop
-join-requires c κs = let u = grow-turn (((c .before .before .before .before .before .before .loop)) .inv) _ _ (omega arith) refl (((c .before .if2)) .left) refl in (((c .before .before .before .before .before .before .loop)) .inv .grew .held, u .low, u .has-def)
+join-requires c κs = let u = grow-turn ((c .before .before .before .before .before .before .loop) .inv) _ _ ((c .before .before .before .before .if1) .taken) refl ((c .before .if2) .left) refl in ((c .before .before .before .before .before .before .loop) .inv .grew .held, u .low, u .has-def)
 
 add-x-2 : tie.Need-add-x-2 Inv-loop μ-loop
-add-x-2 c = omega arith
+add-x-2 c = edge-at ((c .before .before .before .before .before .before .before .before .before .loop) .inv) ((c .before .before .before .before .before .before .before .before .before .before .before .before .before .before .before) .good .0 .1) ((c .before .before .before .before .before .before .before .if1) .taken) .more
 
 loop-less : tie.Need-loop-less Inv-loop μ-loop
-loop-less c = omega arith
+loop-less c = less-left _ _ ((c .before .before .before .before .before .before .before .if1) .taken)
 
 loop-again : tie.Need-loop-again Inv-loop μ-loop
-loop-again c = grow-more (((c .before .before .before .before .before .before .before .before .before .loop)) .inv) (omega arith) (grow-turn (((c .before .before .before .before .before .before .before .before .before .loop)) .inv) _ _ (omega arith) refl (((c .before .before .before .before .if2)) .left) refl) (((c .before .before .join)) .ensures)
+loop-again c = grow-more ((c .before .before .before .before .before .before .before .before .before .loop) .inv) ((c .before .before .before .before .before .before .before .if1) .taken) (grow-turn ((c .before .before .before .before .before .before .before .before .before .loop) .inv) _ _ ((c .before .before .before .before .before .before .before .if1) .taken) refl ((c .before .before .before .before .if2) .left) refl) ((c .before .before .join) .ensures)
 
 same-length-2 : tie.Need-same-length-2 Inv-loop μ-loop
 same-length-2 c = ((c .before .before .loop)) .inv .grew .len
 
 returns-2 : tie.Need-returns-2 Inv-loop μ-loop
-returns-2 c = grow-done (((c .before .before .loop)) .inv) (omega arith)
+returns-2 c = grow-done ((c .before .before .loop) .inv) ((c .if1) .left)
 
 pub grow-spec : {M : Type 1} → statement M
 grow-spec =

@@ -1,50 +1,47 @@
 -- `follow::walks::step` meets its contract: two bits are read, and the register's edges taken.
-use native.Mathlib.Omega.{arith}
-use Prim.Native.Nat.{ℕ, suc, _+_, _-_, _*_, _≤_, _<_}
-use mathlib.Core.Path.{_≡_, refl, sym, ap, _∙_}
-use lib.ListN.{length, take, drop, getD, set, length-set}
-use borrow.Author.Needs.{needs}
-use Rattle.follow.proofs.WalkLaws.{held-at, walk-start, walk-tables, walk-here, walk-more, walk-done, walk-stop}
-use Rattle.follow.specs.Steps.{Walkable, Walking}
+use Prim.Native.Nat.{ℕ, _+_, _-_, _*_, _≤_, _<_}
+use mathlib.Core.Path.{_≡_, ap, _∙_}
 use mathlib.Core.Bool.{Bool, _||_}
+use lib.ListN.{length, getD}
+use Rattle.follow.proofs.PlaceLaws.{looking}
 use Rattle.follow.proofs.walks.step.Statement.{statement}
 use Rattle.follow.proofs.walks.step.Tie as tie
 
 add-i : tie.Need-add-i
-add-i c = let a = held-at (((c .before .before .pre)) .1) (((c .before .before .args)) .h) (((c .before .before .pre)) .2) in let l = ((c .before .before .pre)) .0 .laid in let d = ((c .before .before .pre)) .1 in omega arith
+add-i c = looking ((c .before .before .pre) .0) ((c .before .before) .good .0 .1) ((c .before .before) .args .h) ((c .before .before .pre) .1) ((c .before .before .pre) .2) .queue .fits
 
 mul-i : tie.Need-mul-i
-mul-i c = let a = held-at (((c .before .before .pre)) .1) (((c .before .before .args)) .h) (((c .before .before .pre)) .2) in let l = ((c .before .before .pre)) .0 .laid in let d = ((c .before .before .pre)) .1 in omega arith
+mul-i c = looking ((c .before .before .pre) .0) ((c .before .before) .good .0 .1) ((c .before .before) .args .h) ((c .before .before .pre) .1) ((c .before .before .pre) .2) .queue .in-bytes
 
 slice-read-i : tie.Need-slice-read-i
-slice-read-i c = let a = held-at (((c .before .before .before .pre)) .1) (((c .before .before .before .args)) .h) (((c .before .before .before .pre)) .2) in let l = ((c .before .before .before .pre)) .0 .laid in let d = ((c .before .before .before .pre)) .1 in omega arith
+slice-read-i c = looking ((c .before .before .before .pre) .0) ((c .before .before .before) .good .0 .1) ((c .before .before .before) .args .h) ((c .before .before .before .pre) .1) ((c .before .before .before .pre) .2) .queue .inside
 
 add-r : tie.Need-add-r
-add-r c = let a = held-at (((c .before .before .before .before .pre)) .1) (((c .before .before .before .before .args)) .h) (((c .before .before .before .before .pre)) .2) in let l = ((c .before .before .before .before .pre)) .0 .laid in let d = ((c .before .before .before .before .pre)) .1 in omega arith
+add-r c = looking ((c .before .before .before .before .pre) .0) ((c .before .before .before .before) .good .0 .1) ((c .before .before .before .before) .args .h) ((c .before .before .before .before .pre) .1) ((c .before .before .before .before .pre) .2) .def .fits
 
 mul-r : tie.Need-mul-r
-mul-r c = let a = held-at (((c .before .before .before .before .pre)) .1) (((c .before .before .before .before .args)) .h) (((c .before .before .before .before .pre)) .2) in let l = ((c .before .before .before .before .pre)) .0 .laid in let d = ((c .before .before .before .before .pre)) .1 in omega arith
+mul-r c = looking ((c .before .before .before .before .pre) .0) ((c .before .before .before .before) .good .0 .1) ((c .before .before .before .before) .args .h) ((c .before .before .before .before .pre) .1) ((c .before .before .before .before .pre) .2) .def .in-bytes
 
 slice-read-r : tie.Need-slice-read-r
-slice-read-r c = let a = held-at (((c .before .before .before .before .before .pre)) .1) (((c .before .before .before .before .before .args)) .h) (((c .before .before .before .before .before .pre)) .2) in let l = ((c .before .before .before .before .before .pre)) .0 .laid in let d = ((c .before .before .before .before .before .pre)) .1 in omega arith
+slice-read-r c = looking ((c .before .before .before .before .before .pre) .0) ((c .before .before .before .before .before) .good .0 .1) ((c .before .before .before .before .before) .args .h) ((c .before .before .before .before .before .pre) .1) ((c .before .before .before .before .before .pre) .2) .def .inside
 
 sub-r : tie.Need-sub-r
-sub-r c = let a = held-at (((c .before .before .before .before .before .pre)) .1) (((c .before .before .before .before .before .args)) .h) (((c .before .before .before .before .before .pre)) .2) in let l = ((c .before .before .before .before .before .pre)) .0 .laid in let d = ((c .before .before .before .before .before .pre)) .1 in omega arith
+sub-r c = looking ((c .before .before .before .before .before .pre) .0) ((c .before .before .before .before .before) .good .0 .1) ((c .before .before .before .before .before) .args .h) ((c .before .before .before .before .before .pre) .1) ((c .before .before .before .before .before .pre) .2) .has-def
 
 test-requires : tie.Need-test-requires
-test-requires c κs = let a = held-at (((c .before .before .before .before .before .before .pre)) .1) (((c .before .before .before .before .before .before .args)) .h) (((c .before .before .before .before .before .before .pre)) .2) in let l = ((c .before .before .before .before .before .before .pre)) .0 .laid in let d = ((c .before .before .before .before .before .before .pre)) .1 in omega arith
+test-requires c κs = looking ((c .before .before .before .before .before .before .pre) .0) ((c .before .before .before .before .before .before) .good .0 .1) ((c .before .before .before .before .before .before) .args .h) ((c .before .before .before .before .before .before .pre) .1) ((c .before .before .before .before .before .before .pre) .2) .escapes
 
 either-requires : tie.Need-either-requires
-either-requires c κs = search needs
+either-requires c κs = tt
 
 test-requires-2 : tie.Need-test-requires-2
-test-requires-2 c κs = let a = held-at (((c .before .before .before .before .before .before .before .before .before .pre)) .1) (((c .before .before .before .before .before .before .before .before .before .args)) .h) (((c .before .before .before .before .before .before .before .before .before .pre)) .2) in let l = ((c .before .before .before .before .before .before .before .before .before .pre)) .0 .laid in let d = ((c .before .before .before .before .before .before .before .before .before .pre)) .1 in omega arith
+test-requires-2 c κs = looking ((c .before .before .before .before .before .before .before .before .before .pre) .0) ((c .before .before .before .before .before .before .before .before .before) .good .0 .1) ((c .before .before .before .before .before .before .before .before .before) .args .h) ((c .before .before .before .before .before .before .before .before .before .pre) .1) ((c .before .before .before .before .before .before .before .before .before .pre) .2) .dead
 
 either-requires-2 : tie.Need-either-requires-2
-either-requires-2 c κs = search needs
+either-requires-2 c κs = tt
 
 grow-requires : tie.Need-grow-requires
-grow-requires c κs = let a = held-at (((c .before .before .before .before .before .before .before .before .before .before .before .before .pre)) .1) (((c .before .before .before .before .before .before .before .before .before .before .before .before .args)) .h) (((c .before .before .before .before .before .before .before .before .before .before .before .before .pre)) .2) in (((c .before .before .before .before .before .before .before .before .before .before .before .before .pre)) .0, ((c .before .before .before .before .before .before .before .before .before .before .before .before .pre)) .1, a .low, a .has-def)
+grow-requires c κs = let a = looking ((c .before .before .before .before .before .before .before .before .before .before .before .before .pre) .0) ((c .before .before .before .before .before .before .before .before .before .before .before .before) .good .0 .1) ((c .before .before .before .before .before .before .before .before .before .before .before .before) .args .h) ((c .before .before .before .before .before .before .before .before .before .before .before .before .pre) .1) ((c .before .before .before .before .before .before .before .before .before .before .before .before .pre) .2) in ((c .before .before .before .before .before .before .before .before .before .before .before .before .pre) .0, (c .before .before .before .before .before .before .before .before .before .before .before .before .pre) .1, a .low, a .has-def)
 
 same-length : tie.Need-same-length
 same-length c = ((c .before .before .grow)) .ensures .grew .len

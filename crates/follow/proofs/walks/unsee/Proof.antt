@@ -1,11 +1,9 @@
 -- `follow::walks::unsee` meets its contract: the first k of the queue are registers.
-use native.Mathlib.Omega.{arith}
-use Prim.Native.Nat.{ℕ, suc, _+_, _-_, _*_, _≤_, _<_}
-use mathlib.Core.Path.{_≡_, refl, sym, ap, _∙_}
-use lib.ListN.{length, take, drop, getD, set, length-set}
-use borrow.Author.Needs.{needs}
-use Rattle.follow.proofs.WalkLaws.{Growing, grow-start, grow-tables, grow-turn, grow-more, grow-done, grow-stop, Unseeing, unsee-start, unsee-back, unsee-more, unsee-done}
-use Prim.Native.Nat.{_/_}
+use Prim.Native.Nat.{ℕ, _+_, _-_, _*_, _/_, _≤_, _<_}
+use mathlib.Core.Path.{_≡_, refl}
+use lib.ListN.{length, getD, set}
+use Rattle.follow.proofs.WalkLaws.{Unseeing, unsee-start, unsee-more, unsee-done}
+use Rattle.follow.proofs.PlaceLaws.{less-left, to-forget, more-back}
 use Rattle.follow.proofs.walks.unsee.Statement.{statement}
 use Rattle.follow.proofs.walks.unsee.Tie as tie
 
@@ -19,22 +17,22 @@ loop-holds : tie.Need-loop-holds Inv-loop μ-loop
 loop-holds c = unsee-start (c .before .pre)
 
 forget-requires : tie.Need-forget-requires Inv-loop μ-loop
-forget-requires c κs = let b = unsee-back ((c .before .before .loop) .inv) (omega arith) in let h = (c .before .before .loop) .inv .held in let e = b .def in let o = b .inst in let q = (c .before .before .loop) .inv .len in omega arith
+forget-requires c κs = to-forget ((c .before .before .loop) .inv) ((c .before .loop-test) .taken)
 
 add-k : tie.Need-add-k Inv-loop μ-loop
-add-k c = omega arith
+add-k c = more-back ((c .before .before .before .before .before .loop) .inv) ((c .before .before .before .before .before .before .before) .good .0 .1) ((c .before .before .before .before .loop-test) .taken)
 
 loop-less : tie.Need-loop-less Inv-loop μ-loop
-loop-less c = omega arith
+loop-less c = less-left _ _ ((c .before .before .before .before .loop-test) .taken)
 
 loop-again : tie.Need-loop-again Inv-loop μ-loop
-loop-again c = rw ((c .before .before .forget) .ensures) (unsee-more ((c .before .before .before .before .before .loop) .inv) _ _ _ (omega arith) refl refl refl)
+loop-again c = rw ((c .before .before .forget) .ensures) (unsee-more ((c .before .before .before .before .before .loop) .inv) _ _ _ ((c .before .before .before .before .loop-test) .taken) refl refl refl)
 
 same-length : tie.Need-same-length Inv-loop μ-loop
 same-length c = (c .before .loop) .inv .len
 
 returns : tie.Need-returns Inv-loop μ-loop
-returns c = unsee-done ((c .before .loop) .inv) (omega arith)
+returns c = unsee-done ((c .before .loop) .inv) ((c .loop-test) .left)
 
 pub unsee-spec : {M : Type 1} → statement M
 unsee-spec =

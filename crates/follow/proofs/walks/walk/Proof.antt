@@ -1,12 +1,10 @@
 -- `follow::walks::walk` meets its contract: the first h of the queue were looked at.
-use native.Mathlib.Omega.{arith}
-use Prim.Native.Nat.{ℕ, suc, _+_, _-_, _*_, _≤_, _<_}
-use mathlib.Core.Path.{_≡_, refl, sym, ap, _∙_}
-use lib.ListN.{length, take, drop, getD, set, length-set}
-use borrow.Author.Needs.{needs}
-use Rattle.follow.proofs.WalkLaws.{held-at, walk-start, walk-tables, walk-here, walk-more, walk-done, walk-stop}
+use Prim.Native.Nat.{ℕ, _+_, _-_, _*_, _≤_, _<_}
+use mathlib.Core.Path.{_≡_, sym, _∙_}
+use lib.ListN.{length, getD}
 use Rattle.follow.specs.Steps.{Walkable, Walking}
-use mathlib.Core.Bool.{Bool, _||_}
+use Rattle.follow.proofs.WalkLaws.{walk-start, walk-tables, walk-more, walk-done, walk-stop}
+use Rattle.follow.proofs.PlaceLaws.{more-in, less-in}
 use Rattle.follow.proofs.walks.walk.Statement.{statement}
 use Rattle.follow.proofs.walks.walk.Tie as tie
 
@@ -20,7 +18,7 @@ loop-holds : tie.Need-loop-holds Inv-loop μ-loop
 loop-holds c = ((c .before .pre) .0, walk-start ((c .before .args) .lay) ((c .before .args) .z) ((c .before .args) .work .now) ((c .before .args) .b) ((c .before .pre) .1))
 
 stops-requires : tie.Need-stops-requires Inv-loop μ-loop
-stops-requires c κs = omega arith
+stops-requires c κs = tt
 
 same-length : tie.Need-same-length Inv-loop μ-loop
 same-length c = (c .before .before .before .before .loop) .inv .1 .grew .len
@@ -29,22 +27,22 @@ returns : tie.Need-returns Inv-loop μ-loop
 returns c = walk-stop ((c .before .before .before .before .loop) .inv .0) ((c .before .before .before .before .loop) .inv .1) ((c .before .before .before .before .before .before .args) .whole) (sym ((c .before .stops) .ensures) ∙ (c .if2) .taken)
 
 step-requires : tie.Need-step-requires Inv-loop μ-loop
-step-requires c κs = (walk-tables ((c .before .before .before .before .before .loop) .inv .0) ((c .before .before .before .before .before .loop) .inv .1), (c .before .before .before .before .before .loop) .inv .1 .grew .held, omega arith)
+step-requires c κs = (walk-tables ((c .before .before .before .before .before .loop) .inv .0) ((c .before .before .before .before .before .loop) .inv .1), (c .before .before .before .before .before .loop) .inv .1 .grew .held, (c .before .before .before .if1) .taken)
 
 add-h : tie.Need-add-h Inv-loop μ-loop
-add-h c = let q = (c .before .before .before .before .before .before .before .before .loop) .inv .1 .grew .held .n-le in let t = (c .before .before .before .before .before .before .before .before .loop) .inv .0 .few-insts in omega arith
+add-h c = more-in _ _ _ ((c .before .before .before .before .before .before .if1) .taken) ((c .before .before .before .before .before .before .before .before .loop) .inv .1 .grew .held .n-le) ((c .before .before .before .before .before .before .before .before .loop) .inv .0 .few-insts)
 
 loop-less : tie.Need-loop-less Inv-loop μ-loop
-loop-less c = let q = (c .before .before .before .before .before .before .before .before .loop) .inv .1 .grew .held .n-le in omega arith
+loop-less c = less-in _ _ _ ((c .before .before .before .before .before .before .if1) .taken) ((c .before .before .before .before .before .before .before .before .loop) .inv .1 .grew .held .n-le)
 
 loop-again : tie.Need-loop-again Inv-loop μ-loop
-loop-again c = ((c .before .before .before .before .before .before .before .before .loop) .inv .0, walk-more ((c .before .before .before .before .before .before .before .before .loop) .inv .0) ((c .before .before .before .before .before .before .before .before .loop) .inv .1) (omega arith) ((c .before .before .step) .ensures))
+loop-again c = ((c .before .before .before .before .before .before .before .before .loop) .inv .0, walk-more ((c .before .before .before .before .before .before .before .before .loop) .inv .0) ((c .before .before .before .before .before .before .before .before .loop) .inv .1) ((c .before .before .before .before .before .before .if1) .taken) ((c .before .before .step) .ensures))
 
 same-length-2 : tie.Need-same-length-2 Inv-loop μ-loop
 same-length-2 c = (c .before .before .loop) .inv .1 .grew .len
 
 returns-2 : tie.Need-returns-2 Inv-loop μ-loop
-returns-2 c = walk-done ((c .before .before .loop) .inv .0) ((c .before .before .loop) .inv .1) ((c .before .before .before .before .args) .whole) (omega arith)
+returns-2 c = walk-done ((c .before .before .loop) .inv .0) ((c .before .before .loop) .inv .1) ((c .before .before .before .before) .args .whole) ((c .if1) .left)
 
 pub walk-spec : {M : Type 1} → statement M
 walk-spec =
