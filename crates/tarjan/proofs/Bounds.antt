@@ -8,7 +8,9 @@ use native.Mathlib.Omega.{arith}
 use lib.ListN.{length, getD}
 use Rattle.words.proofs.FitLaws.{Word, word, small}
 use Rattle.tarjan.specs.Space.{Pl, Nd, Ed, Ready, Looking, Leaving, Closes}
+use Rattle.tarjan.specs.Components.{Walkable}
 use Rattle.tarjan.proofs.Laws.{Top, top, v-ok, room-for, under, closes}
+use Rattle.tarjan.proofs.Roots.{Roots}
 
 pub not-none : (m : ℕ) → (m ≡ 0 → ⊥) → 1 ≤ m
 not-none m h = omega arith
@@ -168,3 +170,26 @@ module _ {n base : ℕ} {w : List ℕ} {s d c e p low : ℕ} (l : Leaving n base
 
   pub to-close : Closes n base w p s e
   to-close = rw (l .p-is) (closes n (l .at) (l .to) base w s d c e (l .some) (l .done) (l .ready))
+
+-- where all walks begin
+pub record AtStart (n at : ℕ) : Type 0 where
+  pub ends : Fits w64 (at + n)
+  pub to : Fits w64 (at + n + 1)
+
+pub start : {n at base : ℕ} {w : List ℕ} → Walkable n at base w → length w * 8 < 2 ^ 63 → AtStart n at
+start {w = w} y r =
+    let a = y .below in
+    let b = y .room in
+    record { ends = small _ (length w) (omega arith) r; to = small _ (length w) (omega arith) r }
+
+-- at a root
+pub record AtRoot (n base : ℕ) (w : List ℕ) (root : ℕ) : Type 0 where
+  pub num : Word (base + root) (length w)
+  pub more : Fits w64 (root + 1)
+  pub less : n - (root + 1) < n - root
+
+pub at-root : {n at to base : ℕ} {w₀ w : List ℕ} {c e root : ℕ} (m : ℕ) → Roots n at to base w₀ w c e root → length w₀ ≡ m → m * 8 < 2 ^ 63 → root < n → AtRoot n base w root
+at-root {w = w} m q o r h =
+    let a = q .ready .held .reads .room in
+    let k = q .kept .len in
+    record { num = word _ (length w) (omega arith) (omega arith); more = small _ (length w) (omega arith) (omega arith); less = omega arith }

@@ -127,7 +127,7 @@ pub record Walked (n at to base root : ℕ) (w : List ℕ) (c e : ℕ) (w' : Lis
   pub root-seen : 0 < getD w' (base + root) 0
   pub held : (R : Rows) → Held R n at to base w 0 0 c e → Held R n at to base w' 0 0 c' e'
 
--- what `walk_all` asks, and what it gives
+-- what all walks together ask, and what they give
 pub record Given (n at to base : ℕ) (w : List ℕ) : Type 0 where
   pub room : base + n + n + n + n + n + n ≤ length w
   pub starts : at + n < base

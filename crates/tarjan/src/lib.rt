@@ -4,7 +4,7 @@
 ghost use mathlib.Core.Path.{_≡_};
 ghost use Prim.Native.Nat.{ℕ, suc, _+_, _-_, _≤_, _<_, min};
 ghost use lib.ListN.{length, getD, set};
-ghost use Rattle.tarjan.specs.Space.{Ready, Turned, Walked, Given, Begun, Numbered, Closes, Closed, pushList, Looking, Looked, Leaving, Left, Pieced};
+ghost use Rattle.tarjan.specs.Space.{Ready, Turned, Walked, Begun, Numbered, Closes, Closed, pushList, Looking, Looked, Leaving, Left};
 ghost use Rattle.tarjan.specs.Components.{Walkable, Found};
 
 // The counts of a walk: held nodes, frames, pieces, closed nodes.
@@ -187,32 +187,25 @@ fn number(w: &mut [u64], n: usize, base: usize)
     }
 }
 
-// The components of the graph whose row starts stand from `at` on and whose targets from `to` on: how many there are.
-fn walk_all(w: &mut [u64], n: usize, at: usize, to: usize, base: usize) -> usize
-    requires { ⌜ Given n at to base (now w) ⌝ }
-    ensures { λ r. ⌜ Pieced n at to base (now (w .entry)) (now (w .exit)) r ⌝ }
-{
-    begin(w, n, at, base);
-    let mut c = 0;
-    let mut e = 0;
-    let mut root = 0;
-    while root < n {
-        if w[base + root] == 0 {
-            let z = walk(w, n, at, to, base, root, c, e);
-            c = z.c;
-            e = z.e;
-        }
-        root += 1;
-    }
-    number(w, n, base);
-    c
-}
-
 // The components of the graph of n places whose rows stand from `at` on: how many there are. Their numbers stand from `base` on,
 // one to a place, and from `base + 5 * n` on the places in the components' order. Linear in places and edges.
 pub fn components(work: &mut [u64], n: usize, at: usize, base: usize) -> usize
     requires { ⌜ Walkable n at base (now work) ⌝ }
     ensures { λ r. ⌜ Found n at base (now (work .entry)) (now (work .exit)) r ⌝ }
 {
-    walk_all(work, n, at, at + n + 1, base)
+    begin(work, n, at, base);
+    let to = at + n + 1;
+    let mut c = 0;
+    let mut e = 0;
+    let mut root = 0;
+    while root < n {
+        if work[base + root] == 0 {
+            let z = walk(work, n, at, to, base, root, c, e);
+            c = z.c;
+            e = z.e;
+        }
+        root += 1;
+    }
+    number(work, n, base);
+    c
 }
