@@ -2,43 +2,43 @@
 use native.Mathlib.Omega.{arith}
 use Prim.Native.Nat.{_+_, _-_, _*_}
 use denote.Ref.{now}
-use borrow.Author.Needs.{needs}
 use Rattle.area_pieces.proofs.SpanLaws.{between-is}
+use Rattle.area_pieces.proofs.PlaceLaws.{one-lt, two-lt, field, inside}
 use Rattle.area_pieces.proofs.between.Statement.{statement}
 use Rattle.area_pieces.proofs.between.Tie as tie
 
 add-pack : tie.Need-add-pack
-add-pack c = search needs
+add-pack c = inside _ _ _ ((c .before .pre) .0) ((c .before .pre) .1) ((c .before) .good .0 .1) .more
 
 mul-pack : tie.Need-mul-pack
-mul-pack c = search needs
+mul-pack c = field ((c .before) .args .first + 1) 1 _ (inside _ _ _ ((c .before .pre) .0) ((c .before .pre) .1) ((c .before) .good .0 .1) .from) one-lt ((c .before) .good .0 .1) .row
 
 add-pack-2 : tie.Need-add-pack-2
-add-pack-2 c = search needs
+add-pack-2 c = field ((c .before) .args .first + 1) 1 _ (inside _ _ _ ((c .before .pre) .0) ((c .before .pre) .1) ((c .before) .good .0 .1) .from) one-lt ((c .before) .good .0 .1) .at
 
 mul-pack-2 : tie.Need-mul-pack-2
-mul-pack-2 c = search needs
+mul-pack-2 c = field ((c .before) .args .first + 1) 1 _ (inside _ _ _ ((c .before .pre) .0) ((c .before .pre) .1) ((c .before) .good .0 .1) .from) one-lt ((c .before) .good .0 .1) .in-bytes
 
 shared-slice-read-pack : tie.Need-shared-slice-read-pack
-shared-slice-read-pack c = search needs
+shared-slice-read-pack c = field ((c .before .before) .args .first + 1) 1 _ (inside _ _ _ ((c .before .before .pre) .0) ((c .before .before .pre) .1) ((c .before .before) .good .0 .1) .from) one-lt ((c .before .before) .good .0 .1) .inside
 
 sub-pack : tie.Need-sub-pack
-sub-pack c = search needs
+sub-pack c = inside _ _ _ ((c .before .before .pre) .0) ((c .before .before .pre) .1) ((c .before .before) .good .0 .1) .some
 
 mul-pack-3 : tie.Need-mul-pack-3
-mul-pack-3 c = search needs
+mul-pack-3 c = field ((c .before .before) .args .last - 1) 2 _ (inside _ _ _ ((c .before .before .pre) .0) ((c .before .before .pre) .1) ((c .before .before) .good .0 .1) .to) two-lt ((c .before .before) .good .0 .1) .row
 
 add-pack-3 : tie.Need-add-pack-3
-add-pack-3 c = search needs
+add-pack-3 c = field ((c .before .before) .args .last - 1) 2 _ (inside _ _ _ ((c .before .before .pre) .0) ((c .before .before .pre) .1) ((c .before .before) .good .0 .1) .to) two-lt ((c .before .before) .good .0 .1) .at
 
 mul-pack-4 : tie.Need-mul-pack-4
-mul-pack-4 c = search needs
+mul-pack-4 c = field ((c .before .before) .args .last - 1) 2 _ (inside _ _ _ ((c .before .before .pre) .0) ((c .before .before .pre) .1) ((c .before .before) .good .0 .1) .to) two-lt ((c .before .before) .good .0 .1) .in-bytes
 
 shared-slice-read-pack-2 : tie.Need-shared-slice-read-pack-2
-shared-slice-read-pack-2 c = search needs
+shared-slice-read-pack-2 c = field ((c .before .before .before) .args .last - 1) 2 _ (inside _ _ _ ((c .before .before .before .pre) .0) ((c .before .before .before .pre) .1) ((c .before .before .before) .good .0 .1) .to) two-lt ((c .before .before .before) .good .0 .1) .inside
 
 pack-requires : tie.Need-pack-requires
-pack-requires c κs = search needs
+pack-requires c κs = tt
 
 returns : tie.Need-returns
 returns c = between-is (now ((c .before .before .before .before .args) .blocks)) ((c .before .before .before .before .args) .first) ((c .before .before .before .before .args) .last) _ (omega arith) (omega arith) (omega (arith, (c .before .before .shared-slice-known2) .given (3 * ((c .before .before .before .before .args) .last - 1) + 2))) ((c .pack) .ensures)

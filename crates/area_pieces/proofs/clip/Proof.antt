@@ -2,55 +2,55 @@
 use native.Mathlib.Omega.{arith}
 use Prim.Native.Nat.{_-_}
 use denote.Ref.{now}
-use borrow.Author.Needs.{needs}
 use mathlib.Core.Path.{subst}
 use Rattle.ranges.specs.declared.Range.{Range}
 use Rattle.area_pieces.specs.Inner.{Widened}
 use Rattle.area_pieces.proofs.SpanLaws.{clipped}
+use Rattle.area_pieces.proofs.PlaceLaws.{one-lt, two-lt, field}
 use Rattle.area_pieces.proofs.clip.Statement.{statement}
 use Rattle.area_pieces.proofs.clip.Tie as tie
 
 start-of-requires : tie.Need-start-of-requires
-start-of-requires c κs = search needs
+start-of-requires c κs = tt
 
 mul-larger : tie.Need-mul-larger
-mul-larger c = search needs
+mul-larger c = field ((c .before .before .before) .args .k) 1 _ ((c .before .before .before .pre) .0) one-lt ((c .before .before .before) .good .0 .1) .row
 
 add-larger : tie.Need-add-larger
-add-larger c = search needs
+add-larger c = field ((c .before .before .before) .args .k) 1 _ ((c .before .before .before .pre) .0) one-lt ((c .before .before .before) .good .0 .1) .at
 
 mul-larger-2 : tie.Need-mul-larger-2
-mul-larger-2 c = search needs
+mul-larger-2 c = field ((c .before .before .before) .args .k) 1 _ ((c .before .before .before .pre) .0) one-lt ((c .before .before .before) .good .0 .1) .in-bytes
 
 shared-slice-read-larger : tie.Need-shared-slice-read-larger
-shared-slice-read-larger c = search needs
+shared-slice-read-larger c = field ((c .before .before .before .before) .args .k) 1 _ ((c .before .before .before .before .pre) .0) one-lt ((c .before .before .before .before) .good .0 .1) .inside
 
 larger-requires : tie.Need-larger-requires
-larger-requires c κs = search needs
+larger-requires c κs = tt
 
 end-of-requires : tie.Need-end-of-requires
-end-of-requires c κs = search needs
+end-of-requires c κs = tt
 
 mul-smaller : tie.Need-mul-smaller
-mul-smaller c = search needs
+mul-smaller c = field ((c .before .before .before .before .before .before) .args .k) 2 _ ((c .before .before .before .before .before .before .pre) .0) two-lt ((c .before .before .before .before .before .before) .good .0 .1) .row
 
 add-smaller : tie.Need-add-smaller
-add-smaller c = search needs
+add-smaller c = field ((c .before .before .before .before .before .before) .args .k) 2 _ ((c .before .before .before .before .before .before .pre) .0) two-lt ((c .before .before .before .before .before .before) .good .0 .1) .at
 
 mul-smaller-2 : tie.Need-mul-smaller-2
-mul-smaller-2 c = search needs
+mul-smaller-2 c = field ((c .before .before .before .before .before .before) .args .k) 2 _ ((c .before .before .before .before .before .before .pre) .0) two-lt ((c .before .before .before .before .before .before) .good .0 .1) .in-bytes
 
 shared-slice-read-smaller : tie.Need-shared-slice-read-smaller
-shared-slice-read-smaller c = search needs
+shared-slice-read-smaller c = field ((c .before .before .before .before .before .before .before) .args .k) 2 _ ((c .before .before .before .before .before .before .before .pre) .0) two-lt ((c .before .before .before .before .before .before .before) .good .0 .1) .inside
 
 smaller-requires : tie.Need-smaller-requires
-smaller-requires c κs = search needs
+smaller-requires c κs = tt
 
 widen-requires : tie.Need-widen-requires
-widen-requires c κs = search needs
+widen-requires c κs = (c .before .before .before .before .before .before .before .before .before .pre) .1
 
 same-length : tie.Need-same-length
-same-length c = search needs
+same-length c = (c .before .before .widen) .ensures .len
 
 returns : tie.Need-returns
 returns c = subst (λ (r : Range). Widened ((c .before .before .before .before .before .before .before .before .before .before .before .before .args) .s) ((c .before .before .before .before .before .before .before .before .before .before .before .before .args) .k) r (now ((c .before .before .before .before .before .before .before .before .before .before .before .before .args) .work)) ((c .before .before .widen) .last .0)) (clipped (now ((c .before .before .before .before .before .before .before .before .before .before .before .before .args) .blocks)) ((c .before .before .before .before .before .before .before .before .before .before .before .before .args) .k) ((c .before .before .before .before .before .before .before .before .before .before .before .before .args) .x) _ _ _ _ (omega arith) ((c .before .before .before .before .before .before .before .before .before .start-of) .ensures) ((c .before .before .before .before .before .before .end-of) .ensures) ((c .before .before .before .before .before .before .before .larger) .ensures) ((c .before .before .before .before .smaller) .ensures)) ((c .before .before .widen) .ensures)

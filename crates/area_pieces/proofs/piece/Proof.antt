@@ -3,74 +3,73 @@ use native.Mathlib.Omega.{arith}
 use Prim.Native.Nat.{_+_, _-_, _*_}
 use mathlib.Core.Path.{sym, _∙_}
 use denote.Ref.{now}
-use borrow.Author.Needs.{needs}
-use Rattle.words.proofs.RegionLaws.{row-before}
 use Rattle.area_pieces.proofs.LineLaws.{piece-whole, piece-part}
+use Rattle.area_pieces.proofs.PlaceLaws.{one-lt, two-lt, field, at-block}
 use Rattle.area_pieces.proofs.piece.Statement.{statement}
 use Rattle.area_pieces.proofs.piece.Tie as tie
 
 mul-top : tie.Need-mul-top
-mul-top c = search needs
+mul-top c = field ((c .before .before) .args .k) 1 _ ((c .before .before .pre) .0 .0) one-lt ((c .before .before) .good .0 .1) .row
 
 add-top : tie.Need-add-top
-add-top c = search needs
+add-top c = field ((c .before .before) .args .k) 1 _ ((c .before .before .pre) .0 .0) one-lt ((c .before .before) .good .0 .1) .at
 
 mul-top-2 : tie.Need-mul-top-2
-mul-top-2 c = search needs
+mul-top-2 c = field ((c .before .before) .args .k) 1 _ ((c .before .before .pre) .0 .0) one-lt ((c .before .before) .good .0 .1) .in-bytes
 
 shared-slice-read-top : tie.Need-shared-slice-read-top
-shared-slice-read-top c = search needs
+shared-slice-read-top c = field ((c .before .before .before) .args .k) 1 _ ((c .before .before .before .pre) .0 .0) one-lt ((c .before .before .before) .good .0 .1) .inside
 
 mul-bottom : tie.Need-mul-bottom
-mul-bottom c = search needs
+mul-bottom c = field ((c .before .before .before) .args .k) 2 _ ((c .before .before .before .pre) .0 .0) two-lt ((c .before .before .before) .good .0 .1) .row
 
 add-bottom : tie.Need-add-bottom
-add-bottom c = search needs
+add-bottom c = field ((c .before .before .before) .args .k) 2 _ ((c .before .before .before .pre) .0 .0) two-lt ((c .before .before .before) .good .0 .1) .at
 
 mul-bottom-2 : tie.Need-mul-bottom-2
-mul-bottom-2 c = search needs
+mul-bottom-2 c = field ((c .before .before .before) .args .k) 2 _ ((c .before .before .before .pre) .0 .0) two-lt ((c .before .before .before) .good .0 .1) .in-bytes
 
 shared-slice-read-bottom : tie.Need-shared-slice-read-bottom
-shared-slice-read-bottom c = search needs
+shared-slice-read-bottom c = field ((c .before .before .before .before) .args .k) 2 _ ((c .before .before .before .before .pre) .0 .0) two-lt ((c .before .before .before .before) .good .0 .1) .inside
 
 test-requires : tie.Need-test-requires
-test-requires c κs = search needs
+test-requires c κs = at-block _ _ _ ((c .before .before .before .before .pre) .0 .0) ((c .before .before .before .before .pre) .0 .1) ((c .before .before .before .before .pre) .0 .2) ((c .before .before .before .before .pre) .0 .3) ((c .before .before .before .before .pre) .1 .0) ((c .before .before .before .before .pre) .1 .1) ((c .before .before .before .before) .good .1 .0 .1) .own
 
 pack-requires : tie.Need-pack-requires
-pack-requires c κs = search needs
+pack-requires c κs = tt
 
 returns : tie.Need-returns
 returns c = piece-whole (now ((c .before .before .before .before .before .before .before .args) .blocks)) ((c .before .before .before .before .before .before .before .args) .s) (now ((c .before .before .before .before .before .before .before .args) .work)) ((c .before .before .before .before .before .before .before .args) .k) _ ((c .before .before .before .before .before .before .before .pre) .0 .0) (omega (arith, (c .before .before .before .before .shared-slice-known3) .given (3 * (c .before .before .before .before .before .before .before .args) .k + 2))) (sym ((c .before .before .test) .ensures) ∙ (c .before .if1) .taken) ((c .pack) .ensures)
 
 add-x : tie.Need-add-x
-add-x c = search needs
+add-x c = at-block _ _ _ ((c .before .before .before .before .before .before .before .pre) .0 .0) ((c .before .before .before .before .before .before .before .pre) .0 .1) ((c .before .before .before .before .before .before .before .pre) .0 .2) ((c .before .before .before .before .before .before .before .pre) .0 .3) ((c .before .before .before .before .before .before .before .pre) .1 .0) ((c .before .before .before .before .before .before .before .pre) .1 .1) ((c .before .before .before .before .before .before .before) .good .1 .0 .1) .span .fits
 
 mul-x : tie.Need-mul-x
-mul-x c = search needs
+mul-x c = at-block _ _ _ ((c .before .before .before .before .before .before .before .pre) .0 .0) ((c .before .before .before .before .before .before .before .pre) .0 .1) ((c .before .before .before .before .before .before .before .pre) .0 .2) ((c .before .before .before .before .before .before .before .pre) .0 .3) ((c .before .before .before .before .before .before .before .pre) .1 .0) ((c .before .before .before .before .before .before .before .pre) .1 .1) ((c .before .before .before .before .before .before .before) .good .1 .0 .1) .span .in-bytes
 
 shared-slice-read-x : tie.Need-shared-slice-read-x
-shared-slice-read-x c = search needs
+shared-slice-read-x c = at-block _ _ _ ((c .before .before .before .before .before .before .before .before .pre) .0 .0) ((c .before .before .before .before .before .before .before .before .pre) .0 .1) ((c .before .before .before .before .before .before .before .before .pre) .0 .2) ((c .before .before .before .before .before .before .before .before .pre) .0 .3) ((c .before .before .before .before .before .before .before .before .pre) .1 .0) ((c .before .before .before .before .before .before .before .before .pre) .1 .1) ((c .before .before .before .before .before .before .before .before) .good .1 .0 .1) .span .inside
 
 mul-test : tie.Need-mul-test
-mul-test c = omega (arith, row-before ((c .before .before .before .before .before .before .before .before .before .args) .k) _ ((c .before .before .before .before .before .before .before .before .before .args) .s .words) ((c .before .before .before .before .before .before .before .before .before .pre) .0 .0), (c .before .before .before .before .before .before .before .before .before .pre) .1 .0 .written-fits, (c .before .before .before .before .before .before .before .before .before .pre) .1 .1)
+mul-test c = at-block _ _ _ ((c .before .before .before .before .before .before .before .before .before .pre) .0 .0) ((c .before .before .before .before .before .before .before .before .before .pre) .0 .1) ((c .before .before .before .before .before .before .before .before .before .pre) .0 .2) ((c .before .before .before .before .before .before .before .before .before .pre) .0 .3) ((c .before .before .before .before .before .before .before .before .before .pre) .1 .0) ((c .before .before .before .before .before .before .before .before .before .pre) .1 .1) ((c .before .before .before .before .before .before .before .before .before) .good .1 .0 .1) .rows
 
 add-test : tie.Need-add-test
-add-test c = omega (arith, row-before ((c .before .before .before .before .before .before .before .before .before .before .args) .k) _ ((c .before .before .before .before .before .before .before .before .before .before .args) .s .words) ((c .before .before .before .before .before .before .before .before .before .before .pre) .0 .0), (c .before .before .before .before .before .before .before .before .before .before .pre) .1 .0 .written-fits, (c .before .before .before .before .before .before .before .before .before .before .pre) .1 .1)
+add-test c = at-block _ _ _ ((c .before .before .before .before .before .before .before .before .before .before .pre) .0 .0) ((c .before .before .before .before .before .before .before .before .before .before .pre) .0 .1) ((c .before .before .before .before .before .before .before .before .before .before .pre) .0 .2) ((c .before .before .before .before .before .before .before .before .before .before .pre) .0 .3) ((c .before .before .before .before .before .before .before .before .before .before .pre) .1 .0) ((c .before .before .before .before .before .before .before .before .before .before .pre) .1 .1) ((c .before .before .before .before .before .before .before .before .before .before) .good .1 .0 .1) .written
 
 test-requires-2 : tie.Need-test-requires-2
-test-requires-2 c κs = omega (arith, row-before ((c .before .before .before .before .before .before .before .before .before .before .args) .k) _ ((c .before .before .before .before .before .before .before .before .before .before .args) .s .words) ((c .before .before .before .before .before .before .before .before .before .before .pre) .0 .0), (c .before .before .before .before .before .before .before .before .before .before .pre) .1 .0 .written-fits, (c .before .before .before .before .before .before .before .before .before .before .pre) .1 .0 .bit-in, (c .before .before .before .before .before .before .before .before .before .before .pre) .1 .1)
+test-requires-2 c κs = at-block _ _ _ ((c .before .before .before .before .before .before .before .before .before .before .pre) .0 .0) ((c .before .before .before .before .before .before .before .before .before .before .pre) .0 .1) ((c .before .before .before .before .before .before .before .before .before .before .pre) .0 .2) ((c .before .before .before .before .before .before .before .before .before .before .pre) .0 .3) ((c .before .before .before .before .before .before .before .before .before .before .pre) .1 .0) ((c .before .before .before .before .before .before .before .before .before .before .pre) .1 .1) ((c .before .before .before .before .before .before .before .before .before .before) .good .1 .0 .1) .written-in
 
 mul-test-2 : tie.Need-mul-test-2
-mul-test-2 c = omega (arith, row-before ((c .before .before .before .before .before .before .before .before .before .before .before .before .args) .k) _ ((c .before .before .before .before .before .before .before .before .before .before .before .before .args) .s .words) ((c .before .before .before .before .before .before .before .before .before .before .before .before .pre) .0 .0), (c .before .before .before .before .before .before .before .before .before .before .before .before .pre) .1 .0 .read-fits, (c .before .before .before .before .before .before .before .before .before .before .before .before .pre) .1 .1)
+mul-test-2 c = at-block _ _ _ ((c .before .before .before .before .before .before .before .before .before .before .before .before .pre) .0 .0) ((c .before .before .before .before .before .before .before .before .before .before .before .before .pre) .0 .1) ((c .before .before .before .before .before .before .before .before .before .before .before .before .pre) .0 .2) ((c .before .before .before .before .before .before .before .before .before .before .before .before .pre) .0 .3) ((c .before .before .before .before .before .before .before .before .before .before .before .before .pre) .1 .0) ((c .before .before .before .before .before .before .before .before .before .before .before .before .pre) .1 .1) ((c .before .before .before .before .before .before .before .before .before .before .before .before) .good .1 .0 .1) .rows
 
 add-test-2 : tie.Need-add-test-2
-add-test-2 c = omega (arith, row-before ((c .before .before .before .before .before .before .before .before .before .before .before .before .before .args) .k) _ ((c .before .before .before .before .before .before .before .before .before .before .before .before .before .args) .s .words) ((c .before .before .before .before .before .before .before .before .before .before .before .before .before .pre) .0 .0), (c .before .before .before .before .before .before .before .before .before .before .before .before .before .pre) .1 .0 .read-fits, (c .before .before .before .before .before .before .before .before .before .before .before .before .before .pre) .1 .1)
+add-test-2 c = at-block _ _ _ ((c .before .before .before .before .before .before .before .before .before .before .before .before .before .pre) .0 .0) ((c .before .before .before .before .before .before .before .before .before .before .before .before .before .pre) .0 .1) ((c .before .before .before .before .before .before .before .before .before .before .before .before .before .pre) .0 .2) ((c .before .before .before .before .before .before .before .before .before .before .before .before .before .pre) .0 .3) ((c .before .before .before .before .before .before .before .before .before .before .before .before .before .pre) .1 .0) ((c .before .before .before .before .before .before .before .before .before .before .before .before .before .pre) .1 .1) ((c .before .before .before .before .before .before .before .before .before .before .before .before .before) .good .1 .0 .1) .read
 
 test-requires-3 : tie.Need-test-requires-3
-test-requires-3 c κs = omega (arith, row-before ((c .before .before .before .before .before .before .before .before .before .before .before .before .before .args) .k) _ ((c .before .before .before .before .before .before .before .before .before .before .before .before .before .args) .s .words) ((c .before .before .before .before .before .before .before .before .before .before .before .before .before .pre) .0 .0), (c .before .before .before .before .before .before .before .before .before .before .before .before .before .pre) .1 .0 .read-fits, (c .before .before .before .before .before .before .before .before .before .before .before .before .before .pre) .1 .0 .bit-in, (c .before .before .before .before .before .before .before .before .before .before .before .before .before .pre) .1 .1)
+test-requires-3 c κs = at-block _ _ _ ((c .before .before .before .before .before .before .before .before .before .before .before .before .before .pre) .0 .0) ((c .before .before .before .before .before .before .before .before .before .before .before .before .before .pre) .0 .1) ((c .before .before .before .before .before .before .before .before .before .before .before .before .before .pre) .0 .2) ((c .before .before .before .before .before .before .before .before .before .before .before .before .before .pre) .0 .3) ((c .before .before .before .before .before .before .before .before .before .before .before .before .before .pre) .1 .0) ((c .before .before .before .before .before .before .before .before .before .before .before .before .before .pre) .1 .1) ((c .before .before .before .before .before .before .before .before .before .before .before .before .before) .good .1 .0 .1) .read-in
 
 lengthened-requires : tie.Need-lengthened-requires
-lengthened-requires c κs = search needs
+lengthened-requires c κs = tt
 
 returns-2 : tie.Need-returns-2
 returns-2 c = piece-part (now ((c .before .before .before .before .before .before .before .before .before .before .before .before .before .before .before .args) .blocks)) ((c .before .before .before .before .before .before .before .before .before .before .before .before .before .before .before .args) .s) (now ((c .before .before .before .before .before .before .before .before .before .before .before .before .before .before .before .args) .work)) ((c .before .before .before .before .before .before .before .before .before .before .before .before .before .before .before .args) .k) _ ((c .before .before .before .before .before .before .before .before .before .before .before .before .before .before .before .pre) .0 .0) (omega (arith, ((c .before .before .before .before .before .before .before .before .before .before .before .before .shared-slice-known3)) .given (3 * (c .before .before .before .before .before .before .before .before .before .before .before .before .before .before .before .args) .k + 2))) (sym ((c .before .before .before .before .before .before .before .before .before .before .test) .ensures) ∙ (c .before .before .before .before .before .before .before .before .before .if1) .left) _ _ ((c .before .before .before .before .test2) .ensures) ((c .before .test3) .ensures) (c .lengthened .ensures)

@@ -1,63 +1,63 @@
 -- `touch` meets its contract: a law for each way out, by how far the touch's last block is from its first.
 use native.Mathlib.Omega.{arith}
 use Prim.Native.Nat.{ℕ, _-_}
-use mathlib.Core.Path.{ap, _∙_}
+use mathlib.Core.Path.{refl, ap, _∙_}
 use mathlib.Core.List.{[]}
 use denote.Ref.{now}
-use borrow.Author.Needs.{needs}
 use Rattle.areas.specs.Blocks.{blockOf}
 use Rattle.spots.specs.Spots.{lineOf}
 use Rattle.area_pieces.proofs.SpanLaws.{put-one, put-two, put-three}
+use Rattle.area_pieces.proofs.PlaceLaws.{spannable, behind, one-more, next-block}
 use Rattle.area_pieces.proofs.touch.Statement.{statement}
 use Rattle.area_pieces.proofs.touch.Tie as tie
 
 start-of-requires : tie.Need-start-of-requires
-start-of-requires c κs = search needs
+start-of-requires c κs = tt
 
 holding-requires : tie.Need-holding-requires
-holding-requires c κs = search needs
+holding-requires c κs = (c .before .before .before .pre) .0
 
 end-of-requires : tie.Need-end-of-requires
-end-of-requires c κs = search needs
+end-of-requires c κs = tt
 
 holding-requires-2 : tie.Need-holding-requires-2
-holding-requires-2 c κs = search needs
+holding-requires-2 c κs = (c .before .before .before .before .before .pre) .0
 
 clip-requires : tie.Need-clip-requires
-clip-requires c κs = search needs
+clip-requires c κs = ((c .before .before .before .holding) .ensures .below, spannable (c .before .before .before .before .before .before .before .args .m) ((c .before .before .before .before .before .before .before .pre) .1) _ _ ((c .before .before .before .holding) .ensures .below) refl)
 
 same-length : tie.Need-same-length
-same-length c = search needs
+same-length c = (c .before .before .before .clip) .ensures .len
 
 returns : tie.Need-returns
 returns c = λ es. put-one (lineOf (now ((c .before .before .before .before .before .before .before .before .before .before .before .args) .blocks)) es) ((c .before .before .before .before .before .before .before .before .before .before .before .pre) .0) ((c .before .before .before .before .before .before .before .before .before .before .before .args) .s) ((c .before .before .before .before .before .before .before .before .before .before .before .args) .x) ((c .before .before .before .before .before .before .before .before .before .before .before .args) .m) ((c .before .before .before .before .before .before .before .before .before .before .before .pre) .2 es) _ _ _ ((c .before .before .before .before .before .before .before .holding) .ensures .is es ∙ ap (λ (y : ℕ). blockOf (lineOf (now ((c .before .before .before .before .before .before .before .before .before .before .before .args) .blocks)) es) y) ((c .before .before .before .before .before .before .before .before .start-of) .ensures)) ((c .before .before .before .before .before .holding2) .ensures .is es ∙ ap (λ (y : ℕ). blockOf (lineOf (now ((c .before .before .before .before .before .before .before .before .before .before .before .args) .blocks)) es) y) ((c .before .before .before .before .before .before .end-of) .ensures)) ((c .before .before .before .before .before .before .before .before .before .before .before .pre) .1 .wide) ((c .before .before .before .before .before .before .before .holding) .ensures .below) ((c .before .before .before .before .before .holding2) .ensures .below) ((c .before .before .before .before .before .before .before .before .before .before .before .pre) .1 .fits) (omega arith) ((c .before .before .before .clip) .ensures)
 
 clip-requires-2 : tie.Need-clip-requires-2
-clip-requires-2 c κs = search needs
+clip-requires-2 c κs = ((c .before .before .before .before .before .before .holding2) .ensures .below, spannable (c .before .before .before .before .before .before .before .before .before .before .before .before .args .m) ((c .before .before .before .before .before .before .before .before .before .before .before .before .pre) .1) _ _ ((c .before .before .before .before .before .before .holding2) .ensures .below) ((c .before .before .before .before .clip) .ensures .len))
 
 add-if2 : tie.Need-add-if2
-add-if2 c = search needs
+add-if2 c = next-block (c .before .before .before .before .before .before .before .before .before .before .before .before .before .before .before .args .m) ((c .before .before .before .before .before .before .before .before .before .before .before .before .before .before .before .pre) .1) _ ((c .before .before .before .before .before .before .before .before .before .before .before .holding) .ensures .below) ((c .before .before .before .before .before .before .before .before .before .before .before .before .before .before .before) .good .1 .0 .1)
 
 same-length-2 : tie.Need-same-length-2
-same-length-2 c = search needs
+same-length-2 c = (c .before .before .before .clip2) .ensures .len ∙ (c .before .before .before .before .before .before .before .before .clip) .ensures .len
 
 returns-2 : tie.Need-returns-2
 returns-2 c = λ es. put-two (lineOf (now ((c .before .before .before .before .before .before .before .before .before .before .before .before .before .before .before .before .args) .blocks)) es) ((c .before .before .before .before .before .before .before .before .before .before .before .before .before .before .before .before .pre) .0) ((c .before .before .before .before .before .before .before .before .before .before .before .before .before .before .before .before .args) .s) ((c .before .before .before .before .before .before .before .before .before .before .before .before .before .before .before .before .args) .x) ((c .before .before .before .before .before .before .before .before .before .before .before .before .before .before .before .before .args) .m) ((c .before .before .before .before .before .before .before .before .before .before .before .before .before .before .before .before .pre) .2 es) _ _ _ ((c .before .before .before .before .before .before .before .before .before .before .before .before .holding) .ensures .is es ∙ ap (λ (y : ℕ). blockOf (lineOf (now ((c .before .before .before .before .before .before .before .before .before .before .before .before .before .before .before .before .args) .blocks)) es) y) ((c .before .before .before .before .before .before .before .before .before .before .before .before .before .start-of) .ensures)) ((c .before .before .before .before .before .before .before .before .before .before .holding2) .ensures .is es ∙ ap (λ (y : ℕ). blockOf (lineOf (now ((c .before .before .before .before .before .before .before .before .before .before .before .before .before .before .before .before .args) .blocks)) es) y) ((c .before .before .before .before .before .before .before .before .before .before .before .end-of) .ensures)) ((c .before .before .before .before .before .before .before .before .before .before .before .before .before .before .before .before .pre) .1 .wide) ((c .before .before .before .before .before .before .before .before .before .before .before .before .holding) .ensures .below) ((c .before .before .before .before .before .before .before .before .before .before .holding2) .ensures .below) ((c .before .before .before .before .before .before .before .before .before .before .before .before .before .before .before .before .pre) .1 .fits) (omega arith) (omega arith) ((c .before .before .before .before .before .before .before .before .clip) .ensures) ((c .before .before .before .clip2) .ensures)
 
 between-requires : tie.Need-between-requires
-between-requires c κs = search needs
+between-requires c κs = ((c .if2) .left, (c .before .before .before .before .before .before .before .before .before .before .holding2) .ensures .below)
 
 add-work : tie.Need-add-work
-add-work c = search needs
+add-work c = behind (c .before .before .before .before .before .before .before .before .before .before .before .before .before .before .before .before .before .before .args .m) ((c .before .before .before .before .before .before .before .before .before .before .before .before .before .before .before .before .before .before .pre) .1) ((c .before .before .before .before .before .before .before .before .before .before .before .before .before .before .before .before .before .before) .good .1 .0 .1) .fits
 
 mul-work : tie.Need-mul-work
-mul-work c = search needs
+mul-work c = behind (c .before .before .before .before .before .before .before .before .before .before .before .before .before .before .before .before .before .before .args .m) ((c .before .before .before .before .before .before .before .before .before .before .before .before .before .before .before .before .before .before .pre) .1) ((c .before .before .before .before .before .before .before .before .before .before .before .before .before .before .before .before .before .before) .good .1 .0 .1) .in-bytes
 
 slice-write-work : tie.Need-slice-write-work
-slice-write-work c = search needs
+slice-write-work c = rw ((c .before .before .before .before .before .clip2) .ensures .len, (c .before .before .before .before .before .before .before .before .before .before .clip) .ensures .len) (behind (c .before .before .before .before .before .before .before .before .before .before .before .before .before .before .before .before .before .before .args .m) ((c .before .before .before .before .before .before .before .before .before .before .before .before .before .before .before .before .before .before .pre) .1) ((c .before .before .before .before .before .before .before .before .before .before .before .before .before .before .before .before .before .before) .good .1 .0 .1) .inside)
 
 add-result : tie.Need-add-result
-add-result c = search needs
+add-result c = one-more (c .before .before .before .before .before .before .before .before .before .before .before .before .before .before .before .before .before .before .args .m) ((c .before .before .before .before .before .before .before .before .before .before .before .before .before .before .before .before .before .before .pre) .1) ((c .before .before .before .before .before .before .before .before .before .before .before .before .before .before .before .before .before .before) .good .1 .0 .1)
 
 returns-3 : tie.Need-returns-3
 returns-3 c = λ es. put-three (lineOf (now ((c .before .before .before .before .before .before .before .before .before .before .before .before .before .before .before .before .before .before .args) .blocks)) es) ((c .before .before .before .before .before .before .before .before .before .before .before .before .before .before .before .before .before .before .pre) .0) ((c .before .before .before .before .before .before .before .before .before .before .before .before .before .before .before .before .before .before .args) .s) ((c .before .before .before .before .before .before .before .before .before .before .before .before .before .before .before .before .before .before .args) .x) ((c .before .before .before .before .before .before .before .before .before .before .before .before .before .before .before .before .before .before .args) .m) ((c .before .before .before .before .before .before .before .before .before .before .before .before .before .before .before .before .before .before .pre) .2 es) _ _ _ ((c .before .before .before .before .before .before .before .before .before .before .before .before .before .before .holding) .ensures .is es ∙ ap (λ (y : ℕ). blockOf (lineOf (now ((c .before .before .before .before .before .before .before .before .before .before .before .before .before .before .before .before .before .before .args) .blocks)) es) y) ((c .before .before .before .before .before .before .before .before .before .before .before .before .before .before .before .start-of) .ensures)) ((c .before .before .before .before .before .before .before .before .before .before .before .before .holding2) .ensures .is es ∙ ap (λ (y : ℕ). blockOf (lineOf (now ((c .before .before .before .before .before .before .before .before .before .before .before .before .before .before .before .before .before .before .args) .blocks)) es) y) ((c .before .before .before .before .before .before .before .before .before .before .before .before .before .end-of) .ensures)) ((c .before .before .before .before .before .before .before .before .before .before .before .before .before .before .before .before .before .before .pre) .1 .wide) ((c .before .before .before .before .before .before .before .before .before .before .before .before .before .before .holding) .ensures .below) ((c .before .before .before .before .before .before .before .before .before .before .before .before .holding2) .ensures .below) _ ((c .before .before .before .before .before .before .before .before .before .before .before .before .before .before .before .before .before .before .pre) .1 .mark-fits) ((c .before .before .before .before .before .before .before .before .before .before .before .before .before .before .before .before .before .before .pre) .1 .span-fits) ((c .before .before .before .before .before .before .before .before .before .before .before .before .before .before .before .before .before .before .pre) .1 .fits) (omega arith) ((c .before .between) .ensures) ((c .before .before .before .before .before .before .before .before .before .before .clip) .ensures) ((c .before .before .before .before .before .clip2) .ensures)
