@@ -1,4 +1,4 @@
--- What a turn computes fits and stands in the work space, each bound as the code asks for it.
+-- What the walk computes fits and stands in the work space, each bound as the code asks for it.
 use Prim.Native.Nat.{ℕ, _+_, _-_, _*_, _^_, _≤_, _<_}
 use mathlib.Core.Path.{_≡_}
 use mathlib.Core.List.{List}
@@ -8,8 +8,10 @@ use native.Mathlib.Omega.{arith}
 use lib.ListN.{length, getD}
 use Rattle.words.proofs.FitLaws.{Word, word, small}
 use Rattle.postorder.specs.Walk.{ends}
+use Rattle.postorder.specs.Settling.{Walkable}
 use Rattle.postorder.specs.Space.{Ready}
 use Rattle.postorder.proofs.Turns.{topOf, nextOf, leadsTo, Top, top, v-ok}
+use Rattle.postorder.proofs.Roots.{Roots}
 
 -- at any turn
 pub record Turning (n at base : ℕ) (w : List ℕ) (depth : ℕ) : Type 0 where
@@ -67,3 +69,62 @@ module _ {n at base : ℕ} {w : List ℕ} {depth left : ℕ} (pos : 0 < depth) (
 
   pub deeper : depth < n → Fits w64 (depth + 1)
   deeper h = small _ (length w) (omega (arith, T .room)) r
+
+-- what is taken off the stack stands in the order: each of the two counts is below n
+pub record Few (n base depth left : ℕ) (w : List ℕ) : Type 0 where
+  pub top : depth - 1 < n
+  pub last : left - 1 < n
+  pub room : base + n ≤ length w
+  pub fits : length w * 8 < 2 ^ 63
+
+pub few : {n at base : ℕ} {w : List ℕ} {depth left : ℕ} → 0 < depth → Ready n at base w depth left → length w * 8 < 2 ^ 63 → Few n base depth left w
+few {n} {at} {base} {w} {depth} {left} pos y r =
+    let t = top n at base w depth left pos y in
+    let a = t .room in
+    let b = t .deep in
+    let c = t .left-pos in
+    let d = t .left-le in
+    record { top = omega arith; last = omega arith; room = omega arith; fits = r }
+
+-- where a place is put on the stack
+pub record AtPush (n at base : ℕ) (w : List ℕ) (v depth : ℕ) : Type 0 where
+  pub rank : Fits w64 (base + n)
+  pub stack : Fits w64 (base + n + n)
+  pub next : Fits w64 (base + n + n + n)
+  pub first : Word (at + v) (length w)
+  pub more : Fits w64 (getD w (at + v) 0 + 1)
+  pub held : Word (base + n + n + depth) (length w)
+  pub looked : Word (base + n + n + n + v) (length w)
+
+pub at-push : (n at base : ℕ) (w : List ℕ) (v depth : ℕ) → v < n → depth < n → at + n < base → base + n + n + n + n ≤ length w → getD w (at + v) 0 ≤ base → length w * 8 < 2 ^ 63
+    → AtPush n at base w v depth
+at-push n at base w v depth a b c d e r = let m = length w in record {
+  rank = small _ m (omega arith) r;
+  stack = small _ m (omega arith) r;
+  next = small _ m (omega arith) r;
+  first = word _ m (omega arith) r;
+  more = small _ m (omega arith) r;
+  held = word _ m (omega arith) r;
+  looked = word _ m (omega arith) r;
+}
+
+-- where all walks begin
+pub record AtStart (n base : ℕ) : Type 0 where
+  pub rank : Fits w64 (base + n)
+  pub stack : Fits w64 (base + n + n)
+  pub next : Fits w64 (base + n + n + n)
+
+pub start : {n at base : ℕ} {w : List ℕ} → Walkable n at base w → length w * 8 < 2 ^ 63 → AtStart n base
+start {w = w} y r = let a = y .room in let m = length w in record { rank = small _ m (omega arith) r; stack = small _ m (omega arith) r; next = small _ m (omega arith) r }
+
+-- at a root
+pub record AtRoot (n next root : ℕ) (w : List ℕ) : Type 0 where
+  pub seen : Word (next + root) (length w)
+  pub more : Fits w64 (root + 1)
+  pub less : n - (root + 1) < n - root
+
+pub at-root : {n at base : ℕ} {w₁ w : List ℕ} {left root : ℕ} (next m : ℕ) → Roots n at base w₁ w left root → next ≡ base + n + n + n → length w₁ ≡ m → m * 8 < 2 ^ 63 → root < n → AtRoot n next root w
+at-root {w = w} next m q e o r h =
+    let a = q .ready .held .room in
+    let k = q .kept .len in
+    record { seen = word _ (length w) (omega arith) (omega arith); more = small _ (length w) (omega arith) (omega arith); less = omega arith }

@@ -1,9 +1,9 @@
 -- `postorder::order` meets its contract: a walk from each place that was not seen.
-use native.Mathlib.Omega.{arith}
-use Prim.Native.Nat.{ℕ, suc, _+_, _-_, _*_, _≤_, _<_}
-use mathlib.Core.Path.{_≡_, refl, sym, ap, _∙_}
-use lib.ListN.{length, getD, set, length-set}
+use Prim.Native.Nat.{ℕ, _+_, _-_, _*_, _≤_, _<_}
+use mathlib.Core.Path.{_≡_, refl}
+use lib.ListN.{length, getD}
 use Rattle.postorder.proofs.Roots.{Roots, roots-start, roots-walk, roots-skip, roots-done}
+use Rattle.postorder.proofs.Bounds.{start, at-root}
 use Rattle.postorder.proofs.order.Statement.{statement}
 use Rattle.postorder.proofs.order.Tie as tie
 
@@ -14,46 +14,46 @@ abbrev μ-loop : tie.MeasureT-loop
 μ-loop work₀ n at base next left₀ root₀ work left root = n - root
 
 add-next : tie.Need-add-next Inv-loop μ-loop
-add-next c = omega (arith, c .before .pre .room)
+add-next c = start (c .before .pre) ((c .before) .good .0 .1) .rank
 
 add-next-2 : tie.Need-add-next-2 Inv-loop μ-loop
-add-next-2 c = omega (arith, c .before .pre .room)
+add-next-2 c = start (c .before .pre) ((c .before) .good .0 .1) .stack
 
 add-next-3 : tie.Need-add-next-3 Inv-loop μ-loop
-add-next-3 c = omega (arith, c .before .pre .room)
+add-next-3 c = start (c .before .pre) ((c .before) .good .0 .1) .next
 
 fill-requires : tie.Need-fill-requires Inv-loop μ-loop
-fill-requires c κs = omega (arith, c .before .before .pre .room)
+fill-requires c κs = (c .before .before .pre) .room
 
 loop-holds : tie.Need-loop-holds Inv-loop μ-loop
 loop-holds c = (refl, roots-start ((c .before .before .before .before .before .pre)) (c .before .before .fill .ensures))
 
 add-if1 : tie.Need-add-if1 Inv-loop μ-loop
-add-if1 c = omega (arith, c .before .loop .inv .1 .ready .held .room, c .before .loop .inv .0)
+add-if1 c = at-root _ _ ((c .before .loop) .inv .1) ((c .before .loop) .inv .0) ((c .before .before .before .before .fill) .ensures .len) ((c .before .before .before .before .before .before .before) .good .0 .1) ((c .loop-test) .taken) .seen .fits
 
 mul-if1 : tie.Need-mul-if1 Inv-loop μ-loop
-mul-if1 c = omega (arith, c .before .loop .inv .1 .ready .held .room, c .before .loop .inv .0)
+mul-if1 c = at-root _ _ ((c .before .loop) .inv .1) ((c .before .loop) .inv .0) ((c .before .before .before .before .fill) .ensures .len) ((c .before .before .before .before .before .before .before) .good .0 .1) ((c .loop-test) .taken) .seen .in-bytes
 
 slice-read-if1 : tie.Need-slice-read-if1 Inv-loop μ-loop
-slice-read-if1 c = omega (arith, c .before .before .loop .inv .1 .ready .held .room, c .before .before .loop .inv .0)
+slice-read-if1 c = at-root _ _ ((c .before .before .loop) .inv .1) ((c .before .before .loop) .inv .0) ((c .before .before .before .before .before .fill) .ensures .len) ((c .before .before .before .before .before .before .before .before) .good .0 .1) ((c .before .loop-test) .taken) .seen .inside
 
 walk-requires : tie.Need-walk-requires Inv-loop μ-loop
 walk-requires c κs = ((c .before .before .before .loop-test .taken, c .before .if1 .taken), c .before .before .before .before .loop .inv .1 .ready)
 
 add-root : tie.Need-add-root Inv-loop μ-loop
-add-root c = omega (arith, c .before .before .before .before .before .before .before .loop .inv .1 .ready .held .room, c .before .before .before .before .before .before .before .loop .inv .0)
+add-root c = at-root _ _ ((c .before .before .before .before .before .before .before .loop) .inv .1) ((c .before .before .before .before .before .before .before .loop) .inv .0) ((c .before .before .before .before .before .before .before .before .before .before .fill) .ensures .len) ((c .before .before .before .before .before .before .before .before .before .before .before .before .before) .good .0 .1) ((c .before .before .before .before .before .before .loop-test) .taken) .more
 
 loop-less : tie.Need-loop-less Inv-loop μ-loop
-loop-less c = omega arith
+loop-less c = at-root _ _ ((c .before .before .before .before .before .before .before .loop) .inv .1) ((c .before .before .before .before .before .before .before .loop) .inv .0) ((c .before .before .before .before .before .before .before .before .before .before .fill) .ensures .len) ((c .before .before .before .before .before .before .before .before .before .before .before .before .before) .good .0 .1) ((c .before .before .before .before .before .before .loop-test) .taken) .less
 
 loop-again : tie.Need-loop-again Inv-loop μ-loop
 loop-again c = (c .before .before .before .before .before .before .before .loop .inv .0, roots-walk (c .before .before .before .before .before .before .before .loop .inv .1) (c .before .before .before .before .before .before .loop-test .taken) (c .before .before .walk .ensures))
 
 add-root-2 : tie.Need-add-root-2 Inv-loop μ-loop
-add-root-2 c = omega (arith, c .before .before .before .loop .inv .1 .ready .held .room, c .before .before .before .loop .inv .0)
+add-root-2 c = at-root _ _ ((c .before .before .before .loop) .inv .1) ((c .before .before .before .loop) .inv .0) ((c .before .before .before .before .before .before .fill) .ensures .len) ((c .before .before .before .before .before .before .before .before .before) .good .0 .1) ((c .before .before .loop-test) .taken) .more
 
 loop-less-2 : tie.Need-loop-less-2 Inv-loop μ-loop
-loop-less-2 c = omega arith
+loop-less-2 c = at-root _ _ ((c .before .before .before .loop) .inv .1) ((c .before .before .before .loop) .inv .0) ((c .before .before .before .before .before .before .fill) .ensures .len) ((c .before .before .before .before .before .before .before .before .before) .good .0 .1) ((c .before .before .loop-test) .taken) .less
 
 loop-again-2 : tie.Need-loop-again-2 Inv-loop μ-loop
 loop-again-2 c = (c .before .before .before .loop .inv .0, roots-skip (c .before .before .before .loop .inv .1) (c .before .before .loop-test .taken) (c .if1 .left))

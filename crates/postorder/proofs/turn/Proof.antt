@@ -5,91 +5,97 @@ use mathlib.Core.Path.{_≡_, refl, sym, ap, _∙_}
 use lib.ListN.{length, getD, set, length-set}
 use Rattle.postorder.specs.Walk.{ends}
 use Rattle.postorder.proofs.Turns.{topOf, nextOf, top, v-ok, first-ok, room-for, turn-seen, turn-new, turn-left}
-use Rattle.postorder.proofs.Bounds.{turning, edge, deeper}
+use Rattle.postorder.proofs.Bounds.{Turning, AtEdge, turning, edge, deeper, few}
 use Rattle.postorder.proofs.turn.Statement.{statement}
 use Rattle.postorder.proofs.turn.Tie as tie
+
+turns : (c : tie.Start) → Turning (c .args .n) (c .args .at) (c .args .base) (c .args .w .now) (c .args .z .depth)
+turns c = turning (c .pre .0) (c .pre .1) (c .good .0 .1)
 
 -- an edge of the place on top is left
 more : (c : tie.Then1) → nextOf (c .before .before .before .before .before .args .n) (c .before .before .before .before .before .args .base) (c .before .before .before .before .before .args .w .now) (topOf (c .before .before .before .before .before .args .n) (c .before .before .before .before .before .args .base) (c .before .before .before .before .before .args .w .now) (c .before .before .before .before .before .args .z .depth)) ≤ ends (c .before .before .before .before .before .args .w .now) (c .before .before .before .before .before .args .at) (topOf (c .before .before .before .before .before .args .n) (c .before .before .before .before .before .args .base) (c .before .before .before .before .before .args .w .now) (c .before .before .before .before .before .args .z .depth))
 more c = c .if1 .taken
 
+at-edge : (c : tie.Then1) → AtEdge (c .before .before .before .before .before .args .n) (c .before .before .before .before .before .args .at) (c .before .before .before .before .before .args .base) (c .before .before .before .before .before .args .w .now) (c .before .before .before .before .before .args .z .depth)
+at-edge c = edge (c .before .before .before .before .before .pre .0) (c .before .before .before .before .before .pre .1) (c .before .before .before .before .before .good .0 .1) (more c)
+
 sub-top : tie.Need-sub-top
 sub-top c = (c .before .pre) .0
 
 add-stack : tie.Need-add-stack
-add-stack c = turning ((c .before .pre) .0) ((c .before .pre) .1) ((c .before .good) .0 .1) .rank
+add-stack c = turns (c .before) .rank
 
 add-stack-2 : tie.Need-add-stack-2
-add-stack-2 c = turning ((c .before .pre) .0) ((c .before .pre) .1) ((c .before .good) .0 .1) .stack
+add-stack-2 c = turns (c .before) .stack
 
 add-next : tie.Need-add-next
-add-next c = turning ((c .before .pre) .0) ((c .before .pre) .1) ((c .before .good) .0 .1) .next
+add-next c = turns (c .before) .next
 
 add-u : tie.Need-add-u
-add-u c = turning ((c .before .pre) .0) ((c .before .pre) .1) ((c .before .good) .0 .1) .held .fits
+add-u c = turns (c .before) .held .fits
 
 mul-u : tie.Need-mul-u
-mul-u c = turning ((c .before .pre) .0) ((c .before .pre) .1) ((c .before .good) .0 .1) .held .in-bytes
+mul-u c = turns (c .before) .held .in-bytes
 
 slice-read-u : tie.Need-slice-read-u
-slice-read-u c = turning ((c .before .before .pre) .0) ((c .before .before .pre) .1) ((c .before .before .good) .0 .1) .held .inside
+slice-read-u c = turns (c .before .before) .held .inside
 
 add-k : tie.Need-add-k
-add-k c = turning ((c .before .before .pre) .0) ((c .before .before .pre) .1) ((c .before .before .good) .0 .1) .looked .fits
+add-k c = turns (c .before .before) .looked .fits
 
 mul-k : tie.Need-mul-k
-mul-k c = turning ((c .before .before .pre) .0) ((c .before .before .pre) .1) ((c .before .before .good) .0 .1) .looked .in-bytes
+mul-k c = turns (c .before .before) .looked .in-bytes
 
 slice-read-k : tie.Need-slice-read-k
-slice-read-k c = turning ((c .before .before .before .pre) .0) ((c .before .before .before .pre) .1) ((c .before .before .before .good) .0 .1) .looked .inside
+slice-read-k c = turns (c .before .before .before) .looked .inside
 
 add-end : tie.Need-add-end
-add-end c = turning ((c .before .before .before .pre) .0) ((c .before .before .before .pre) .1) ((c .before .before .before .good) .0 .1) .begin
+add-end c = turns (c .before .before .before) .begin
 
 add-end-2 : tie.Need-add-end-2
-add-end-2 c = turning ((c .before .before .before .pre) .0) ((c .before .before .before .pre) .1) ((c .before .before .before .good) .0 .1) .end .fits
+add-end-2 c = turns (c .before .before .before) .end .fits
 
 mul-end : tie.Need-mul-end
-mul-end c = turning ((c .before .before .before .pre) .0) ((c .before .before .before .pre) .1) ((c .before .before .before .good) .0 .1) .end .in-bytes
+mul-end c = turns (c .before .before .before) .end .in-bytes
 
 slice-read-end : tie.Need-slice-read-end
-slice-read-end c = turning ((c .before .before .before .before .pre) .0) ((c .before .before .before .before .pre) .1) ((c .before .before .before .before .good) .0 .1) .end .inside
+slice-read-end c = turns (c .before .before .before .before) .end .inside
 
 add-v : tie.Need-add-v
-add-v c = edge ((c .before .before .before .before .before .pre) .0) ((c .before .before .before .before .before .pre) .1) ((c .before .before .before .before .before .good) .0 .1) (more c) .rows
+add-v c = at-edge c .rows
 
 add-v-2 : tie.Need-add-v-2
-add-v-2 c = edge ((c .before .before .before .before .before .pre) .0) ((c .before .before .before .before .before .pre) .1) ((c .before .before .before .before .before .good) .0 .1) (more c) .to .fits
+add-v-2 c = at-edge c .to .fits
 
 mul-v : tie.Need-mul-v
-mul-v c = edge ((c .before .before .before .before .before .pre) .0) ((c .before .before .before .before .before .pre) .1) ((c .before .before .before .before .before .good) .0 .1) (more c) .to .in-bytes
+mul-v c = at-edge c .to .in-bytes
 
 slice-read-v : tie.Need-slice-read-v
-slice-read-v c = edge ((c .before .before .before .before .before .before .pre) .0) ((c .before .before .before .before .before .before .pre) .1) ((c .before .before .before .before .before .before .good) .0 .1) (more (c .before)) .to .inside
+slice-read-v c = at-edge (c .before) .to .inside
 
 add-looked : tie.Need-add-looked
-add-looked c = edge ((c .before .before .before .before .before .before .pre) .0) ((c .before .before .before .before .before .before .pre) .1) ((c .before .before .before .before .before .before .good) .0 .1) (more (c .before)) .more
+add-looked c = at-edge (c .before) .more
 
 add-if2 : tie.Need-add-if2
-add-if2 c = edge ((c .before .before .before .before .before .before .pre) .0) ((c .before .before .before .before .before .before .pre) .1) ((c .before .before .before .before .before .before .good) .0 .1) (more (c .before)) .seen .fits
+add-if2 c = at-edge (c .before) .seen .fits
 
 mul-if2 : tie.Need-mul-if2
-mul-if2 c = edge ((c .before .before .before .before .before .before .pre) .0) ((c .before .before .before .before .before .before .pre) .1) ((c .before .before .before .before .before .before .good) .0 .1) (more (c .before)) .seen .in-bytes
+mul-if2 c = at-edge (c .before) .seen .in-bytes
 
 slice-read-if2 : tie.Need-slice-read-if2
-slice-read-if2 c = edge ((c .before .before .before .before .before .before .before .pre) .0) ((c .before .before .before .before .before .before .before .pre) .1) ((c .before .before .before .before .before .before .before .good) .0 .1) (more (c .before .before)) .seen .inside
+slice-read-if2 c = at-edge (c .before .before) .seen .inside
 
 push-requires : tie.Need-push-requires
 push-requires c κs = (v-ok _ _ _ _ _ _ (c .before .before .before .before .before .before .before .before .before .pre .0) (more (c .before .before .before .before)) (c .before .before .before .before .before .before .before .before .before .pre .1), room-for _ _ _ _ _ _ (c .before .before .before .before .before .before .before .before .before .pre .0) (more (c .before .before .before .before)) (c .before .before .before .before .before .before .before .before .before .pre .1) (c .before .if2 .taken), (top _ _ _ _ _ _ (c .before .before .before .before .before .before .before .before .before .pre .0) (c .before .before .before .before .before .before .before .before .before .pre .1)) .starts, (top _ _ _ _ _ _ (c .before .before .before .before .before .before .before .before .before .pre .0) (c .before .before .before .before .before .before .before .before .before .pre .1)) .room, first-ok _ _ _ _ _ _ (c .before .before .before .before .before .before .before .before .before .pre .0) (more (c .before .before .before .before)) (c .before .before .before .before .before .before .before .before .before .pre .1))
 
 add-w : tie.Need-add-w
-add-w c = turning ((c .before .before .before .before .before .before .before .before .before .before .before .before .pre) .0) ((c .before .before .before .before .before .before .before .before .before .before .before .before .pre) .1) ((c .before .before .before .before .before .before .before .before .before .before .before .before .good) .0 .1) .looked .fits
+add-w c = turns (c .before .before .before .before .before .before .before .before .before .before .before .before) .looked .fits
 
 mul-w : tie.Need-mul-w
-mul-w c = turning ((c .before .before .before .before .before .before .before .before .before .before .before .before .pre) .0) ((c .before .before .before .before .before .before .before .before .before .before .before .before .pre) .1) ((c .before .before .before .before .before .before .before .before .before .before .before .before .good) .0 .1) .looked .in-bytes
+mul-w c = turns (c .before .before .before .before .before .before .before .before .before .before .before .before) .looked .in-bytes
 
 slice-write-w : tie.Need-slice-write-w
-slice-write-w c = rw ((c .before .before .push) .ensures) (simp length-set (turning ((c .before .before .before .before .before .before .before .before .before .before .before .before .pre) .0) ((c .before .before .before .before .before .before .before .before .before .before .before .before .pre) .1) ((c .before .before .before .before .before .before .before .before .before .before .before .before .good) .0 .1) .looked .inside))
+slice-write-w c = rw ((c .before .before .push) .ensures) (simp length-set (turns (c .before .before .before .before .before .before .before .before .before .before .before .before) .looked .inside))
 
 add-t36 : tie.Need-add-t36
 add-t36 c = deeper ((c .before .before .before .before .before .before .before .before .before .before .before .before .pre) .0) ((c .before .before .before .before .before .before .before .before .before .before .before .before .pre) .1) ((c .before .before .before .before .before .before .before .before .before .before .before .before .good) .0 .1) (room-for _ _ _ _ _ _ ((c .before .before .before .before .before .before .before .before .before .before .before .before .pre) .0) (more (c .before .before .before .before .before .before .before)) ((c .before .before .before .before .before .before .before .before .before .before .before .before .pre) .1) ((c .before .before .before .before .if2) .taken))
@@ -101,13 +107,13 @@ same-length : tie.Need-same-length
 same-length c = returns c .kept .len
 
 add-w-2 : tie.Need-add-w-2
-add-w-2 c = turning ((c .before .before .before .before .before .before .before .before .pre) .0) ((c .before .before .before .before .before .before .before .before .pre) .1) ((c .before .before .before .before .before .before .before .before .good) .0 .1) .looked .fits
+add-w-2 c = turns (c .before .before .before .before .before .before .before .before) .looked .fits
 
 mul-w-2 : tie.Need-mul-w-2
-mul-w-2 c = turning ((c .before .before .before .before .before .before .before .before .pre) .0) ((c .before .before .before .before .before .before .before .before .pre) .1) ((c .before .before .before .before .before .before .before .before .good) .0 .1) .looked .in-bytes
+mul-w-2 c = turns (c .before .before .before .before .before .before .before .before) .looked .in-bytes
 
 slice-write-w-2 : tie.Need-slice-write-w-2
-slice-write-w-2 c = turning ((c .before .before .before .before .before .before .before .before .pre) .0) ((c .before .before .before .before .before .before .before .before .pre) .1) ((c .before .before .before .before .before .before .before .before .good) .0 .1) .looked .inside
+slice-write-w-2 c = turns (c .before .before .before .before .before .before .before .before) .looked .inside
 
 returns-2 : tie.Need-returns-2
 returns-2 c = turn-seen _ _ _ _ _ _ (c .before .before .before .before .before .before .before .before .pre .0) (more (c .before .before .before)) (c .before .before .before .before .before .before .before .before .pre .1) _ refl (c .if2 .left)
@@ -119,25 +125,25 @@ sub-last : tie.Need-sub-last
 sub-last c = (top _ _ _ _ _ _ ((c .before .before .before .before .before .pre) .0) ((c .before .before .before .before .before .pre) .1)) .left-pos
 
 add-rank : tie.Need-add-rank
-add-rank c = turning ((c .before .before .before .before .before .pre) .0) ((c .before .before .before .before .before .pre) .1) ((c .before .before .before .before .before .good) .0 .1) .rank
+add-rank c = turns (c .before .before .before .before .before) .rank
 
 add-w-3 : tie.Need-add-w-3
-add-w-3 c = omega (arith, top _ _ _ _ _ _ (c .before .before .before .before .before .pre .0) (c .before .before .before .before .before .pre .1))
+add-w-3 c = omega (arith, few ((c .before .before .before .before .before .pre) .0) ((c .before .before .before .before .before .pre) .1) ((c .before .before .before .before .before) .good .0 .1))
 
 mul-w-3 : tie.Need-mul-w-3
-mul-w-3 c = omega (arith, top _ _ _ _ _ _ (c .before .before .before .before .before .pre .0) (c .before .before .before .before .before .pre .1))
+mul-w-3 c = omega (arith, few ((c .before .before .before .before .before .pre) .0) ((c .before .before .before .before .before .pre) .1) ((c .before .before .before .before .before) .good .0 .1))
 
 slice-write-w-3 : tie.Need-slice-write-w-3
-slice-write-w-3 c = omega (arith, top _ _ _ _ _ _ (c .before .before .before .before .before .pre .0) (c .before .before .before .before .before .pre .1))
+slice-write-w-3 c = omega (arith, few ((c .before .before .before .before .before .pre) .0) ((c .before .before .before .before .before .pre) .1) ((c .before .before .before .before .before) .good .0 .1))
 
 add-w-4 : tie.Need-add-w-4
-add-w-4 c = turning ((c .before .before .before .before .before .pre) .0) ((c .before .before .before .before .before .pre) .1) ((c .before .before .before .before .before .good) .0 .1) .ranked .fits
+add-w-4 c = turns (c .before .before .before .before .before) .ranked .fits
 
 mul-w-4 : tie.Need-mul-w-4
-mul-w-4 c = turning ((c .before .before .before .before .before .pre) .0) ((c .before .before .before .before .before .pre) .1) ((c .before .before .before .before .before .good) .0 .1) .ranked .in-bytes
+mul-w-4 c = turns (c .before .before .before .before .before) .ranked .in-bytes
 
 slice-write-w-4 : tie.Need-slice-write-w-4
-slice-write-w-4 c = simp length-set (turning ((c .before .before .before .before .before .pre) .0) ((c .before .before .before .before .before .pre) .1) ((c .before .before .before .before .before .good) .0 .1) .ranked .inside)
+slice-write-w-4 c = simp length-set (turns (c .before .before .before .before .before) .ranked .inside)
 
 returns-3 : tie.Need-returns-3
 returns-3 c = turn-left _ _ _ _ _ _ (c .before .before .before .before .before .pre .0) _ _ refl refl (c .if1 .left) (c .before .before .before .before .before .pre .1)
