@@ -1,4 +1,4 @@
--- What a turn and its two parts compute fits and stands in the work space, each bound as the code asks for it.
+-- What the walk computes fits and stands in the work space, each bound as the code asks for it.
 use Prim.Native.Nat.{ℕ, _+_, _-_, _*_, _^_, _≤_, _<_}
 use mathlib.Core.Path.{_≡_, sym}
 use mathlib.Core.List.{List}
@@ -7,13 +7,23 @@ use mir.Val.{Fits}
 use native.Mathlib.Omega.{arith}
 use lib.ListN.{length, getD}
 use Rattle.words.proofs.FitLaws.{Word, word, small}
-use Rattle.tarjan.specs.Space.{Pl, Nd, Ed, Ready, Looking, Leaving, Closes}
+use Rattle.tarjan.specs.Space.{Pl, Nd, Ed, Ready, Looking, Leaving, Closes, Closed}
 use Rattle.tarjan.specs.Components.{Walkable}
 use Rattle.tarjan.proofs.Laws.{Top, top, v-ok, room-for, under, closes}
+use Rattle.tarjan.proofs.Lists.{close-node}
 use Rattle.tarjan.proofs.Roots.{Roots}
 
 pub not-none : (m : ℕ) → (m ≡ 0 → ⊥) → 1 ≤ m
 not-none m h = omega arith
+
+pub le-refl : (m : ℕ) → m ≤ m
+le-refl m = omega arith
+
+pub step-le : (i s : ℕ) → i < s → i + 1 ≤ s
+step-le i s h = omega arith
+
+pub both-le : (i s : ℕ) → i ≤ s → s ≤ i → i ≡ s
+both-le i s h k = omega arith
 
 -- a frame's low stands n places on
 pub low-at : (base n f : ℕ) → base + n + n + f + n ≡ base + n + n + n + f
@@ -193,3 +203,76 @@ at-root {w = w} m q o r h =
     let a = q .ready .held .reads .room in
     let k = q .kept .len in
     record { num = word _ (length w) (omega arith) (omega arith); more = small _ (length w) (omega arith) (omega arith); less = omega arith }
+
+-- where a node is taken up
+pub record AtPush (n base v s d m : ℕ) : Type 0 where
+  pub stk : Fits w64 (base + n)
+  pub fr : Fits w64 (base + n + n)
+  pub lw : Fits w64 (base + n + n + n)
+  pub more : Fits w64 (s + 1)
+  pub num : Word (base + v) m
+  pub held : Word (base + n + s) m
+  pub frame : Word (base + n + n + d) m
+  pub low : Word (base + n + n + n + d) m
+
+pub at-push : (n base v s d m : ℕ) → v < n → s < n → d < n → base + n + n + n + n ≤ m → m * 8 < 2 ^ 63 → AtPush n base v s d m
+at-push n base v s d m a b c e r = record {
+  stk = small _ m (omega arith) r;
+  fr = small _ m (omega arith) r;
+  lw = small _ m (omega arith) r;
+  more = small _ m (omega arith) r;
+  num = word _ m (omega arith) r;
+  held = word _ m (omega arith) r;
+  frame = word _ m (omega arith) r;
+  low = word _ m (omega arith) r;
+}
+
+-- where nodes are closed: the regions, and what is closed from the order's end on
+pub record AtClose (n base e : ℕ) : Type 0 where
+  pub stk : Fits w64 (base + n)
+  pub fr : Fits w64 (base + n + n)
+  pub lw : Fits w64 (base + n + n + n)
+  pub nxt : Fits w64 (base + n + n + n + n)
+  pub ord : Fits w64 (base + n + n + n + n + n)
+  pub end : Fits w64 (base + n + n + n + n + n + e)
+
+pub at-close : {n base : ℕ} {w : List ℕ} {p s e : ℕ} → Closes n base w p s e → length w * 8 < 2 ^ 63 → AtClose n base e
+at-close {w = w} a r =
+    let b = a .room in
+    let c = a .e-le in
+    let m = length w in
+    record {
+      stk = small _ m (omega arith) r;
+      fr = small _ m (omega arith) r;
+      lw = small _ m (omega arith) r;
+      nxt = small _ m (omega arith) r;
+      ord = small _ m (omega arith) r;
+      end = small _ m (omega arith) r;
+    }
+
+-- the node at place i of the stack
+pub record AtHeld (n base : ℕ) (w : List ℕ) (p s e i : ℕ) : Type 0 where
+  pub held : Word (base + n + i) (length w)
+  pub num : Word (base + getD w (base + n + i) 0) (length w)
+  pub put : Word (base + n + n + n + n + n + e + (i - p)) (length w)
+  pub more : Fits w64 (i + 1)
+  pub less : s - (i + 1) < s - i
+  pub above : p ≤ i + 1
+
+pub at-held : {n base : ℕ} {w w' : List ℕ} {p s e x i : ℕ} → Closes n base w p s e → Closed n base w p x e i w' → p ≤ i → i < s → length w * 8 < 2 ^ 63 → AtHeld n base w' p s e i
+at-held {n} {base} {w} {w'} {p} {s} {e} {x} {i} a c l h r =
+    let b = a .room in
+    let d = a .s-le in
+    let f = a .e-le in
+    let g = c .kept .len in
+    let q = close-node a h c in
+    let k = a .node i h in
+    let m = length w' in
+    record {
+      held = word _ m (omega arith) (omega arith);
+      num = word _ m (omega arith) (omega arith);
+      put = word _ m (omega arith) (omega arith);
+      more = small _ m (omega arith) (omega arith);
+      less = omega arith;
+      above = omega arith;
+    }

@@ -1,84 +1,64 @@
-use native.Mathlib.Omega.{arith}
-use Prim.Native.Nat.{ℕ, suc, _+_, _-_, _*_, _≤_, _<_}
-use mathlib.Core.Path.{_≡_, refl, sym, ap, _∙_}
-use lib.ListN.{length, take, drop, getD, set, length-set}
-use borrow.Author.Needs.{needs}
+-- `tarjan::push` meets its contract: four stores.
+use Prim.Native.Nat.{ℕ, _+_, _*_, _≤_, _<_}
+use mathlib.Core.Path.{_≡_, refl}
+use lib.ListN.{length, set, length-set}
+use Rattle.tarjan.proofs.Bounds.{at-push}
 use Rattle.tarjan.proofs.push.Statement.{statement}
 use Rattle.tarjan.proofs.push.Tie as tie
-use Rattle.tarjan.proofs.push.Reads as reads
-use Rattle.tarjan.proofs.push.Lts as lts
 
--- src/lib.rt:22:15
 add-stk : tie.Need-add-stk
-add-stk c = search needs
+add-stk c = at-push _ _ _ _ _ _ ((c .pre) .0) ((c .pre) .1) ((c .pre) .2) ((c .pre) .3) ((c) .good .0 .1) .stk
 
--- src/lib.rt:23:14
 add-fr : tie.Need-add-fr
-add-fr c = search needs
+add-fr c = at-push _ _ _ _ _ _ ((c .pre) .0) ((c .pre) .1) ((c .pre) .2) ((c .pre) .3) ((c) .good .0 .1) .fr
 
--- src/lib.rt:24:14
 add-lw : tie.Need-add-lw
-add-lw c = search needs
+add-lw c = at-push _ _ _ _ _ _ ((c .pre) .0) ((c .pre) .1) ((c .pre) .2) ((c .pre) .3) ((c) .good .0 .1) .lw
 
--- src/lib.rt:25:20
 add-w : tie.Need-add-w
-add-w c = search needs
+add-w c = at-push _ _ _ _ _ _ ((c .pre) .0) ((c .pre) .1) ((c .pre) .2) ((c .pre) .3) ((c) .good .0 .1) .more
 
--- src/lib.rt:25:7
 add-w-2 : tie.Need-add-w-2
-add-w-2 c = search needs
+add-w-2 c = at-push _ _ _ _ _ _ ((c .pre) .0) ((c .pre) .1) ((c .pre) .2) ((c .pre) .3) ((c) .good .0 .1) .num .fits
 
--- src/lib.rt:25:5
 mul-w : tie.Need-mul-w
-mul-w c = search needs
+mul-w c = at-push _ _ _ _ _ _ ((c .pre) .0) ((c .pre) .1) ((c .pre) .2) ((c .pre) .3) ((c) .good .0 .1) .num .in-bytes
 
--- src/lib.rt:25:5
 slice-write-w : tie.Need-slice-write-w
-slice-write-w c = search needs
+slice-write-w c = at-push _ _ _ _ _ _ ((c .pre) .0) ((c .pre) .1) ((c .pre) .2) ((c .pre) .3) ((c) .good .0 .1) .num .inside
 
--- src/lib.rt:26:7
 add-w-3 : tie.Need-add-w-3
-add-w-3 c = search needs
+add-w-3 c = at-push _ _ _ _ _ _ ((c .pre) .0) ((c .pre) .1) ((c .pre) .2) ((c .pre) .3) ((c) .good .0 .1) .held .fits
 
--- src/lib.rt:26:5
 mul-w-2 : tie.Need-mul-w-2
-mul-w-2 c = search needs
+mul-w-2 c = at-push _ _ _ _ _ _ ((c .pre) .0) ((c .pre) .1) ((c .pre) .2) ((c .pre) .3) ((c) .good .0 .1) .held .in-bytes
 
--- src/lib.rt:26:5
 slice-write-w-2 : tie.Need-slice-write-w-2
-slice-write-w-2 c = simp length-set (omega arith)
+slice-write-w-2 c = simp length-set (at-push _ _ _ _ _ _ ((c .pre) .0) ((c .pre) .1) ((c .pre) .2) ((c .pre) .3) ((c) .good .0 .1) .held .inside)
 
--- src/lib.rt:27:7
 add-w-4 : tie.Need-add-w-4
-add-w-4 c = search needs
+add-w-4 c = at-push _ _ _ _ _ _ ((c .pre) .0) ((c .pre) .1) ((c .pre) .2) ((c .pre) .3) ((c) .good .0 .1) .frame .fits
 
--- src/lib.rt:27:5
 mul-w-3 : tie.Need-mul-w-3
-mul-w-3 c = search needs
+mul-w-3 c = at-push _ _ _ _ _ _ ((c .pre) .0) ((c .pre) .1) ((c .pre) .2) ((c .pre) .3) ((c) .good .0 .1) .frame .in-bytes
 
--- src/lib.rt:27:5
 slice-write-w-3 : tie.Need-slice-write-w-3
-slice-write-w-3 c = simp length-set (omega arith)
+slice-write-w-3 c = simp length-set (at-push _ _ _ _ _ _ ((c .pre) .0) ((c .pre) .1) ((c .pre) .2) ((c .pre) .3) ((c) .good .0 .1) .frame .inside)
 
--- src/lib.rt:28:7
 add-w-5 : tie.Need-add-w-5
-add-w-5 c = search needs
+add-w-5 c = at-push _ _ _ _ _ _ ((c .pre) .0) ((c .pre) .1) ((c .pre) .2) ((c .pre) .3) ((c) .good .0 .1) .low .fits
 
--- src/lib.rt:28:5
 mul-w-4 : tie.Need-mul-w-4
-mul-w-4 c = search needs
+mul-w-4 c = at-push _ _ _ _ _ _ ((c .pre) .0) ((c .pre) .1) ((c .pre) .2) ((c .pre) .3) ((c) .good .0 .1) .low .in-bytes
 
--- src/lib.rt:28:5
 slice-write-w-4 : tie.Need-slice-write-w-4
-slice-write-w-4 c = simp length-set (omega arith)
+slice-write-w-4 c = simp length-set (at-push _ _ _ _ _ _ ((c .pre) .0) ((c .pre) .1) ((c .pre) .2) ((c .pre) .3) ((c) .good .0 .1) .low .inside)
 
--- src/lib.rt:18:1
 same-length : tie.Need-same-length
-same-length c = search needs
+same-length c = simp length-set
 
--- src/lib.rt:18:1
 returns : tie.Need-returns
-returns c = search needs
+returns c = refl
 
 pub push-spec : {M : Type 1} → statement M
 push-spec =
