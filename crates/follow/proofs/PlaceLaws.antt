@@ -104,6 +104,7 @@ pub record AtEntry (lay : Lay) (insts addresses : List ℕ) (m : ℕ) (w : List 
   pub inside : 2 * (c - 1) < length addresses
   pub listed : getD addresses (2 * (c - 1)) 0 < rowCount 9 insts
   pub low : getD addresses (2 * (c - 1)) 0 < m
+  pub inst : Fits w64 (getD addresses (2 * (c - 1)) 0)
   pub next : Word (lay .nexts + (c - 1)) (length w)
 
 pub entry-at : {lay : Lay} {z : Sizes} {insts addresses : List ℕ} {l : ℕ} {w₀ w : List ℕ} {b : Begun} {c : ℕ} → Beginning lay z insts addresses l w₀ w b c
@@ -116,6 +117,7 @@ entry-at {addresses = addresses} {w = w} {c = c} d s r h =
     let e = d .grew .len in
     let p : c ≡ suc (c - 1) = omega arith in
     let g = begin-found d (c - 1) p in
+    let k = d .tables .few-insts in
     record {
       is = p;
       twice = omega arith;
@@ -123,6 +125,7 @@ entry-at {addresses = addresses} {w = w} {c = c} d s r h =
       inside = omega arith;
       listed = omega arith;
       low = g;
+      inst = omega arith;
       next = word _ (length w) (omega arith) (omega arith);
     }
 

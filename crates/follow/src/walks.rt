@@ -13,12 +13,6 @@ use crate::Walk;
 use carrying::Kind;
 use reach::Lay;
 
-fn wide(x: u32) -> usize
-    ensures { λ r. ⌜ r ≡ x ⌝ }
-{
-    x as usize
-}
-
 fn either(a: bool, b: bool) -> bool
     ensures { λ r. ⌜ r ≡ (a || b) ⌝ }
 {
@@ -97,7 +91,7 @@ fn begin(
     let mut c = work[lay.heads + local] as usize;
     while c > 0 {
         let a = c - 1;
-        b = take(insts, work, lay, z, wide(addresses[2 * a]), b);
+        b = take(insts, work, lay, z, addresses[2 * a] as usize, b);
         c = work[lay.nexts + a] as usize;
     }
     b
