@@ -8,13 +8,6 @@ use carried_registers::Carrying;
 use cases::Cuts;
 use local_kinds::Answer;
 
-fn given(a: Answer) {
-    match a {
-        Answer::Given(n) => cases::counted(n),
-        Answer::Refused(r, i) => cases::refused(r, i),
-    }
-}
-
 fn listed(c: Carrying) {
     match c {
         Carrying::Listed(n) => cases::counted(n),
@@ -23,8 +16,62 @@ fn listed(c: Carrying) {
     }
 }
 
+// What `reach` answers is shown as what `carried` does.
+fn given(a: Answer) -> Carrying {
+    match a {
+        Answer::Given(n) => Carrying::Listed(n),
+        Answer::Refused(r, i) => Carrying::Refused(r, i),
+    }
+}
+
 // Asks for the kinds of all locals, and then for the registers that carry the address of one, by its place counted from 1.
-fn ask(n: &[u32], e: Cuts, l: usize, answer: &mut [u32], work: &mut [u64])
+fn ask(
+    points: u32,
+    v: u32,
+    blocks: &[u32],
+    insts: &[u32],
+    operands: &[u32],
+    crossings: &[u32],
+    locals: &[u32],
+    addresses: &[u32],
+    ends: &[u32],
+    l: usize,
+    answer: &mut [u32],
+    work: &mut [u64],
+) -> Carrying {
+    if l == 0 {
+        return given(local_kinds::reach(
+            points,
+            v,
+            blocks,
+            insts,
+            operands,
+            crossings,
+            locals,
+            addresses,
+            ends,
+            answer,
+            work,
+        ));
+    }
+    carried_registers::carried(
+        points,
+        v,
+        blocks,
+        insts,
+        operands,
+        crossings,
+        locals,
+        addresses,
+        ends,
+        l - 1,
+        answer,
+        work,
+    )
+}
+
+// Of the columns of a case.
+fn asked(n: &[u32], e: Cuts, l: usize, answer: &mut [u32], work: &mut [u64]) -> Carrying
     requires { ⌜ (length (now n) ≡ 1024) × Ordered e 1024 ⌝ }
 {
     let c0 = e.c0;
@@ -35,49 +82,37 @@ fn ask(n: &[u32], e: Cuts, l: usize, answer: &mut [u32], work: &mut [u64])
     let c5 = e.c5;
     let c6 = e.c6;
     let c7 = e.c7;
-    let points = n[0];
-    let v = n[1];
-    let blocks = &n[c0..c1];
-    let insts = &n[c1..c2];
-    let operands = &n[c2..c3];
-    let crossings = &n[c3..c4];
-    let locals = &n[c4..c5];
-    let addresses = &n[c5..c6];
-    let ends = &n[c6..c7];
+    ask(
+        n[0],
+        n[1],
+        &n[c0..c1],
+        &n[c1..c2],
+        &n[c2..c3],
+        &n[c3..c4],
+        &n[c4..c5],
+        &n[c5..c6],
+        &n[c6..c7],
+        l,
+        answer,
+        work,
+    )
+}
+
+fn name(l: usize) {
     if l == 0 {
         cases::text(b" reach");
-        given(local_kinds::reach(
-            points,
-            v,
-            blocks,
-            insts,
-            operands,
-            crossings,
-            locals,
-            addresses,
-            ends,
-            answer,
-            work,
-        ));
-        cases::left(answer, work);
     } else {
         cases::asked(b" carried", l - 1);
-        listed(carried_registers::carried(
-            points,
-            v,
-            blocks,
-            insts,
-            operands,
-            crossings,
-            locals,
-            addresses,
-            ends,
-            l - 1,
-            answer,
-            work,
-        ));
-        cases::left(answer, work);
     }
+}
+
+// And shows what is answered and left.
+fn show(n: &[u32], e: Cuts, l: usize, answer: &mut [u32], work: &mut [u64])
+    requires { ⌜ (length (now n) ≡ 1024) × Ordered e 1024 ⌝ }
+{
+    name(l);
+    listed(asked(n, e, l, answer, work));
+    cases::left(answer, work);
 }
 
 // In lists of these lengths.
@@ -85,16 +120,16 @@ fn turn(n: &[u32], e: Cuts, l: usize)
     requires { ⌜ (length (now n) ≡ 1024) × Ordered e 1024 ⌝ }
 {
     let mut answer = [7u32; 16];
-    let mut work = [7u64; 4096];
+    let mut work = [7u64; 2304];
     let most = n[2] as usize;
     let words = n[3] as usize;
     if most > 16 {
         return;
     }
-    if words > 4096 {
+    if words > 2304 {
         return;
     }
-    ask(n, e, l, &mut answer[0..most], &mut work[0..words]);
+    show(n, e, l, &mut answer[0..most], &mut work[0..words]);
 }
 
 fn run(n: &[u32], e: Cuts)
@@ -109,7 +144,7 @@ fn run(n: &[u32], e: Cuts)
 }
 
 fn main() {
-    let mut text = [0u8; 65536];
+    let mut text = [0u8; 12288];
     let mut n = [0u32; 1024];
     let len = io::read_full(0, &mut text);
     let mut i = 0;

@@ -21,8 +21,8 @@ returns c = tt
 returns-2 : tie.Need-returns-2
 returns-2 c = tt
 
-sub-ask : tie.Need-sub-ask
-sub-ask c = omega arith
+sub-show : tie.Need-sub-show
+sub-show c = omega arith
 
 part-answer-start : tie.Need-part-answer-start
 part-answer-start c = omega arith
@@ -30,8 +30,8 @@ part-answer-start c = omega arith
 part-answer-end : tie.Need-part-answer-end
 part-answer-end c = omega arith
 
-sub-ask-2 : tie.Need-sub-ask-2
-sub-ask-2 c = omega arith
+sub-show-2 : tie.Need-sub-show-2
+sub-show-2 c = omega arith
 
 part-work-start : tie.Need-part-work-start
 part-work-start c = omega arith
@@ -39,8 +39,8 @@ part-work-start c = omega arith
 part-work-end : tie.Need-part-work-end
 part-work-end c = omega arith
 
-ask-requires : tie.Need-ask-requires
-ask-requires c κs = (c .before .before .before .before .before .before .before .pre)
+show-requires : tie.Need-show-requires
+show-requires c κs = (c .before .before .before .before .before .before .before .pre)
 
 returns-3 : tie.Need-returns-3
 returns-3 c = tt
@@ -55,11 +55,11 @@ turn-spec =
     cast-words
     returns
     returns-2
-    sub-ask
+    sub-show
     part-answer-start
     part-answer-end
-    sub-ask-2
+    sub-show-2
     part-work-start
     part-work-end
-    ask-requires
+    show-requires
     returns-3)
