@@ -1,5 +1,6 @@
 // Reads job texts and prints what is answered: the verdict, and how many records each group has. Then the text on standard input, in pieces of seven bytes, its
 // rows, and the texts of a plan and of a refusal: held to the file `stdout`.
+ghost use Prim.Native.Nat.{_≤_, _<_};
 ghost use mathlib.Core.Path.{_≡_};
 ghost use lib.ListN.{length};
 ghost use Rattle.grammar.specs.Groups.{none, rowNumbers};
@@ -34,17 +35,66 @@ fn counted(counts: &[u32]) {
     say(b"\n");
 }
 
+// What a reading answers: a word and the counts, or the refusal.
+fn told(v: Verdict, word: &[u8], counts: &[u32]) {
+    match v {
+        Verdict::Fine => {
+            say(word);
+            counted(counts);
+        }
+        Verdict::Bad(r, i) => refused(r, i),
+    }
+}
+
 fn case(text: &[u8]) {
     let mut rows = [0; 2115];
     let mut counts = [0; 13];
     let v = read_text(text, &mut rows, &mut counts);
-    match v {
-        Verdict::Fine => {
-            say(b"fine");
-            counted(&counts);
+    told(v, b"fine", &counts);
+}
+
+// Each of some texts: a bar stands after each.
+fn cases(texts: &[u8]) {
+    let mut from = 0;
+    let mut to = 0;
+    while to < texts.len() {
+        if texts[to] == b'|' {
+            case(&texts[from..to]);
+            to += 1;
+            from = to;
+        } else {
+            to += 1;
         }
-        Verdict::Bad(r, i) => refused(r, i),
     }
+}
+
+// The order of the lines, and then their fields.
+fn texts() {
+    cases(
+        b"|\
+        H,20,0,1048576|\
+        H,20,0,1048576\n|\
+        H,20,65,1048576\n|\
+        H,20,0,1048576\nH,20,0,1048576\n|\
+        B,0,0,19\n|\
+        H,20,0,0\nO,0,0\n|\
+        H,20,0,0\nI,-,2,3,0,0,-,-\nO,0,0\nO,1,1\nI,0,2,3,0,0,-,-\nX,5\n|\
+        H,20,0,0\nX,5\nI,0,2,3,0,0,-,-\n|\
+        H,20,0,0\n\nX,5\n|",
+    );
+    cases(
+        b"H,20,0,0\r\n|\
+        H,020,0,0\n|\
+        H,4294967295,0,0\n|\
+        H,4294967296,0,0\n|\
+        H,20,0\n|\
+        H,20,0,0,0\n|\
+        H,-,0,0\n|\
+        H,20,0,0\nP,0,-\nM,0,1,-,-\n|\
+        H,20,0,0\nP,-,0\n|\
+        H,20,0,0\nQ,0\n|\
+        H,20,0,0\nX,1111111111111111111111111111111111111111111111111111111111111111111111111111111111111111111111111111111111111111111111111111111111\nX,1\n|",
+    );
 }
 
 fn written(w: Written, out: &[u8]) {
@@ -58,79 +108,67 @@ fn written(w: Written, out: &[u8]) {
     }
 }
 
-fn plans() {
+fn plan(out: &mut [u8]) {
     let cells = [8, 8];
     let items = [0, 1, 0, 1, 0, 1, 1, 1];
     let areas = [2, 3, 6, 7];
+    let w = plan_text::print_plan(&cells, &items, &areas, 2, 1, 8, out);
+    written(w, out);
+}
+
+fn refusal(out: &mut [u8]) {
+    let w = plan_text::print_refusal(11, 4, out);
+    written(w, out);
+}
+
+// In room enough, and in too little.
+fn plans() {
     let mut out = [0; 64];
-    let w = plan_text::print_plan(&cells, &items, &areas, 2, 1, 8, &mut out);
-    written(w, &out);
     let mut short = [0; 40];
-    let w = plan_text::print_plan(&cells, &items, &areas, 2, 1, 8, &mut short);
-    written(w, &short);
-    let w = plan_text::print_refusal(11, 4, &mut out);
-    written(w, &out);
+    plan(&mut out);
+    plan(&mut short);
+    refusal(&mut out);
 }
 
-fn orders() {
-    case(b"");
-    case(b"H,20,0,1048576");
-    case(b"H,20,0,1048576\n");
-    case(b"H,20,65,1048576\n");
-    case(b"H,20,0,1048576\nH,20,0,1048576\n");
-    case(b"B,0,0,19\n");
-    case(b"H,20,0,0\nO,0,0\n");
-    case(b"H,20,0,0\nI,-,2,3,0,0,-,-\nO,0,0\nO,1,1\nI,0,2,3,0,0,-,-\nX,5\n");
-    case(b"H,20,0,0\nX,5\nI,0,2,3,0,0,-,-\n");
-    case(b"H,20,0,0\n\nX,5\n");
+// Where the piece ends that begins there: seven bytes on, or with the text.
+fn piece_end(from: usize, len: usize) -> usize
+    requires { ⌜ from < len ⌝ }
+    ensures { λ r. ⌜ (from < r) × (r ≤ len) ⌝ }
+{
+    if len - from < 7 {
+        return len;
+    }
+    from + 7
 }
 
-fn fields() {
-    case(b"H,20,0,0\r\n");
-    case(b"H,020,0,0\n");
-    case(b"H,4294967295,0,0\n");
-    case(b"H,4294967296,0,0\n");
-    case(b"H,20,0\n");
-    case(b"H,20,0,0,0\n");
-    case(b"H,-,0,0\n");
-    case(b"H,20,0,0\nP,0,-\nM,0,1,-,-\n");
-    case(b"H,20,0,0\nP,-,0\n");
-    case(b"H,20,0,0\nQ,0\n");
-    case(
-        b"H,20,0,0\nX,1111111111111111111111111111111111111111111111111111111111111111111111111111111111111111111111111111111111111111111111111111111111\nX,1\n",
-    );
-}
-
-// Standard input, seven bytes at a time.
-fn input(rows: &mut [u32], counts: &mut [u32]) -> Verdict
+// A text, seven bytes at a time.
+fn pieces(text: &[u8], rows: &mut [u32], counts: &mut [u32]) -> Verdict
     requires { ⌜ (length (now rows) ≡ rowNumbers) × (length (now counts) ≡ none) ⌝ }
 {
     let mut line = [0; 128];
     let mut fields = [0; 7];
-    let mut piece = [0; 7];
     let mut s = start(&mut line, rows, counts);
-    let mut turn: usize = 0;
-    while turn < 1000000 {
-        let n = io::read_full(0, &mut piece);
-        if n == 0 {
-            return finish(s, rows);
-        }
-        s = feed(s, &piece[0..n], &mut line, &mut fields, rows, counts);
-        turn += 1;
+    let mut from = 0;
+    while from < text.len() {
+        let to = piece_end(from, text.len());
+        s = feed(s, &text[from..to], &mut line, &mut fields, rows, counts);
+        from = to;
     }
     finish(s, rows)
 }
 
-fn main() {
-    orders();
-    fields();
-    plans();
+fn input(text: &[u8]) {
     let mut rows = [0; 2115];
     let mut counts = [0; 13];
-    let v = input(&mut rows, &mut counts);
-    match v {
-        Verdict::Fine => counted(&counts),
-        Verdict::Bad(r, i) => refused(r, i),
-    }
+    let v = pieces(text, &mut rows, &mut counts);
+    told(v, b"", &counts);
     counted(&rows[323..341]);
+}
+
+fn main() {
+    texts();
+    plans();
+    let mut text = [0; 256];
+    let n = io::read_full(0, &mut text);
+    input(&text[0..n]);
 }
