@@ -45,7 +45,7 @@ fn run(n: &[u32], e: Cuts)
 {
     let mut areas = [7u32; 80];
     let mut items = [7u32; 160];
-    let mut work = [7u64; 4096];
+    let mut work = [7u64; 1024];
     let a = n[1] as usize;
     let i = n[2] as usize;
     let w = n[3] as usize;
@@ -55,14 +55,14 @@ fn run(n: &[u32], e: Cuts)
     if i > 160 {
         return;
     }
-    if w > 4096 {
+    if w > 1024 {
         return;
     }
     answer(n, e, &mut areas[0..a], &mut items[0..i], &mut work[0..w]);
 }
 
 fn main() {
-    let mut text = [0u8; 65536];
+    let mut text = [0u8; 8192];
     let mut n = [0u32; 1024];
     let len = io::read_full(0, &mut text);
     let mut i = 0;

@@ -1,5 +1,4 @@
 -- `answer` is safe: the columns are in order and within the numbers.
-use native.Mathlib.Omega.{arith}
 use lib.Dec.{lit≤}
 use Rattle.cases.proofs.ColumnLaws.{begins, stops, here}
 use Rattle.area_tests.proofs.answer.Statement.{statement}
@@ -81,13 +80,13 @@ left-requires : tie.Need-left-requires
 left-requires c κs = tt
 
 same-length : tie.Need-same-length
-same-length c = omega arith
+same-length c = (c .before .before .before .before .before .before .before .before .before .before .before .before .local-areas) .kept .1 .1 .1 .1 .1 .1 .0
 
 same-length-2 : tie.Need-same-length-2
-same-length-2 c = omega arith
+same-length-2 c = (c .before .before .before .before .before .before .before .before .before .before .before .before .local-areas) .kept .1 .1 .1 .1 .1 .1 .1 .0
 
 same-length-3 : tie.Need-same-length-3
-same-length-3 c = omega arith
+same-length-3 c = (c .before .before .before .before .before .before .before .before .before .before .before .before .local-areas) .kept .1 .1 .1 .1 .1 .1 .1 .1 .0
 
 returns : tie.Need-returns
 returns c = tt

@@ -1,5 +1,4 @@
 -- `moved_into` is safe: the columns are in order and within the numbers.
-use native.Mathlib.Omega.{arith}
 use lib.Dec.{lit≤}
 use Rattle.cases.proofs.ColumnLaws.{begins, stops, here}
 use Rattle.spill_tests.proofs.moved_into.Statement.{statement}
@@ -72,10 +71,10 @@ left-requires : tie.Need-left-requires
 left-requires c κs = tt
 
 same-length : tie.Need-same-length
-same-length c = omega arith
+same-length c = (c .before .before .before .before .before .before .before .before .moved) .kept .1 .1 .1 .1 .1 .1 .1 .0
 
 same-length-2 : tie.Need-same-length-2
-same-length-2 c = omega arith
+same-length-2 c = (c .before .before .before .before .before .before .before .before .moved) .kept .1 .1 .1 .1 .1 .1 .1 .1 .0
 
 returns : tie.Need-returns
 returns c = tt

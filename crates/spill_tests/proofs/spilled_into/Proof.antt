@@ -1,5 +1,4 @@
 -- `spilled_into` is safe: the columns are in order and within the numbers.
-use native.Mathlib.Omega.{arith}
 use mathlib.Core.Path.{refl}
 use lib.Dec.{lit≤}
 use Rattle.cases.proofs.ColumnLaws.{begins, stops, here, widens}
@@ -43,7 +42,7 @@ text-requires : tie.Need-text-requires
 text-requires c κs = tt
 
 same-length : tie.Need-same-length
-same-length c = omega arith
+same-length c = (c .before .before .before .before .before .before .before .spilled) .kept .1 .1 .1 .0
 
 returns : tie.Need-returns
 returns c = tt
