@@ -16,11 +16,10 @@ fn listed(c: Carrying) {
     }
 }
 
-// What `reach` answers is shown as what `carried` does.
-fn given(a: Answer) -> Carrying {
+fn given(a: Answer) {
     match a {
-        Answer::Given(n) => Carrying::Listed(n),
-        Answer::Refused(r, i) => Carrying::Refused(r, i),
+        Answer::Given(n) => cases::counted(n),
+        Answer::Refused(r, i) => cases::refused(r, i),
     }
 }
 
@@ -38,9 +37,9 @@ fn ask(
     l: usize,
     answer: &mut [u32],
     work: &mut [u64],
-) -> Carrying {
+) {
     if l == 0 {
-        return given(local_kinds::reach(
+        given(local_kinds::reach(
             points,
             v,
             blocks,
@@ -53,8 +52,9 @@ fn ask(
             answer,
             work,
         ));
+        return;
     }
-    carried_registers::carried(
+    listed(carried_registers::carried(
         points,
         v,
         blocks,
@@ -67,11 +67,11 @@ fn ask(
         l - 1,
         answer,
         work,
-    )
+    ));
 }
 
 // Of the columns of a case.
-fn asked(n: &[u32], e: Cuts, l: usize, answer: &mut [u32], work: &mut [u64]) -> Carrying
+fn asked(n: &[u32], e: Cuts, l: usize, answer: &mut [u32], work: &mut [u64])
     requires { ⌜ (length (now n) ≡ 1024) × Ordered e 1024 ⌝ }
 {
     let c0 = e.c0;
@@ -95,7 +95,7 @@ fn asked(n: &[u32], e: Cuts, l: usize, answer: &mut [u32], work: &mut [u64]) -> 
         l,
         answer,
         work,
-    )
+    );
 }
 
 fn name(l: usize) {
@@ -106,12 +106,12 @@ fn name(l: usize) {
     }
 }
 
-// And shows what is answered and left.
+// And shows what is left.
 fn show(n: &[u32], e: Cuts, l: usize, answer: &mut [u32], work: &mut [u64])
     requires { ⌜ (length (now n) ≡ 1024) × Ordered e 1024 ⌝ }
 {
     name(l);
-    listed(asked(n, e, l, answer, work));
+    asked(n, e, l, answer, work);
     cases::left(answer, work);
 }
 

@@ -24,11 +24,14 @@ sub-carried c = omega arith
 carried-requires : tie.Need-carried-requires
 carried-requires c κs = tt
 
+listed-requires : tie.Need-listed-requires
+listed-requires c κs = tt
+
 same-length-3 : tie.Need-same-length-3
-same-length-3 c = (c .before .before .before .before .carried) .kept .1 .1 .1 .1 .1 .1 .1 .1 .1 .1 .0
+same-length-3 c = (c .before .before .before .before .before .carried) .kept .1 .1 .1 .1 .1 .1 .1 .1 .1 .1 .0
 
 same-length-4 : tie.Need-same-length-4
-same-length-4 c = (c .before .before .before .before .carried) .kept .1 .1 .1 .1 .1 .1 .1 .1 .1 .1 .1 .0
+same-length-4 c = (c .before .before .before .before .before .carried) .kept .1 .1 .1 .1 .1 .1 .1 .1 .1 .1 .1 .0
 
 returns-2 : tie.Need-returns-2
 returns-2 c = tt
@@ -44,6 +47,7 @@ ask-spec =
     returns
     sub-carried
     carried-requires
+    listed-requires
     same-length-3
     same-length-4
     returns-2)
