@@ -131,9 +131,13 @@ fn crowded_or_cap(a: &[u32], b: &[u32], x: u32, y: u32) {
     }
 }
 
-// Runs a query, by the first letter of its name.
-fn query(name: u8, a: &[u32], b: &[u32], c: &[u32], x: u32, y: u32) {
+// Runs what a case asks, by the first letter of its name.
+fn ask(name: u8, a: &[u32], b: &[u32], c: &[u32], x: u32, y: u32) {
     match name {
+        b'f' => {
+            fit(a, b, x, y);
+            return;
+        }
         b'l' => places(a, b, x),
         b's' => shares(a, b, c, x),
         b'a' => apart(a, b),
@@ -149,15 +153,11 @@ fn run(name: u8, n: &[u32], e: Cuts)
     let c1 = e.c1;
     let c2 = e.c2;
     let c3 = e.c3;
-    if name == b'f' {
-        fit(&n[c0..c1], &n[c1..c2], n[0], n[1]);
-    } else {
-        query(name, &n[c0..c1], &n[c1..c2], &n[c2..c3], n[0], n[1]);
-    }
+    ask(name, &n[c0..c1], &n[c1..c2], &n[c2..c3], n[0], n[1]);
 }
 
 fn main() {
-    let mut text = [0u8; 65536];
+    let mut text = [0u8; 4096];
     let mut n = [0u32; 1024];
     let len = io::read_full(0, &mut text);
     let mut i = 0;

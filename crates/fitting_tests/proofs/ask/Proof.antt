@@ -1,7 +1,13 @@
--- `query` is safe: the queries ask nothing.
+-- `ask` is safe.
 use mathlib.Core.Path.{refl}
-use Rattle.fitting_tests.proofs.query.Statement.{statement}
-use Rattle.fitting_tests.proofs.query.Tie as tie
+use Rattle.fitting_tests.proofs.ask.Statement.{statement}
+use Rattle.fitting_tests.proofs.ask.Tie as tie
+
+fit-requires : tie.Need-fit-requires
+fit-requires c κs = tt
+
+returns : tie.Need-returns
+returns c = tt
 
 places-requires : tie.Need-places-requires
 places-requires c κs = tt
@@ -21,17 +27,19 @@ slice-aggregate-text c = refl
 text-requires : tie.Need-text-requires
 text-requires c κs = tt
 
-returns : tie.Need-returns
-returns c = tt
+returns-2 : tie.Need-returns-2
+returns-2 c = tt
 
-pub query-spec : {M : Type 1} → statement M
-query-spec =
+pub ask-spec : {M : Type 1} → statement M
+ask-spec =
     tie.close
     (tie.spec
+    fit-requires
+    returns
     places-requires
     shares-requires
     apart-requires
     crowded-or-cap-requires
     slice-aggregate-text
     text-requires
-    returns)
+    returns-2)
