@@ -43,21 +43,26 @@ fn fit(wants: &[u32], areas: &[u32], locals: u32, budget: u32) {
     cases::left(&items, &work);
 }
 
+fn number(x: usize) {
+    cases::put(b" ", x as u64);
+}
+
+fn none() {
+    cases::text(b" -");
+}
+
 fn placed(p: Place) {
     match p {
-        Place::At(c) => cases::put(b" ", c as u64),
-        Place::Absent => cases::text(b" -"),
+        Place::At(c) => number(c),
+        Place::Absent => none(),
         Place::Refused(r, i) => cases::bad(r, i),
     }
 }
 
 fn saved(s: Saving) {
     match s {
-        Saving::Cells(n) => cases::put(b" saved ", n as u64),
-        Saving::Refused(r, i) => {
-            cases::text(b" saved");
-            cases::bad(r, i);
-        }
+        Saving::Cells(n) => number(n),
+        Saving::Refused(r, i) => cases::bad(r, i),
     }
 }
 
@@ -67,16 +72,17 @@ fn places(cells: &[u32], items: &[u32], locals: u32) {
     cases::text(b" slot");
     placed(queries::slot(cells, items, locals, 0));
     placed(queries::slot(cells, items, locals, 2));
+    cases::text(b" saved");
     saved(queries::saved(cells, items, locals));
 }
 
 fn shared(s: Share) {
     match s {
         Share::Part(first, n) => {
-            cases::put(b" ", first as u64);
-            cases::put(b" ", n as u64);
+            number(first);
+            number(n);
         }
-        Share::Absent => cases::text(b" -"),
+        Share::Absent => none(),
         Share::Refused(r, i) => cases::bad(r, i),
     }
     cases::text(b";");

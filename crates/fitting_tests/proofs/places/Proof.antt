@@ -33,6 +33,12 @@ slot-requires-2 c κs = tt
 placed-requires-4 : tie.Need-placed-requires-4
 placed-requires-4 c κs = tt
 
+slice-aggregate-text-2 : tie.Need-slice-aggregate-text-2
+slice-aggregate-text-2 c = refl
+
+text-requires-2 : tie.Need-text-requires-2
+text-requires-2 c κs = tt
+
 saved-requires : tie.Need-saved-requires
 saved-requires c κs = tt
 
@@ -56,6 +62,8 @@ places-spec =
     placed-requires-3
     slot-requires-2
     placed-requires-4
+    slice-aggregate-text-2
+    text-requires-2
     saved-requires
     saved-requires-2
     returns)
