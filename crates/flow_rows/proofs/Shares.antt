@@ -10,14 +10,14 @@ use Rattle.bits.specs.Bits.{bit, bitOf}
 use Rattle.words.specs.Regions.{Region, Disjoint, below as lower, above as upper}
 use Rattle.words.proofs.Points.{cut, same}
 use Rattle.words.proofs.RegionLaws.{row-before}
-use Rattle.words.proofs.FitLaws.{as-long}
 use Rattle.bits.proofs.DigitLaws.{bit-zero}
 use Rattle.graph.specs.Work.{Within}
 use Rattle.graph.proofs.Within.{within-refl, within-trans, within-wider, region-within}
 use Rattle.flow_rows.specs.declared.Flow.{Flow}
-use Rattle.flow_rows.specs.Flowed.{which, order, touchedBit, outBit, Laid, Across, Stays, Member, Joins, Tells, Run, Shared, Source, Visited}
-use Rattle.flow_rows.proofs.Joins.{which-kept, order-kept, touched-kept, laid-kept, row-wide, other-row}
-use Rattle.flow_rows.proofs.Places.{OrderAt, RowAt, order-at, row-at}
+use Rattle.flow_rows.specs.Flowed.{which, orderFrom, order, touchedBit, outBit, Laid, Across, Stays, Member, Joins, Tells, Run, Shared, Source, Visited}
+use Rattle.flow_rows.proofs.Joins.{row-in, which-kept, order-kept, touched-kept, laid-kept, row-wide, other-row}
+use Rattle.words.proofs.FitLaws.{as-long}
+use Rattle.flow_rows.proofs.Places.{OrderAt, RowAt, order-at, row-at, here}
 use Rattle.flow_rows.proofs.Visits.{across-back, across-on, stays-back, stays-on, member-as, member-on}
 
 -- ---- share
@@ -52,30 +52,33 @@ share-start f x i j c w L R h = record {
   others = λ v b a e l. refl;
 }
 
-module _ {f : Flow} {x i j c : ℕ} {w₀ w : List ℕ} {p : ℕ} (t : Sharing f x i j c w₀ w p) (h : p < j) where
+module _ {f : Flow} {x i j c : ℕ} {w₀ w : List ℕ} {p : ℕ} (t : Sharing f x i j c w₀ w p) (h : p < j) {o : ℕ} (e : o ≡ orderFrom f) where
+  abbrev node : ℕ
+  node = getD w (o + p) 0
+
   p-lt : p < f .n
   p-lt = omega (arith, t .run .last)
 
   pub share-laid : Laid f w
   share-laid = laid-kept (t .laid) (t .kept)
 
-  order-is : order f w p ≡ order f w₀ p
-  order-is = order-kept (t .laid) (t .kept) p p-lt
+  order-is : node ≡ order f w₀ p
+  order-is = here f w e p ∙ order-kept (t .laid) (t .kept) p p-lt
 
-  pub share-node : order f w p < f .n
+  pub share-node : node < f .n
   share-node = omega (arith, order-is, t .laid .listed p p-lt)
 
-  pub share-at : length w₀ * 8 < 2 ^ 63 → OrderAt f (length w) p
-  share-at r = order-at share-laid (as-long _ (length w₀) (t .kept .len) r) p p-lt
+  pub share-at : length w₀ * 8 < 2 ^ 63 → OrderAt o (length w) p
+  share-at r = order-at share-laid (as-long _ (length w₀) (t .kept .len) r) e p p-lt
 
-  pub share-row : length w₀ * 8 < 2 ^ 63 → RowAt f (length w) (order f w p)
+  pub share-row : length w₀ * 8 < 2 ^ 63 → RowAt f (length w) (node)
   share-row r = row-at share-laid (as-long _ (length w₀) (t .kept .len) r) _ share-node
 
   pub share-x : length w₀ * 8 < 2 ^ 63 → RowAt f (length w) x
   share-x r = row-at share-laid (as-long _ (length w₀) (t .kept .len) r) x (t .x-lt)
 
-  pub share-skip : order f w p ≡ x → Sharing f x i j c w₀ w (p + 1)
-  share-skip e = record {
+  pub share-skip : node ≡ x → Sharing f x i j c w₀ w (p + 1)
+  share-skip s = record {
     laid = t .laid;
     run = t .run;
     x-lt = t .x-lt;
@@ -84,14 +87,14 @@ module _ {f : Flow} {x i j c : ℕ} {w₀ w : List ℕ} {p : ℕ} (t : Sharing f
     kept = t .kept;
     row = t .row;
     shared = λ q b a d l. same q p
-        (λ o. ap (λ (y : ℕ). outBit f w (order f w₀ y) b) o ∙ ap (λ (y : ℕ). outBit f w y b) (sym order-is ∙ e) ∙ t .row b l)
-        (λ o. t .shared q b a (omega arith) l);
+        (λ z. ap (λ (y : ℕ). outBit f w (order f w₀ y) b) z ∙ ap (λ (y : ℕ). outBit f w y b) (sym order-is ∙ s) ∙ t .row b l)
+        (λ z. t .shared q b a (omega arith) l);
     others = t .others;
   }
 
-  pub share-more : {w' : List ℕ} → (order f w p ≡ x → ⊥) → Region w w' (f .out + order f w p * f .words) (f .words) (λ k. getD w (f .out + x * f .words + k) 0) → Sharing f x i j c w₀ w' (p + 1)
+  pub share-more : {w' : List ℕ} → (node ≡ x → ⊥) → Region w w' (f .out + node * f .words) (f .words) (λ k. getD w (f .out + x * f .words + k) 0) → Sharing f x i j c w₀ w' (p + 1)
   share-more {w'} ne R =
-      let u = order f w p in
+      let u = node in
       let K = region-within R in
       let new : (b : ℕ) → b < f .words * 64 → outBit f w' u b ≡ outBit f w₀ x b = λ b l.
       ap (λ (y : ℕ). bitOf y (b % 64)) (R .inside (f .out + u * f .words + b / 64) (b / 64) refl (omega arith)) ∙ t .row b l in
@@ -216,3 +219,11 @@ module _ {f : Flow} {i j c x : ℕ} {w₀ w₁ : List ℕ} (L : Laid f w₀) (R 
 
     pub run-loop : {w₃ : List ℕ} → Joins f x (λ b. Member f w₂ i j (λ u. touchedBit f w₂ u b ≡ true)) w₂ w₃ → Laid f w₃ × Run f w₃ i j c
     run-loop M = let k = row-wide L x x-lt (within-trans K₂ (M .kept)) in (laid-kept L k, run-kept L k R)
+
+-- the component that is visited, by where the order stands
+module _ (f : Flow) (w : List ℕ) {o : ℕ} (e : o ≡ orderFrom f) (i : ℕ) where
+  pub number : which f w (order f w i) ≡ which f w (getD w (o + i) 0)
+  number = ap (which f w) (sym (here f w e i))
+
+  pub visited-from : {j : ℕ} {w' : List ℕ} → Visited f i j (which f w (getD w (o + i) 0)) w w' → Visited f i j (which f w (order f w i)) w w'
+  visited-from {j} {w'} v = subst (λ (c : ℕ). Visited f i j c w w') (sym number) v

@@ -10,15 +10,14 @@ use Rattle.bits.specs.Bits.{bit, bitOf, Row, Aligned}
 use Rattle.words.specs.Regions.{Region, Disjoint, below as lower, above as upper}
 use Rattle.words.proofs.Points.{cut, same}
 use Rattle.words.proofs.RegionLaws.{row-before}
-use Rattle.words.proofs.FitLaws.{as-long}
-use Rattle.words.proofs.Bools.{never}
 use Rattle.bits.proofs.DigitLaws.{bit-zero}
 use Rattle.graph.specs.Work.{Within}
 use Rattle.graph.proofs.Within.{within-refl, within-trans, within-wider, region-within}
 use Rattle.flow_rows.specs.declared.Flow.{Flow}
-use Rattle.flow_rows.specs.Flowed.{which, order, begins, ends, target, touchedBit, outBit, Laid, Across, Stays, Member, Joins, Tells, Run, Shared, Source, Visited}
-use Rattle.flow_rows.proofs.Joins.{which-kept, order-kept, begins-kept, ends-kept, target-kept, touched-kept, laid-kept, row-wide, other-row, joins-none, joins-then, joins-as, joins-row, touched-aligned}
-use Rattle.flow_rows.proofs.Places.{OrderAt, RowAt, order-at, row-at}
+use Rattle.flow_rows.specs.Flowed.{which, orderFrom, order, begins, ends, target, touchedBit, outBit, Laid, Across, Stays, Member, Joins, Tells, Run, Shared, Source, Visited}
+use Rattle.flow_rows.proofs.Joins.{row-in, which-kept, order-kept, begins-kept, ends-kept, target-kept, touched-kept, laid-kept, row-wide, other-row, joins-none, joins-then, joins-as, joins-row, touched-aligned}
+use Rattle.words.proofs.FitLaws.{as-long}
+use Rattle.flow_rows.proofs.Places.{OrderAt, RowAt, order-at, row-at, here}
 
 -- ---- what a change of the row of x leaves of the sources of its component
 
@@ -96,6 +95,9 @@ pub record Pulling (f : Flow) (i j c x : ℕ) (w₀ w : List ℕ) (p : ℕ) (loo
   pub joins : Joins f x (λ b. Member f w₀ i p (λ u. Across f w₀ u c b)) w₀ w
   pub tells : Tells (Member f w₀ i p (λ u. Stays f w₀ u c)) looped
 
+true-false : {A : Type 0} → false ≡ true → A
+true-false e = absurd (let z : _≡_ {A = ℕ} 0 1 = cc in omega arith)
+
 pub pull-start : (f : Flow) (i j c x : ℕ) (w : List ℕ) → Laid f w → i ≤ j → j ≤ f .n → x < f .n → which f w x ≡ c → Pulling f i j c x w w i false
 pull-start f i j c x w L h k l e = record {
   laid = L;
@@ -105,10 +107,13 @@ pull-start f i j c x w L h k l e = record {
   i-le = omega arith;
   p-le = h;
   joins = joins-as (λ b. Member f w i i (λ u. Across f w u c b)) (joins-none w) (λ b l s. absurd s) (λ b l s. absurd (omega (arith, s .1, s .2)));
-  tells = record { yes-so = λ q. never q; so-yes = λ s. absurd (omega (arith, s .1, s .2)) };
+  tells = record { yes-so = λ q. true-false q; so-yes = λ s. absurd (omega (arith, s .1, s .2)) };
 }
 
-module _ {f : Flow} {i j c x : ℕ} {w₀ w : List ℕ} {p : ℕ} {looped : Bool} (t : Pulling f i j c x w₀ w p looped) (h : p < j) where
+module _ {f : Flow} {i j c x : ℕ} {w₀ w : List ℕ} {p : ℕ} {looped : Bool} (t : Pulling f i j c x w₀ w p looped) (h : p < j) {o : ℕ} (e : o ≡ orderFrom f) where
+  abbrev node : ℕ
+  node = getD w (o + p) 0
+
   all-rows : Within (f .out) (f .out + f .n * f .words) w₀ w
   all-rows = row-wide (t .laid) x (t .x-lt) (t .joins .kept)
 
@@ -118,22 +123,22 @@ module _ {f : Flow} {i j c x : ℕ} {w₀ w : List ℕ} {p : ℕ} {looped : Bool
   p-lt : p < f .n
   p-lt = omega (arith, t .j-le)
 
-  pub pull-order : order f w p ≡ order f w₀ p
-  pull-order = order-kept (t .laid) all-rows p p-lt
+  pub pull-order : node ≡ order f w₀ p
+  pull-order = here f w e p ∙ order-kept (t .laid) all-rows p p-lt
 
   u-lt : order f w₀ p < f .n
   u-lt = t .laid .listed p p-lt
 
-  pub pull-node : order f w p < f .n
+  pub pull-node : node < f .n
   pull-node = omega (arith, pull-order, u-lt)
 
-  pub pull-at : length w₀ * 8 < 2 ^ 63 → OrderAt f (length w) p
-  pull-at r = order-at pull-laid (as-long _ (length w₀) (all-rows .len) r) p p-lt
+  pub pull-at : length w₀ * 8 < 2 ^ 63 → OrderAt o (length w) p
+  pull-at r = order-at pull-laid (as-long _ (length w₀) (all-rows .len) r) e p p-lt
 
   pub pull-x : which f w x ≡ c
   pull-x = which-kept (t .laid) all-rows x (t .x-lt) ∙ t .x-in
 
-  module _ {w' : List ℕ} {r : Bool} (J : Joins f x (Across f w (order f w p) c) w w') (T : Tells (Stays f w (order f w p) c) r) where
+  module _ {w' : List ℕ} {r : Bool} (J : Joins f x (Across f w (node) c) w w') (T : Tells (Stays f w (node) c) r) where
     joins' : Joins f x (λ b. Member f w₀ i (p + 1) (λ u. Across f w₀ u c b)) w₀ w'
     joins' = joins-as (λ b. Member f w₀ i (p + 1) (λ u. Across f w₀ u c b)) (joins-then (t .joins) J)
         (λ b l s. more-member f w₀ i p (λ u. Across f w₀ u c b) (t .i-le)
@@ -142,14 +147,14 @@ module _ {f : Flow} {i j c x : ℕ} {w₀ w : List ℕ} {p : ℕ} {looped : Bool
         (λ a. inr (subst (λ (y : ℕ). Across f w y c b) (sym pull-order) (across-on (t .laid) (t .x-lt) (t .x-in) (t .joins .kept) (order f w₀ p) b u-lt l a)))
         (last-member f w₀ i p (λ u. Across f w₀ u c b) s))
 
-    here-stays : Stays f w (order f w p) c → Stays f w₀ (order f w₀ p) c
+    here-stays : Stays f w (node) c → Stays f w₀ (order f w₀ p) c
     here-stays s = stays-back (t .laid) (t .x-lt) (t .x-in) (t .joins .kept) (order f w₀ p) u-lt (subst (λ (y : ℕ). Stays f w y c) pull-order s)
 
-    there-stays : Stays f w₀ (order f w₀ p) c → Stays f w (order f w p) c
+    there-stays : Stays f w₀ (order f w₀ p) c → Stays f w (node) c
     there-stays s = subst (λ (y : ℕ). Stays f w y c) (sym pull-order) (stays-on (t .laid) (t .x-lt) (t .x-in) (t .joins .kept) (order f w₀ p) u-lt s)
 
     pub pull-looped : r ≡ true → Pulling f i j c x w₀ w' (p + 1) true
-    pull-looped e = record {
+    pull-looped y = record {
       laid = t .laid;
       j-le = t .j-le;
       x-lt = t .x-lt;
@@ -157,11 +162,11 @@ module _ {f : Flow} {i j c x : ℕ} {w₀ w : List ℕ} {p : ℕ} {looped : Bool
       i-le = omega (arith, t .i-le);
       p-le = omega arith;
       joins = joins';
-      tells = record { yes-so = λ _. (p, t .i-le, omega arith, here-stays (T .yes-so e)); so-yes = λ _. refl };
+      tells = record { yes-so = λ _. (p, t .i-le, omega arith, here-stays (T .yes-so y)); so-yes = λ _. refl };
     }
 
     pub pull-not : r ≡ false → Pulling f i j c x w₀ w' (p + 1) looped
-    pull-not e = record {
+    pull-not y = record {
       laid = t .laid;
       j-le = t .j-le;
       x-lt = t .x-lt;
@@ -171,7 +176,7 @@ module _ {f : Flow} {i j c x : ℕ} {w₀ w : List ℕ} {p : ℕ} {looped : Bool
       joins = joins';
       tells = record {
         yes-so = λ q. let m = t .tells .yes-so q in (m .0, m .1, omega (arith, m .2), m .3);
-        so-yes = λ m. ⊎-elim (λ a. t .tells .so-yes a) (λ a. never (sym e ∙ T .so-yes (there-stays a))) (last-member f w₀ i p (λ u. Stays f w₀ u c) m);
+        so-yes = λ m. ⊎-elim (λ a. t .tells .so-yes a) (λ a. true-false (sym y ∙ T .so-yes (there-stays a))) (last-member f w₀ i p (λ u. Stays f w₀ u c) m);
       };
     }
 
@@ -205,7 +210,10 @@ touch-start f i j x w L h k l = record {
   joins = joins-as (λ b. Member f w i i (λ u. touchedBit f w u b ≡ true)) (joins-none w) (λ b l s. absurd s) (λ b l s. absurd (omega (arith, s .1, s .2)));
 }
 
-module _ {f : Flow} {i j x : ℕ} {w₀ w : List ℕ} {p : ℕ} (t : Touching f i j x w₀ w p) (h : p < j) where
+module _ {f : Flow} {i j x : ℕ} {w₀ w : List ℕ} {p : ℕ} (t : Touching f i j x w₀ w p) (h : p < j) {o : ℕ} (e : o ≡ orderFrom f) where
+  abbrev touch-u : ℕ
+  touch-u = getD w (o + p) 0
+
   kept-all : Within (f .out) (f .out + f .n * f .words) w₀ w
   kept-all = row-wide (t .laid) x (t .x-lt) (t .joins .kept)
 
@@ -215,25 +223,25 @@ module _ {f : Flow} {i j x : ℕ} {w₀ w : List ℕ} {p : ℕ} (t : Touching f 
   p-in : p < f .n
   p-in = omega (arith, t .j-le)
 
-  order-is : order f w p ≡ order f w₀ p
-  order-is = order-kept (t .laid) kept-all p p-in
+  order-is : touch-u ≡ order f w₀ p
+  order-is = here f w e p ∙ order-kept (t .laid) kept-all p p-in
 
-  pub touch-node : order f w p < f .n
+  pub touch-node : touch-u < f .n
   touch-node = omega (arith, order-is, t .laid .listed p p-in)
 
-  pub touch-at : length w₀ * 8 < 2 ^ 63 → OrderAt f (length w) p
-  touch-at r = order-at touch-laid (as-long _ (length w₀) (kept-all .len) r) p p-in
+  pub touch-at : length w₀ * 8 < 2 ^ 63 → OrderAt o (length w) p
+  touch-at r = order-at touch-laid (as-long _ (length w₀) (kept-all .len) r) e p p-in
 
-  pub touch-row : length w₀ * 8 < 2 ^ 63 → RowAt f (length w) (order f w p)
+  pub touch-row : length w₀ * 8 < 2 ^ 63 → RowAt f (length w) (touch-u)
   touch-row r = row-at touch-laid (as-long _ (length w₀) (kept-all .len) r) _ touch-node
 
   pub touch-x : length w₀ * 8 < 2 ^ 63 → RowAt f (length w) x
   touch-x r = row-at touch-laid (as-long _ (length w₀) (kept-all .len) r) x (t .x-lt)
 
   pub touch-more : {w' : List ℕ}
-      → Row w w' (f .out + x * f .words) (f .words) (λ b. bit w (f .out + x * f .words) b || bit w (f .touched + order f w p * f .words) b) → Touching f i j x w₀ w' (p + 1)
+      → Row w w' (f .out + x * f .words) (f .words) (λ b. bit w (f .out + x * f .words) b || bit w (f .touched + touch-u * f .words) b) → Touching f i j x w₀ w' (p + 1)
   touch-more {w'} r =
-      let is : (b : ℕ) → b < f .words * 64 → bit w (f .touched + order f w p * f .words) b ≡ touchedBit f w₀ (order f w₀ p) b =
+      let is : (b : ℕ) → b < f .words * 64 → bit w (f .touched + touch-u * f .words) b ≡ touchedBit f w₀ (order f w₀ p) b =
       λ b l. ap (λ (y : ℕ). touchedBit f w y b) order-is ∙ touched-kept (t .laid) kept-all (order f w₀ p) b (t .laid .listed p p-in) l in
       record {
         laid = t .laid;
@@ -241,7 +249,7 @@ module _ {f : Flow} {i j x : ℕ} {w₀ w : List ℕ} {p : ℕ} (t : Touching f 
         x-lt = t .x-lt;
         i-le = omega (arith, t .i-le);
         p-le = omega arith;
-        joins = joins-as (λ b. Member f w₀ i (p + 1) (λ u. touchedBit f w₀ u b ≡ true)) (joins-then (t .joins) (joins-row (λ b. touchedBit f w (order f w p) b) r))
+        joins = joins-as (λ b. Member f w₀ i (p + 1) (λ u. touchedBit f w₀ u b ≡ true)) (joins-then (t .joins) (joins-row (λ b. touchedBit f w (touch-u) b) r))
             (λ b l s. more-member f w₀ i p (λ u. touchedBit f w₀ u b ≡ true) (t .i-le) (⊎-elim (λ a. inl a) (λ a. inr (sym (is b l) ∙ a)) s))
             (λ b l s. ⊎-elim (λ a. inl a) (λ a. inr (is b l ∙ a)) (last-member f w₀ i p (λ u. touchedBit f w₀ u b ≡ true) s));
       }

@@ -17,8 +17,11 @@ use Rattle.flow_rows.specs.declared.Flow.{Flow}
 abbrev pub which : Flow → List ℕ → ℕ → ℕ
 which f w v = getD w (f .base + v) 0
 
+abbrev pub orderFrom : Flow → ℕ
+orderFrom f = f .base + f .n + f .n + f .n + f .n + f .n
+
 abbrev pub order : Flow → List ℕ → ℕ → ℕ
-order f w i = getD w (f .base + f .n + f .n + f .n + f .n + f .n + i) 0
+order f w i = getD w (orderFrom f + i) 0
 
 abbrev pub begins : Flow → List ℕ → ℕ → ℕ
 begins f w u = getD w (f .at + u) 0

@@ -3,62 +3,46 @@ use native.Mathlib.Omega.{arith}
 use Prim.Native.Nat.{_-_}
 use Rattle.flow_rows.proofs.pull.Statement.{statement}
 use Rattle.flow_rows.proofs.Visits.{Pulling, pull-start, pull-looped, pull-not, pull-done, pull-laid, pull-node, pull-at, pull-x}
-use Rattle.flow_rows.proofs.Places.{orders}
 use Rattle.flow_rows.proofs.pull.Tie as tie
 
 abbrev Inv-loop : tie.InvT-loop
-Inv-loop work₀ f i j c x n base ord looped₀ p₀ work looped p = Pulling f i j c x work₀ work p looped
+Inv-loop work₀ f ord i j c x looped₀ p₀ work looped p = Pulling f i j c x work₀ work p looped
 
 abbrev μ-loop : tie.MeasureT-loop
-μ-loop work₀ f i j c x n base ord looped₀ p₀ work looped p = j - p
-
-add-ord : tie.Need-add-ord Inv-loop μ-loop
-add-ord c = orders (c .before .pre .0) (c .before .good .0 .1) .one
-
-add-ord-2 : tie.Need-add-ord-2 Inv-loop μ-loop
-add-ord-2 c = orders (c .before .pre .0) (c .before .good .0 .1) .two
-
-add-ord-3 : tie.Need-add-ord-3 Inv-loop μ-loop
-add-ord-3 c = orders (c .before .pre .0) (c .before .good .0 .1) .three
-
-add-ord-4 : tie.Need-add-ord-4 Inv-loop μ-loop
-add-ord-4 c = orders (c .before .pre .0) (c .before .good .0 .1) .four
-
-add-ord-5 : tie.Need-add-ord-5 Inv-loop μ-loop
-add-ord-5 c = orders (c .before .pre .0) (c .before .good .0 .1) .five
+μ-loop work₀ f ord i j c x looped₀ p₀ work looped p = j - p
 
 loop-holds : tie.Need-loop-holds Inv-loop μ-loop
-loop-holds c = pull-start _ _ _ _ _ _ (c .before .pre .0) (c .before .pre .1) (c .before .pre .2) (c .before .pre .3) (c .before .pre .4)
+loop-holds c = pull-start _ _ _ _ _ _ (c .before .pre .0) (c .before .pre .2) (c .before .pre .3) (c .before .pre .4) (c .before .pre .5)
 
 add-u : tie.Need-add-u Inv-loop μ-loop
-add-u c = pull-at (c .before .loop .inv) (c .loop-test .taken) (c .before .before .before .good .0 .1) .fits
+add-u c = pull-at (c .before .loop .inv) (c .loop-test .taken) (c .before .before .before .pre .1) (c .before .before .before .good .0 .1) .fits
 
 mul-u : tie.Need-mul-u Inv-loop μ-loop
-mul-u c = pull-at (c .before .loop .inv) (c .loop-test .taken) (c .before .before .before .good .0 .1) .in-bytes
+mul-u c = pull-at (c .before .loop .inv) (c .loop-test .taken) (c .before .before .before .pre .1) (c .before .before .before .good .0 .1) .in-bytes
 
 slice-read-u : tie.Need-slice-read-u Inv-loop μ-loop
-slice-read-u c = pull-at (c .before .before .loop .inv) (c .before .loop-test .taken) (c .before .before .before .before .good .0 .1) .inside
+slice-read-u c = pull-at (c .before .before .loop .inv) (c .before .loop-test .taken) (c .before .before .before .before .pre .1) (c .before .before .before .before .good .0 .1) .inside
 
 gather-requires : tie.Need-gather-requires Inv-loop μ-loop
-gather-requires c κs = (pull-laid (c .before .before .before .loop .inv) (c .before .before .loop-test .taken), pull-node (c .before .before .before .loop .inv) (c .before .before .loop-test .taken), c .before .before .before .before .before .pre .3, pull-x (c .before .before .before .loop .inv) (c .before .before .loop-test .taken))
+gather-requires c κs = (pull-laid (c .before .before .before .loop .inv) (c .before .before .loop-test .taken) (c .before .before .before .before .before .pre .1), pull-node (c .before .before .before .loop .inv) (c .before .before .loop-test .taken) (c .before .before .before .before .before .pre .1), c .before .before .before .before .before .pre .4, pull-x (c .before .before .before .loop .inv) (c .before .before .loop-test .taken) (c .before .before .before .before .before .pre .1))
 
 add-p : tie.Need-add-p Inv-loop μ-loop
-add-p c = pull-at (c .before .before .before .before .before .before .before .loop .inv) (c .before .before .before .before .before .before .loop-test .taken) (c .before .before .before .before .before .before .before .before .before .good .0 .1) .next
+add-p c = pull-at (c .before .before .before .before .before .before .before .loop .inv) (c .before .before .before .before .before .before .loop-test .taken) (c .before .before .before .before .before .before .before .before .before .pre .1) (c .before .before .before .before .before .before .before .before .before .good .0 .1) .next
 
 loop-less : tie.Need-loop-less Inv-loop μ-loop
 loop-less c = omega arith
 
 loop-again : tie.Need-loop-again Inv-loop μ-loop
-loop-again c = pull-looped (c .before .before .before .before .before .before .before .loop .inv) (c .before .before .before .before .before .before .loop-test .taken) (c .before .before .before .gather .ensures .0) (c .before .before .before .gather .ensures .1) (c .if1 .taken)
+loop-again c = pull-looped (c .before .before .before .before .before .before .before .loop .inv) (c .before .before .before .before .before .before .loop-test .taken) (c .before .before .before .before .before .before .before .before .before .pre .1) (c .before .before .before .gather .ensures .0) (c .before .before .before .gather .ensures .1) (c .if1 .taken)
 
 add-p-2 : tie.Need-add-p-2 Inv-loop μ-loop
-add-p-2 c = pull-at (c .before .before .before .before .before .before .before .loop .inv) (c .before .before .before .before .before .before .loop-test .taken) (c .before .before .before .before .before .before .before .before .before .good .0 .1) .next
+add-p-2 c = pull-at (c .before .before .before .before .before .before .before .loop .inv) (c .before .before .before .before .before .before .loop-test .taken) (c .before .before .before .before .before .before .before .before .before .pre .1) (c .before .before .before .before .before .before .before .before .before .good .0 .1) .next
 
 loop-less-2 : tie.Need-loop-less-2 Inv-loop μ-loop
 loop-less-2 c = omega arith
 
 loop-again-2 : tie.Need-loop-again-2 Inv-loop μ-loop
-loop-again-2 c = pull-not (c .before .before .before .before .before .before .before .loop .inv) (c .before .before .before .before .before .before .loop-test .taken) (c .before .before .before .gather .ensures .0) (c .before .before .before .gather .ensures .1) (c .if1 .left)
+loop-again-2 c = pull-not (c .before .before .before .before .before .before .before .loop .inv) (c .before .before .before .before .before .before .loop-test .taken) (c .before .before .before .before .before .before .before .before .before .pre .1) (c .before .before .before .gather .ensures .0) (c .before .before .before .gather .ensures .1) (c .if1 .left)
 
 same-length : tie.Need-same-length Inv-loop μ-loop
 same-length c = c .before .loop .inv .joins .kept .len
@@ -72,11 +56,6 @@ pull-spec =
     (tie.spec
     Inv-loop
     μ-loop
-    add-ord
-    add-ord-2
-    add-ord-3
-    add-ord-4
-    add-ord-5
     loop-holds
     add-u
     mul-u

@@ -3,74 +3,59 @@ use native.Mathlib.Omega.{arith}
 use Prim.Native.Nat.{_-_}
 use Rattle.flow_rows.proofs.share.Statement.{statement}
 use Rattle.flow_rows.proofs.Shares.{Sharing, share-start, share-skip, share-more, share-done, share-at, share-row, share-x, rows-apart}
-use Rattle.flow_rows.proofs.Places.{orders, row-at}
+use Rattle.flow_rows.proofs.Places.{row-at}
 use Rattle.flow_rows.proofs.share.Tie as tie
 
 abbrev Inv-loop : tie.InvT-loop
-Inv-loop work₀ f i j c x n base words out ord row p₀ work p = Sharing f x i j c work₀ work p
+Inv-loop work₀ f ord i j c x row p₀ work p = Sharing f x i j c work₀ work p
 
 abbrev μ-loop : tie.MeasureT-loop
-μ-loop work₀ f i j c x n base words out ord row p₀ work p = j - p
-
-add-ord : tie.Need-add-ord Inv-loop μ-loop
-add-ord c = orders (c .before .pre .0) (c .before .good .0 .1) .one
-
-add-ord-2 : tie.Need-add-ord-2 Inv-loop μ-loop
-add-ord-2 c = orders (c .before .pre .0) (c .before .good .0 .1) .two
-
-add-ord-3 : tie.Need-add-ord-3 Inv-loop μ-loop
-add-ord-3 c = orders (c .before .pre .0) (c .before .good .0 .1) .three
-
-add-ord-4 : tie.Need-add-ord-4 Inv-loop μ-loop
-add-ord-4 c = orders (c .before .pre .0) (c .before .good .0 .1) .four
-
-add-ord-5 : tie.Need-add-ord-5 Inv-loop μ-loop
-add-ord-5 c = orders (c .before .pre .0) (c .before .good .0 .1) .five
+μ-loop work₀ f ord i j c x row p₀ work p = j - p
 
 mul-row : tie.Need-mul-row Inv-loop μ-loop
-mul-row c = row-at (c .before .pre .0) (c .before .good .0 .1) _ (c .before .pre .2) .rows
+mul-row c = row-at (c .before .before .pre .0) (c .before .before .good .0 .1) _ (c .before .before .pre .3) .rows
 
 add-row : tie.Need-add-row Inv-loop μ-loop
-add-row c = row-at (c .before .pre .0) (c .before .good .0 .1) _ (c .before .pre .2) .out
+add-row c = row-at (c .before .before .before .pre .0) (c .before .before .before .good .0 .1) _ (c .before .before .before .pre .3) .out
 
 loop-holds : tie.Need-loop-holds Inv-loop μ-loop
-loop-holds c = share-start _ _ _ _ _ _ (c .before .pre .0) (c .before .pre .1) (c .before .pre .2)
+loop-holds c = share-start _ _ _ _ _ _ (c .before .before .before .pre .0) (c .before .before .before .pre .2) (c .before .before .before .pre .3)
 
 add-u : tie.Need-add-u Inv-loop μ-loop
-add-u c = share-at (c .before .loop .inv) (c .loop-test .taken) (c .before .before .before .good .0 .1) .fits
+add-u c = share-at (c .before .loop .inv) (c .loop-test .taken) (c .before .before .before .before .before .pre .1) (c .before .before .before .before .before .good .0 .1) .fits
 
 mul-u : tie.Need-mul-u Inv-loop μ-loop
-mul-u c = share-at (c .before .loop .inv) (c .loop-test .taken) (c .before .before .before .good .0 .1) .in-bytes
+mul-u c = share-at (c .before .loop .inv) (c .loop-test .taken) (c .before .before .before .before .before .pre .1) (c .before .before .before .before .before .good .0 .1) .in-bytes
 
 slice-read-u : tie.Need-slice-read-u Inv-loop μ-loop
-slice-read-u c = share-at (c .before .before .loop .inv) (c .before .loop-test .taken) (c .before .before .before .before .good .0 .1) .inside
+slice-read-u c = share-at (c .before .before .loop .inv) (c .before .loop-test .taken) (c .before .before .before .before .before .before .pre .1) (c .before .before .before .before .before .before .good .0 .1) .inside
 
 add-p : tie.Need-add-p Inv-loop μ-loop
-add-p c = share-at (c .before .before .before .loop .inv) (c .before .before .loop-test .taken) (c .before .before .before .before .before .good .0 .1) .next
+add-p c = share-at (c .before .before .before .loop .inv) (c .before .before .loop-test .taken) (c .before .before .before .before .before .before .before .pre .1) (c .before .before .before .before .before .before .before .good .0 .1) .next
 
 loop-less : tie.Need-loop-less Inv-loop μ-loop
 loop-less c = omega arith
 
 loop-again : tie.Need-loop-again Inv-loop μ-loop
-loop-again c = share-skip (c .before .before .before .loop .inv) (c .before .before .loop-test .taken) (c .if1 .taken)
+loop-again c = share-skip (c .before .before .before .loop .inv) (c .before .before .loop-test .taken) (c .before .before .before .before .before .before .before .pre .1) (c .if1 .taken)
 
 mul-copy : tie.Need-mul-copy Inv-loop μ-loop
-mul-copy c = share-row (c .before .before .before .before .loop .inv) (c .before .before .before .loop-test .taken) (c .before .before .before .before .before .before .good .0 .1) .rows
+mul-copy c = share-row (c .before .before .before .before .before .loop .inv) (c .before .before .before .before .loop-test .taken) (c .before .before .before .before .before .before .before .before .before .pre .1) (c .before .before .before .before .before .before .before .before .before .good .0 .1) .rows
 
 add-copy : tie.Need-add-copy Inv-loop μ-loop
-add-copy c = share-row (c .before .before .before .before .loop .inv) (c .before .before .before .loop-test .taken) (c .before .before .before .before .before .before .good .0 .1) .out
+add-copy c = share-row (c .before .before .before .before .before .before .loop .inv) (c .before .before .before .before .before .loop-test .taken) (c .before .before .before .before .before .before .before .before .before .before .pre .1) (c .before .before .before .before .before .before .before .before .before .before .good .0 .1) .out
 
 copy-requires : tie.Need-copy-requires Inv-loop μ-loop
-copy-requires c κs = (share-x (c .before .before .before .before .loop .inv) (c .before .before .before .loop-test .taken) (c .before .before .before .before .before .before .good .0 .1) .out-in, share-row (c .before .before .before .before .loop .inv) (c .before .before .before .loop-test .taken) (c .before .before .before .before .before .before .good .0 .1) .out-in, rows-apart (c .before .before .before .before .before .before .args .f) _ _ (c .before .if1 .left))
+copy-requires c κs = (share-x (c .before .before .before .before .before .before .loop .inv) (c .before .before .before .before .before .loop-test .taken) (c .before .before .before .before .before .before .before .before .before .before .pre .1) (c .before .before .before .before .before .before .before .before .before .before .good .0 .1) .out-in, share-row (c .before .before .before .before .before .before .loop .inv) (c .before .before .before .before .before .loop-test .taken) (c .before .before .before .before .before .before .before .before .before .before .pre .1) (c .before .before .before .before .before .before .before .before .before .before .good .0 .1) .out-in, rows-apart (c .before .before .before .before .before .before .before .before .before .before .args .f) _ _ (c .before .before .before .if1 .left))
 
 add-p-2 : tie.Need-add-p-2 Inv-loop μ-loop
-add-p-2 c = share-at (c .before .before .before .before .before .before .before .loop .inv) (c .before .before .before .before .before .before .loop-test .taken) (c .before .before .before .before .before .before .before .before .before .good .0 .1) .next
+add-p-2 c = share-at (c .before .before .before .before .before .before .before .before .before .loop .inv) (c .before .before .before .before .before .before .before .before .loop-test .taken) (c .before .before .before .before .before .before .before .before .before .before .before .before .before .pre .1) (c .before .before .before .before .before .before .before .before .before .before .before .before .before .good .0 .1) .next
 
 loop-less-2 : tie.Need-loop-less-2 Inv-loop μ-loop
 loop-less-2 c = omega arith
 
 loop-again-2 : tie.Need-loop-again-2 Inv-loop μ-loop
-loop-again-2 c = share-more (c .before .before .before .before .before .before .before .loop .inv) (c .before .before .before .before .before .before .loop-test .taken) (c .before .before .before .before .if1 .left) (c .before .before .copy .ensures)
+loop-again-2 c = share-more (c .before .before .before .before .before .before .before .before .before .loop .inv) (c .before .before .before .before .before .before .before .before .loop-test .taken) (c .before .before .before .before .before .before .before .before .before .before .before .before .before .pre .1) (c .before .before .before .before .before .before .if1 .left) (c .before .before .copy .ensures)
 
 same-length : tie.Need-same-length Inv-loop μ-loop
 same-length c = c .before .loop .inv .kept .len
@@ -84,11 +69,6 @@ share-spec =
     (tie.spec
     Inv-loop
     μ-loop
-    add-ord
-    add-ord-2
-    add-ord-3
-    add-ord-4
-    add-ord-5
     mul-row
     add-row
     loop-holds

@@ -4,65 +4,50 @@ use Prim.Native.Nat.{_-_}
 use Rattle.flow_rows.proofs.touch.Statement.{statement}
 use Rattle.flow_rows.proofs.Visits.{Touching, touch-start, touch-more, touch-done, touch-laid, touch-node, touch-at, touch-row, touch-x}
 use Rattle.flow_rows.proofs.Joins.{touched-aligned}
-use Rattle.flow_rows.proofs.Places.{orders, row-at}
+use Rattle.flow_rows.proofs.Places.{row-at}
 use Rattle.flow_rows.proofs.touch.Tie as tie
 
 abbrev Inv-loop : tie.InvT-loop
-Inv-loop work₀ f i j x n base words touched ord row p₀ work p = Touching f i j x work₀ work p
+Inv-loop work₀ f ord i j x row p₀ work p = Touching f i j x work₀ work p
 
 abbrev μ-loop : tie.MeasureT-loop
-μ-loop work₀ f i j x n base words touched ord row p₀ work p = j - p
-
-add-ord : tie.Need-add-ord Inv-loop μ-loop
-add-ord c = orders (c .before .pre .0) (c .before .good .0 .1) .one
-
-add-ord-2 : tie.Need-add-ord-2 Inv-loop μ-loop
-add-ord-2 c = orders (c .before .pre .0) (c .before .good .0 .1) .two
-
-add-ord-3 : tie.Need-add-ord-3 Inv-loop μ-loop
-add-ord-3 c = orders (c .before .pre .0) (c .before .good .0 .1) .three
-
-add-ord-4 : tie.Need-add-ord-4 Inv-loop μ-loop
-add-ord-4 c = orders (c .before .pre .0) (c .before .good .0 .1) .four
-
-add-ord-5 : tie.Need-add-ord-5 Inv-loop μ-loop
-add-ord-5 c = orders (c .before .pre .0) (c .before .good .0 .1) .five
+μ-loop work₀ f ord i j x row p₀ work p = j - p
 
 mul-row : tie.Need-mul-row Inv-loop μ-loop
-mul-row c = row-at (c .before .pre .0) (c .before .good .0 .1) _ (c .before .pre .3) .rows
+mul-row c = row-at (c .before .before .pre .0) (c .before .before .good .0 .1) _ (c .before .before .pre .4) .rows
 
 add-row : tie.Need-add-row Inv-loop μ-loop
-add-row c = row-at (c .before .before .pre .0) (c .before .before .good .0 .1) _ (c .before .before .pre .3) .out
+add-row c = row-at (c .before .before .before .pre .0) (c .before .before .before .good .0 .1) _ (c .before .before .before .pre .4) .out
 
 loop-holds : tie.Need-loop-holds Inv-loop μ-loop
-loop-holds c = touch-start _ _ _ _ _ (c .before .before .pre .0) (c .before .before .pre .1) (c .before .before .pre .2) (c .before .before .pre .3)
+loop-holds c = touch-start _ _ _ _ _ (c .before .before .before .pre .0) (c .before .before .before .pre .2) (c .before .before .before .pre .3) (c .before .before .before .pre .4)
 
 add-u : tie.Need-add-u Inv-loop μ-loop
-add-u c = touch-at (c .before .loop .inv) (c .loop-test .taken) (c .before .before .before .before .good .0 .1) .fits
+add-u c = touch-at (c .before .loop .inv) (c .loop-test .taken) (c .before .before .before .before .before .pre .1) (c .before .before .before .before .before .good .0 .1) .fits
 
 mul-u : tie.Need-mul-u Inv-loop μ-loop
-mul-u c = touch-at (c .before .loop .inv) (c .loop-test .taken) (c .before .before .before .before .good .0 .1) .in-bytes
+mul-u c = touch-at (c .before .loop .inv) (c .loop-test .taken) (c .before .before .before .before .before .pre .1) (c .before .before .before .before .before .good .0 .1) .in-bytes
 
 slice-read-u : tie.Need-slice-read-u Inv-loop μ-loop
-slice-read-u c = touch-at (c .before .before .loop .inv) (c .before .loop-test .taken) (c .before .before .before .before .before .good .0 .1) .inside
+slice-read-u c = touch-at (c .before .before .loop .inv) (c .before .loop-test .taken) (c .before .before .before .before .before .before .pre .1) (c .before .before .before .before .before .before .good .0 .1) .inside
 
 mul-row-or : tie.Need-mul-row-or Inv-loop μ-loop
-mul-row-or c = touch-row (c .before .before .before .loop .inv) (c .before .before .loop-test .taken) (c .before .before .before .before .before .before .good .0 .1) .rows
+mul-row-or c = touch-row (c .before .before .before .before .loop .inv) (c .before .before .before .loop-test .taken) (c .before .before .before .before .before .before .before .before .pre .1) (c .before .before .before .before .before .before .before .before .good .0 .1) .rows
 
 add-row-or : tie.Need-add-row-or Inv-loop μ-loop
-add-row-or c = touch-row (c .before .before .before .loop .inv) (c .before .before .loop-test .taken) (c .before .before .before .before .before .before .good .0 .1) .touched
+add-row-or c = touch-row (c .before .before .before .before .before .loop .inv) (c .before .before .before .before .loop-test .taken) (c .before .before .before .before .before .before .before .before .before .pre .1) (c .before .before .before .before .before .before .before .before .before .good .0 .1) .touched
 
 row-or-requires : tie.Need-row-or-requires Inv-loop μ-loop
-row-or-requires c κs = let s = c .before .before in (touch-x (s .before .loop .inv) (s .loop-test .taken) (s .before .before .before .before .good .0 .1) .out-in, touch-row (s .before .loop .inv) (s .loop-test .taken) (s .before .before .before .before .good .0 .1) .touched-in, touched-aligned (s .before .before .before .before .args .f) _ _ _ (touch-laid (s .before .loop .inv) (s .loop-test .taken)) (s .before .before .before .before .pre .3) (touch-node (s .before .loop .inv) (s .loop-test .taken)))
+row-or-requires c κs = (touch-x (c .before .before .before .before .before .loop .inv) (c .before .before .before .before .loop-test .taken) (c .before .before .before .before .before .before .before .before .before .pre .1) (c .before .before .before .before .before .before .before .before .before .good .0 .1) .out-in, touch-row (c .before .before .before .before .before .loop .inv) (c .before .before .before .before .loop-test .taken) (c .before .before .before .before .before .before .before .before .before .pre .1) (c .before .before .before .before .before .before .before .before .before .good .0 .1) .touched-in, touched-aligned (c .before .before .before .before .before .before .before .before .before .args .f) _ _ _ (touch-laid (c .before .before .before .before .before .loop .inv) (c .before .before .before .before .loop-test .taken) (c .before .before .before .before .before .before .before .before .before .pre .1)) (c .before .before .before .before .before .before .before .before .before .pre .4) (touch-node (c .before .before .before .before .before .loop .inv) (c .before .before .before .before .loop-test .taken) (c .before .before .before .before .before .before .before .before .before .pre .1)))
 
 add-p : tie.Need-add-p Inv-loop μ-loop
-add-p c = touch-at (c .before .before .before .before .before .before .loop .inv) (c .before .before .before .before .before .loop-test .taken) (c .before .before .before .before .before .before .before .before .before .good .0 .1) .next
+add-p c = touch-at (c .before .before .before .before .before .before .before .before .loop .inv) (c .before .before .before .before .before .before .before .loop-test .taken) (c .before .before .before .before .before .before .before .before .before .before .before .before .pre .1) (c .before .before .before .before .before .before .before .before .before .before .before .before .good .0 .1) .next
 
 loop-less : tie.Need-loop-less Inv-loop μ-loop
 loop-less c = omega arith
 
 loop-again : tie.Need-loop-again Inv-loop μ-loop
-loop-again c = let s = c .before .before .before .before .before in touch-more (s .before .loop .inv) (s .loop-test .taken) (c .before .before .row-or .ensures)
+loop-again c = touch-more (c .before .before .before .before .before .before .before .before .loop .inv) (c .before .before .before .before .before .before .before .loop-test .taken) (c .before .before .before .before .before .before .before .before .before .before .before .before .pre .1) (c .before .before .row-or .ensures)
 
 same-length : tie.Need-same-length Inv-loop μ-loop
 same-length c = c .before .loop .inv .joins .kept .len
@@ -76,11 +61,6 @@ touch-spec =
     (tie.spec
     Inv-loop
     μ-loop
-    add-ord
-    add-ord-2
-    add-ord-3
-    add-ord-4
-    add-ord-5
     mul-row
     add-row
     loop-holds
