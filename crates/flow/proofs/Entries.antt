@@ -1,16 +1,18 @@
 -- Laws of the entry: each way out.
-use Prim.Native.Nat.{ℕ, zero, suc, _+_, _*_, _/_, _%_, _≤_, _<_}
+use Prim.Native.Nat.{ℕ, zero, suc, _+_, _*_, _/_, _%_, _^_, _≤_, _<_}
 use mathlib.Core.Path.{_≡_, refl, sym, ap, _∙_, subst}
 use mathlib.Core.Logic.{_⊎_, inl, inr, _↔_}
 use mathlib.Core.Bool.{Bool, true}
 use mathlib.Core.List.{List}
+use mir.Syntax.{w64}
+use mir.Val.{Fits}
 use native.Mathlib.Omega.{arith}
-use lib.ListN.{length, getD}
+use lib.ListN.{length, getD, length-append, length-replicate, length-drop}
 use Rattle.refusals.specs.declared.Refusal.{Refusal}
 use Rattle.refusals.specs.declared.Verdict.{Verdict}
 use Rattle.refusals.specs.declared.Verdict.the-variants.{Fine, Bad}
 use Rattle.refusals.specs.Verdicts.{first}
-use Rattle.refusals.proofs.Laws.{first-fine, first-bad, first-left, first-right, bad-fine}
+use Rattle.refusals.proofs.Laws.{first-fine, first-bad, first-left, first-right}
 use Rattle.words.specs.Rows.{rowCount}
 use Rattle.words.specs.Regions.{Region, cleared}
 use Rattle.words.proofs.RegionLaws.{row-before}
@@ -30,10 +32,12 @@ use Rattle.flow.specs.declared.Over.the-variants.{Predecessors, Successo
 use Rattle.flow.specs.declared.Answer.{Answer}
 use Rattle.flow.specs.declared.Answer.the-variants.{Given, Refused}
 use Rattle.flow_rows.specs.Flowed.{which, order, touchedBit, outBit, Laid, Flowed}
-use Rattle.flow.specs.Entry.{FlowsTo, wayOf, verdictOf, rowBit, Filled, Turned, Answered, baseOf, lentAt, Solved}
+use Rattle.flow.specs.Entry.{FlowsTo, wayOf, verdictOf, rowBit, Filled, Turned, Answered, Solved}
 use Rattle.flow_rows.proofs.Routes.{reached-turned}
 use Rattle.flow_rows.proofs.Moved.{components-as, order-as, reaching-as}
-use Rattle.flow.proofs.Ways.{flows-as}
+
+bad-fine : {A : Type 0} {k : Refusal} {i : ℕ} → Bad k i ≡ Fine → A
+bad-fine e = absurd (let z : _≡_ {A = ℕ} 0 1 = cc in omega arith)
 
 -- ---- the refusals
 
@@ -79,6 +83,47 @@ refused-is over blocks edges points touched words out work r i e = record {
     same-bad k j q = record { outcome = let a : r ≡ k = cc in let b : i ≡ j = cc in rw (a, b) refl; out-kept = refl; work-kept = refl }
 
 -- ---- the answer
+
+-- where `solve` has the components' numbers, and where the rows it was lent
+abbrev baseOf : List ℕ → List ℕ → ℕ
+baseOf blocks edges = length edges / 2 + length edges / 2 + (length blocks / 3 + 1 + length edges / 2)
+
+abbrev lentAt : List ℕ → List ℕ → ℕ
+lentAt blocks edges = baseOf blocks edges + 6 * (length blocks / 3)
+
+-- what is computed from n blocks, e edges and t words that were lent fits, in a work space of w words
+pub record Sums (n e t : ℕ) : Type 0 where
+  pub edges : Fits w64 (e + e)
+  pub one : Fits w64 (n + 1)
+  pub row : Fits w64 (n + 1 + e)
+  pub base : Fits w64 (e + e + (n + 1 + e))
+  pub six : Fits w64 (6 * n)
+  pub lent : Fits w64 (e + e + (n + 1 + e) + 6 * n)
+  pub out : Fits w64 (e + e + (n + 1 + e) + 6 * n + t)
+  pub graph : Fits w64 (n + e)
+  pub all : Fits w64 (n + e + t)
+  pub space : Fits w64 (8 * (n + e + t))
+
+pub sums : (n e t w : ℕ) → 1 ≤ n → 8 * (n + e + t) ≤ w → w * 8 < 2 ^ 63 → Sums n e t
+sums n e t w s h r =
+    let all : 8 * (n + e + t) < 2 ^ 60 = omega arith in
+    record {
+      edges = omega (arith, all);
+      one = omega (arith, all);
+      row = omega (arith, all);
+      base = omega (arith, all);
+      six = omega (arith, all);
+      lent = omega (arith, all);
+      out = omega (arith, all);
+      graph = omega (arith, all);
+      all = omega (arith, all);
+      space = omega (arith, all);
+    }
+
+-- both ways of following the edges
+flows-as : (over : Over) (es : List Edge) (touched : ℕ → Bool) (k : ℕ) → Reaching (wayOf over es) touched k ↔ FlowsTo over es touched k
+flows-as Predecessors es touched k = reached-turned es touched k
+flows-as Successors es touched k = ((λ r. r), (λ r. r))
 
 module _ (over : Over) (blocks edges touched : List ℕ) (words : ℕ) (w₀ w₁ : List ℕ)
     (some : 1 ≤ length blocks / 3) (lent : length touched ≡ length blocks / 3 * words)
@@ -137,11 +182,12 @@ module _ (over : Over) (blocks edges touched : List ℕ) (words : ℕ) (w₀ w�
           let z : 0 + (k * words + b / 64) ≡ k * words + b / 64 = omega arith in
           ap (λ (y : ℕ). bitOf y (b % 64)) (R .inside (lentAt blocks edges + k * words + b / 64) (k * words + b / 64) e (omega arith) ∙ ap (λ (y : ℕ). getD touched y 0) z)
 
-      pub solved : {w₄ : List ℕ} → Flowed f w₃ w₄ → Solved over blocks edges touched words w₀ w₄
+      pub solved : {w₄ : List ℕ} → Flowed f w₃ w₄ → Solved over blocks edges touched words (lentAt blocks edges + length touched) w₀ w₄
       solved {w₄} X = record {
         kept = within-trans (within-wider 0 _ (omega arith) (omega arith) (N .kept))
             (within-trans (within-wider 0 _ (omega arith) (omega arith) (F .kept))
             (within-trans (within-wider 0 _ (omega arith) (omega arith) (region-within R)) (within-wider 0 _ (omega arith) (omega arith) (X .kept))));
+        inside = omega arith;
         bits = λ v b h l.
             let r = X .bits es count (N .between) rows₃ (components-as (N .between) which-is (F .components es (N .between) rows₁)) v b h l in
             let t = flows-as over (edgesIn blocks edges) (λ k. rowBit touched words k b) v in (
@@ -151,8 +197,8 @@ module _ (over : Over) (blocks edges touched : List ℕ) (words : ℕ) (w₀ w�
       }
 
 module _ (over : Over) (blocks edges : List ℕ) (points : ℕ) (touched : List ℕ) (words : ℕ) (out₀ out work₀ work₁ work₂ : List ℕ)
-    (e : verdictOf blocks edges points (length touched) words (length out₀) (length work₀) ≡ Fine) (S : Solved over blocks edges touched words work₀ work₁) where
-  pub given-is : Region out₀ out 0 (length touched) (λ i. getD work₁ (lentAt blocks edges + length touched + i) 0)
+    (e : verdictOf blocks edges points (length touched) words (length out₀) (length work₀) ≡ Fine) {at : ℕ} (S : Solved over blocks edges touched words at work₀ work₁) where
+  pub given-is : Region out₀ out 0 (length touched) (λ i. getD work₁ (at + i) 0)
       → work₂ ≡ cleared (8 * (length blocks / 3 + length edges / 2 + length touched)) work₁
       → Answered over blocks edges points touched words out₀ work₀ Given out work₂
   given-is R C = record {
@@ -169,8 +215,24 @@ module _ (over : Over) (blocks edges : List ℕ) (points : ℕ) (touched : List 
       K : Known blocks edges points (length touched) words (length out₀) (length work₀)
       K = known blocks edges points (length touched) words (length out₀) (length work₀) e
 
-      out-is : (v b : ℕ) → v < length blocks / 3 → b < words * 64 → rowBit out words v b ≡ bit work₁ (lentAt blocks edges + length touched + v * words) b
+      out-is : (v b : ℕ) → v < length blocks / 3 → b < words * 64 → rowBit out words v b ≡ bit work₁ (at + v * words) b
       out-is v b h l =
           let r = row-before v (length blocks / 3) words h in
-          let z : lentAt blocks edges + length touched + (v * words + b / 64) ≡ lentAt blocks edges + length touched + v * words + b / 64 = omega arith in
+          let z : at + (v * words + b / 64) ≡ at + v * words + b / 64 = omega arith in
           ap (λ (y : ℕ). bitOf y (b % 64)) (R .inside (v * words + b / 64) (v * words + b / 64) (omega arith) (omega (arith, K .rows)) ∙ ap (λ (y : ℕ). getD work₁ y 0) z)
+
+-- ---- what the entry does behind `solve`
+
+pub copied : (t n : ℕ) → t ≤ n → 0 + t ≤ n
+copied t n h = omega arith
+
+pub cleared-length : (n : ℕ) (w : List ℕ) → n ≤ length w → length (cleared n w) ≡ length w
+cleared-length n w h = simp (length-append, length-replicate, length-drop) (omega arith)
+
+module _ {over : Over} {blocks edges touched : List ℕ} {words at : ℕ} {w₀ w : List ℕ} (S : Solved over blocks edges touched words at w₀ w)
+    (fits : spaceOf (rowCount 3 blocks) (rowCount 2 edges) (length touched) ≤ length w₀) where
+  pub as-wide : spaceOf (rowCount 3 blocks) (rowCount 2 edges) (length touched) ≤ length w
+  as-wide = omega (arith, S .kept .len)
+
+  pub inside : at + length touched ≤ length w
+  inside = omega (arith, S .inside, as-wide)

@@ -66,15 +66,9 @@ pub record Answered (over : Over) (blocks edges : List ℕ) (points : ℕ) (touc
   pub answered : verdictOf blocks edges points (length touched) words (length out₀) (length work₀) ≡ Fine → Filled over blocks edges touched words out₀ work₀ r out work
   pub turned-back : (k : Refusal) (i : ℕ) → verdictOf blocks edges points (length touched) words (length out₀) (length work₀) ≡ Bad k i → Turned k i out₀ work₀ r out work
 
--- where `solve` has the components' numbers, and where the rows it was lent
-abbrev pub baseOf : List ℕ → List ℕ → ℕ
-baseOf blocks edges = length edges / 2 + length edges / 2 + (length blocks / 3 + 1 + length edges / 2)
-
-abbrev pub lentAt : List ℕ → List ℕ → ℕ
-lentAt blocks edges = baseOf blocks edges + length blocks / 3 + length blocks / 3 + length blocks / 3 + length blocks / 3 + length blocks / 3 + length blocks / 3
-
--- what `solve` leaves: the answer's rows behind those lent, within W
-pub record Solved (over : Over) (blocks edges touched : List ℕ) (words : ℕ) (w₀ w : List ℕ) : Type 0 where
+-- what `solve` leaves: the answer's rows from `at` on, within W
+pub record Solved (over : Over) (blocks edges touched : List ℕ) (words at : ℕ) (w₀ w : List ℕ) : Type 0 where
   pub kept : Within 0 (spaceOf (rowCount 3 blocks) (rowCount 2 edges) (length touched)) w₀ w
+  pub inside : at + length touched ≤ spaceOf (rowCount 3 blocks) (rowCount 2 edges) (length touched)
   pub bits : (v b : ℕ) → v < rowCount 3 blocks → b < words * 64
-      → (bit w (lentAt blocks edges + length touched + v * words) b ≡ true) ↔ FlowsTo over (edgesIn blocks edges) (λ k. rowBit touched words k b) v
+      → (bit w (at + v * words) b ≡ true) ↔ FlowsTo over (edgesIn blocks edges) (λ k. rowBit touched words k b) v

@@ -6,7 +6,7 @@ ghost use Rattle.refusals.specs.declared.Verdict.the-variants.{Fine};
 ghost use Rattle.graph.specs.Line.{blocksOf, jumpsOf, edgeVerdict, Sound};
 ghost use Rattle.graph.specs.Work.{Neighbours};
 ghost use Rattle.components.specs.Entry.{edgesIn};
-ghost use Rattle.flow.specs.Entry.{wayOf, verdictOf, lentAt, Answered, Solved};
+ghost use Rattle.flow.specs.Entry.{wayOf, verdictOf, Answered, Solved};
 use flow_rows::Flow;
 use refusals::Refusal;
 use refusals::Verdict;
@@ -59,16 +59,24 @@ fn neighbours(over: Over, blocks: &[u32], edges: &[u32], work: &mut [u64])
     }
 }
 
-// The rows of a graph that was checked: they stand behind the rows lent, which stand behind the components.
-fn solve(over: Over, blocks: &[u32], edges: &[u32], touched: &[u64], words: usize, work: &mut [u64])
+// The rows of a graph that was checked: they stand behind the rows lent, which stand behind the components. Where they begin.
+fn solve(
+    over: Over,
+    blocks: &[u32],
+    edges: &[u32],
+    touched: &[u64],
+    words: usize,
+    work: &mut [u64],
+) -> usize
     requires { ⌜ Sound (blocksOf (now blocks)) × (edgeVerdict (blocksOf (now blocks)) (jumpsOf (now edges)) ≡ Fine) × (length (now touched) ≡ length (now blocks) / 3 * words) ⌝ }
     requires { ⌜ 8 * (length (now blocks) / 3 + length (now edges) / 2 + length (now touched)) ≤ length (now work) ⌝ }
-    ensures { λ _. ⌜ Solved over (now (blocks .entry)) (now (edges .entry)) (now (touched .entry)) words (now (work .entry)) (now (work .exit)) ⌝ }
+    ensures { λ r. ⌜ Solved over (now (blocks .entry)) (now (edges .entry)) (now (touched .entry)) words r (now (work .entry)) (now (work .exit)) ⌝ }
 {
     let n = blocks.len() / 3;
     let e = edges.len() / 2;
     let base = e + e + (n + 1 + e);
-    let lent = base + n + n + n + n + n + n;
+    let lent = base + 6 * n;
+    let out = lent + touched.len();
     neighbours(over, blocks, edges, work);
     tarjan::components(work, n, e + e, base);
     words::copy_from(work, lent, touched, 0, touched.len());
@@ -80,9 +88,10 @@ fn solve(over: Over, blocks: &[u32], edges: &[u32], touched: &[u64], words: usiz
             base: base,
             words: words,
             touched: lent,
-            out: lent + touched.len(),
+            out: out,
         },
     );
+    out
 }
 
 // Which touched places are reached over one or more edges, or reach a place, by rows of `words` words of bits over the places. Refusals: 1 (also
@@ -112,11 +121,11 @@ pub fn flowed(
     if let Verdict::Bad(r, i) = v {
         return Answer::Refused(r, i);
     }
-    let n = blocks.len() / 3;
-    let e = edges.len() / 2;
-    let lent = e + e + (n + 1 + e) + n + n + n + n + n + n;
-    solve(over, blocks, edges, touched, words, work);
-    words::copy_from(out, 0, work, lent + touched.len(), touched.len());
-    words::clear(work, 8 * (n + e + touched.len()));
+    let at = solve(over, blocks, edges, touched, words, work);
+    words::copy_from(out, 0, work, at, touched.len());
+    words::clear(
+        work,
+        8 * (blocks.len() / 3 + edges.len() / 2 + touched.len()),
+    );
     Answer::Given
 }

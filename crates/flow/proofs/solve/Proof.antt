@@ -5,48 +5,42 @@ use mathlib.Core.Path.{_∙_}
 use lib.ListN.{length}
 use Rattle.flow.proofs.solve.Statement.{statement}
 use denote.Ref.{now}
-use Rattle.flow.proofs.Entries.{walkable, copy-fits, ordered, laid, solved}
+use Rattle.flow.proofs.Entries.{Sums, sums, walkable, copy-fits, ordered, laid, solved}
 use Rattle.graph.proofs.Line.{blocks-length}
 use Rattle.flow.proofs.solve.Tie as tie
 
 some : (c : tie.Start) → 1 ≤ length (now (c .args .blocks)) / 3
 some c = omega (arith, c .pre .0 .0 .some-block, blocks-length (now (c .args .blocks)))
 
+fit : (c : tie.Start) → Sums (length (now (c .args .blocks)) / 3) (length (now (c .args .edges)) / 2) (length (now (c .args .touched)))
+fit c = sums _ _ _ (length (now (c .args .work))) (some c) (c .pre .1) (omega (arith, c .good))
+
 add-base : tie.Need-add-base
-add-base c = omega (arith, some (c .before .before .before .before))
+add-base c = fit (c .before .before .before .before) .edges
 
 add-base-2 : tie.Need-add-base-2
-add-base-2 c = omega (arith, some (c .before .before .before .before))
+add-base-2 c = fit (c .before .before .before .before) .one
 
 add-base-3 : tie.Need-add-base-3
-add-base-3 c = omega (arith, some (c .before .before .before .before))
+add-base-3 c = fit (c .before .before .before .before) .row
 
 add-base-4 : tie.Need-add-base-4
-add-base-4 c = omega (arith, some (c .before .before .before .before))
+add-base-4 c = fit (c .before .before .before .before) .base
+
+mul-lent : tie.Need-mul-lent
+mul-lent c = fit (c .before .before .before .before) .six
 
 add-lent : tie.Need-add-lent
-add-lent c = omega (arith, some (c .before .before .before .before))
+add-lent c = fit (c .before .before .before .before) .lent
 
-add-lent-2 : tie.Need-add-lent-2
-add-lent-2 c = omega (arith, some (c .before .before .before .before))
-
-add-lent-3 : tie.Need-add-lent-3
-add-lent-3 c = omega (arith, some (c .before .before .before .before))
-
-add-lent-4 : tie.Need-add-lent-4
-add-lent-4 c = omega (arith, some (c .before .before .before .before))
-
-add-lent-5 : tie.Need-add-lent-5
-add-lent-5 c = omega (arith, some (c .before .before .before .before))
-
-add-lent-6 : tie.Need-add-lent-6
-add-lent-6 c = omega (arith, some (c .before .before .before .before))
+add-out : tie.Need-add-out
+add-out c = fit (c .before .before .before .before) .out
 
 neighbours-requires : tie.Need-neighbours-requires
 neighbours-requires c κs = ((c .before .before .before .before .before .pre .0 .0, c .before .before .before .before .before .pre .0 .1), omega (arith, some (c .before .before .before .before .before)))
 
 add-components : tie.Need-add-components
-add-components c = omega (arith, some (c .before .before .before .before .before .before .before .before .before))
+add-components c = fit (c .before .before .before .before .before .before .before .before .before) .edges
 
 components-requires : tie.Need-components-requires
 components-requires c κs = walkable (c .before .before .before .before .before .before .before .before .before .args .over) (now (c .before .before .before .before .before .before .before .before .before .args .blocks)) (now (c .before .before .before .before .before .before .before .before .before .args .edges)) (now (c .before .before .before .before .before .before .before .before .before .args .touched)) (c .before .before .before .before .before .before .before .before .before .args .words) _ _ (some (c .before .before .before .before .before .before .before .before .before)) (c .before .before .before .before .before .before .before .before .before .pre .0 .2) (c .before .before .before .before .before .before .before .before .before .pre .1) (c .before .before .before .neighbours .ensures)
@@ -54,11 +48,8 @@ components-requires c κs = walkable (c .before .before .before .before .before 
 copy-from-requires : tie.Need-copy-from-requires
 copy-from-requires c κs = (copy-fits (c .before .before .before .before .before .before .before .before .before .before .before .before .before .args .over) (now (c .before .before .before .before .before .before .before .before .before .before .before .before .before .args .blocks)) (now (c .before .before .before .before .before .before .before .before .before .before .before .before .before .args .edges)) (now (c .before .before .before .before .before .before .before .before .before .before .before .before .before .args .touched)) (c .before .before .before .before .before .before .before .before .before .before .before .before .before .args .words) _ _ (some (c .before .before .before .before .before .before .before .before .before .before .before .before .before)) (c .before .before .before .before .before .before .before .before .before .before .before .before .before .pre .0 .2) (c .before .before .before .before .before .before .before .before .before .before .before .before .before .pre .1) (c .before .before .before .before .before .before .before .neighbours .ensures) (c .before .before .before .components .ensures), omega arith)
 
-add-t11 : tie.Need-add-t11
-add-t11 c = omega (arith, some (c .before .before .before .before .before .before .before .before .before .before .before .before .before .before .before .before .before))
-
-add-t14 : tie.Need-add-t14
-add-t14 c = omega (arith, some (c .before .before .before .before .before .before .before .before .before .before .before .before .before .before .before .before .before))
+add-t12 : tie.Need-add-t12
+add-t12 c = fit (c .before .before .before .before .before .before .before .before .before .before .before .before .before .before .before .before .before) .edges
 
 flowed-requires : tie.Need-flowed-requires
 flowed-requires c κs = (laid (c .before .before .before .before .before .before .before .before .before .before .before .before .before .before .before .before .before .args .over) (now (c .before .before .before .before .before .before .before .before .before .before .before .before .before .before .before .before .before .args .blocks)) (now (c .before .before .before .before .before .before .before .before .before .before .before .before .before .before .before .before .before .args .edges)) (now (c .before .before .before .before .before .before .before .before .before .before .before .before .before .before .before .before .before .args .touched)) (c .before .before .before .before .before .before .before .before .before .before .before .before .before .before .before .before .before .args .words) _ _ (some (c .before .before .before .before .before .before .before .before .before .before .before .before .before .before .before .before .before)) (c .before .before .before .before .before .before .before .before .before .before .before .before .before .before .before .before .before .pre .0 .2) (c .before .before .before .before .before .before .before .before .before .before .before .before .before .before .before .before .before .pre .1) (c .before .before .before .before .before .before .before .before .before .before .before .neighbours .ensures) (c .before .before .before .before .before .before .before .components .ensures) (c .before .before .before .copy-from .ensures), ordered (c .before .before .before .before .before .before .before .before .before .before .before .before .before .before .before .before .before .args .over) (now (c .before .before .before .before .before .before .before .before .before .before .before .before .before .before .before .before .before .args .blocks)) (now (c .before .before .before .before .before .before .before .before .before .before .before .before .before .before .before .before .before .args .edges)) (now (c .before .before .before .before .before .before .before .before .before .before .before .before .before .before .before .before .before .args .touched)) (c .before .before .before .before .before .before .before .before .before .before .before .before .before .before .before .before .before .args .words) _ _ (some (c .before .before .before .before .before .before .before .before .before .before .before .before .before .before .before .before .before)) (c .before .before .before .before .before .before .before .before .before .before .before .before .before .before .before .before .before .pre .0 .2) (c .before .before .before .before .before .before .before .before .before .before .before .before .before .before .before .before .before .pre .1) (c .before .before .before .before .before .before .before .before .before .before .before .neighbours .ensures) (c .before .before .before .before .before .before .before .components .ensures) (c .before .before .before .copy-from .ensures))
@@ -77,18 +68,14 @@ solve-spec =
     add-base-2
     add-base-3
     add-base-4
+    mul-lent
     add-lent
-    add-lent-2
-    add-lent-3
-    add-lent-4
-    add-lent-5
-    add-lent-6
+    add-out
     neighbours-requires
     add-components
     components-requires
     copy-from-requires
-    add-t11
-    add-t14
+    add-t12
     flowed-requires
     same-length
     returns)
