@@ -32,7 +32,7 @@ use Rattle.flow.specs.declared.Over.the-variants.{Predecessors, Successo
 use Rattle.flow.specs.declared.Answer.{Answer}
 use Rattle.flow.specs.declared.Answer.the-variants.{Given, Refused}
 use Rattle.flow_rows.specs.Flowed.{which, order, touchedBit, outBit, Laid, Flowed}
-use Rattle.flow.specs.Entry.{FlowsTo, wayOf, verdictOf, rowBit, Filled, Turned, Answered, Solved}
+use Rattle.flow.specs.Entry.{FlowsTo, wayOf, verdictOf, rowBit, Filled, Turned, Answered, baseOf, Solved}
 use Rattle.flow_rows.proofs.Routes.{reached-turned}
 use Rattle.flow_rows.proofs.Moved.{components-as, order-as, reaching-as}
 
@@ -84,10 +84,7 @@ refused-is over blocks edges points touched words out work r i e = record {
 
 -- ---- the answer
 
--- where `solve` has the components' numbers, and where the rows it was lent
-abbrev baseOf : List ℕ → List ℕ → ℕ
-baseOf blocks edges = length edges / 2 + length edges / 2 + (length blocks / 3 + 1 + length edges / 2)
-
+-- where `solve` has the rows it was lent
 abbrev lentAt : List ℕ → List ℕ → ℕ
 lentAt blocks edges = baseOf blocks edges + 6 * (length blocks / 3)
 

@@ -66,6 +66,10 @@ pub record Answered (over : Over) (blocks edges : List ℕ) (points : ℕ) (touc
   pub answered : verdictOf blocks edges points (length touched) words (length out₀) (length work₀) ≡ Fine → Filled over blocks edges touched words out₀ work₀ r out work
   pub turned-back : (k : Refusal) (i : ℕ) → verdictOf blocks edges points (length touched) words (length out₀) (length work₀) ≡ Bad k i → Turned k i out₀ work₀ r out work
 
+-- where the components' numbers stand behind the rows of the edges
+abbrev pub baseOf : List ℕ → List ℕ → ℕ
+baseOf blocks edges = length edges / 2 + length edges / 2 + (length blocks / 3 + 1 + length edges / 2)
+
 -- what `solve` leaves: the answer's rows from `at` on, within W
 pub record Solved (over : Over) (blocks edges touched : List ℕ) (words at : ℕ) (w₀ w : List ℕ) : Type 0 where
   pub kept : Within 0 (spaceOf (rowCount 3 blocks) (rowCount 2 edges) (length touched)) w₀ w

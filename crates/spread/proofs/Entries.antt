@@ -1,9 +1,11 @@
 -- Laws of the entries: each way out.
-use Prim.Native.Nat.{ℕ, zero, suc, _+_, _-_, _*_, _/_, _%_, _≤_, _<_}
+use Prim.Native.Nat.{ℕ, zero, suc, _+_, _-_, _*_, _/_, _%_, _^_, _≤_, _<_}
 use mathlib.Core.Path.{_≡_, refl, sym, ap, _∙_, subst}
 use mathlib.Core.Logic.{_↔_}
 use mathlib.Core.Bool.{Bool, true}
 use mathlib.Core.List.{List}
+use mir.Syntax.{w64}
+use mir.Val.{Fits}
 use native.Mathlib.Omega.{arith}
 use lib.ListN.{length, getD}
 use Rattle.refusals.specs.declared.Refusal.{Refusal}
@@ -30,11 +32,63 @@ use Rattle.spread_rows.specs.declared.Layout.{Layout}
 use Rattle.spread.specs.declared.Answer.{Answer}
 use Rattle.spread.specs.declared.Answer.the-variants.{Given, Refused}
 use Rattle.spread_rows.specs.Spread.{leaveBit, passBit, outBit, Laid, Arrived}
-use Rattle.spread.specs.Entry.{Turned, Ordered, Settled, verdictOf, Filled, Answered, Prepared, lentAt, answerAt, Solved}
+use Rattle.spread.specs.Entry.{Turned, Ordered, Settled, verdictOf, Filled, Answered, Prepared, Solved}
 use Rattle.spread_rows.proofs.Turns.{arrives-as}
 
 same-bad : (r : Refusal) (i : ℕ) (list work : List ℕ) (k : Refusal) (j : ℕ) → Bad r i ≡ Bad k j → Turned k j list work (Refused r i) list work
 same-bad r i list work k j q = record { outcome = let a : r ≡ k = cc in let b : i ≡ j = cc in rw (a, b) refl; list-kept = refl; work-kept = refl }
+
+-- ---- what is computed fits
+
+-- of n blocks and e edges
+pub record RowSums (n e : ℕ) : Type 0 where
+  pub edges : Fits w64 (e + e)
+  pub one : Fits w64 (n + 1)
+  pub row : Fits w64 (n + 1 + e)
+  pub base : Fits w64 (e + e + (n + 1 + e))
+  pub graph : Fits w64 (n + e)
+  pub space : Fits w64 (8 * (n + e))
+
+pub row-sums : (n e w : ℕ) → 1 ≤ n → 8 * (n + e) ≤ w → w * 8 < 2 ^ 63 → RowSums n e
+row-sums n e w s h r =
+    let all : 8 * (n + e) < 2 ^ 60 = omega arith in
+    record { edges = omega (arith, all); one = omega (arith, all); row = omega (arith, all); base = omega (arith, all); graph = omega (arith, all); space = omega (arith, all) }
+
+-- the order from `at` on, and t words of either kind of rows
+pub record RankSums (n e t at : ℕ) : Type 0 where
+  pub edges : Fits w64 (e + e)
+  pub rank : Fits w64 (at + n)
+  pub lent : Fits w64 (at + n + n)
+  pub pass : Fits w64 (at + n + n + t)
+  pub wait : Fits w64 (at + n + n + t + t)
+  pub words : Fits w64 (n / 64 + 1)
+  pub answer : Fits w64 (at + n + n + t + t + (n / 64 + 1))
+
+pub rank-sums : (n e t at w : ℕ) → 1 ≤ n → at ≡ e + e + (n + 1 + e) → 8 * (n + e + t) ≤ w → w * 8 < 2 ^ 63 → RankSums n e t at
+rank-sums n e t at w s q h r =
+    let all : 8 * (n + e + t) < 2 ^ 60 = omega arith in
+    record {
+      edges = omega (arith, all);
+      rank = omega (arith, all);
+      lent = omega (arith, all);
+      pass = omega (arith, all);
+      wait = omega (arith, all);
+      words = omega (arith, all);
+      answer = omega (arith, all);
+    }
+
+pub no-rows : (n e w : ℕ) → 8 * (n + e + 0) ≤ w → 8 * (n + e) ≤ w
+no-rows n e w h = omega arith
+
+pub fewer-rows : (n e t w : ℕ) → 8 * (n + e + t) ≤ w → 8 * (n + e) ≤ w
+fewer-rows n e t w h = omega arith
+
+pub as-wide : (n w₀ w : ℕ) → w ≡ w₀ → n ≤ w₀ → n ≤ w
+as-wide n w₀ w e h = omega arith
+
+-- both kinds of rows are as long
+pub both : (a b n : ℕ) → a ≡ n → b ≡ n → a ≤ b
+both a b n e f = omega arith
 
 -- ---- the rows, and the order
 
@@ -46,8 +100,9 @@ module _ (blocks edges : List ℕ) (w₀ w₁ : List ℕ) (some : 1 ≤ length b
   pub walkable : Walkable (length blocks / 3) (length edges / 2 + length edges / 2) (baseOf blocks edges) w₁
   walkable = record { edges = edgesIn blocks edges; between = N .between; rows = rows₁; below = omega (arith, N .count); room = omega (arith, N .kept .len) }
 
-  pub prepared : {w₂ : List ℕ} → InOrder (length blocks / 3) (length edges / 2 + length edges / 2) (baseOf blocks edges) w₁ w₂ → Prepared blocks edges w₀ w₂
+  pub prepared : {w₂ : List ℕ} → InOrder (length blocks / 3) (length edges / 2 + length edges / 2) (baseOf blocks edges) w₁ w₂ → Prepared blocks edges (baseOf blocks edges) w₀ w₂
   prepared {w₂} P = record {
+    at-is = refl;
     kept = within-trans (within-wider 0 _ (omega arith) (omega arith) (N .kept)) (within-wider 0 _ (omega arith) (omega arith) (P .kept));
     count = N .count;
     between = N .between;
@@ -62,7 +117,7 @@ pub order-refused : (blocks edges : List ℕ) (points : ℕ) (order work : List 
     → Settled blocks edges points order work (Refused r i) order work
 order-refused blocks edges points order work r i e = record { answered = λ f. bad-fine (sym e ∙ f); turned-back = λ k j f. same-bad r i order work k j (sym e ∙ f) }
 
-pub small : {blocks edges : List ℕ} {w₀ w : List ℕ} → Prepared blocks edges w₀ w → length blocks / 3 ≤ 4096 → (i : ℕ) → i < length blocks / 3 → getD w (baseOf blocks edges + i) 0 < 4294967296
+pub small : {blocks edges : List ℕ} {at : ℕ} {w₀ w : List ℕ} → Prepared blocks edges at w₀ w → length blocks / 3 ≤ 4096 → (i : ℕ) → i < length blocks / 3 → getD w (at + i) 0 < 4294967296
 small P few i h = omega (arith, P .settling .listed i h)
 
 settling-as : {es : List Edge} {n : ℕ} {o o' : ℕ → ℕ} → ((i : ℕ) → i < n → o' i ≡ o i) → Settling es n o → Settling es n o'
@@ -74,8 +129,8 @@ settling-as is X = record {
 }
 
 pub order-given : (blocks edges : List ℕ) (points : ℕ) (order₀ order work₀ work₁ work₂ : List ℕ) → orderVerdict blocks edges points (length order₀) (length work₀) ≡ Fine
-    → 1 ≤ length blocks / 3 → Prepared blocks edges work₀ work₁
-    → Region order₀ order 0 (length blocks / 3) (λ i. getD work₁ (baseOf blocks edges + i) 0) → work₂ ≡ cleared (8 * (length blocks / 3 + length edges / 2)) work₁
+    → 1 ≤ length blocks / 3 → {at : ℕ} → Prepared blocks edges at work₀ work₁
+    → Region order₀ order 0 (length blocks / 3) (λ i. getD work₁ (at + i) 0) → work₂ ≡ cleared (8 * (length blocks / 3 + length edges / 2)) work₁
     → Settled blocks edges points order₀ work₀ Given order work₂
 order-given blocks edges points order₀ order work₀ work₁ work₂ e some P R C =
     let eight : 8 * (length blocks / 3 + length edges / 2) ≡ 8 * (length blocks / 3 + length edges / 2 + 0) = omega arith in
@@ -89,6 +144,10 @@ order-given blocks edges points order₀ order work₀ work₁ work₂ e some P 
       };
       turned-back = λ k i f. bad-fine (sym f ∙ e);
     }
+
+pub order-inside : {blocks edges : List ℕ} {at : ℕ} {w₀ w : List ℕ} → Prepared blocks edges at w₀ w → 8 * (length blocks / 3 + length edges / 2) ≤ length w₀ → 1 ≤ length blocks / 3
+    → at + length blocks / 3 ≤ length w
+order-inside P h s = omega (arith, P .at-is, P .kept .len)
 
 -- ---- spread: the refusals
 
@@ -128,51 +187,66 @@ bit-copied {at = at} rows n words R e k b h l =
 
 module _ (blocks edges leaves passes : List ℕ) (words : ℕ) (w₀ w₁ : List ℕ) (few : length blocks / 3 ≤ 4096) (some : 1 ≤ length blocks / 3)
     (leaving : length leaves ≡ length blocks / 3 * words) (passing : length passes ≡ length blocks / 3 * words)
-    (fits : 8 * (length blocks / 3 + length edges / 2 + length leaves) ≤ length w₀) (P : Prepared blocks edges w₀ w₁) where
+    (fits : 8 * (length blocks / 3 + length edges / 2 + length leaves) ≤ length w₀) {base : ℕ} (P : Prepared blocks edges base w₀ w₁) where
+  abbrev lentAt : ℕ
+  lentAt = base + length blocks / 3 + length blocks / 3
+
+  abbrev answerAt : ℕ
+  answerAt = lentAt + length leaves + length leaves + (length blocks / 3 / 64 + 1)
+
+  at-base : base ≡ baseOf blocks edges
+  at-base = P .at-is
+
   abbrev s : Layout
   s = record {
     n = length blocks / 3;
     at = length edges / 2 + length edges / 2;
-    order = baseOf blocks edges;
-    rank = baseOf blocks edges + length blocks / 3;
+    order = base;
+    rank = base + length blocks / 3;
     words = words;
-    leaves = lentAt blocks edges;
-    passes = lentAt blocks edges + length leaves;
-    wait = lentAt blocks edges + length leaves + length leaves;
+    leaves = lentAt;
+    passes = lentAt + length leaves;
+    wait = lentAt + length leaves + length leaves;
   }
 
-  pub room : answerAt blocks edges (length leaves) + length leaves ≤ length w₁
-  room = omega (arith, P .kept .len)
+  pub room : answerAt + length leaves ≤ length w₁
+  room = omega (arith, at-base, P .kept .len)
 
-  module _ {w₂ w₃ : List ℕ} (A : Region w₁ w₂ (lentAt blocks edges) (length leaves) (λ i. getD leaves (0 + i) 0))
-      (B : Region w₂ w₃ (lentAt blocks edges + length leaves) (length leaves) (λ i. getD passes (0 + i) 0)) where
-    below : (i : ℕ) → i < lentAt blocks edges → getD w₃ i 0 ≡ getD w₁ i 0
+  pub leaves-in : lentAt + length leaves ≤ length w₁
+  leaves-in = omega (arith, room)
+
+  pub passes-in : (n : ℕ) → n ≡ length w₁ → lentAt + length leaves + length leaves ≤ n
+  passes-in n e = omega (arith, room)
+
+  module _ {w₂ w₃ : List ℕ} (A : Region w₁ w₂ (lentAt) (length leaves) (λ i. getD leaves (0 + i) 0))
+      (B : Region w₂ w₃ (lentAt + length leaves) (length leaves) (λ i. getD passes (0 + i) 0)) where
+    below : (i : ℕ) → i < lentAt → getD w₃ i 0 ≡ getD w₁ i 0
     below i h = B .before i (omega arith) ∙ A .before i h
 
     rows₃ : EdgeRows (edgesIn blocks edges) (length blocks / 3) (length edges / 2 + length edges / 2) w₃
-    rows₃ = rows-moved (P .between) (omega (arith, P .count)) below (P .rows)
+    rows₃ = rows-moved (P .between) (omega (arith, at-base, P .count)) below (P .rows)
 
-    order-is : (i : ℕ) → i < length blocks / 3 → getD w₃ (baseOf blocks edges + i) 0 ≡ getD w₁ (baseOf blocks edges + i) 0
-    order-is i h = below (baseOf blocks edges + i) (omega arith)
+    order-is : (i : ℕ) → i < length blocks / 3 → getD w₃ (base + i) 0 ≡ getD w₁ (base + i) 0
+    order-is i h = below (base + i) (omega arith)
 
-    rank-at : (i : ℕ) → i < length blocks / 3 → getD w₃ (baseOf blocks edges + length blocks / 3 + getD w₃ (baseOf blocks edges + i) 0) 0 ≡ i
+    rank-at : (i : ℕ) → i < length blocks / 3 → getD w₃ (base + length blocks / 3 + getD w₃ (base + i) 0) 0 ≡ i
     rank-at i h =
-        ap (λ (y : ℕ). getD w₃ (baseOf blocks edges + length blocks / 3 + y) 0) (order-is i h)
+        ap (λ (y : ℕ). getD w₃ (base + length blocks / 3 + y) 0) (order-is i h)
         ∙ below _ (omega (arith, P .settling .listed i h)) ∙ P .ranks i h
 
     -- the place of a rank, and the rank of a place
-    ranked-at : (v : ℕ) → v < length blocks / 3 → (i : ℕ) × (i < length blocks / 3) × (getD w₃ (baseOf blocks edges + i) 0 ≡ v) × (getD w₃ (baseOf blocks edges + length blocks / 3 + v) 0 ≡ i)
+    ranked-at : (v : ℕ) → v < length blocks / 3 → (i : ℕ) × (i < length blocks / 3) × (getD w₃ (base + i) 0 ≡ v) × (getD w₃ (base + length blocks / 3 + v) 0 ≡ i)
     ranked-at v h =
         let r = P .settling .every v h in
         let e = order-is (r .0) (r .1) ∙ r .2 in
-        (r .0, r .1, e, ap (λ (y : ℕ). getD w₃ (baseOf blocks edges + length blocks / 3 + y) 0) (sym e) ∙ rank-at (r .0) (r .1))
+        (r .0, r .1, e, ap (λ (y : ℕ). getD w₃ (base + length blocks / 3 + y) 0) (sym e) ∙ rank-at (r .0) (r .1))
 
     pub laid : Laid s w₃
     laid = record {
       few = few;
       rising = rows₃ .rising;
-      rows-fit = λ u h. omega (arith, rows₃ .ends u h, P .count);
-      below = omega arith;
+      rows-fit = λ u h. omega (arith, at-base, rows₃ .ends u h, P .count);
+      below = omega (arith, at-base);
       nodes = λ u k h a b. P .between .to _ (rows₃ .only u k h a b);
       order-fits = omega arith;
       rank-fits = omega arith;
@@ -182,22 +256,23 @@ module _ (blocks edges leaves passes : List ℕ) (words : ℕ) (w₀ w₁ : List
       placed = λ r h. omega (arith, order-is r h, P .settling .listed r h);
       ranked = λ v h. let r = ranked-at v h in omega (arith, r .1, r .3);
       rank-of = rank-at;
-      order-of = λ v h. let r = ranked-at v h in ap (λ (y : ℕ). getD w₃ (baseOf blocks edges + y) 0) (r .3) ∙ r .2;
+      order-of = λ v h. let r = ranked-at v h in ap (λ (y : ℕ). getD w₃ (base + y) 0) (r .3) ∙ r .2;
     }
 
     leave-is : (k b : ℕ) → k < length blocks / 3 → b < words * 64 → leaveBit s w₃ k b ≡ rowBit leaves words k b
     leave-is k b h l =
         let r = row-before k (length blocks / 3) words h in
-        ap (λ (y : ℕ). bitOf y (b % 64)) (B .before (lentAt blocks edges + k * words + b / 64) (omega arith)) ∙ bit-copied leaves (length blocks / 3) words A leaving k b h l
+        ap (λ (y : ℕ). bitOf y (b % 64)) (B .before (lentAt + k * words + b / 64) (omega arith)) ∙ bit-copied leaves (length blocks / 3) words A leaving k b h l
 
     pass-is : (k b : ℕ) → k < length blocks / 3 → b < words * 64 → passBit s w₃ k b ≡ rowBit passes words k b
     pass-is k b h l = bit-copied passes (length blocks / 3) words B leaving k b h l
 
-    pub solved : {w₄ : List ℕ} → Arrived s w₃ w₄ → Solved blocks edges leaves passes words w₀ w₄
+    pub solved : {w₄ : List ℕ} → Arrived s w₃ w₄ → Solved blocks edges leaves passes words answerAt w₀ w₄
     solved {w₄} X = record {
-      kept = within-trans (within-wider 0 _ (omega arith) (omega arith) (P .kept))
-          (within-trans (within-wider 0 _ (omega arith) (omega arith) (region-within A))
-          (within-trans (within-wider 0 _ (omega arith) (omega arith) (region-within B)) (within-wider 0 _ (omega arith) (omega arith) (X .kept))));
+      kept = within-trans (within-wider 0 _ (omega arith) (omega (arith, at-base)) (P .kept))
+          (within-trans (within-wider 0 _ (omega arith) (omega (arith, at-base)) (region-within A))
+          (within-trans (within-wider 0 _ (omega arith) (omega (arith, at-base)) (region-within B)) (within-wider 0 _ (omega arith) (omega (arith, at-base)) (X .kept))));
+      inside = omega (arith, at-base);
       bits = λ v b h l.
           let r = X .bits (edgesIn blocks edges) (P .between) rows₃ v b h l in (
             (λ o. arrives-as (edgesIn blocks edges) (P .between) (λ k a. leave-is k b a l) (λ k a. pass-is k b a l) (r .0 o)),
@@ -206,10 +281,10 @@ module _ (blocks edges leaves passes : List ℕ) (words : ℕ) (w₀ w₁ : List
     }
 
 pub rows-given : (blocks edges : List ℕ) (points : ℕ) (leaves passes : List ℕ) (words : ℕ) (out₀ out work₀ work₁ work₂ : List ℕ)
-    → verdictOf blocks edges points (length leaves) (length passes) words (length out₀) (length work₀) ≡ Fine → Solved blocks edges leaves passes words work₀ work₁
-    → Region out₀ out 0 (length leaves) (λ i. getD work₁ (answerAt blocks edges (length leaves) + i) 0) → work₂ ≡ cleared (8 * (length blocks / 3 + length edges / 2 + length leaves)) work₁
+    → verdictOf blocks edges points (length leaves) (length passes) words (length out₀) (length work₀) ≡ Fine → {at : ℕ} → Solved blocks edges leaves passes words at work₀ work₁
+    → Region out₀ out 0 (length leaves) (λ i. getD work₁ (at + i) 0) → work₂ ≡ cleared (8 * (length blocks / 3 + length edges / 2 + length leaves)) work₁
     → Answered blocks edges points leaves passes words out₀ work₀ Given out work₂
-rows-given blocks edges points leaves passes words out₀ out work₀ work₁ work₂ e S R C = record {
+rows-given blocks edges points leaves passes words out₀ out work₀ work₁ work₂ e {at} S R C = record {
   answered = λ _. record {
     outcome = refl;
     bits = λ v b h l. let r = S .bits v b h l in ((λ o. r .0 (sym (out-is v b h l) ∙ o)), (λ o. out-is v b h l ∙ r .1 o));
@@ -223,8 +298,12 @@ rows-given blocks edges points leaves passes words out₀ out work₀ work₁ wo
     K : RowsKnown blocks edges points (length leaves) words (length out₀) (length work₀)
     K = known blocks edges points (length leaves) (length passes) words (length out₀) (length work₀) e .rest
 
-    out-is : (v b : ℕ) → v < length blocks / 3 → b < words * 64 → rowBit out words v b ≡ bit work₁ (answerAt blocks edges (length leaves) + v * words) b
+    out-is : (v b : ℕ) → v < length blocks / 3 → b < words * 64 → rowBit out words v b ≡ bit work₁ (at + v * words) b
     out-is v b h l =
         let r = row-before v (length blocks / 3) words h in
-        let z : answerAt blocks edges (length leaves) + (v * words + b / 64) ≡ answerAt blocks edges (length leaves) + v * words + b / 64 = omega arith in
+        let z : at + (v * words + b / 64) ≡ at + v * words + b / 64 = omega arith in
         ap (λ (y : ℕ). bitOf y (b % 64)) (R .inside (v * words + b / 64) (v * words + b / 64) (omega arith) (omega (arith, K .rows)) ∙ ap (λ (y : ℕ). getD work₁ y 0) z)
+
+pub rows-inside : {blocks edges leaves passes : List ℕ} {words at : ℕ} {w₀ w : List ℕ} → Solved blocks edges leaves passes words at w₀ w
+    → 8 * (length blocks / 3 + length edges / 2 + length leaves) ≤ length w₀ → at + length leaves ≤ length w
+rows-inside S h = omega (arith, S .inside, S .kept .len)

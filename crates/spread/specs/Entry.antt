@@ -67,23 +67,19 @@ pub record Answered (blocks edges : List ℕ) (points : ℕ) (leaves passes : Li
 
 -- ---- what the inner steps leave
 
--- the successors' rows, and behind them the order and the ranks
-pub record Prepared (blocks edges : List ℕ) (w₀ w : List ℕ) : Type 0 where
+-- the successors' rows, and behind them the order, from `at` on, and the ranks
+pub record Prepared (blocks edges : List ℕ) (at : ℕ) (w₀ w : List ℕ) : Type 0 where
+  pub at-is : at ≡ baseOf blocks edges
   pub kept : Within 0 (baseOf blocks edges + length blocks / 3 + length blocks / 3 + length blocks / 3 + length blocks / 3) w₀ w
   pub count : length (edgesIn blocks edges) ≡ length edges / 2
   pub between : Between (length blocks / 3) (edgesIn blocks edges)
   pub rows : EdgeRows (edgesIn blocks edges) (length blocks / 3) (length edges / 2 + length edges / 2) w
-  pub settling : Settling (edgesIn blocks edges) (length blocks / 3) (λ i. getD w (baseOf blocks edges + i) 0)
-  pub ranks : (i : ℕ) → i < length blocks / 3 → getD w (baseOf blocks edges + length blocks / 3 + getD w (baseOf blocks edges + i) 0) 0 ≡ i
+  pub settling : Settling (edgesIn blocks edges) (length blocks / 3) (λ i. getD w (at + i) 0)
+  pub ranks : (i : ℕ) → i < length blocks / 3 → getD w (at + length blocks / 3 + getD w (at + i) 0) 0 ≡ i
 
--- where `solve` has the rows lent, and its answer
-abbrev pub lentAt : List ℕ → List ℕ → ℕ
-lentAt blocks edges = baseOf blocks edges + length blocks / 3 + length blocks / 3
-
-abbrev pub answerAt : List ℕ → List ℕ → ℕ → ℕ
-answerAt blocks edges lent = lentAt blocks edges + lent + lent + (length blocks / 3 / 64 + 1)
-
-pub record Solved (blocks edges leaves passes : List ℕ) (words : ℕ) (w₀ w : List ℕ) : Type 0 where
+-- what `solve` leaves: the answer's rows from `at` on, within W
+pub record Solved (blocks edges leaves passes : List ℕ) (words at : ℕ) (w₀ w : List ℕ) : Type 0 where
   pub kept : Within 0 (spaceOf (rowCount 3 blocks) (rowCount 2 edges) (length leaves)) w₀ w
+  pub inside : at + length leaves ≤ spaceOf (rowCount 3 blocks) (rowCount 2 edges) (length leaves)
   pub bits : (v b : ℕ) → v < rowCount 3 blocks → b < words * 64
-      → (bit w (answerAt blocks edges (length leaves) + v * words) b ≡ true) ↔ Arrives (edgesIn blocks edges) (λ k. rowBit leaves words k b) (λ k. rowBit passes words k b) v
+      → (bit w (at + v * words) b ≡ true) ↔ Arrives (edgesIn blocks edges) (λ k. rowBit leaves words k b) (λ k. rowBit passes words k b) v

@@ -15,17 +15,19 @@ pub enum Answer {
     Refused(Refusal, usize),
 }
 
-// The successors' rows of a graph that was checked, and behind them the order of the places and their ranks.
-fn prepare(blocks: &[u32], edges: &[u32], work: &mut [u64])
+// The successors' rows of a graph that was checked, and behind them the order of the places and their ranks. Where the order begins.
+fn prepare(blocks: &[u32], edges: &[u32], work: &mut [u64]) -> usize
     requires { ⌜ Sound (blocksOf (now blocks)) × (edgeVerdict (blocksOf (now blocks)) (jumpsOf (now edges)) ≡ Fine) ⌝ }
     requires { ⌜ 8 * (length (now blocks) / 3 + length (now edges) / 2) ≤ length (now work) ⌝ }
-    ensures { λ _. ⌜ Prepared (now (blocks .entry)) (now (edges .entry)) (now (work .entry)) (now (work .exit)) ⌝ }
+    ensures { λ r. ⌜ Prepared (now (blocks .entry)) (now (edges .entry)) r (now (work .entry)) (now (work .exit)) ⌝ }
 {
     let n = blocks.len() / 3;
     let e = edges.len() / 2;
-    let base = e + e + (n + 1 + e);
+    let at = e + e;
+    let base = at + (n + 1 + e);
     edge_rows::successors(blocks, edges, work, 0);
-    postorder::order(work, n, e + e, base);
+    postorder::order(work, n, at, base);
+    base
 }
 
 // The places in an order where, loops aside, each comes after the places that have an edge to it. Refusals: 1, 2, 3, and 7 where the answer list
@@ -43,11 +45,9 @@ pub fn settling(
     if let Verdict::Bad(r, i) = v {
         return Answer::Refused(r, i);
     }
-    let n = blocks.len() / 3;
-    let e = edges.len() / 2;
-    prepare(blocks, edges, work);
-    words::narrow(order, 0, work, e + e + (n + 1 + e), n);
-    words::clear(work, 8 * (n + e));
+    let at = prepare(blocks, edges, work);
+    words::narrow(order, 0, work, at, blocks.len() / 3);
+    words::clear(work, 8 * (blocks.len() / 3 + edges.len() / 2));
     Answer::Given
 }
 
@@ -70,7 +70,7 @@ fn refusal(
     flow::refusal(blocks, edges, points, leaving, words, answer, work)
 }
 
-// What arrives in a graph that was checked: the rows stand behind the rows lent and the row of what waits.
+// What arrives in a graph that was checked: the rows stand behind the rows lent and the row of what waits. Where they begin.
 fn solve(
     blocks: &[u32],
     edges: &[u32],
@@ -78,32 +78,35 @@ fn solve(
     passes: &[u64],
     words: usize,
     work: &mut [u64],
-)
+) -> usize
     requires { ⌜ Sound (blocksOf (now blocks)) × (edgeVerdict (blocksOf (now blocks)) (jumpsOf (now edges)) ≡ Fine) × (length (now blocks) / 3 ≤ 4096) ⌝ }
     requires { ⌜ (length (now leaves) ≡ length (now blocks) / 3 * words) × (length (now passes) ≡ length (now blocks) / 3 * words) ⌝ }
     requires { ⌜ 8 * (length (now blocks) / 3 + length (now edges) / 2 + length (now leaves)) ≤ length (now work) ⌝ }
-    ensures { λ _. ⌜ Solved (now (blocks .entry)) (now (edges .entry)) (now (leaves .entry)) (now (passes .entry)) words (now (work .entry)) (now (work .exit)) ⌝ }
+    ensures { λ r. ⌜ Solved (now (blocks .entry)) (now (edges .entry)) (now (leaves .entry)) (now (passes .entry)) words r (now (work .entry)) (now (work .exit)) ⌝ }
 {
     let n = blocks.len() / 3;
     let e = edges.len() / 2;
-    let base = e + e + (n + 1 + e);
-    let lent = base + n + n;
-    prepare(blocks, edges, work);
+    let order = prepare(blocks, edges, work);
+    let rank = order + n;
+    let lent = rank + n;
+    let pass = lent + leaves.len();
+    let wait = pass + leaves.len();
     words::copy_from(work, lent, leaves, 0, leaves.len());
-    words::copy_from(work, lent + leaves.len(), passes, 0, leaves.len());
+    words::copy_from(work, pass, passes, 0, leaves.len());
     spread_rows::spread(
         work,
         Layout {
             n: n,
             at: e + e,
-            order: base,
-            rank: base + n,
+            order: order,
+            rank: rank,
             words: words,
             leaves: lent,
-            passes: lent + leaves.len(),
-            wait: lent + leaves.len() + leaves.len(),
+            passes: pass,
+            wait: wait,
         },
     );
+    wait + (n / 64 + 1)
 }
 
 // What arrives at each place: any predecessor's arriving bits that pass, or its leaving bits, by rows of `words` words of bits over the places.
@@ -134,17 +137,11 @@ pub fn spread(
     if let Verdict::Bad(r, i) = v {
         return Answer::Refused(r, i);
     }
-    let n = blocks.len() / 3;
-    let e = edges.len() / 2;
-    let lent = e + e + (n + 1 + e) + n + n;
-    solve(blocks, edges, leaves, passes, words, work);
-    words::copy_from(
-        out,
-        0,
+    let at = solve(blocks, edges, leaves, passes, words, work);
+    words::copy_from(out, 0, work, at, leaves.len());
+    words::clear(
         work,
-        lent + leaves.len() + leaves.len() + (n / 64 + 1),
-        leaves.len(),
+        8 * (blocks.len() / 3 + edges.len() / 2 + leaves.len()),
     );
-    words::clear(work, 8 * (n + e + leaves.len()));
     Answer::Given
 }

@@ -1,13 +1,18 @@
 -- `spread::spread` meets its contract: a refusal, or the rows and a cleared work space.
 use native.Mathlib.Omega.{arith}
-use Prim.Native.Nat.{_-_}
+use Prim.Native.Nat.{_-_, _/_}
 use mathlib.Core.Path.{sym, ap, _∙_}
-use lib.ListN.{length, length-append, length-replicate, length-drop}
+use lib.ListN.{length}
 use borrow.Author.Needs.{needs}
 use Rattle.spread.proofs.spread.Statement.{statement}
 use denote.Ref.{now}
-use Rattle.spread.proofs.Entries.{rows-refused, known, rows-given}
+use Rattle.spread.proofs.Entries.{as-wide, rows-refused, known, rows-inside, rows-given}
+use Rattle.flow.proofs.Entries.{Sums, sums, Known, copied, cleared-length}
 use Rattle.spread.proofs.spread.Tie as tie
+
+fit : (c : tie.Start) → Known (now (c .args .blocks)) (now (c .args .edges)) (c .args .points) (length (now (c .args .leaves))) (c .args .words) (length (now (c .args .out))) (length (now (c .args .work)))
+    → Sums (length (now (c .args .blocks)) / 3) (length (now (c .args .edges)) / 2) (length (now (c .args .leaves)))
+fit c k = sums _ _ _ (length (now (c .args .work))) (k .graph .counts .some) (k .work-fits) (omega (arith, c .good))
 
 refusal-requires : tie.Need-refusal-requires
 refusal-requires c κs = search needs
@@ -21,59 +26,29 @@ returns c = rows-refused (now (c .before .before .before .before .before .before
 enum-told : tie.Need-enum-told
 enum-told c = search needs
 
-add-lent : tie.Need-add-lent
-add-lent c = let k = known (now (c .before .before .before .before .before .before .before .before .before .args .blocks)) (now (c .before .before .before .before .before .before .before .before .before .args .edges)) (c .before .before .before .before .before .before .before .before .before .args .points) (length (now (c .before .before .before .before .before .before .before .before .before .args .leaves))) (length (now (c .before .before .before .before .before .before .before .before .before .args .passes))) (c .before .before .before .before .before .before .before .before .before .args .words) (length (now (c .before .before .before .before .before .before .before .before .before .args .out))) (length (now (c .before .before .before .before .before .before .before .before .before .args .work))) (sym (c .before .before .refusal .ensures) ∙ c .enum-told .given .1) .rest in omega (arith, k .work-fits, k .graph .counts .few, k .graph .counts .some)
-
-add-lent-2 : tie.Need-add-lent-2
-add-lent-2 c = let k = known (now (c .before .before .before .before .before .before .before .before .before .args .blocks)) (now (c .before .before .before .before .before .before .before .before .before .args .edges)) (c .before .before .before .before .before .before .before .before .before .args .points) (length (now (c .before .before .before .before .before .before .before .before .before .args .leaves))) (length (now (c .before .before .before .before .before .before .before .before .before .args .passes))) (c .before .before .before .before .before .before .before .before .before .args .words) (length (now (c .before .before .before .before .before .before .before .before .before .args .out))) (length (now (c .before .before .before .before .before .before .before .before .before .args .work))) (sym (c .before .before .refusal .ensures) ∙ c .enum-told .given .1) .rest in omega (arith, k .work-fits, k .graph .counts .few, k .graph .counts .some)
-
-add-lent-3 : tie.Need-add-lent-3
-add-lent-3 c = let k = known (now (c .before .before .before .before .before .before .before .before .before .args .blocks)) (now (c .before .before .before .before .before .before .before .before .before .args .edges)) (c .before .before .before .before .before .before .before .before .before .args .points) (length (now (c .before .before .before .before .before .before .before .before .before .args .leaves))) (length (now (c .before .before .before .before .before .before .before .before .before .args .passes))) (c .before .before .before .before .before .before .before .before .before .args .words) (length (now (c .before .before .before .before .before .before .before .before .before .args .out))) (length (now (c .before .before .before .before .before .before .before .before .before .args .work))) (sym (c .before .before .refusal .ensures) ∙ c .enum-told .given .1) .rest in omega (arith, k .work-fits, k .graph .counts .few, k .graph .counts .some)
-
-add-lent-4 : tie.Need-add-lent-4
-add-lent-4 c = let k = known (now (c .before .before .before .before .before .before .before .before .before .args .blocks)) (now (c .before .before .before .before .before .before .before .before .before .args .edges)) (c .before .before .before .before .before .before .before .before .before .args .points) (length (now (c .before .before .before .before .before .before .before .before .before .args .leaves))) (length (now (c .before .before .before .before .before .before .before .before .before .args .passes))) (c .before .before .before .before .before .before .before .before .before .args .words) (length (now (c .before .before .before .before .before .before .before .before .before .args .out))) (length (now (c .before .before .before .before .before .before .before .before .before .args .work))) (sym (c .before .before .refusal .ensures) ∙ c .enum-told .given .1) .rest in omega (arith, k .work-fits, k .graph .counts .few, k .graph .counts .some)
-
-add-lent-5 : tie.Need-add-lent-5
-add-lent-5 c = let k = known (now (c .before .before .before .before .before .before .before .before .before .args .blocks)) (now (c .before .before .before .before .before .before .before .before .before .args .edges)) (c .before .before .before .before .before .before .before .before .before .args .points) (length (now (c .before .before .before .before .before .before .before .before .before .args .leaves))) (length (now (c .before .before .before .before .before .before .before .before .before .args .passes))) (c .before .before .before .before .before .before .before .before .before .args .words) (length (now (c .before .before .before .before .before .before .before .before .before .args .out))) (length (now (c .before .before .before .before .before .before .before .before .before .args .work))) (sym (c .before .before .refusal .ensures) ∙ c .enum-told .given .1) .rest in omega (arith, k .work-fits, k .graph .counts .few, k .graph .counts .some)
-
-add-lent-6 : tie.Need-add-lent-6
-add-lent-6 c = let k = known (now (c .before .before .before .before .before .before .before .before .before .args .blocks)) (now (c .before .before .before .before .before .before .before .before .before .args .edges)) (c .before .before .before .before .before .before .before .before .before .args .points) (length (now (c .before .before .before .before .before .before .before .before .before .args .leaves))) (length (now (c .before .before .before .before .before .before .before .before .before .args .passes))) (c .before .before .before .before .before .before .before .before .before .args .words) (length (now (c .before .before .before .before .before .before .before .before .before .args .out))) (length (now (c .before .before .before .before .before .before .before .before .before .args .work))) (sym (c .before .before .refusal .ensures) ∙ c .enum-told .given .1) .rest in omega (arith, k .work-fits, k .graph .counts .few, k .graph .counts .some)
-
 solve-requires : tie.Need-solve-requires
 solve-requires c κs = let k = known (now (c .before .before .before .before .before .before .before .before .before .before .args .blocks)) (now (c .before .before .before .before .before .before .before .before .before .before .args .edges)) (c .before .before .before .before .before .before .before .before .before .before .args .points) (length (now (c .before .before .before .before .before .before .before .before .before .before .args .leaves))) (length (now (c .before .before .before .before .before .before .before .before .before .before .args .passes))) (c .before .before .before .before .before .before .before .before .before .before .args .words) (length (now (c .before .before .before .before .before .before .before .before .before .before .args .out))) (length (now (c .before .before .before .before .before .before .before .before .before .before .args .work))) (sym (c .before .before .before .refusal .ensures) ∙ c .before .enum-told .given .1) in ((k .rest .graph .sound, k .rest .graph .edges-fine, k .rest .graph .counts .few), ((k .rest .rows, k .passing-rows), k .rest .work-fits))
 
-add-copy-from : tie.Need-add-copy-from
-add-copy-from c = let k = known (now (c .before .before .before .before .before .before .before .before .before .before .before .before .before .before .before .args .blocks)) (now (c .before .before .before .before .before .before .before .before .before .before .before .before .before .before .before .args .edges)) (c .before .before .before .before .before .before .before .before .before .before .before .before .before .before .before .args .points) (length (now (c .before .before .before .before .before .before .before .before .before .before .before .before .before .before .before .args .leaves))) (length (now (c .before .before .before .before .before .before .before .before .before .before .before .before .before .before .before .args .passes))) (c .before .before .before .before .before .before .before .before .before .before .before .before .before .before .before .args .words) (length (now (c .before .before .before .before .before .before .before .before .before .before .before .before .before .before .before .args .out))) (length (now (c .before .before .before .before .before .before .before .before .before .before .before .before .before .before .before .args .work))) (sym (c .before .before .before .before .before .before .before .before .refusal .ensures) ∙ c .before .before .before .before .before .before .enum-told .given .1) .rest in omega (arith, k .work-fits, k .graph .counts .few, k .graph .counts .some)
-
-add-copy-from-2 : tie.Need-add-copy-from-2
-add-copy-from-2 c = let k = known (now (c .before .before .before .before .before .before .before .before .before .before .before .before .before .before .before .args .blocks)) (now (c .before .before .before .before .before .before .before .before .before .before .before .before .before .before .before .args .edges)) (c .before .before .before .before .before .before .before .before .before .before .before .before .before .before .before .args .points) (length (now (c .before .before .before .before .before .before .before .before .before .before .before .before .before .before .before .args .leaves))) (length (now (c .before .before .before .before .before .before .before .before .before .before .before .before .before .before .before .args .passes))) (c .before .before .before .before .before .before .before .before .before .before .before .before .before .before .before .args .words) (length (now (c .before .before .before .before .before .before .before .before .before .before .before .before .before .before .before .args .out))) (length (now (c .before .before .before .before .before .before .before .before .before .before .before .before .before .before .before .args .work))) (sym (c .before .before .before .before .before .before .before .before .refusal .ensures) ∙ c .before .before .before .before .before .before .enum-told .given .1) .rest in omega (arith, k .work-fits, k .graph .counts .few, k .graph .counts .some)
-
-add-copy-from-3 : tie.Need-add-copy-from-3
-add-copy-from-3 c = let k = known (now (c .before .before .before .before .before .before .before .before .before .before .before .before .before .before .before .args .blocks)) (now (c .before .before .before .before .before .before .before .before .before .before .before .before .before .before .before .args .edges)) (c .before .before .before .before .before .before .before .before .before .before .before .before .before .before .before .args .points) (length (now (c .before .before .before .before .before .before .before .before .before .before .before .before .before .before .before .args .leaves))) (length (now (c .before .before .before .before .before .before .before .before .before .before .before .before .before .before .before .args .passes))) (c .before .before .before .before .before .before .before .before .before .before .before .before .before .before .before .args .words) (length (now (c .before .before .before .before .before .before .before .before .before .before .before .before .before .before .before .args .out))) (length (now (c .before .before .before .before .before .before .before .before .before .before .before .before .before .before .before .args .work))) (sym (c .before .before .before .before .before .before .before .before .refusal .ensures) ∙ c .before .before .before .before .before .before .enum-told .given .1) .rest in omega (arith, k .work-fits, k .graph .counts .few, k .graph .counts .some)
-
-add-copy-from-4 : tie.Need-add-copy-from-4
-add-copy-from-4 c = let k = known (now (c .before .before .before .before .before .before .before .before .before .before .before .before .before .before .before .args .blocks)) (now (c .before .before .before .before .before .before .before .before .before .before .before .before .before .before .before .args .edges)) (c .before .before .before .before .before .before .before .before .before .before .before .before .before .before .before .args .points) (length (now (c .before .before .before .before .before .before .before .before .before .before .before .before .before .before .before .args .leaves))) (length (now (c .before .before .before .before .before .before .before .before .before .before .before .before .before .before .before .args .passes))) (c .before .before .before .before .before .before .before .before .before .before .before .before .before .before .before .args .words) (length (now (c .before .before .before .before .before .before .before .before .before .before .before .before .before .before .before .args .out))) (length (now (c .before .before .before .before .before .before .before .before .before .before .before .before .before .before .before .args .work))) (sym (c .before .before .before .before .before .before .before .before .refusal .ensures) ∙ c .before .before .before .before .before .before .enum-told .given .1) .rest in omega (arith, k .work-fits, k .graph .counts .few, k .graph .counts .some)
-
 copy-from-requires : tie.Need-copy-from-requires
-copy-from-requires c κs = let k = known (now (c .before .before .before .before .before .before .before .before .before .before .before .before .before .before .before .args .blocks)) (now (c .before .before .before .before .before .before .before .before .before .before .before .before .before .before .before .args .edges)) (c .before .before .before .before .before .before .before .before .before .before .before .before .before .before .before .args .points) (length (now (c .before .before .before .before .before .before .before .before .before .before .before .before .before .before .before .args .leaves))) (length (now (c .before .before .before .before .before .before .before .before .before .before .before .before .before .before .before .args .passes))) (c .before .before .before .before .before .before .before .before .before .before .before .before .before .before .before .args .words) (length (now (c .before .before .before .before .before .before .before .before .before .before .before .before .before .before .before .args .out))) (length (now (c .before .before .before .before .before .before .before .before .before .before .before .before .before .before .before .args .work))) (sym (c .before .before .before .before .before .before .before .before .refusal .ensures) ∙ c .before .before .before .before .before .before .enum-told .given .1) .rest in (omega (arith, k .answer-fits), omega (arith, k .work-fits, k .graph .counts .some, c .before .before .before .before .solve .ensures .kept .len))
+copy-from-requires c κs = let k = known (now (c .before .before .before .before .before .before .before .before .before .before .before .before .before .before .before .args .blocks)) (now (c .before .before .before .before .before .before .before .before .before .before .before .before .before .before .before .args .edges)) (c .before .before .before .before .before .before .before .before .before .before .before .before .before .before .before .args .points) (length (now (c .before .before .before .before .before .before .before .before .before .before .before .before .before .before .before .args .leaves))) (length (now (c .before .before .before .before .before .before .before .before .before .before .before .before .before .before .before .args .passes))) (c .before .before .before .before .before .before .before .before .before .before .before .before .before .before .before .args .words) (length (now (c .before .before .before .before .before .before .before .before .before .before .before .before .before .before .before .args .out))) (length (now (c .before .before .before .before .before .before .before .before .before .before .before .before .before .before .before .args .work))) (sym (c .before .before .before .before .before .before .before .before .refusal .ensures) ∙ c .before .before .before .before .before .before .enum-told .given .1) in (copied _ _ (k .rest .answer-fits), rows-inside (c .before .before .before .before .solve .ensures) (k .rest .work-fits))
 
 add-clear : tie.Need-add-clear
-add-clear c = let k = known (now (c .before .before .before .before .before .before .before .before .before .before .before .before .before .before .before .before .before .before .before .args .blocks)) (now (c .before .before .before .before .before .before .before .before .before .before .before .before .before .before .before .before .before .before .before .args .edges)) (c .before .before .before .before .before .before .before .before .before .before .before .before .before .before .before .before .before .before .before .args .points) (length (now (c .before .before .before .before .before .before .before .before .before .before .before .before .before .before .before .before .before .before .before .args .leaves))) (length (now (c .before .before .before .before .before .before .before .before .before .before .before .before .before .before .before .before .before .before .before .args .passes))) (c .before .before .before .before .before .before .before .before .before .before .before .before .before .before .before .before .before .before .before .args .words) (length (now (c .before .before .before .before .before .before .before .before .before .before .before .before .before .before .before .before .before .before .before .args .out))) (length (now (c .before .before .before .before .before .before .before .before .before .before .before .before .before .before .before .before .before .before .before .args .work))) (sym (c .before .before .before .before .before .before .before .before .before .before .before .before .refusal .ensures) ∙ c .before .before .before .before .before .before .before .before .before .before .enum-told .given .1) .rest in omega (arith, k .work-fits, k .graph .counts .few, k .graph .counts .some)
+add-clear c = let k = known (now (c .before .before .before .before .before .before .before .before .before .before .before .before .before .before .before .before .before .before .before .args .blocks)) (now (c .before .before .before .before .before .before .before .before .before .before .before .before .before .before .before .before .before .before .before .args .edges)) (c .before .before .before .before .before .before .before .before .before .before .before .before .before .before .before .before .before .before .before .args .points) (length (now (c .before .before .before .before .before .before .before .before .before .before .before .before .before .before .before .before .before .before .before .args .leaves))) (length (now (c .before .before .before .before .before .before .before .before .before .before .before .before .before .before .before .before .before .before .before .args .passes))) (c .before .before .before .before .before .before .before .before .before .before .before .before .before .before .before .before .before .before .before .args .words) (length (now (c .before .before .before .before .before .before .before .before .before .before .before .before .before .before .before .before .before .before .before .args .out))) (length (now (c .before .before .before .before .before .before .before .before .before .before .before .before .before .before .before .before .before .before .before .args .work))) (sym (c .before .before .before .before .before .before .before .before .before .before .before .before .refusal .ensures) ∙ c .before .before .before .before .before .before .before .before .before .before .enum-told .given .1) in fit (c .before .before .before .before .before .before .before .before .before .before .before .before .before .before .before .before .before .before .before) (k .rest) .graph
 
 add-clear-2 : tie.Need-add-clear-2
-add-clear-2 c = let k = known (now (c .before .before .before .before .before .before .before .before .before .before .before .before .before .before .before .before .before .before .before .args .blocks)) (now (c .before .before .before .before .before .before .before .before .before .before .before .before .before .before .before .before .before .before .before .args .edges)) (c .before .before .before .before .before .before .before .before .before .before .before .before .before .before .before .before .before .before .before .args .points) (length (now (c .before .before .before .before .before .before .before .before .before .before .before .before .before .before .before .before .before .before .before .args .leaves))) (length (now (c .before .before .before .before .before .before .before .before .before .before .before .before .before .before .before .before .before .before .before .args .passes))) (c .before .before .before .before .before .before .before .before .before .before .before .before .before .before .before .before .before .before .before .args .words) (length (now (c .before .before .before .before .before .before .before .before .before .before .before .before .before .before .before .before .before .before .before .args .out))) (length (now (c .before .before .before .before .before .before .before .before .before .before .before .before .before .before .before .before .before .before .before .args .work))) (sym (c .before .before .before .before .before .before .before .before .before .before .before .before .refusal .ensures) ∙ c .before .before .before .before .before .before .before .before .before .before .enum-told .given .1) .rest in omega (arith, k .work-fits, k .graph .counts .few, k .graph .counts .some)
+add-clear-2 c = let k = known (now (c .before .before .before .before .before .before .before .before .before .before .before .before .before .before .before .before .before .before .before .args .blocks)) (now (c .before .before .before .before .before .before .before .before .before .before .before .before .before .before .before .before .before .before .before .args .edges)) (c .before .before .before .before .before .before .before .before .before .before .before .before .before .before .before .before .before .before .before .args .points) (length (now (c .before .before .before .before .before .before .before .before .before .before .before .before .before .before .before .before .before .before .before .args .leaves))) (length (now (c .before .before .before .before .before .before .before .before .before .before .before .before .before .before .before .before .before .before .before .args .passes))) (c .before .before .before .before .before .before .before .before .before .before .before .before .before .before .before .before .before .before .before .args .words) (length (now (c .before .before .before .before .before .before .before .before .before .before .before .before .before .before .before .before .before .before .before .args .out))) (length (now (c .before .before .before .before .before .before .before .before .before .before .before .before .before .before .before .before .before .before .before .args .work))) (sym (c .before .before .before .before .before .before .before .before .before .before .before .before .refusal .ensures) ∙ c .before .before .before .before .before .before .before .before .before .before .enum-told .given .1) in fit (c .before .before .before .before .before .before .before .before .before .before .before .before .before .before .before .before .before .before .before) (k .rest) .all
 
 mul-clear : tie.Need-mul-clear
-mul-clear c = let k = known (now (c .before .before .before .before .before .before .before .before .before .before .before .before .before .before .before .before .before .before .before .args .blocks)) (now (c .before .before .before .before .before .before .before .before .before .before .before .before .before .before .before .before .before .before .before .args .edges)) (c .before .before .before .before .before .before .before .before .before .before .before .before .before .before .before .before .before .before .before .args .points) (length (now (c .before .before .before .before .before .before .before .before .before .before .before .before .before .before .before .before .before .before .before .args .leaves))) (length (now (c .before .before .before .before .before .before .before .before .before .before .before .before .before .before .before .before .before .before .before .args .passes))) (c .before .before .before .before .before .before .before .before .before .before .before .before .before .before .before .before .before .before .before .args .words) (length (now (c .before .before .before .before .before .before .before .before .before .before .before .before .before .before .before .before .before .before .before .args .out))) (length (now (c .before .before .before .before .before .before .before .before .before .before .before .before .before .before .before .before .before .before .before .args .work))) (sym (c .before .before .before .before .before .before .before .before .before .before .before .before .refusal .ensures) ∙ c .before .before .before .before .before .before .before .before .before .before .enum-told .given .1) .rest in omega (arith, k .work-fits, k .graph .counts .few, k .graph .counts .some)
+mul-clear c = let k = known (now (c .before .before .before .before .before .before .before .before .before .before .before .before .before .before .before .before .before .before .before .args .blocks)) (now (c .before .before .before .before .before .before .before .before .before .before .before .before .before .before .before .before .before .before .before .args .edges)) (c .before .before .before .before .before .before .before .before .before .before .before .before .before .before .before .before .before .before .before .args .points) (length (now (c .before .before .before .before .before .before .before .before .before .before .before .before .before .before .before .before .before .before .before .args .leaves))) (length (now (c .before .before .before .before .before .before .before .before .before .before .before .before .before .before .before .before .before .before .before .args .passes))) (c .before .before .before .before .before .before .before .before .before .before .before .before .before .before .before .before .before .before .before .args .words) (length (now (c .before .before .before .before .before .before .before .before .before .before .before .before .before .before .before .before .before .before .before .args .out))) (length (now (c .before .before .before .before .before .before .before .before .before .before .before .before .before .before .before .before .before .before .before .args .work))) (sym (c .before .before .before .before .before .before .before .before .before .before .before .before .refusal .ensures) ∙ c .before .before .before .before .before .before .before .before .before .before .enum-told .given .1) in fit (c .before .before .before .before .before .before .before .before .before .before .before .before .before .before .before .before .before .before .before) (k .rest) .space
 
 clear-requires : tie.Need-clear-requires
-clear-requires c κs = let k = known (now (c .before .before .before .before .before .before .before .before .before .before .before .before .before .before .before .before .before .before .before .args .blocks)) (now (c .before .before .before .before .before .before .before .before .before .before .before .before .before .before .before .before .before .before .before .args .edges)) (c .before .before .before .before .before .before .before .before .before .before .before .before .before .before .before .before .before .before .before .args .points) (length (now (c .before .before .before .before .before .before .before .before .before .before .before .before .before .before .before .before .before .before .before .args .leaves))) (length (now (c .before .before .before .before .before .before .before .before .before .before .before .before .before .before .before .before .before .before .before .args .passes))) (c .before .before .before .before .before .before .before .before .before .before .before .before .before .before .before .before .before .before .before .args .words) (length (now (c .before .before .before .before .before .before .before .before .before .before .before .before .before .before .before .before .before .before .before .args .out))) (length (now (c .before .before .before .before .before .before .before .before .before .before .before .before .before .before .before .before .before .before .before .args .work))) (sym (c .before .before .before .before .before .before .before .before .before .before .before .before .refusal .ensures) ∙ c .before .before .before .before .before .before .before .before .before .before .enum-told .given .1) .rest in omega (arith, k .work-fits, c .before .before .before .before .before .before .before .before .solve .ensures .kept .len)
+clear-requires c κs = let k = known (now (c .before .before .before .before .before .before .before .before .before .before .before .before .before .before .before .before .before .before .before .args .blocks)) (now (c .before .before .before .before .before .before .before .before .before .before .before .before .before .before .before .before .before .before .before .args .edges)) (c .before .before .before .before .before .before .before .before .before .before .before .before .before .before .before .before .before .before .before .args .points) (length (now (c .before .before .before .before .before .before .before .before .before .before .before .before .before .before .before .before .before .before .before .args .leaves))) (length (now (c .before .before .before .before .before .before .before .before .before .before .before .before .before .before .before .before .before .before .before .args .passes))) (c .before .before .before .before .before .before .before .before .before .before .before .before .before .before .before .before .before .before .before .args .words) (length (now (c .before .before .before .before .before .before .before .before .before .before .before .before .before .before .before .before .before .before .before .args .out))) (length (now (c .before .before .before .before .before .before .before .before .before .before .before .before .before .before .before .before .before .before .before .args .work))) (sym (c .before .before .before .before .before .before .before .before .before .before .before .before .refusal .ensures) ∙ c .before .before .before .before .before .before .before .before .before .before .enum-told .given .1) in as-wide _ _ _ (c .before .before .before .before .before .before .before .before .solve .ensures .kept .len) (k .rest .work-fits)
 
 same-length : tie.Need-same-length
 same-length c = c .before .before .before .before .before .before .copy-from .ensures .len
 
 same-length-2 : tie.Need-same-length-2
-same-length-2 c = ap length (c .before .before .clear .ensures) ∙ simp (length-append, length-replicate, length-drop) (let k = known (now (c .before .before .before .before .before .before .before .before .before .before .before .before .before .before .before .before .before .before .before .before .before .before .args .blocks)) (now (c .before .before .before .before .before .before .before .before .before .before .before .before .before .before .before .before .before .before .before .before .before .before .args .edges)) (c .before .before .before .before .before .before .before .before .before .before .before .before .before .before .before .before .before .before .before .before .before .before .args .points) (length (now (c .before .before .before .before .before .before .before .before .before .before .before .before .before .before .before .before .before .before .before .before .before .before .args .leaves))) (length (now (c .before .before .before .before .before .before .before .before .before .before .before .before .before .before .before .before .before .before .before .before .before .before .args .passes))) (c .before .before .before .before .before .before .before .before .before .before .before .before .before .before .before .before .before .before .before .before .before .before .args .words) (length (now (c .before .before .before .before .before .before .before .before .before .before .before .before .before .before .before .before .before .before .before .before .before .before .args .out))) (length (now (c .before .before .before .before .before .before .before .before .before .before .before .before .before .before .before .before .before .before .before .before .before .before .args .work))) (sym (c .before .before .before .before .before .before .before .before .before .before .before .before .before .before .before .refusal .ensures) ∙ c .before .before .before .before .before .before .before .before .before .before .before .before .before .enum-told .given .1) .rest in omega (arith, k .work-fits, c .before .before .before .before .before .before .before .before .before .before .before .solve .ensures .kept .len))
+same-length-2 c = let k = known (now (c .before .before .before .before .before .before .before .before .before .before .before .before .before .before .before .before .before .before .before .before .before .before .args .blocks)) (now (c .before .before .before .before .before .before .before .before .before .before .before .before .before .before .before .before .before .before .before .before .before .before .args .edges)) (c .before .before .before .before .before .before .before .before .before .before .before .before .before .before .before .before .before .before .before .before .before .before .args .points) (length (now (c .before .before .before .before .before .before .before .before .before .before .before .before .before .before .before .before .before .before .before .before .before .before .args .leaves))) (length (now (c .before .before .before .before .before .before .before .before .before .before .before .before .before .before .before .before .before .before .before .before .before .before .args .passes))) (c .before .before .before .before .before .before .before .before .before .before .before .before .before .before .before .before .before .before .before .before .before .before .args .words) (length (now (c .before .before .before .before .before .before .before .before .before .before .before .before .before .before .before .before .before .before .before .before .before .before .args .out))) (length (now (c .before .before .before .before .before .before .before .before .before .before .before .before .before .before .before .before .before .before .before .before .before .before .args .work))) (sym (c .before .before .before .before .before .before .before .before .before .before .before .before .before .before .before .refusal .ensures) ∙ c .before .before .before .before .before .before .before .before .before .before .before .before .before .enum-told .given .1) in ap length (c .before .before .clear .ensures) ∙ cleared-length _ _ (as-wide _ _ _ (c .before .before .before .before .before .before .before .before .before .before .before .solve .ensures .kept .len) (k .rest .work-fits)) ∙ c .before .before .before .before .before .before .before .before .before .before .before .solve .ensures .kept .len
 
 returns-2 : tie.Need-returns-2
 returns-2 c = rows-given (now (c .before .before .before .before .before .before .before .before .before .before .before .before .before .before .before .before .before .before .before .before .before .before .args .blocks)) (now (c .before .before .before .before .before .before .before .before .before .before .before .before .before .before .before .before .before .before .before .before .before .before .args .edges)) (c .before .before .before .before .before .before .before .before .before .before .before .before .before .before .before .before .before .before .before .before .before .before .args .points) (now (c .before .before .before .before .before .before .before .before .before .before .before .before .before .before .before .before .before .before .before .before .before .before .args .leaves)) (now (c .before .before .before .before .before .before .before .before .before .before .before .before .before .before .before .before .before .before .before .before .before .before .args .passes)) (c .before .before .before .before .before .before .before .before .before .before .before .before .before .before .before .before .before .before .before .before .before .before .args .words) _ _ _ _ _ (sym (c .before .before .before .before .before .before .before .before .before .before .before .before .before .before .before .refusal .ensures) ∙ c .before .before .before .before .before .before .before .before .before .before .before .before .before .enum-told .given .1) (c .before .before .before .before .before .before .before .before .before .before .before .solve .ensures) (c .before .before .before .before .before .before .copy-from .ensures) (c .before .before .clear .ensures)
@@ -86,17 +61,7 @@ spread-spec =
     enum-known-v
     returns
     enum-told
-    add-lent
-    add-lent-2
-    add-lent-3
-    add-lent-4
-    add-lent-5
-    add-lent-6
     solve-requires
-    add-copy-from
-    add-copy-from-2
-    add-copy-from-3
-    add-copy-from-4
     copy-from-requires
     add-clear
     add-clear-2
