@@ -100,28 +100,3 @@ word-within s w₀ w r h len f = record { len = len; below = λ i l. f i (λ e. 
 -- what is read lies below the arriving rows
 pub below-aligned : {s : Layout} {w : List ℕ} → Laid s w → (at v u : ℕ) → at + s .n * s .words ≤ s .wait → u < s .n → Aligned (outOf s + v * s .words) (at + u * s .words) (s .words)
 below-aligned {s} L at v u h k = apart (above (omega (arith, row-before u (s .n) (s .words) k)))
-
--- the rows of two places have room, and so has the edge k
-pub record Room (s : Layout) (w : List ℕ) (u v k : ℕ) : Type 0 where
-  pub row-u : u * s .words + s .words ≤ s .n * s .words
-  pub row-v : v * s .words + s .words ≤ s .n * s .words
-  pub v-lt : v < s .n
-  pub few : s .n ≤ 4096
-  pub edge-fits : s .at + s .n + 1 + k < s .wait
-  pub rank-fits : s .rank + s .n ≤ s .wait
-  pub leaves-fit : s .leaves + s .n * s .words ≤ s .wait
-  pub passes-fit : s .passes + s .n * s .words ≤ s .wait
-  pub out-fits : s .wait + (s .n / 64 + 1) + s .n * s .words ≤ length w
-
-pub room-of : {s : Layout} {w : List ℕ} → Laid s w → (u v k : ℕ) → u < s .n → v < s .n → s .at + s .n + 1 + k < s .wait → Room s w u v k
-room-of {s} L u v k a b c = record {
-  row-u = row-before u (s .n) (s .words) a;
-  row-v = row-before v (s .n) (s .words) b;
-  v-lt = b;
-  few = L .few;
-  edge-fits = c;
-  rank-fits = L .rank-fits;
-  leaves-fit = L .leaves-fit;
-  passes-fit = L .passes-fit;
-  out-fits = L .out-fits;
-}

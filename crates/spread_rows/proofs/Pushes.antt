@@ -124,11 +124,11 @@ module _ {s : Layout} {u : ℕ} {w₀ w : List ℕ} {k : ℕ} (t : Pushing s u w
   pub rank-is : rankOf s w (target s w k) ≡ rankOf s w₀ (target s w k)
   rank-is = rank-kept (t .laid) (t .kept) (target s w k) target-lt
 
-  -- after the row of the edge's end, its rank is read
-  pub push-rank : {w₁ : List ℕ} {r : Bool} → Passed s u (target s w k) w w₁ r → rankOf s w₁ (target s w k) < s .n
-  push-rank G =
+  -- after the row of the edge's end, a rank is read
+  pub push-rank : {w₁ : List ℕ} {r : Bool} → Passed s u (target s w k) w w₁ r → (x : ℕ) → x < s .n → rankOf s w₁ x < s .n
+  push-rank G x l =
       let K₁ = within-trans (t .kept) (row-within s u (target s w k) G target-lt) in
-      omega (arith, rank-kept (t .laid) K₁ (target s w k) target-lt, t .laid .ranked (target s w k) target-lt)
+      omega (arith, rank-kept (t .laid) K₁ x l, t .laid .ranked x l)
 
   -- what u sends has not become less
   sends-on : (b : ℕ) → b < s .words * 64 → Sends s w₀ u b → Sends s w u b

@@ -24,23 +24,19 @@ fn push(work: &mut [u64], s: Layout, u: usize)
     requires { ⌜ Laid s (now work) × (u < s .n) ⌝ }
     ensures { λ _. ⌜ Pushed s u (now (work .entry)) (now (work .exit)) ⌝ }
 {
-    let n = s.n;
-    let at = s.at;
-    let words = s.words;
-    let wait = s.wait;
-    let rank = s.rank;
-    let to = at + n + 1;
-    let out = wait + (n / 64 + 1);
-    let from = out + u * words;
-    let pass = s.passes + u * words;
-    let leave = s.leaves + u * words;
-    let end = work[at + u + 1] as usize;
-    let mut k = work[at + u] as usize;
+    let to = s.at + s.n + 1;
+    let out = s.wait + (s.n / 64 + 1);
+    let row = u * s.words;
+    let from = out + row;
+    let pass = s.passes + row;
+    let leave = s.leaves + row;
+    let end = work[s.at + u + 1] as usize;
+    let mut k = work[s.at + u] as usize;
     while k < end {
         let v = work[to + k] as usize;
-        if bits::row_pass(work, out + v * words, from, pass, leave, s.words) {
-            let r = work[rank + v] as usize;
-            bits::set(work, wait, r);
+        if bits::row_pass(work, out + v * s.words, from, pass, leave, s.words) {
+            let r = work[s.rank + v] as usize;
+            bits::set(work, s.wait, r);
             k += 1;
         } else {
             k += 1;
@@ -53,13 +49,10 @@ fn begin(work: &mut [u64], s: Layout)
     requires { ⌜ Laid s (now work) ⌝ }
     ensures { λ _. ⌜ Begun s (now (work .entry)) (now (work .exit)) ⌝ }
 {
-    let n = s.n;
-    let wait = s.wait;
-    let words = s.words;
-    words::fill(work, wait, n / 64 + 1 + n * words, 0);
+    words::fill(work, s.wait, s.n / 64 + 1 + s.n * s.words, 0);
     let mut r = 0;
-    while r < n {
-        bits::set(work, wait, r);
+    while r < s.n {
+        bits::set(work, s.wait, r);
         r += 1;
     }
 }
@@ -71,14 +64,12 @@ pub fn spread(work: &mut [u64], s: Layout)
     ensures { λ _. ⌜ Arrived s (now (work .entry)) (now (work .exit)) ⌝ }
 {
     begin(work, s);
-    let n = s.n;
-    let wait = s.wait;
-    let order = s.order;
-    let mut r = bits::first_from(work, wait, n / 64 + 1, 0);
-    while r < n {
-        bits::unset(work, wait, r);
-        let u = work[order + r] as usize;
+    let words = s.n / 64 + 1;
+    let mut r = bits::first_from(work, s.wait, words, 0);
+    while r < s.n {
+        bits::unset(work, s.wait, r);
+        let u = work[s.order + r] as usize;
         push(work, s, u);
-        r = bits::first_from(work, wait, n / 64 + 1, 0);
+        r = bits::first_from(work, s.wait, words, 0);
     }
 }

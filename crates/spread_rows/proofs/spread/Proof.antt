@@ -1,63 +1,61 @@
 -- `spread::rows::spread` meets its contract: each place that does not wait has sent what it has.
-use native.Mathlib.Omega.{arith}
 use Prim.Native.Nat.{_+_, _-_, _*_, _/_}
-use mathlib.Core.Path.{_∙_}
+use mathlib.Core.Path.{refl, _∙_}
 use Rattle.spread_rows.proofs.spread.Statement.{statement}
 use Rattle.spread_rows.specs.Spread.{missing, waiting}
-use Rattle.spread_rows.proofs.Turns.{Spreading, spread-start, spread-laid, spread-more, spread-falls, spread-done, arrived-from, laid₁, node}
+use Rattle.spread_rows.proofs.Turns.{Spreading, spread-start, spread-more, spread-falls, spread-done, arrived-from, laid₁, node}
+use Rattle.words.proofs.FitLaws.{as-long}
+use Rattle.spread_rows.proofs.Bounds.{filled, waits-again, spread-word, order-at}
 use Rattle.bits.specs.Bits.{FirstSet}
 use Rattle.spread_rows.proofs.spread.Tie as tie
 
 abbrev Inv-loop : tie.InvT-loop
-Inv-loop work₀ s n wait order r₀ work r = Spreading s work₀ work × FirstSet work (s .wait) (s .n / 64 + 1) 0 r
+Inv-loop work₀ s words r₀ work r = Spreading s work₀ work × FirstSet work (s .wait) (s .n / 64 + 1) 0 r
 
 abbrev μ-loop : tie.MeasureT-loop
-μ-loop work₀ s n wait order r₀ work r = missing s work * (s .n + 1) + waiting s work
+μ-loop work₀ s words r₀ work r = missing s work * (s .n + 1) + waiting s work
 
 begin-requires : tie.Need-begin-requires Inv-loop μ-loop
 begin-requires c κs = c .before .before .pre
 
-add-first-from : tie.Need-add-first-from Inv-loop μ-loop
-add-first-from c = omega arith
+add-words : tie.Need-add-words Inv-loop μ-loop
+add-words c = filled _ _ (c .before .before .before .before .before .before .args .s .words) _ (c .before .before .before .before .before .before .pre .out-fits) (c .before .before .before .before .before .before .good .0 .1) .waits
 
 first-from-requires : tie.Need-first-from-requires Inv-loop μ-loop
-first-from-requires c κs = omega (arith, c .before .before .before .before .before .before .pre .few, c .before .before .before .before .before .before .pre .out-fits, c .before .before .before .begin .ensures .kept .len)
+first-from-requires c κs = waits-again (spread-start _ _ _ (c .before .before .before .before .before .before .before .pre) (c .before .before .before .before .begin .ensures)) _ refl
 
 loop-holds : tie.Need-loop-holds Inv-loop μ-loop
-loop-holds c = (spread-start _ _ _ (c .before .before .before .before .before .before .before .pre) (c .before .before .before .before .begin .ensures), c .first-from .ensures)
+loop-holds c = (spread-start _ _ _ (c .before .before .before .before .before .before .before .before .pre) (c .before .before .before .before .before .begin .ensures), c .first-from .ensures)
 
 unset-requires : tie.Need-unset-requires Inv-loop μ-loop
-unset-requires c κs = omega (arith, spread-laid (c .before .before .loop .inv .0) .out-fits)
+unset-requires c κs = spread-word (c .before .before .before .loop .inv .0) _ (c .before .if1 .taken)
 
 add-u : tie.Need-add-u Inv-loop μ-loop
-add-u c = omega (arith, spread-laid (c .before .before .before .before .before .loop .inv .0) .out-fits, spread-laid (c .before .before .before .before .before .loop .inv .0) .order-fits, c .before .before .unset .ensures .len)
+add-u c = order-at (c .before .before .before .before .before .before .before .loop .inv .0) _ (c .before .before .before .before .before .if1 .taken) _ (c .before .before .before .unset .ensures .len) (as-long _ _ (c .before .before .before .unset .ensures .len ∙ c .before .before .before .before .before .before .before .loop .inv .0 .kept .len ∙ c .before .before .before .before .before .before .before .before .before .before .before .before .before .begin .ensures .kept .len) (c .before .before .before .before .before .before .before .before .before .before .before .before .before .before .before .before .good .0 .1)) .fits
 
 mul-u : tie.Need-mul-u Inv-loop μ-loop
-mul-u c = omega (arith, spread-laid (c .before .before .before .before .before .loop .inv .0) .out-fits, spread-laid (c .before .before .before .before .before .loop .inv .0) .order-fits, c .before .before .unset .ensures .len)
+mul-u c = order-at (c .before .before .before .before .before .before .before .loop .inv .0) _ (c .before .before .before .before .before .if1 .taken) _ (c .before .before .before .unset .ensures .len) (as-long _ _ (c .before .before .before .unset .ensures .len ∙ c .before .before .before .before .before .before .before .loop .inv .0 .kept .len ∙ c .before .before .before .before .before .before .before .before .before .before .before .before .before .begin .ensures .kept .len) (c .before .before .before .before .before .before .before .before .before .before .before .before .before .before .before .before .good .0 .1)) .in-bytes
 
 slice-read-u : tie.Need-slice-read-u Inv-loop μ-loop
-slice-read-u c = omega (arith, spread-laid (c .before .before .before .before .before .before .loop .inv .0) .out-fits, spread-laid (c .before .before .before .before .before .before .loop .inv .0) .order-fits, c .before .before .before .unset .ensures .len)
+slice-read-u c = order-at (c .before .before .before .before .before .before .before .before .loop .inv .0) _ (c .before .before .before .before .before .before .if1 .taken) _ (c .before .before .before .before .unset .ensures .len) (as-long _ _ (c .before .before .before .before .unset .ensures .len ∙ c .before .before .before .before .before .before .before .before .loop .inv .0 .kept .len ∙ c .before .before .before .before .before .before .before .before .before .before .before .before .before .before .begin .ensures .kept .len) (c .before .before .before .before .before .before .before .before .before .before .before .before .before .before .before .before .before .good .0 .1)) .inside
 
 push-requires : tie.Need-push-requires Inv-loop μ-loop
-push-requires c κs = (laid₁ (c .before .before .before .before .before .before .before .loop .inv .0) (c .before .before .before .before .before .before .before .loop .inv .1) (omega arith) (c .before .before .before .before .unset .ensures), node (c .before .before .before .before .before .before .before .loop .inv .0) (c .before .before .before .before .before .before .before .loop .inv .1) (omega arith) (c .before .before .before .before .unset .ensures))
-
-add-first-from-2 : tie.Need-add-first-from-2 Inv-loop μ-loop
-add-first-from-2 c = omega arith
+push-requires c κs = (laid₁ (c .before .before .before .before .before .before .before .before .before .loop .inv .0) (c .before .before .before .before .before .before .before .before .before .loop .inv .1) (c .before .before .before .before .before .before .before .if1 .taken) (c .before .before .before .before .before .unset .ensures), node (c .before .before .before .before .before .before .before .before .before .loop .inv .0) (c .before .before .before .before .before .before .before .before .before .loop .inv .1) (c .before .before .before .before .before .before .before .if1 .taken) (c .before .before .before .before .before .unset .ensures))
 
 first-from-requires-2 : tie.Need-first-from-requires-2 Inv-loop μ-loop
-first-from-requires-2 c κs = omega (arith, spread-laid (c .before .before .before .before .before .before .before .before .before .before .before .loop .inv .0) .few, spread-laid (c .before .before .before .before .before .before .before .before .before .before .before .loop .inv .0) .out-fits, c .before .before .before .before .before .before .before .before .unset .ensures .len, c .before .before .before .push .ensures .kept .len)
+first-from-requires-2 c κs = waits-again (c .before .before .before .before .before .before .before .before .before .before .before .before .before .loop .inv .0) _ (c .before .before .before .push .ensures .kept .len ∙ c .before .before .before .before .before .before .before .before .before .unset .ensures .len)
 
 loop-less : tie.Need-loop-less Inv-loop μ-loop
-loop-less c = spread-falls (c .before .before .before .before .before .before .before .before .before .before .before .before .loop .inv .0) (c .before .before .before .before .before .before .before .before .before .before .before .before .loop .inv .1) (omega arith) (c .before .before .before .before .before .before .before .before .before .unset .ensures) (c .before .before .before .before .push .ensures)
+loop-less c = spread-falls (c .before .before .before .before .before .before .before .before .before .before .before .before .before .before .loop .inv .0) (c .before .before .before .before .before .before .before .before .before .before .before .before .before .before .loop .inv .1) (c .before .before .before .before .before .before .before .before .before .before .before .before .if1 .taken) (c .before .before .before .before .before .before .before .before .before .before .unset .ensures) (c .before .before .before .before .push .ensures)
 
 loop-again : tie.Need-loop-again Inv-loop μ-loop
-loop-again c = (spread-more (c .before .before .before .before .before .before .before .before .before .before .before .before .loop .inv .0) (c .before .before .before .before .before .before .before .before .before .before .before .before .loop .inv .1) (omega arith) (c .before .before .before .before .before .before .before .before .before .unset .ensures) (c .before .before .before .before .push .ensures), c .first-from2 .ensures)
+loop-again c = (spread-more (c .before .before .before .before .before .before .before .before .before .before .before .before .before .before .loop .inv .0) (c .before .before .before .before .before .before .before .before .before .before .before .before .before .before .loop .inv .1) (c .before .before .before .before .before .before .before .before .before .before .before .before .if1 .taken) (c .before .before .before .before .before .before .before .before .before .before .unset .ensures) (c .before .before .before .before .push .ensures), c .first-from2 .ensures)
 
 same-length : tie.Need-same-length Inv-loop μ-loop
-same-length c = c .before .loop .inv .0 .kept .len ∙ c .before .before .before .before .before .before .begin .ensures .kept .len
+same-length c = c .before .before .loop .inv .0 .kept .len ∙ c .before .before .before .before .before .before .before .before .begin .ensures .kept .len
 
 returns : tie.Need-returns Inv-loop μ-loop
-returns c = arrived-from (c .before .before .before .before .before .before .before .before .before .pre) (c .before .before .before .before .before .before .begin .ensures) (spread-done (c .before .loop .inv .0) (c .before .loop .inv .1) (omega arith))
+returns c = arrived-from (c .before .before .before .before .before .before .before .before .before .before .before .pre) (c .before .before .before .before .before .before .before .before .begin .ensures) (spread-done (c .before .before .loop .inv .0) (c .before .before .loop .inv .1) (c .if1 .left))
 
 pub spread-spec : {M : Type 1} → statement M
 spread-spec =
@@ -66,7 +64,7 @@ spread-spec =
     Inv-loop
     μ-loop
     begin-requires
-    add-first-from
+    add-words
     first-from-requires
     loop-holds
     unset-requires
@@ -74,7 +72,6 @@ spread-spec =
     mul-u
     slice-read-u
     push-requires
-    add-first-from-2
     first-from-requires-2
     loop-less
     loop-again
