@@ -1,3 +1,4 @@
+pub mod Bounds
 pub mod RegisterLaws
 pub mod EntryLaws
 pub mod TouchLaws
