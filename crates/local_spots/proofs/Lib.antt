@@ -1,3 +1,4 @@
+pub mod Bounds
 pub mod ChainLaws
 pub mod WalkLaws
 pub mod FetchLaws

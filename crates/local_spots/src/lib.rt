@@ -77,11 +77,12 @@ pub fn fetch(touches: &[u32], ends: &[u32], work: &mut [u64], p: Places, l: usiz
     let last = p.ends + ends.len() / 2;
     let count = walk(touches, 3, work, l, p.heads, p.nexts, top);
     let stops = walk(ends, 2, work, l, p.heads + p.locals, p.nexts + t, last);
-    sorting::sort_part(work, last - stops, stops);
+    let first = last - stops;
+    sorting::sort_part(work, first, stops);
     Spots {
         at: top - count,
         count: count,
-        ends: last - stops,
+        ends: first,
         stops: stops,
     }
 }
