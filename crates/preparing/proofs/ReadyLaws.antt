@@ -103,6 +103,9 @@ module _ (v : ℕ) (insts operands crossings : List ℕ) (lay : Lay) where
       pub lengths : length w₃ ≡ length w₀
       lengths = c .kept .len ∙ b .kept .len ∙ a .kept .len
 
+      pub index-room : (lay .defs + rowCount 9 insts ≤ lay .firsts) × (lay .firsts + rowCount 9 insts ≤ lay .edges) × (lay .edges + n ≤ length w₃)
+      index-room = (fits₃, fits₄, omega (arith, lengths, edges-few))
+
       module _ {w : List ℕ} (d : Indexed lay (rowCount 9 insts) n w₃ w) where
         same-low : (k : ℕ) → k < lay .firsts → getD w k 0 ≡ getD w₃ k 0
         same-low k h = d .kept .below k h

@@ -13,12 +13,6 @@ ghost use Rattle.preparing.specs.Steps.{Firsts, Indexed, Ends, Cleared, 
 use reach::Lay;
 use reach::scan;
 
-fn wide(x: u32) -> usize
-    ensures { λ r. ⌜ r ≡ x ⌝ }
-{
-    x as usize
-}
-
 // Sets the bit of each numbered register that crosses.
 fn cross(crossings: &[u32], v: u32, work: &mut [u64], row: usize)
     requires { ⌜ row + wordsOf v ≤ length (now work) ⌝ }
@@ -29,7 +23,7 @@ fn cross(crossings: &[u32], v: u32, work: &mut [u64], row: usize)
     while k < n {
         let r = crossings[k];
         if r < v {
-            bits::set(work, row, wide(r));
+            bits::set(work, row, r as usize);
             k += 1;
         } else {
             k += 1;
@@ -43,17 +37,14 @@ fn firsts(work: &mut [u64], lay: Lay, m: usize, n: usize)
     requires { ⌜ Rising (λ k. getD (now work) (lay .edges + k) 0) n × ((i : ℕ) → i < m → getD (now work) (lay .defs + i) 0 ≤ 65536) ⌝ }
     ensures { λ _. ⌜ Firsts lay m n (now (work .entry)) (now (work .exit)) ⌝ }
 {
-    let defs = lay.defs;
-    let first = lay.firsts;
-    let edges = lay.edges;
     let mut i = 0;
     while i < m {
-        let d = work[defs + i];
+        let d = work[lay.defs + i];
         if d == 0 {
             i += 1;
         } else {
-            let f = words::below(work, edges, n, (d - 1) * 4294967296);
-            work[first + i] = f as u64;
+            let f = words::below(work, lay.edges, n, (d - 1) * 4294967296);
+            work[lay.firsts + i] = f as u64;
             i += 1;
         }
     }
@@ -65,8 +56,7 @@ fn index(work: &mut [u64], lay: Lay, m: usize, n: usize)
     requires { ⌜ ((i : ℕ) → i < m → getD (now work) (lay .defs + i) 0 ≤ 65536) ⌝ }
     ensures { λ _. ⌜ Indexed lay m n (now (work .entry)) (now (work .exit)) ⌝ }
 {
-    let edges = lay.edges;
-    sorting::sort_part(work, edges, n);
+    sorting::sort_part(work, lay.edges, n);
     firsts(work, lay, m, n);
 }
 
@@ -77,15 +67,14 @@ fn ends(insts: &[u32], ends: &[u32], locals: usize, work: &mut [u64], lay: Lay)
     ensures { λ _. ⌜ Ends lay (now (insts .entry)) (now (ends .entry)) locals (length (now (ends .entry)) / 2) (now (work .entry)) (now (work .exit)) ⌝ }
 {
     let n = ends.len() / 2;
-    let ended = lay.ended;
     let mut k = 0;
     while k < n {
-        let i = wide(ends[2 * k]);
-        let l = wide(ends[2 * k + 1]);
+        let i = ends[2 * k] as usize;
+        let l = ends[2 * k + 1] as usize;
         if insts[9 * i] != 1 {
             k += 1;
         } else if l < locals {
-            work[ended + l] = 1;
+            work[lay.ended + l] = 1;
             k += 1;
         } else {
             k += 1;
@@ -98,10 +87,8 @@ fn clear(work: &mut [u64], lay: Lay, words: usize)
     requires { ⌜ (lay .escapes + words ≤ lay .dead) × (lay .dead + words ≤ length (now work)) ⌝ }
     ensures { λ _. ⌜ Cleared lay words (now (work .entry)) (now (work .exit)) ⌝ }
 {
-    let escapes = lay.escapes;
-    let dead = lay.dead;
-    words::fill(work, escapes, words, 0);
-    words::fill(work, dead, words, 0);
+    words::fill(work, lay.escapes, words, 0);
+    words::fill(work, lay.dead, words, 0);
 }
 
 // No register is seen, no local has an entry or an end.
@@ -109,12 +96,9 @@ fn empty(work: &mut [u64], lay: Lay, words: usize, locals: usize)
     requires { ⌜ (lay .seen + words ≤ lay .heads) × (lay .heads + locals ≤ lay .ended) × (lay .ended + locals ≤ length (now work)) ⌝ }
     ensures { λ _. ⌜ Emptied lay words locals (now (work .entry)) (now (work .exit)) ⌝ }
 {
-    let seen = lay.seen;
-    let heads = lay.heads;
-    let ended = lay.ended;
-    words::fill(work, seen, words, 0);
-    words::fill(work, heads, locals, 0);
-    words::fill(work, ended, locals, 0);
+    words::fill(work, lay.seen, words, 0);
+    words::fill(work, lay.heads, locals, 0);
+    words::fill(work, lay.ended, locals, 0);
 }
 
 // What the walks read of the registers; how many edges there are.
@@ -125,15 +109,15 @@ fn registers(
     v: u32,
     work: &mut [u64],
     lay: Lay,
+    words: usize,
 ) -> usize
-    requires { ⌜ AddsUp (now insts) (now operands) × (length (now insts) / 9 ≤ 65536) × (v ≤ 65535) ⌝ }
+    requires { ⌜ AddsUp (now insts) (now operands) × (length (now insts) / 9 ≤ 65536) × (v ≤ 65535) × (words ≡ wordsOf v) ⌝ }
     requires { ⌜ (lay .escapes + wordsOf v ≤ lay .dead) × (lay .dead + wordsOf v ≤ lay .defs) × (lay .defs + length (now insts) / 9 ≤ lay .firsts) × (lay .firsts + length (now insts) / 9 ≤ lay .edges) × (lay .edges + length (now operands) / 2 ≤ lay .heads) × (lay .heads ≤ length (now work)) ⌝ }
     ensures { λ r. ⌜ Registered (codeOf v (now (insts .entry)) (now (operands .entry)) (now (crossings .entry)) [] []) lay (length (now (operands .entry)) / 2) r (now (work .entry)) (now (work .exit)) ⌝ }
 {
-    let row = lay.escapes;
-    clear(work, lay, (wide(v) + 63) / 64);
+    clear(work, lay, words);
     let n = scan::scan(insts, operands, v, work, lay);
-    cross(crossings, v, work, row);
+    cross(crossings, v, work, lay.escapes);
     index(work, lay, insts.len() / 9, n);
     n
 }
@@ -152,8 +136,6 @@ fn by_local(
     requires { ⌜ ((k : ℕ) → k < length (now ends) / 2 → getD (now ends) (2 * k) 0 < length (now insts) / 9) ⌝ }
     ensures { λ _. ⌜ ByLocal lay words (now (insts .entry)) (now (addresses .entry)) (now (ends .entry)) locals (now (work .entry)) (now (work .exit)) ⌝ }
 {
-    let heads = lay.heads;
-    let nexts = lay.nexts;
     empty(work, lay, words, locals);
     chains::chain(
         addresses,
@@ -162,8 +144,8 @@ fn by_local(
         addresses.len() / 2,
         locals,
         work,
-        heads,
-        nexts,
+        lay.heads,
+        lay.nexts,
     );
     self::ends(insts, ends, locals, work, lay);
 }
@@ -185,15 +167,8 @@ pub fn prepare(
     requires { ⌜ ((k : ℕ) → k < length (now ends) / 2 → getD (now ends) (2 * k) 0 < length (now insts) / 9) ⌝ }
     ensures { λ r. ⌜ Readied (codeOf v (now (insts .entry)) (now (operands .entry)) (now (crossings .entry)) (now (addresses .entry)) (now (ends .entry))) lay (length (now (operands .entry)) / 2) locals r (now (work .entry)) (now (work .exit)) ⌝ }
 {
-    let n = registers(insts, operands, crossings, v, work, lay);
-    by_local(
-        insts,
-        addresses,
-        ends,
-        locals,
-        work,
-        lay,
-        (wide(v) + 63) / 64,
-    );
+    let words = (v as usize + 63) / 64;
+    let n = registers(insts, operands, crossings, v, work, lay, words);
+    by_local(insts, addresses, ends, locals, work, lay, words);
     n
 }

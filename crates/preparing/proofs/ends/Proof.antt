@@ -1,99 +1,105 @@
 -- `preparing::ends` meets its contract: the locals with a placed end among the first k.
 use native.Mathlib.Omega.{arith}
-use Prim.Native.Nat.{_-_}
+use Prim.Native.Nat.{_+_, _-_, _*_, _/_, _^_, _<_}
 use mathlib.Core.Path.{_≡_, refl}
 use lib.ListN.{length}
+use Rattle.preparing.proofs.Bounds.{at-end, ended-at, within, past}
 use Rattle.preparing.proofs.StepLaws.{Ending, end-start, end-unplaced, end-past, end-put, end-done}
-use Prim.Native.Nat.{_/_}
 use Rattle.preparing.proofs.ends.Statement.{statement}
 use Rattle.preparing.proofs.ends.Tie as tie
 
 abbrev Inv-loop : tie.InvT-loop
-Inv-loop insts ends locals work₀ n ended k₀ work k = (n ≡ length ends / 2) × Ending ended insts ends locals work₀ work k
+Inv-loop insts ends locals work₀ lay n k₀ work k = (n ≡ length ends / 2) × Ending (lay .ended) insts ends locals work₀ work k
 
 abbrev μ-loop : tie.MeasureT-loop
-μ-loop insts ends locals work₀ n ended k₀ work k = n - k
+μ-loop insts ends locals work₀ lay n k₀ work k = n - k
+
+room : (c : tie.Start Inv-loop μ-loop) → (length (c .args .ends .now) * 4 < 2 ^ 63) × (length (c .args .insts .now) * 4 < 2 ^ 63)
+room c = omega (arith, c .good)
+
+long : (c : tie.Start Inv-loop μ-loop) → length (c .args .work .now) * 8 < 2 ^ 63
+long c = omega (arith, c .good)
 
 loop-holds : tie.Need-loop-holds Inv-loop μ-loop
-loop-holds c = (refl, end-start _ _ _ _ _ (omega arith) ((c .before .before .before .pre) .1))
+loop-holds c = (refl, end-start _ _ _ _ _ (c .pre .0 .0) (c .pre .1))
 
-mul-wide : tie.Need-mul-wide Inv-loop μ-loop
-mul-wide c = omega arith
+mul-i : tie.Need-mul-i Inv-loop μ-loop
+mul-i c = at-end _ _ _ _ _ (c .before .loop .inv .0) (c .loop-test .taken) (c .before .before .pre .0 .1 (c .before .loop .k) (within _ _ _ (c .before .loop .inv .0) (c .loop-test .taken))) (room (c .before .before)) .first
 
-mul-wide-2 : tie.Need-mul-wide-2 Inv-loop μ-loop
-mul-wide-2 c = omega arith
+mul-i-2 : tie.Need-mul-i-2 Inv-loop μ-loop
+mul-i-2 c = at-end _ _ _ _ _ (c .before .loop .inv .0) (c .loop-test .taken) (c .before .before .pre .0 .1 (c .before .loop .k) (within _ _ _ (c .before .loop .inv .0) (c .loop-test .taken))) (room (c .before .before)) .first-bytes
 
-shared-slice-read-wide : tie.Need-shared-slice-read-wide Inv-loop μ-loop
-shared-slice-read-wide c = omega arith
+shared-slice-read-i : tie.Need-shared-slice-read-i Inv-loop μ-loop
+shared-slice-read-i c = at-end _ _ _ _ _ (c .before .before .loop .inv .0) (c .before .loop-test .taken) (c .before .before .before .pre .0 .1 (c .before .before .loop .k) (within _ _ _ (c .before .before .loop .inv .0) (c .before .loop-test .taken))) (room (c .before .before .before)) .first-in
 
-wide-requires : tie.Need-wide-requires Inv-loop μ-loop
-wide-requires c κs = omega arith
+cast-i : tie.Need-cast-i Inv-loop μ-loop
+cast-i c = at-end _ _ _ _ _ (c .before .before .loop .inv .0) (c .before .loop-test .taken) (c .before .before .before .pre .0 .1 (c .before .before .loop .k) (within _ _ _ (c .before .before .loop .inv .0) (c .before .loop-test .taken))) (room (c .before .before .before)) .inst
 
-mul-wide-3 : tie.Need-mul-wide-3 Inv-loop μ-loop
-mul-wide-3 c = omega arith
+mul-l : tie.Need-mul-l Inv-loop μ-loop
+mul-l c = at-end _ _ _ _ _ (c .before .before .loop .inv .0) (c .before .loop-test .taken) (c .before .before .before .pre .0 .1 (c .before .before .loop .k) (within _ _ _ (c .before .before .loop .inv .0) (c .before .loop-test .taken))) (room (c .before .before .before)) .first
 
-add-wide : tie.Need-add-wide Inv-loop μ-loop
-add-wide c = omega arith
+add-l : tie.Need-add-l Inv-loop μ-loop
+add-l c = at-end _ _ _ _ _ (c .before .before .loop .inv .0) (c .before .loop-test .taken) (c .before .before .before .pre .0 .1 (c .before .before .loop .k) (within _ _ _ (c .before .before .loop .inv .0) (c .before .loop-test .taken))) (room (c .before .before .before)) .second
 
-mul-wide-4 : tie.Need-mul-wide-4 Inv-loop μ-loop
-mul-wide-4 c = omega arith
+mul-l-2 : tie.Need-mul-l-2 Inv-loop μ-loop
+mul-l-2 c = at-end _ _ _ _ _ (c .before .before .loop .inv .0) (c .before .loop-test .taken) (c .before .before .before .pre .0 .1 (c .before .before .loop .k) (within _ _ _ (c .before .before .loop .inv .0) (c .before .loop-test .taken))) (room (c .before .before .before)) .second-bytes
 
-shared-slice-read-wide-2 : tie.Need-shared-slice-read-wide-2 Inv-loop μ-loop
-shared-slice-read-wide-2 c = omega arith
+shared-slice-read-l : tie.Need-shared-slice-read-l Inv-loop μ-loop
+shared-slice-read-l c = at-end _ _ _ _ _ (c .before .before .before .loop .inv .0) (c .before .before .loop-test .taken) (c .before .before .before .before .pre .0 .1 (c .before .before .before .loop .k) (within _ _ _ (c .before .before .before .loop .inv .0) (c .before .before .loop-test .taken))) (room (c .before .before .before .before)) .second-in
 
-wide-requires-2 : tie.Need-wide-requires-2 Inv-loop μ-loop
-wide-requires-2 c κs = omega arith
+cast-l : tie.Need-cast-l Inv-loop μ-loop
+cast-l c = omega (arith, c .shared-slice-known2 .given (2 * (c .before .before .before .loop) .k + 1))
 
 mul-if1 : tie.Need-mul-if1 Inv-loop μ-loop
-mul-if1 c = let q = (c .before .before .before .before .before .before .before .before .before .pre) .0 .1 ((c .before .before .before .before .before .loop) .k) (omega arith) in let z = (c .before .before .wide) .ensures in omega arith
+mul-if1 c = at-end _ _ _ _ _ (c .before .before .before .loop .inv .0) (c .before .before .loop-test .taken) (c .before .before .before .before .pre .0 .1 (c .before .before .before .loop .k) (within _ _ _ (c .before .before .before .loop .inv .0) (c .before .before .loop-test .taken))) (room (c .before .before .before .before)) .row
 
 mul-if1-2 : tie.Need-mul-if1-2 Inv-loop μ-loop
-mul-if1-2 c = let q = (c .before .before .before .before .before .before .before .before .before .pre) .0 .1 ((c .before .before .before .before .before .loop) .k) (omega arith) in let z = (c .before .before .wide) .ensures in omega arith
+mul-if1-2 c = at-end _ _ _ _ _ (c .before .before .before .loop .inv .0) (c .before .before .loop-test .taken) (c .before .before .before .before .pre .0 .1 (c .before .before .before .loop .k) (within _ _ _ (c .before .before .before .loop .inv .0) (c .before .before .loop-test .taken))) (room (c .before .before .before .before)) .row-bytes
 
 shared-slice-read-if1 : tie.Need-shared-slice-read-if1 Inv-loop μ-loop
-shared-slice-read-if1 c = let q = (c .before .before .before .before .before .before .before .before .before .before .pre) .0 .1 ((c .before .before .before .before .before .before .loop) .k) (omega arith) in let z = (c .before .before .before .wide) .ensures in omega arith
+shared-slice-read-if1 c = at-end _ _ _ _ _ (c .before .before .before .before .loop .inv .0) (c .before .before .before .loop-test .taken) (c .before .before .before .before .before .pre .0 .1 (c .before .before .before .before .loop .k) (within _ _ _ (c .before .before .before .before .loop .inv .0) (c .before .before .before .loop-test .taken))) (room (c .before .before .before .before .before)) .row-in
 
 add-k : tie.Need-add-k Inv-loop μ-loop
-add-k c = omega arith
+add-k c = at-end _ _ _ _ _ (c .before .before .before .before .before .loop .inv .0) (c .before .before .before .before .loop-test .taken) (c .before .before .before .before .before .before .pre .0 .1 (c .before .before .before .before .before .loop .k) (within _ _ _ (c .before .before .before .before .before .loop .inv .0) (c .before .before .before .before .loop-test .taken))) (room (c .before .before .before .before .before .before)) .next
 
 loop-less : tie.Need-loop-less Inv-loop μ-loop
 loop-less c = omega arith
 
 loop-again : tie.Need-loop-again Inv-loop μ-loop
-loop-again c = (omega arith, end-unplaced ((c .before .before .before .before .before .before .before .loop) .inv .1) _ (omega arith) ((c .before .before .before .before .wide) .ensures) ((c .if1) .taken))
+loop-again c = (c .before .before .before .before .before .loop .inv .0, end-unplaced (c .before .before .before .before .before .loop .inv .1) _ (within _ _ _ (c .before .before .before .before .before .loop .inv .0) (c .before .before .before .before .loop-test .taken)) refl (c .if1 .taken))
 
 add-work : tie.Need-add-work Inv-loop μ-loop
-add-work c = omega arith
+add-work c = ended-at (c .before .before .before .before .before .before .before .loop .inv .1) _ (c .before .if2 .taken) (long (c .before .before .before .before .before .before .before .before)) .fits
 
 mul-work : tie.Need-mul-work Inv-loop μ-loop
-mul-work c = omega arith
+mul-work c = ended-at (c .before .before .before .before .before .before .before .loop .inv .1) _ (c .before .if2 .taken) (long (c .before .before .before .before .before .before .before .before)) .in-bytes
 
 slice-write-work : tie.Need-slice-write-work Inv-loop μ-loop
-slice-write-work c = omega arith
+slice-write-work c = ended-at (c .before .before .before .before .before .before .before .loop .inv .1) _ (c .before .if2 .taken) (long (c .before .before .before .before .before .before .before .before)) .inside
 
 add-k-2 : tie.Need-add-k-2 Inv-loop μ-loop
-add-k-2 c = omega arith
+add-k-2 c = at-end _ _ _ _ _ (c .before .before .before .before .before .before .before .loop .inv .0) (c .before .before .before .before .before .before .loop-test .taken) (c .before .before .before .before .before .before .before .before .pre .0 .1 (c .before .before .before .before .before .before .before .loop .k) (within _ _ _ (c .before .before .before .before .before .before .before .loop .inv .0) (c .before .before .before .before .before .before .loop-test .taken))) (room (c .before .before .before .before .before .before .before .before)) .next
 
 loop-less-2 : tie.Need-loop-less-2 Inv-loop μ-loop
 loop-less-2 c = omega arith
 
 loop-again-2 : tie.Need-loop-again-2 Inv-loop μ-loop
-loop-again-2 c = (omega arith, end-put ((c .before .before .before .before .before .before .before .before .loop) .inv .1) _ _ (omega arith) ((c .before .before .before .before .before .wide) .ensures) (omega arith) (let z = (c .before .before .before .wide2) .ensures in omega arith) (let z = (c .before .before .before .wide2) .ensures in omega arith))
+loop-again-2 c = (c .before .before .before .before .before .before .before .loop .inv .0, end-put (c .before .before .before .before .before .before .before .loop .inv .1) _ _ (within _ _ _ (c .before .before .before .before .before .before .before .loop .inv .0) (c .before .before .before .before .before .before .loop-test .taken)) refl (c .before .before .if1 .left) (c .before .if2 .taken) refl)
 
 add-k-3 : tie.Need-add-k-3 Inv-loop μ-loop
-add-k-3 c = omega arith
+add-k-3 c = at-end _ _ _ _ _ (c .before .before .before .before .before .before .loop .inv .0) (c .before .before .before .before .before .loop-test .taken) (c .before .before .before .before .before .before .before .pre .0 .1 (c .before .before .before .before .before .before .loop .k) (within _ _ _ (c .before .before .before .before .before .before .loop .inv .0) (c .before .before .before .before .before .loop-test .taken))) (room (c .before .before .before .before .before .before .before)) .next
 
 loop-less-3 : tie.Need-loop-less-3 Inv-loop μ-loop
 loop-less-3 c = omega arith
 
 loop-again-3 : tie.Need-loop-again-3 Inv-loop μ-loop
-loop-again-3 c = (omega arith, end-past ((c .before .before .before .before .before .before .before .before .loop) .inv .1) (omega arith) (let z = (c .before .before .before .wide2) .ensures in omega arith))
+loop-again-3 c = (c .before .before .before .before .before .before .loop .inv .0, end-past (c .before .before .before .before .before .before .loop .inv .1) (within _ _ _ (c .before .before .before .before .before .before .loop .inv .0) (c .before .before .before .before .before .loop-test .taken)) (c .if2 .left))
 
 same-length : tie.Need-same-length Inv-loop μ-loop
-same-length c = (c .before .loop) .inv .1 .kept .len
+same-length c = c .before .loop .inv .1 .kept .len
 
 returns : tie.Need-returns Inv-loop μ-loop
-returns c = end-done ((c .before .loop) .inv .1) (omega arith)
+returns c = end-done (c .before .loop .inv .1) (past _ _ _ (c .before .loop .inv .0) (c .loop-test .left))
 
 pub ends-spec : {M : Type 1} → statement M
 ends-spec =
@@ -102,15 +108,15 @@ ends-spec =
     Inv-loop
     μ-loop
     loop-holds
-    mul-wide
-    mul-wide-2
-    shared-slice-read-wide
-    wide-requires
-    mul-wide-3
-    add-wide
-    mul-wide-4
-    shared-slice-read-wide-2
-    wide-requires-2
+    mul-i
+    mul-i-2
+    shared-slice-read-i
+    cast-i
+    mul-l
+    add-l
+    mul-l-2
+    shared-slice-read-l
+    cast-l
     mul-if1
     mul-if1-2
     shared-slice-read-if1

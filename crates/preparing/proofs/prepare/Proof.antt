@@ -1,30 +1,33 @@
 -- `preparing::prepare` meets its contract: the registers, then the locals.
 use native.Mathlib.Omega.{arith}
 use Prim.Native.Nat.{_-_}
-use mathlib.Core.Path.{_∙_}
+use mathlib.Core.Path.{refl, _∙_}
+use Rattle.preparing.proofs.Bounds.{words-fit}
 use Rattle.preparing.proofs.ReadyLaws.{by-local, readied}
 use Rattle.preparing.proofs.prepare.Statement.{statement}
 use Rattle.preparing.proofs.prepare.Tie as tie
 
+add-words : tie.Need-add-words
+add-words c = words-fit _ (c .before .before .before .before .before .before .pre .0 .2)
+
 registers-requires : tie.Need-registers-requires
-registers-requires c κs = ((c .before .before .before .before .before .before .before .pre) .0, let d = (c .before .before .before .before .before .before .before .pre) .1 .0 in omega arith)
-
-wide-requires : tie.Need-wide-requires
-wide-requires c κs = tt
-
-add-by-local : tie.Need-add-by-local
-add-by-local c = omega arith
+registers-requires c κs = ((c .before .before .before .before .before .before .before .pre .0 .0, c .before .before .before .before .before .before .before .pre .0 .1, c .before .before .before .before .before .before .before .pre .0 .2, refl), let d = c .before .before .before .before .before .before .before .pre .1 .0 in omega arith)
 
 by-local-requires : tie.Need-by-local-requires
-by-local-requires c κs = (let d = (c .before .before .before .before .before .before .before .before .before .before .before .before .pre) .1 .0 in let z = (c .wide) .ensures in let l = (c .before .before .before .before .registers) .ensures .kept .len in omega arith, (c .before .before .before .before .before .before .before .before .before .before .before .before .pre) .1 .1)
+by-local-requires c κs = (let d = c .before .before .before .before .before .before .before .before .before .before .before .pre .1 .0 in let l = c .before .before .before .registers .ensures .kept .len in omega arith, c .before .before .before .before .before .before .before .before .before .before .before .pre .1 .1)
 
 same-length : tie.Need-same-length
-same-length c = (c .before .before .by-local) .ensures .len ∙ (c .before .before .before .before .before .before .before .registers) .ensures .kept .len
+same-length c = c .before .before .by-local .ensures .len ∙ c .before .before .before .before .before .before .registers .ensures .kept .len
 
 returns : tie.Need-returns
-returns c = readied ((c .before .before .before .before .before .before .before .before .before .before .before .before .before .before .before .args) .v) ((c .before .before .before .before .before .before .before .before .before .before .before .before .before .before .before .args) .insts .now) ((c .before .before .before .before .before .before .before .before .before .before .before .before .before .before .before .args) .operands .now) ((c .before .before .before .before .before .before .before .before .before .before .before .before .before .before .before .args) .crossings .now) ((c .before .before .before .before .before .before .before .before .before .before .before .before .before .before .before .args) .addresses .now) ((c .before .before .before .before .before .before .before .before .before .before .before .before .before .before .before .args) .ends .now) ((c .before .before .before .before .before .before .before .before .before .before .before .before .before .before .before .args) .lay) ((c .before .before .before .before .before .before .before .before .before .before .before .before .before .before .before .args) .locals) ((c .before .before .before .before .before .before .before .before .before .before .before .before .before .before .before .pre) .1 .1) (let z = (c .before .before .before .wide) .ensures in omega arith) ((c .before .before .before .before .before .before .before .before .before .before .before .before .before .before .before .pre) .1 .0) ((c .before .before .before .before .before .before .before .registers) .ensures) ((c .before .before .by-local) .ensures)
+returns c = readied (c .before .before .before .before .before .before .before .before .before .before .before .before .before .before .args .v) (c .before .before .before .before .before .before .before .before .before .before .before .before .before .before .args .insts .now) (c .before .before .before .before .before .before .before .before .before .before .before .before .before .before .args .operands .now) (c .before .before .before .before .before .before .before .before .before .before .before .before .before .before .args .crossings .now) (c .before .before .before .before .before .before .before .before .before .before .before .before .before .before .args .addresses .now) (c .before .before .before .before .before .before .before .before .before .before .before .before .before .before .args .ends .now) (c .before .before .before .before .before .before .before .before .before .before .before .before .before .before .args .lay) (c .before .before .before .before .before .before .before .before .before .before .before .before .before .before .args .locals) (c .before .before .before .before .before .before .before .before .before .before .before .before .before .before .pre .1 .1) refl (c .before .before .before .before .before .before .before .before .before .before .before .before .before .before .pre .1 .0) (c .before .before .before .before .before .before .registers .ensures) (c .before .before .by-local .ensures)
 
 pub prepare-spec : {M : Type 1} → statement M
 prepare-spec =
     tie.close
-    (tie.spec registers-requires wide-requires add-by-local by-local-requires same-length returns)
+    (tie.spec
+    add-words
+    registers-requires
+    by-local-requires
+    same-length
+    returns)
