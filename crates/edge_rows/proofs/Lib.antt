@@ -1,3 +1,4 @@
 pub mod Tally
 pub mod RowLaws
 pub mod EdgeLaws
+pub mod Bounds
