@@ -12,7 +12,7 @@ use Rattle.refusals.specs.declared.Refusal.{Refusal}
 use Rattle.refusals.specs.declared.Verdict.{Verdict}
 use Rattle.refusals.specs.declared.Verdict.the-variants.{Fine, Bad}
 use Rattle.refusals.specs.Verdicts.{first}
-use Rattle.refusals.proofs.Laws.{first-fine, first-bad, first-left, first-right}
+use Rattle.refusals.proofs.Laws.{first-fine, first-bad, first-left, first-right, bad-fine}
 use Rattle.words.specs.Rows.{rowCount}
 use Rattle.words.specs.Regions.{Region, cleared}
 use Rattle.words.proofs.RegionLaws.{row-before}
@@ -35,9 +35,7 @@ use Rattle.flow_rows.specs.Flowed.{which, order, touchedBit, outBit, Laid, Flow
 use Rattle.flow.specs.Entry.{FlowsTo, wayOf, verdictOf, rowBit, Filled, Turned, Answered, baseOf, Solved}
 use Rattle.flow_rows.proofs.Routes.{reached-turned}
 use Rattle.flow_rows.proofs.Moved.{components-as, order-as, reaching-as}
-
-bad-fine : {A : Type 0} {k : Refusal} {i : ℕ} → Bad k i ≡ Fine → A
-bad-fine e = absurd (let z : _≡_ {A = ℕ} 0 1 = cc in omega arith)
+use Rattle.flow.proofs.Ways.{flows-as}
 
 -- ---- the refusals
 
@@ -116,11 +114,6 @@ sums n e t w s h r =
       all = omega (arith, all);
       space = omega (arith, all);
     }
-
--- both ways of following the edges
-flows-as : (over : Over) (es : List Edge) (touched : ℕ → Bool) (k : ℕ) → Reaching (wayOf over es) touched k ↔ FlowsTo over es touched k
-flows-as Predecessors es touched k = reached-turned es touched k
-flows-as Successors es touched k = ((λ r. r), (λ r. r))
 
 module _ (over : Over) (blocks edges touched : List ℕ) (words : ℕ) (w₀ w₁ : List ℕ)
     (some : 1 ≤ length blocks / 3) (lent : length touched ≡ length blocks / 3 * words)

@@ -7,9 +7,9 @@ use mir.Val.{Fits}
 use native.Mathlib.Omega.{arith}
 use lib.ListN.{length, getD}
 use Rattle.words.proofs.FitLaws.{small, bytes}
+use Rattle.words.proofs.RegionLaws.{row-before}
 use Rattle.flow_rows.specs.declared.Flow.{Flow}
 use Rattle.flow_rows.specs.Flowed.{Laid, orderFrom, order}
-use Rattle.flow_rows.proofs.Joins.{row-in}
 
 -- place p of the order, which stands from o on, is read
 pub record OrderAt (o n p : ℕ) : Type 0 where
@@ -57,7 +57,7 @@ module _ {f : Flow} {w : List ℕ} (L : Laid f w) (r : length w * 8 < 2 ^ 63) wh
 
   pub row-at : (v : ℕ) → v < f .n → RowAt f (length w) v
   row-at v h =
-      let k = row-in v (f .n) (f .words) h in
+      let k = row-before v (f .n) (f .words) h in
       let o : f .out + v * f .words + f .words ≤ length w = omega (arith, L .out-fits) in
       let t : f .touched + v * f .words + f .words ≤ length w = omega (arith, L .touched-fits) in
       record {

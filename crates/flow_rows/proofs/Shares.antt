@@ -15,7 +15,7 @@ use Rattle.graph.specs.Work.{Within}
 use Rattle.graph.proofs.Within.{within-refl, within-trans, within-wider, region-within}
 use Rattle.flow_rows.specs.declared.Flow.{Flow}
 use Rattle.flow_rows.specs.Flowed.{which, orderFrom, order, touchedBit, outBit, Laid, Across, Stays, Member, Joins, Tells, Run, Shared, Source, Visited}
-use Rattle.flow_rows.proofs.Joins.{row-in, which-kept, order-kept, touched-kept, laid-kept, row-wide, other-row}
+use Rattle.flow_rows.proofs.Joins.{which-kept, order-kept, touched-kept, laid-kept, row-wide, other-row}
 use Rattle.words.proofs.FitLaws.{as-long}
 use Rattle.flow_rows.proofs.Places.{OrderAt, RowAt, order-at, row-at, here}
 use Rattle.flow_rows.proofs.Visits.{across-back, across-on, stays-back, stays-on, member-as, member-on}

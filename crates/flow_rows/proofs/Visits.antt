@@ -15,8 +15,9 @@ use Rattle.graph.specs.Work.{Within}
 use Rattle.graph.proofs.Within.{within-refl, within-trans, within-wider, region-within}
 use Rattle.flow_rows.specs.declared.Flow.{Flow}
 use Rattle.flow_rows.specs.Flowed.{which, orderFrom, order, begins, ends, target, touchedBit, outBit, Laid, Across, Stays, Member, Joins, Tells, Run, Shared, Source, Visited}
-use Rattle.flow_rows.proofs.Joins.{row-in, which-kept, order-kept, begins-kept, ends-kept, target-kept, touched-kept, laid-kept, row-wide, other-row, joins-none, joins-then, joins-as, joins-row, touched-aligned}
+use Rattle.flow_rows.proofs.Joins.{which-kept, order-kept, begins-kept, ends-kept, target-kept, touched-kept, laid-kept, row-wide, other-row, joins-none, joins-then, joins-as, joins-row, touched-aligned}
 use Rattle.words.proofs.FitLaws.{as-long}
+use Rattle.words.proofs.Bools.{never}
 use Rattle.flow_rows.proofs.Places.{OrderAt, RowAt, order-at, row-at, here}
 
 -- ---- what a change of the row of x leaves of the sources of its component
@@ -95,9 +96,6 @@ pub record Pulling (f : Flow) (i j c x : ℕ) (w₀ w : List ℕ) (p : ℕ) (loo
   pub joins : Joins f x (λ b. Member f w₀ i p (λ u. Across f w₀ u c b)) w₀ w
   pub tells : Tells (Member f w₀ i p (λ u. Stays f w₀ u c)) looped
 
-true-false : {A : Type 0} → false ≡ true → A
-true-false e = absurd (let z : _≡_ {A = ℕ} 0 1 = cc in omega arith)
-
 pub pull-start : (f : Flow) (i j c x : ℕ) (w : List ℕ) → Laid f w → i ≤ j → j ≤ f .n → x < f .n → which f w x ≡ c → Pulling f i j c x w w i false
 pull-start f i j c x w L h k l e = record {
   laid = L;
@@ -107,7 +105,7 @@ pull-start f i j c x w L h k l e = record {
   i-le = omega arith;
   p-le = h;
   joins = joins-as (λ b. Member f w i i (λ u. Across f w u c b)) (joins-none w) (λ b l s. absurd s) (λ b l s. absurd (omega (arith, s .1, s .2)));
-  tells = record { yes-so = λ q. true-false q; so-yes = λ s. absurd (omega (arith, s .1, s .2)) };
+  tells = record { yes-so = λ q. never q; so-yes = λ s. absurd (omega (arith, s .1, s .2)) };
 }
 
 module _ {f : Flow} {i j c x : ℕ} {w₀ w : List ℕ} {p : ℕ} {looped : Bool} (t : Pulling f i j c x w₀ w p looped) (h : p < j) {o : ℕ} (e : o ≡ orderFrom f) where
@@ -176,7 +174,7 @@ module _ {f : Flow} {i j c x : ℕ} {w₀ w : List ℕ} {p : ℕ} {looped : Bool
       joins = joins';
       tells = record {
         yes-so = λ q. let m = t .tells .yes-so q in (m .0, m .1, omega (arith, m .2), m .3);
-        so-yes = λ m. ⊎-elim (λ a. t .tells .so-yes a) (λ a. true-false (sym y ∙ T .so-yes (there-stays a))) (last-member f w₀ i p (λ u. Stays f w₀ u c) m);
+        so-yes = λ m. ⊎-elim (λ a. t .tells .so-yes a) (λ a. never (sym y ∙ T .so-yes (there-stays a))) (last-member f w₀ i p (λ u. Stays f w₀ u c) m);
       };
     }
 

@@ -26,9 +26,6 @@ less-in m n k h f = omega arith
 pub more-in : (m n k : ℕ) → k < n → n ≤ m → m ≤ 65536 → Fits w64 (k + 1)
 more-in m n k h f g = omega arith
 
-pub some-def : (d : ℕ) → (d ≡ 0 → ⊥) → 0 < d
-some-def d h = omega arith
-
 -- ---- the tables
 
 module _ {lay : Lay} {z : Sizes} {w : List ℕ} (t : Walkable lay z w) (r : length w * 8 < 2 ^ 63) where

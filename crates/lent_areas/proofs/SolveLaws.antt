@@ -35,10 +35,6 @@ use Rattle.area_checks.specs.Checks.{sizesOf, Lent}
 use Rattle.lent_areas.specs.Areas.{graphFor, listing, Markable, Marking, Rowed, Solved}
 use Rattle.area_layout.proofs.FitLaws.{rows-small, layout-fits}
 
-pub positive : (n : ℕ) → (n ≡ 0 → ⊥) → 0 < n
-positive zero d = absurd (d refl)
-positive (suc n) d = omega arith
-
 -- ---- the marks
 
 module _ (p : Places) (g : Grid) (blocks kinds touches ends : List ℕ) {w₀ w₁ : List ℕ} (M : Markable p g blocks kinds touches ends w₀) (C : Chained p touches ends w₀ w₁) where

@@ -14,6 +14,7 @@ use Rattle.grammar.specs.Groups.{indexOf, groupAt, letters, none}
 use Rattle.grammar.specs.Lines.{comma, newline, parts, groupOf, fieldsOf, fits, formed, ended, body, wellFormed, lineGroup}
 use Rattle.grammar.proofs.PartLaws.{index-within, parts-split, parts-last, parts-more, fits-fewer}
 use Rattle.grammar.proofs.TableLaws.{at}
+use Rattle.words.proofs.Bools.{and-not}
 use Rattle.lines.specs.Read.{onFront, fieldsIn, FieldsRead, BodyRead, LineRead}
 
 some-entry : ℕ → Bool
@@ -113,14 +114,10 @@ module _ (l out : List ℕ) where
   unfolding wellFormed
   line-long h = no-line (rw (lt-leb (length l) 128 h))
 
-  and-none : (t s : Bool) → s ≡ false → (t && s) ≡ false
-  and-none true s e = e
-  and-none false s e = refl
-
   -- no line, or one without its newline
   pub line-open : (getD l (length l - 1) 0 ≡ newline → ⊥) → LineRead l out none out
   unfolding wellFormed
-  line-open d = no-line (and-none (leb (length l) 128) (ended l && formed (body l)) (rw (ne-eqb (getD l (length l - 1) 0) newline d)))
+  line-open d = no-line (and-not (leb (length l) 128) (ended l && formed (body l)) (rw (ne-eqb (getD l (length l - 1) 0) newline d)))
 
   pub line-empty : length l ≡ 0 → LineRead l out none out
   line-empty e = line-open (λ q. absurd (nothing l e q))

@@ -149,14 +149,11 @@ module _ (points v : ℕ) (blocks insts operands moves : List ℕ) (slot : ℕ) 
       let g : 2 * n ≡ length (rowsOf (movedOf points blocks insts operands moves slot)) = ap (λ (x : ℕ). 2 * x) f ∙ sym (rows-length (movedOf points blocks insts operands moves slot)) in
       record {
         outcome = rw e (ap given f);
-        list = rw e (w .list [] out₀ refl refl (nothing out₀) ∙ ap (λ (rs : List Range). rowsOf rs ++ drop (2 * n) out₀) same
+        list = rw e (w .list [] out₀ refl refl (rows-none out₀) ∙ ap (λ (rs : List Range). rowsOf rs ++ drop (2 * n) out₀) same
             ∙ ap (λ (x : ℕ). rowsOf (movedOf points blocks insts operands moves slot) ++ drop x out₀) g);
         space = rw e (c ∙ ap (λ (x : ℕ). cleared x work₁) d ∙ ap (λ (t : List ℕ). replicate (movedSpace blocks insts operands moves) 0 ++ t) rest
             ∙ ap (λ (x : ℕ). replicate (movedSpace blocks insts operands moves) 0 ++ drop x work₀) (sym (length-replicate (movedSpace blocks insts operands moves) 0)));
       }
     where
-      nothing : (o : List ℕ) → o ≡ rowsOf [] ++ drop (2 * 0) o
-      nothing o = rows-none o
-
       rest : drop (movedSpace blocks insts operands moves) work₁ ≡ drop (movedSpace blocks insts operands moves) work₀
       rest = drop-same (movedSpace blocks insts operands moves) work₀ work₁ (k .len) (λ i h. k .past i (let n = blocks-length blocks in omega arith))

@@ -31,9 +31,6 @@ at-inst {defs} {first} {edges} {m} {n} {w₀} {w} {i} d h r =
     let a = d .low in let b = d .middle in let c = d .high in let l = d .kept .len in
     record { def = word _ (length w) (omega arith) (omega arith); put = word _ (length w) (omega arith) (omega arith); next = omega arith }
 
-pub some : (d : ℕ) → d ≢ 0 → 1 ≤ d
-some d h = omega arith
-
 pub def-few : {defs first edges m n : ℕ} {w₀ w : List ℕ} {i : ℕ} → Firsting defs first edges m n w₀ w i → i < m → getD w₀ (defs + i) 0 ≤ 65536 → getD w (defs + i) 0 ≤ 65536
 def-few d h q = omega (arith, first-def d h)
 
@@ -44,9 +41,6 @@ pub edges-in : {defs first edges m n : ℕ} {w₀ w : List ℕ} {i : ℕ} → Fi
 edges-in d = omega (arith, d .high, d .kept .len)
 
 -- ---- ends
-
-pub within : (k n m : ℕ) → n ≡ m → k < n → k < m
-within k n m e h = omega arith
 
 pub past : (k n m : ℕ) → n ≡ m → n ≤ k → m ≤ k
 past k n m e h = omega arith

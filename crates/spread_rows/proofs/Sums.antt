@@ -5,6 +5,7 @@ use mathlib.Core.Bool.{Bool, true, false, not}
 use native.Mathlib.Omega.{arith}
 use Rattle.words.proofs.Points.{same}
 use Rattle.graph.specs.Work.{one, sumOf}
+use Rattle.graph.proofs.Sums.{one-most}
 
 pub sum-le : (f g : ℕ → ℕ) (k : ℕ) → ((i : ℕ) → i < k → f i ≤ g i) → sumOf f k ≤ sumOf g k
 unfolding sumOf
@@ -22,10 +23,6 @@ pub sum-most : (f : ℕ → ℕ) (k : ℕ) → ((i : ℕ) → i < k → f i ≤ 
 unfolding sumOf
 sum-most f zero h = omega arith
 sum-most f (suc k) h = omega (arith, h k (omega arith), sum-most f k (λ i l. h i (omega arith)))
-
-pub one-most : (b : Bool) → one b ≤ 1
-one-most true = omega arith
-one-most false = omega arith
 
 -- a bit that is set stays so: what is missing does not rise
 pub not-le : (a b : Bool) → (a ≡ true → b ≡ true) → one (not b) ≤ one (not a)

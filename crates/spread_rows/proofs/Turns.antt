@@ -17,14 +17,13 @@ use Rattle.graph.specs.Paths.{Edge, Link, Between}
 use Rattle.graph.specs.Flow.{Arrives, left, passed}
 use Rattle.graph.specs.Work.{Within, EdgeRows, one, sumOf}
 use Rattle.graph.proofs.Within.{within-refl, within-trans, within-wider, region-within}
+use Rattle.words.proofs.Bools.{not-both}
+use Rattle.graph.proofs.Sums.{one-most}
 use Rattle.spread_rows.specs.declared.Layout.{Layout}
 use Rattle.spread_rows.specs.Spread.{begins, ends, target, orderAt, rankOf, outOf, leaveBit, passBit, outBit, waits, Laid, Sends, Sound, missing, waiting, Pushed, Begun, Arrived}
-use Rattle.spread_rows.proofs.Sums.{sum-le, sum-lt, sum-most, one-most, one-le, one-lt}
+use Rattle.spread_rows.proofs.Sums.{sum-le, sum-lt, sum-most, one-le, one-lt}
 use Rattle.spread_rows.proofs.Kept.{begins-kept, ends-kept, target-kept, order-kept, rank-kept, leave-kept, pass-kept, laid-kept, rank-in, out-kept, word-within, rows-kept}
 use Rattle.spread_rows.proofs.Pushes.{put-set, put-other, put-keeps, missing-le}
-
-true-false : {A : Type 0} (b : Bool) → b ≡ true → b ≡ false → A
-true-false b p q = absurd (let z : _≡_ {A = ℕ} 0 1 = cc in omega arith)
 
 put-off : {w₀ w : List ℕ} {base b : ℕ} → PutBit w₀ w base b false → bit w base b ≡ false
 put-off {w₀} {w} {base} {b} p = p .bits b ∙ rw (eq-eqb b b refl) refl
@@ -73,7 +72,7 @@ begin-done {s} {w₀} {w₁} {w} {r} R t h = record {
   kept = within-trans (within-wider (s .wait) _ (omega arith) (omega arith) (region-within R)) (t .kept);
   none = λ v b a l. ap (λ (y : ℕ). bitOf y (b % 64)) (t .zeros (outOf s + v * s .words + b / 64) (omega arith) (omega (arith, row-before v (s .n) (s .words) a))) ∙ bit-zero (b % 64);
   all = λ q a. t .set q (omega arith);
-  ranks = λ q a o. cut (s .n) q (λ l. true-false _ o (t .unset q (omega (arith, t .r-le)) a)) (λ l. l);
+  ranks = λ q a o. cut (s .n) q (λ l. not-both o (t .unset q (omega (arith, t .r-le)) a)) (λ l. l);
 }
 
 -- ---- spread
@@ -90,8 +89,8 @@ spread-start s w₀ w L B = let L₁ = laid-kept L (B .kept) in record {
   laid = L₁;
   kept = within-refl _ _ w;
   ranks = B .ranks;
-  closed = λ u a o. true-false (waits s w (rankOf s w u)) (B .all (rankOf s w u) (L₁ .ranked u a)) o;
-  sound = λ es E R v b a l o. true-false (outBit s w v b) o (B .none v b a l);
+  closed = λ u a o. not-both (B .all (rankOf s w u) (L₁ .ranked u a)) o;
+  sound = λ es E R v b a l o. not-both o (B .none v b a l);
 }
 
 pub spread-laid : {s : Layout} {w₀ w : List ℕ} → Spreading s w₀ w → Laid s w
@@ -133,7 +132,7 @@ module _ {s : Layout} {w₀ w w₁ : List ℕ} {r : ℕ} (t : Spreading s w₀ w
     -- a place that does not wait has the row that it had
     row-same : (u : ℕ) → u < s .n → waits s w₂ (rankOf s w₀ u) ≡ false → (b : ℕ) → b < s .words * 64 → outBit s w₂ u b ≡ outBit s w u b
     row-same u a o b l = ⊎-elim
-        (λ q. true-false (waits s w₂ (rankOf s w₀ u)) (ap (waits s w₂) (sym (rank-same u a)) ∙ q) o)
+        (λ q. not-both (ap (waits s w₂) (sym (rank-same u a)) ∙ q) o)
         (λ q. q b l ∙ out₁ u b l)
         (Q .queued u a)
 
@@ -163,7 +162,7 @@ module _ {s : Layout} {w₀ w w₁ : List ℕ} {r : ℕ} (t : Spreading s w₀ w
         not-waiting q x ne z = go (waits s w q) refl
           where
             go : (y : Bool) → waits s w q ≡ y → waits s w q ≡ false
-            go true e = true-false (waits s w₂ q) (Q .still q x (put-other P q ne ∙ e)) z
+            go true e = not-both (Q .still q x (put-other P q ne ∙ e)) z
             go false e = e
 
     pub spread-more : Spreading s w₀ w₂

@@ -13,9 +13,6 @@ use Rattle.tarjan.proofs.Laws.{Top, top, v-ok, room-for, under, closes}
 use Rattle.tarjan.proofs.Lists.{close-node}
 use Rattle.tarjan.proofs.Roots.{Roots}
 
-pub not-none : (m : ℕ) → (m ≡ 0 → ⊥) → 1 ≤ m
-not-none m h = omega arith
-
 pub le-refl : (m : ℕ) → m ≤ m
 le-refl m = omega arith
 

@@ -7,14 +7,15 @@ use Prim.Native.Nat.{ℕ, zero, suc, _+_, _-_, _≤_, _<_, min}
 use native.Mathlib.Omega.{arith}
 use lib.ListN.{length, getD, set, length-set}
 use lib.Seq.{getD-set-same, getD-set-other}
+use Rattle.words.proofs.Points.{cut, same, stored}
 use Rattle.tarjan.specs.Graph.{Graph, Sound, Edge, Reach}
 use Rattle.tarjan.specs.Walk.{State, Inv, Order, Walks}
 use Rattle.tarjan.specs.Moves.{upd, shutAt, pasted, view, Agree, left, pushed, advanced, lowered, retired, closed}
 use Rattle.tarjan.specs.Space.{Rows, graph, Reads, Held, Ready, Kept, Still, leftOf, pushList, Closes, Closed, Turned, Pl, Nd, Ed}
-use Rattle.tarjan.proofs.Tools.{cut, same, upd-case, upd-at, upd-off, shut-case, seen-le}
+use Rattle.tarjan.proofs.Tools.{upd-case, upd-at, upd-off, shut-case, seen-le}
 use Rattle.tarjan.proofs.Steps.{s-le, d-le, s-lt}
 use Rattle.tarjan.proofs.Whole.{agree-walks, left-same, left-falls}
-use Rattle.tarjan.proofs.Lists.{stored, kept-refl, kept-set, kept-trans}
+use Rattle.tarjan.proofs.Lists.{kept-refl, kept-set, kept-trans}
 use Rattle.tarjan.proofs.Turns.{p-lt, u-lt, v-lt, take-new, take-held, take-shut, lower-frame, leave-held, leave-closed, root-walks}
 
 -- ---- stores in a region

@@ -26,9 +26,6 @@ number a n h r = record { fits = omega arith; in-bytes = omega arith; inside = h
 pub head-at : {insts rows : List ℕ} {heads nexts l to : ℕ} {w : List ℕ} → Linked insts rows heads nexts l to w → length w * 8 < 2 ^ 63 → Word (heads + l) (length w)
 head-at {w = w} L r = word _ (length w) (omega (arith, L .head-fits, L .room)) r
 
-pub some : (next : ℕ) → next ≢ 0 → 1 ≤ next
-some next d = omega arith
-
 -- at row a, which names instruction x: the numbers of both are read, the row before it in the chain, and what it gives is put at m
 pub record AtRow (insts rows work nexts to m a x : ℕ) : Type 0 where
   pub row : Number (2 * a) rows

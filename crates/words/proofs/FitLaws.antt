@@ -24,3 +24,14 @@ pub record Word (a n : ℕ) : Type 0 where
 
 pub word : (a n : ℕ) → a < n → n * 8 < 2 ^ 63 → Word a n
 word a n h r = record { fits = omega arith; in-bytes = omega arith; inside = h }
+
+-- ---- what tests and lengths say
+
+pub within : (k n m : ℕ) → n ≡ m → k < n → k < m
+within k n m e h = omega arith
+
+pub not-none : (n : ℕ) → (n ≡ 0 → ⊥) → 1 ≤ n
+not-none n h = omega arith
+
+pub positive : (n : ℕ) → (n ≡ 0 → ⊥) → 0 < n
+positive n h = omega arith

@@ -3,7 +3,8 @@ use native.Mathlib.Omega.{arith}
 use Prim.Native.Nat.{_+_, _-_, _*_, _/_, _^_, _<_}
 use mathlib.Core.Path.{_≡_, refl}
 use lib.ListN.{length}
-use Rattle.preparing.proofs.Bounds.{at-end, ended-at, within, past}
+use Rattle.words.proofs.FitLaws.{within}
+use Rattle.preparing.proofs.Bounds.{at-end, ended-at, past}
 use Rattle.preparing.proofs.StepLaws.{Ending, end-start, end-unplaced, end-past, end-put, end-done}
 use Rattle.preparing.proofs.ends.Statement.{statement}
 use Rattle.preparing.proofs.ends.Tie as tie

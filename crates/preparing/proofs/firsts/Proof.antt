@@ -2,7 +2,8 @@
 use native.Mathlib.Omega.{arith}
 use Prim.Native.Nat.{_-_}
 use mathlib.Core.Path.{refl}
-use Rattle.preparing.proofs.Bounds.{at-inst, some, def-few, key-fits, edges-in}
+use Rattle.words.proofs.FitLaws.{not-none}
+use Rattle.preparing.proofs.Bounds.{at-inst, def-few, key-fits, edges-in}
 use Rattle.preparing.proofs.StepLaws.{Firsting, first-start, first-rising, first-skip, first-put, first-done}
 use Rattle.preparing.proofs.firsts.Statement.{statement}
 use Rattle.preparing.proofs.firsts.Tie as tie
@@ -35,7 +36,7 @@ loop-again : tie.Need-loop-again Inv-loop μ-loop
 loop-again c = first-skip (c .before .before .before .before .loop .inv) (c .before .before .before .loop-test .taken) (c .if1 .taken)
 
 sub-below : tie.Need-sub-below Inv-loop μ-loop
-sub-below c = some _ (c .before .if1 .left)
+sub-below c = not-none _ (c .before .if1 .left)
 
 mul-below : tie.Need-mul-below Inv-loop μ-loop
 mul-below c = key-fits _ (def-few (c .before .before .before .before .before .loop .inv) (c .before .before .before .before .loop-test .taken) (c .before .before .before .before .before .before .before .pre .1 .1 (c .before .before .before .before .before .loop .i) (c .before .before .before .before .loop-test .taken)))

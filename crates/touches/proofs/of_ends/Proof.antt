@@ -3,9 +3,10 @@ use native.Mathlib.Omega.{arith}
 use Prim.Native.Nat.{ℕ, _+_, _-_, _*_, _^_, _<_}
 use mathlib.Core.Path.{_≡_, refl, sym, ap, _∙_}
 use lib.ListN.{length, getD}
+use Rattle.words.proofs.FitLaws.{not-none}
 use Rattle.touches.specs.Touches.{endAt}
 use Rattle.touches.proofs.EntryLaws.{Walking, walk-start, turn, walk-skip, walk-more, walk-less, walk-done, end-given, end-none}
-use Rattle.touches.proofs.Bounds.{head-at, some, bounds}
+use Rattle.touches.proofs.Bounds.{head-at, bounds}
 use Rattle.touches.proofs.of_ends.Statement.{statement}
 use Rattle.touches.proofs.of_ends.Tie as tie
 
@@ -31,7 +32,7 @@ loop-holds : tie.Need-loop-holds Inv-loop μ-loop
 loop-holds c = walk-start _ _ _ _ _ _ _ _ _ (c .before .pre) refl
 
 sub-a : tie.Need-sub-a Inv-loop μ-loop
-sub-a c = some _ (c .loop-test .taken)
+sub-a c = not-none _ (c .loop-test .taken)
 
 mul-i : tie.Need-mul-i Inv-loop μ-loop
 mul-i c = bounds (c .before .loop .inv) (c .loop-test .taken) (room (c .before .before .before)) .row .fits

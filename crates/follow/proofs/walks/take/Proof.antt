@@ -3,8 +3,9 @@ use native.Mathlib.Omega.{arith}
 use Prim.Native.Nat.{ℕ, _+_, _-_, _*_, _≤_, _<_}
 use mathlib.Core.Path.{_≡_}
 use lib.ListN.{length, getD}
+use Rattle.words.proofs.FitLaws.{positive}
 use Rattle.follow.proofs.BeginLaws.{took-other, took-lost, took-new}
-use Rattle.follow.proofs.PlaceLaws.{some-def, held-def, row-field}
+use Rattle.follow.proofs.PlaceLaws.{held-def, row-field}
 use Rattle.follow.proofs.walks.take.Statement.{statement}
 use Rattle.follow.proofs.walks.take.Tie as tie
 
@@ -36,7 +37,7 @@ returns-2 : tie.Need-returns-2
 returns-2 c = took-lost (((c .before .before .before .before .before .before .before .args)) .lay) (((c .before .before .before .before .before .before .before .args)) .z) (((c .before .before .before .before .before .before .before .args)) .insts .now) (((c .before .before .before .before .before .before .before .args)) .work .now) (((c .before .before .before .before .before .before .before .args)) .i) (((c .before .before .before .before .before .before .before .args)) .b) (((c .before .before .before .before .before .before .before .pre)) .2) (omega arith) ((c .if2) .taken)
 
 join-requires : tie.Need-join-requires
-join-requires c κs = ((c .before .before .before .before .before .before .before .before .pre) .2, (c .before .before .before .before .before .before .before .before .pre) .1, some-def _ ((c .before .if2) .left))
+join-requires c κs = ((c .before .before .before .before .before .before .before .before .pre) .2, (c .before .before .before .before .before .before .before .before .pre) .1, positive _ ((c .before .if2) .left))
 
 same-length : tie.Need-same-length
 same-length c = ((c .before .before .join)) .ensures .grew .len
