@@ -1,3 +1,4 @@
+pub mod Bounds
 pub mod UseLaws
 pub mod MarkLaws
 pub mod LeafLaws

@@ -1,6 +1,6 @@
 -- `reach::scan::scan` meets its contract: what the first i instructions leave.
 use native.Mathlib.Omega.{arith}
-use Prim.Native.Nat.{ℕ, suc, _+_, _-_, _*_, _≤_, _<_}
+use Prim.Native.Nat.{ℕ, suc, _+_, _-_, _*_, _^_, _≤_, _<_}
 use mathlib.Core.Path.{_≡_, refl, sym, ap, _∙_}
 use lib.ListN.{length, take, drop, getD, set, length-set}
 use borrow.Author.Needs.{needs}
@@ -9,6 +9,7 @@ use Rattle.graph.proofs.Sums.{sum-start, sum-next}
 use Rattle.insts.specs.Rows.{operandsFrom}
 use Rattle.carrying.specs.Insts.{defOf}
 use Rattle.reach.specs.Scan.{escapesIn, handsIn, rowOf, strayReader}
+use Rattle.reach.proofs.Bounds.{count-at, within}
 use Rattle.reach.proofs.ScanLaws.{scan-start, scan-more}
 use Rattle.carrying.specs.Insts.{instsOf}
 use Rattle.reach.specs.Scan.{Scanning}
@@ -24,29 +25,32 @@ Inv-loop insts operands v work₀ lay m count₀ from₀ i₀ work count from i 
 abbrev μ-loop : tie.MeasureT-loop
 μ-loop insts operands v work₀ lay m count₀ from₀ i₀ work count from i = m - i
 
+room : (c : tie.Start Inv-loop μ-loop) → length (c .args .insts .now) * 4 < 2 ^ 63
+room c = omega (arith, c .good)
+
 loop-holds : tie.Need-loop-holds Inv-loop μ-loop
-loop-holds c = (refl, omega arith, sum-start _, scan-start ((c .before .before .before .args) .v) ((c .before .before .before .args) .insts .now) ((c .before .before .before .args) .operands .now) ((c .before .before .before .args) .lay) ((c .before .before .before .args) .work .now) ((c .before .before .before .pre) .0 .3))
+loop-holds c = (refl, omega arith, sum-start _, scan-start (c .before .before .before .args .v) (c .before .before .before .args .insts .now) (c .before .before .before .args .operands .now) (c .before .before .before .args .lay) (c .before .before .before .args .work .now) (c .before .before .before .pre .0 .3))
 
 one-requires : tie.Need-one-requires Inv-loop μ-loop
-one-requires c κs = let z = operands-within ((c .before .before .before .before .before .before .args) .insts .now) ((c .before .before .before .before .before .before .args) .operands .now) ((c .before .before .before .before .before .before .pre) .0 .0) ((c .before .before .loop) .i) (omega arith) in let q = (c .before .before .loop) .inv .3 .few in let l = (c .before .before .loop) .inv .3 .kept .len in omega arith
+one-requires c κs = let z = operands-within (c .before .before .before .before .before .before .args .insts .now) (c .before .before .before .before .before .before .args .operands .now) (c .before .before .before .before .before .before .pre .0 .0) (c .before .before .loop .i) (within _ _ _ (c .before .before .loop .inv .0) (c .before .loop-test .taken)) in let q = c .before .before .loop .inv .3 .few in let l = c .before .before .loop .inv .3 .kept .len in omega arith
 
 mul-wide : tie.Need-mul-wide Inv-loop μ-loop
-mul-wide c = omega arith
+mul-wide c = count-at _ _ (within _ _ _ (c .before .before .before .before .before .loop .inv .0) (c .before .before .before .before .loop-test .taken)) (room (c .before .before .before .before .before .before .before .before .before)) .row
 
 add-wide : tie.Need-add-wide Inv-loop μ-loop
-add-wide c = omega arith
+add-wide c = count-at _ _ (within _ _ _ (c .before .before .before .before .before .loop .inv .0) (c .before .before .before .before .loop-test .taken)) (room (c .before .before .before .before .before .before .before .before .before)) .fits
 
 mul-wide-2 : tie.Need-mul-wide-2 Inv-loop μ-loop
-mul-wide-2 c = omega arith
+mul-wide-2 c = count-at _ _ (within _ _ _ (c .before .before .before .before .before .loop .inv .0) (c .before .before .before .before .loop-test .taken)) (room (c .before .before .before .before .before .before .before .before .before)) .in-bytes
 
 shared-slice-read-wide : tie.Need-shared-slice-read-wide Inv-loop μ-loop
-shared-slice-read-wide c = omega arith
+shared-slice-read-wide c = count-at _ _ (within _ _ _ (c .before .before .before .before .before .before .loop .inv .0) (c .before .before .before .before .before .loop-test .taken)) (room (c .before .before .before .before .before .before .before .before .before .before)) .inside
 
 wide-requires : tie.Need-wide-requires Inv-loop μ-loop
-wide-requires c κs = omega arith
+wide-requires c κs = tt
 
 add-from : tie.Need-add-from Inv-loop μ-loop
-add-from c = let z = operands-within ((c .before .before .before .before .before .before .before .before .before .before .before .args) .insts .now) ((c .before .before .before .before .before .before .before .before .before .before .before .args) .operands .now) ((c .before .before .before .before .before .before .before .before .before .before .before .pre) .0 .0) ((c .before .before .before .before .before .before .before .loop) .i) (omega arith) in let y = (c .wide) .ensures in omega arith
+add-from c = let z = operands-within (c .before .before .before .before .before .before .before .before .before .before .before .args .insts .now) (c .before .before .before .before .before .before .before .before .before .before .before .args .operands .now) (c .before .before .before .before .before .before .before .before .before .before .before .pre .0 .0) (c .before .before .before .before .before .before .before .loop .i) (within _ _ _ (c .before .before .before .before .before .before .before .loop .inv .0) (c .before .before .before .before .before .before .loop-test .taken)) in let y = c .wide .ensures in omega arith
 
 add-i : tie.Need-add-i Inv-loop μ-loop
 add-i c = omega arith
@@ -55,13 +59,13 @@ loop-less : tie.Need-loop-less Inv-loop μ-loop
 loop-less c = omega arith
 
 loop-again : tie.Need-loop-again Inv-loop μ-loop
-loop-again c = let z = sum-next (λ k. field 9 ((c .before .before .before .before .before .before .before .before .before .before .before .args) .insts .now) k 8) ((c .before .before .before .before .before .before .before .loop) .i) in let y = (c .wide) .ensures in (omega arith, omega arith, omega arith, scan-more _ ((c .before .before .before .before .before .before .before .before .before .before .before .args) .insts .now) ((c .before .before .before .before .before .before .before .before .before .before .before .args) .operands .now) _ ((c .before .before .before .before .before .before .before .before .before .before .before .pre) .0 .0) (omega arith) ((c .before .before .before .before .before .before .before .loop) .inv .3) (omega arith) ((c .before .before .before .before .before .before .before .loop) .from) ((c .before .before .before .before .before .before .before .loop) .inv .2) ((c .before .before .before .before .one) .ensures))
+loop-again c = let z = sum-next (λ k. field 9 (c .before .before .before .before .before .before .before .before .before .before .before .args .insts .now) k 8) (c .before .before .before .before .before .before .before .loop .i) in let y = c .wide .ensures in (omega arith, omega arith, omega arith, scan-more _ (c .before .before .before .before .before .before .before .before .before .before .before .args .insts .now) (c .before .before .before .before .before .before .before .before .before .before .before .args .operands .now) _ (c .before .before .before .before .before .before .before .before .before .before .before .pre .0 .0) (omega arith) (c .before .before .before .before .before .before .before .loop .inv .3) (omega arith) (c .before .before .before .before .before .before .before .loop .from) (c .before .before .before .before .before .before .before .loop .inv .2) (c .before .before .before .before .one .ensures))
 
 same-length : tie.Need-same-length Inv-loop μ-loop
-same-length c = (c .before .loop) .inv .3 .kept .len
+same-length c = c .before .loop .inv .3 .kept .len
 
 returns : tie.Need-returns Inv-loop μ-loop
-returns c = let z : (c .before .loop) .i ≡ length ((c .before .before .before .before .before .args) .insts .now) / 9 = omega arith in rw z at ((c .before .loop) .inv .3)
+returns c = let z : (c .before .loop) .i ≡ length (c .before .before .before .before .before .args .insts .now) / 9 = omega arith in rw z at (c .before .loop .inv .3)
 
 pub scan-spec : {M : Type 1} → statement M
 scan-spec =
