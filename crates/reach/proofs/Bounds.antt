@@ -29,12 +29,13 @@ pub record OperandAt (m from p : ℕ) : Type 0 where
   pub fits : Fits w64 (2 * (from + p) + 1)
   pub in-bytes : Fits w64 ((2 * (from + p) + 1) * 4)
   pub inside : 2 * (from + p) + 1 < m
+  pub low : from + p < m / 2
   pub next : Fits w64 (p + 1)
 
 pub operand-at : (m from n p : ℕ) → from + n ≤ m / 2 → p < n → m * 4 < 2 ^ 63 → OperandAt m from p
 operand-at m from n p h k r =
     let x : 2 * (from + p) + 1 < m = omega arith in
-    record { place = omega (arith, r, x); row = omega (arith, r, x); fits = omega (arith, r, x); in-bytes = omega (arith, r, x); inside = x; next = omega (arith, r, x) }
+    record { place = omega (arith, r, x); row = omega (arith, r, x); fits = omega (arith, r, x); in-bytes = omega (arith, r, x); inside = x; low = omega arith; next = omega (arith, r, x) }
 
 -- a register below v and an instruction as one key
 pub record KeyFits (r inst : ℕ) : Type 0 where
