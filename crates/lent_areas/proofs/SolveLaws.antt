@@ -1,6 +1,8 @@
 -- The areas in the work space: the regions fit, and each phase leaves what the next one asks.
 use Prim.Native.Nat.{ℕ, zero, suc, _+_, _*_, _/_, _%_, _^_, _≤_, _<_}
 use native.Mathlib.Nat.{mul-le-mul-right}
+use mir.Syntax.{w64}
+use mir.Val.{Fits as WordFits}
 use native.Mathlib.Omega.{arith}
 use mathlib.Core.Path.{_≡_, refl, sym, ap, _∙_}
 use mathlib.Core.Logic.{inl, inr}
@@ -30,10 +32,21 @@ use Rattle.area_measure.proofs.ListLaws.{listed-start}
 use Rattle.area_measure.proofs.LocalLaws.{chains-kept}
 use Rattle.area_layout.specs.declared.Sizes.{Sizes}
 use Rattle.lent_areas.specs.declared.Found.the-variants.{Inverted, Ranges}
-use Rattle.area_layout.specs.Layout.{spaceFor, Placed, Gridded, markOf}
+use Rattle.area_layout.specs.Layout.{spaceFor, Small, Placed, Gridded, markOf}
 use Rattle.area_checks.specs.Checks.{sizesOf, Lent}
 use Rattle.lent_areas.specs.Areas.{graphFor, listing, Markable, Marking, Rowed, Solved}
 use Rattle.area_layout.proofs.FitLaws.{rows-small, layout-fits}
+
+-- the ends' room is not far
+pub past-ends : (z : Sizes) (p : Places) → Small z → Placed z p → p .ends + z .ends ≤ 1048576
+past-ends z p s l = omega (arith, s .few-locals, s .few-touches, s .few-ends, s .few-ranges, l .heads-at, l .nexts-at, l .touches-at, l .ends-at)
+
+pub near : (n : ℕ) → n ≤ 1048576 → WordFits w64 n
+near n h = omega arith
+
+pub positive : (n : ℕ) → (n ≡ 0 → ⊥) → 0 < n
+positive zero d = absurd (d refl)
+positive (suc n) d = omega arith
 
 -- ---- the marks
 
@@ -163,6 +176,9 @@ module _ (blocks edges kinds touches ends : List ℕ) (areas : ℕ) (p : Places)
       let s = N .small in
       let r = rows-small s in
       omega (arith, fit, s .few-blocks, s .few-edges, s .few-locals, s .few-touches, s .few-ends, s .few-ranges)
+
+  pub mark-fits : WordFits w64 (g .locals * g .width) × WordFits w64 (markOf g)
+  mark-fits = let a = from-small in (omega (arith, a), omega (arith, a))
 
   few : length kinds * (3 * rowCount 3 touches + n) < 2 ^ 32
   few =

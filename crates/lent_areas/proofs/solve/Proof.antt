@@ -4,28 +4,27 @@ use Prim.Native.Nat.{_-_}
 use denote.Ref.{now}
 use borrow.Author.Needs.{needs}
 use mathlib.Core.List.{[]}
-use Rattle.words.proofs.FitLaws.{positive}
-use Rattle.lent_areas.proofs.SolveLaws.{markable, grid-laid, mark-room, from-small, ready, solved, inverted-found, solved-none}
+use Rattle.lent_areas.proofs.SolveLaws.{positive, markable, grid-laid, mark-room, mark-fits, past-ends, near, ready, solved, inverted-found, solved-none}
 use Rattle.lent_areas.proofs.solve.Statement.{statement}
 use Rattle.lent_areas.proofs.solve.Tie as tie
 
 returns : tie.Need-returns
-returns c = let a = (c .before .before .before .before .before .before .before .args) in solved-none (now (a .blocks)) (now (a .edges)) (now (a .kinds)) (now (a .touches)) (now (a .ends)) (a .areas) _ (omega arith)
+returns c = let a = (c .before .before .before .before .before .before .before .args) in solved-none (now (a .blocks)) (now (a .edges)) (now (a .kinds)) (now (a .touches)) (now (a .ends)) (a .areas) _ ((c .if1) .taken)
 
 places-requires : tie.Need-places-requires
 places-requires c κs = (c .before .before .before .before .before .before .before .pre) .small
 
 add-grid : tie.Need-add-grid
-add-grid c = let s = (c .before .before .before .before .before .before .before .before .before .before .pre) .small in let p = (c .before .before .places) .ensures in omega (arith, s .few-locals, s .few-touches, s .few-ends, s .few-ranges, p .heads-at, p .nexts-at, p .touches-at, p .ends-at)
+add-grid c = near _ (past-ends _ _ ((c .before .before .before .before .before .before .before .before .before .before .pre) .small) ((c .before .before .places) .ensures))
 
 grid-requires : tie.Need-grid-requires
-grid-requires c κs = let s = (c .before .before .before .before .before .before .before .before .before .before .pre) .small in let p = (c .before .before .places) .ensures in (s, omega (arith, s .few-locals, s .few-touches, s .few-ends, s .few-ranges, p .heads-at, p .nexts-at, p .touches-at, p .ends-at))
+grid-requires c κs = ((c .before .before .before .before .before .before .before .before .before .before .pre) .small, past-ends _ _ ((c .before .before .before .before .before .before .before .before .before .before .pre) .small) ((c .before .before .places) .ensures))
 
 mul-from : tie.Need-mul-from
-mul-from c = let a = (c .before .before .before .before .before .before .before .before .before .before .before .before .args) in omega (arith, from-small (now (a .blocks)) (now (a .edges)) (now (a .kinds)) (now (a .touches)) (now (a .ends)) (a .areas) _ _ (c .before .before .before .before .before .before .before .before .before .before .before .before .pre) (positive _ ((c .before .before .before .before .before .if1) .left)) ((c .before .before .before .before .places) .ensures) ((c .before .grid) .ensures))
+mul-from c = let a = (c .before .before .before .before .before .before .before .before .before .before .before .before .args) in mark-fits (now (a .blocks)) (now (a .edges)) (now (a .kinds)) (now (a .touches)) (now (a .ends)) (a .areas) _ _ (c .before .before .before .before .before .before .before .before .before .before .before .before .pre) (positive _ ((c .before .before .before .before .before .if1) .left)) ((c .before .before .before .before .places) .ensures) ((c .before .grid) .ensures) .0
 
 add-from : tie.Need-add-from
-add-from c = let a = (c .before .before .before .before .before .before .before .before .before .before .before .before .before .args) in omega (arith, from-small (now (a .blocks)) (now (a .edges)) (now (a .kinds)) (now (a .touches)) (now (a .ends)) (a .areas) _ _ (c .before .before .before .before .before .before .before .before .before .before .before .before .before .pre) (positive _ ((c .before .before .before .before .before .before .if1) .left)) ((c .before .before .before .before .before .places) .ensures) ((c .before .before .grid) .ensures))
+add-from c = let a = (c .before .before .before .before .before .before .before .before .before .before .before .before .before .args) in mark-fits (now (a .blocks)) (now (a .edges)) (now (a .kinds)) (now (a .touches)) (now (a .ends)) (a .areas) _ _ (c .before .before .before .before .before .before .before .before .before .before .before .before .before .pre) (positive _ ((c .before .before .before .before .before .before .if1) .left)) ((c .before .before .before .before .before .places) .ensures) ((c .before .before .grid) .ensures) .1
 
 mark-requires : tie.Need-mark-requires
 mark-requires c κs = let a = (c .before .before .before .before .before .before .before .before .before .before .before .before .before .before .args) in markable (now (a .blocks)) (now (a .edges)) (now (a .kinds)) (now (a .touches)) (now (a .ends)) (a .areas) _ _ (c .before .before .before .before .before .before .before .before .before .before .before .before .before .before .pre) (positive _ ((c .before .before .before .before .before .before .before .if1) .left)) ((c .before .before .before .before .before .before .places) .ensures) ((c .before .before .before .grid) .ensures)
