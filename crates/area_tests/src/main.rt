@@ -45,7 +45,7 @@ fn run(n: &[u32], e: Cuts)
 {
     let mut areas = [7u32; 80];
     let mut items = [7u32; 160];
-    let mut work = [7u64; 1024];
+    let mut work = [7u64; 2048];
     let a = n[1] as usize;
     let i = n[2] as usize;
     let w = n[3] as usize;
@@ -55,7 +55,7 @@ fn run(n: &[u32], e: Cuts)
     if i > 160 {
         return;
     }
-    if w > 1024 {
+    if w > 2048 {
         return;
     }
     answer(n, e, &mut areas[0..a], &mut items[0..i], &mut work[0..w]);

@@ -136,7 +136,7 @@ fn run(n: &[u32], e: Cuts)
 }
 
 fn main() {
-    let mut text = [0u8; 131072];
+    let mut text = [0u8; 98304];
     let mut n = [0u32; 1024];
     let len = io::read_full(0, &mut text);
     let mut i = 0;

@@ -44,10 +44,6 @@ past-ends z p s l = omega (arith, s .few-locals, s .few-touches, s .few-ends, s 
 pub near : (n : ℕ) → n ≤ 1048576 → WordFits w64 n
 near n h = omega arith
 
-pub positive : (n : ℕ) → (n ≡ 0 → ⊥) → 0 < n
-positive zero d = absurd (d refl)
-positive (suc n) d = omega arith
-
 -- ---- the marks
 
 module _ (p : Places) (g : Grid) (blocks kinds touches ends : List ℕ) {w₀ w₁ : List ℕ} (M : Markable p g blocks kinds touches ends w₀) (C : Chained p touches ends w₀ w₁) where

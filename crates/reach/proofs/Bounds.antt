@@ -56,6 +56,3 @@ put-at {w = w} d h r = let a = d .room in let b = d .few in let l = d .kept .len
 
 pub put-more : {w₀ w : List ℕ} {at j count : ℕ} {t : ℕ → Bool} {reg : ℕ → ℕ} {n k p : ℕ} → Linking w₀ w at j count t reg n k p → p < n → length w₀ * 8 < 2 ^ 63 → Fits w64 (k + 1)
 put-more d h r = let a = d .room in let b = d .few in omega arith
-
-pub within : (k n m : ℕ) → n ≡ m → k < n → k < m
-within k n m e h = omega arith

@@ -88,7 +88,7 @@ fn run(entry: u8, n: &[u32], e: Cuts)
 }
 
 fn main() {
-    let mut text = [0u8; 4096];
+    let mut text = [0u8; 8192];
     let mut n = [0u32; 1024];
     let len = io::read_full(0, &mut text);
     let mut i = 0;

@@ -2,8 +2,8 @@
 use rucc_mir::{Amode, Block, BlockData, Call, Func, Inst, InstData, Mem, Opcode, Operand, Operands, Param, Reg, Role};
 use rucc_regalloc::order::Order;
 
-/// The bytes that a program reads, and more than a random case has.
-pub const ROOM: usize = 65536;
+/// The bytes that each of the programs reads at least, and more than a random case has.
+pub const ROOM: usize = 8192;
 pub const LONGEST: usize = 4096;
 
 pub struct Case {

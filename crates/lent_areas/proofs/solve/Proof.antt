@@ -4,7 +4,8 @@ use Prim.Native.Nat.{_-_}
 use denote.Ref.{now}
 use borrow.Author.Needs.{needs}
 use mathlib.Core.List.{[]}
-use Rattle.lent_areas.proofs.SolveLaws.{positive, markable, grid-laid, mark-room, mark-fits, past-ends, near, ready, solved, inverted-found, solved-none}
+use Rattle.words.proofs.FitLaws.{positive}
+use Rattle.lent_areas.proofs.SolveLaws.{markable, grid-laid, mark-room, mark-fits, past-ends, near, ready, solved, inverted-found, solved-none}
 use Rattle.lent_areas.proofs.solve.Statement.{statement}
 use Rattle.lent_areas.proofs.solve.Tie as tie
 

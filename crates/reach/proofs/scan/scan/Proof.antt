@@ -9,13 +9,14 @@ use Rattle.graph.proofs.Sums.{sum-start, sum-next}
 use Rattle.insts.specs.Rows.{operandsFrom}
 use Rattle.carrying.specs.Insts.{defOf}
 use Rattle.reach.specs.Scan.{escapesIn, handsIn, rowOf, strayReader}
-use Rattle.reach.proofs.Bounds.{count-at, within}
+use Rattle.reach.proofs.Bounds.{count-at}
 use Rattle.reach.proofs.ScanLaws.{scan-start, scan-more}
 use Rattle.carrying.specs.Insts.{instsOf}
 use Rattle.reach.specs.Scan.{Scanning}
 use Rattle.insts.specs.Counts.{offset}
 use Rattle.insts.proofs.DealtLaws.{operands-within}
 use Prim.Native.Nat.{_/_}
+use Rattle.words.proofs.FitLaws.{within}
 use Rattle.reach.proofs.scan.scan.Statement.{statement}
 use Rattle.reach.proofs.scan.scan.Tie as tie
 
