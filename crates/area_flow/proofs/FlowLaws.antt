@@ -9,7 +9,6 @@ use lib.ListN.{length, getD}
 use Rattle.words.proofs.RegionLaws.{row-before}
 use Rattle.bits.specs.Bits.{bit, bitOf}
 use Rattle.graph.specs.Paths.{Edge, Between}
-use Rattle.graph.specs.Flow.{Reaching}
 use Rattle.graph.specs.Work.{EdgeRows, Neighbours}
 use Rattle.tarjan.specs.Components.{Walkable, Found}
 use Rattle.flow_rows.specs.declared.Flow.{Flow}
@@ -17,9 +16,8 @@ use Rattle.flow.specs.declared.Over.{Over}
 use Rattle.flow.specs.declared.Over.the-variants.{Predecessors, Successors}
 use Rattle.flow_rows.specs.Flowed.{order, Flowed}
 use Rattle.flow_rows.specs.Flowed.{Laid as FlowLaid}
-use Rattle.flow.specs.Entry.{FlowsTo, wayOf}
+use Rattle.flow.specs.Entry.{wayOf}
 use Rattle.flow.proofs.Ways.{flows-as}
-use Rattle.flow_rows.proofs.Routes.{reached-turned}
 use Rattle.graph.proofs.Within.{rows-moved}
 use Rattle.graph.proofs.RoundLaws.{reached, reaching}
 use Rattle.graph.proofs.RoundLaws.{arriving as arriving-row}

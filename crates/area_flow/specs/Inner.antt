@@ -4,7 +4,7 @@ use mathlib.Core.Path.{_≡_}
 use mathlib.Core.Logic.{_↔_}
 use mathlib.Core.Bool.{true, false, _&&_, _||_}
 use mathlib.Core.List.{List}
-use lib.ListN.{length, getD}
+use lib.ListN.{length}
 use Rattle.graph.specs.Paths.{Edge, Between}
 use Rattle.graph.specs.Flow.{Arrives}
 use Rattle.graph.specs.Rounds.{reachedRow, reachingRow, arrivingRow}

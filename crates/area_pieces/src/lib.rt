@@ -6,7 +6,7 @@ ghost use Prim.Native.Nat.{_+_, _-_, _*_, _/_, _≤_, _<_, _^_};
 ghost use lib.ListN.{length};
 ghost use Rattle.packed.specs.Work.{Clear};
 ghost use Rattle.ranges.specs.Points.{range};
-ghost use Rattle.ranges.specs.Forms.{pack, unpack};
+ghost use Rattle.ranges.specs.Forms.{unpack};
 ghost use Rattle.graph.specs.Paths.{Edge};
 ghost use Rattle.graph.specs.Line.{blocksOf, Sound};
 ghost use Rattle.areas.specs.Blocks.{top, bottom, clip, inverted};

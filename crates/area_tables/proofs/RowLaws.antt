@@ -51,7 +51,7 @@ ranges-below A i n h =
 
 -- ---- how many ranges areas have
 
-listed-long : (a : Option (List Range)) → length (listed a) ≡ rangesIn a
+pub listed-long : (a : Option (List Range)) → length (listed a) ≡ rangesIn a
 listed-long none = refl
 listed-long (some rs) = refl
 

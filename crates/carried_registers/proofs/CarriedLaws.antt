@@ -1,11 +1,11 @@
 -- The entry `carried`: the queue in order is the list of the definition, and the ways out.
-use Prim.Native.Nat.{ℕ, _+_, _-_, _*_, _/_, _^_, _≤_, _<_, min}
+use Prim.Native.Nat.{ℕ, _+_, _-_, _^_, _≤_, _<_, min}
 use native.Mathlib.Omega.{arith}
 use mathlib.Core.Path.{_≡_, refl, sym, ap, _∙_, subst}
-use mathlib.Core.Logic.{_≢_, _⊎_, inl}
-use mathlib.Core.Bool.{Bool, true}
-use mathlib.Core.Option.{Option, some}
-use mathlib.Core.List.{List, [], _++_, List·Memᴰ}
+use mathlib.Core.Logic.{inl}
+use mathlib.Core.Bool.{true}
+use mathlib.Core.Option.{some}
+use mathlib.Core.List.{List, _++_, List·Memᴰ}
 use lib.ListN.{length, getD, drop}
 use borrow.Author.Tests.{lt-ltb, le-ltb}
 use Rattle.refusals.specs.declared.Verdict.{Verdict}
@@ -24,17 +24,16 @@ use Rattle.graph.proofs.Line.{mem-at, at-mem}
 use Rattle.carrying.specs.Carried.{Code, Carries, carries, carried}
 use Rattle.carrying.proofs.CarryLaws.{carries-below, carried-least}
 use Rattle.reach.specs.declared.Lay.{Lay}
-use Rattle.reach.specs.Prepared.{wordsOf, codeOf, Readied}
+use Rattle.reach.specs.Prepared.{wordsOf, codeOf}
 use Rattle.follow.specs.declared.Sizes.{Sizes}
 use Rattle.follow.specs.declared.Followed.{Followed}
 use Rattle.queue.specs.Walk.{queued}
-use Rattle.follow.specs.Followed.{FollowedTo, FollowsAny}
-use Rattle.carried_registers.specs.declared.Carrying.{Carrying}
+use Rattle.follow.specs.Followed.{FollowedTo}
 use Rattle.carried_registers.specs.declared.Carrying.the-variants.{Listed, Absent, Refused}
 use Rattle.carry_checks.specs.Checks.{carrySpace, carryVerdict}
 use Rattle.carry_checks.specs.Layout.{usedOf}
 use Rattle.carried_registers.specs.Carried.{mostOf, Registers, verdictOf, CarriedTo}
-use Rattle.carried_registers.proofs.UpLaws.{Up, Apart, apart-of, up-sort, up-below, below-length, up-same}
+use Rattle.carried_registers.proofs.UpLaws.{Up, apart-of, up-sort, up-below, below-length, up-same}
 use Rattle.carry_checks.proofs.LayoutLaws.{cleared-all}
 
 carried-up : (C : Code) (l : ℕ) → Up (carried C l)

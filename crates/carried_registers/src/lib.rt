@@ -1,6 +1,6 @@
 // The entry `carried`: the registers that carry one local's address.
 ghost use mathlib.Core.Path.{_≡_};
-ghost use Prim.Native.Nat.{_+_, _*_, _/_, _≤_, _<_, min};
+ghost use Prim.Native.Nat.{_/_, _≤_, _<_, min};
 ghost use lib.ListN.{length};
 ghost use Rattle.reach.specs.Prepared.{wordsOf, codeOf};
 ghost use Rattle.carry_checks.specs.Layout.{usedOf, Checked};

@@ -1,35 +1,30 @@
 -- The checks of the entries: their order, and what no refusal says.
-use Prim.Native.Nat.{ℕ, zero, suc, _+_, _-_, _*_, _/_, _≤_, _<_}
+use Prim.Native.Nat.{ℕ, _-_, _*_, _/_, _≤_, _<_}
 use native.Mathlib.Omega.{arith}
-use native.Mathlib.Nat.{add-zero}
-use mathlib.Core.Path.{_≡_, refl, sym, ap, _∙_}
-use mathlib.Core.Bool.{Bool, true, false, cond, not, _||_, true≢false, false≢true}
+use mathlib.Core.Path.{_≡_, sym, ap, _∙_}
+use mathlib.Core.Bool.{false, not, _||_, true≢false}
 use mathlib.Core.List.{List, []}
 use lib.ListN.{length, getD}
-use lib.Dec.{eqb, leb, ltb}
-use borrow.Author.Tests.{lt-ltb, le-ltb, le-leb}
+use borrow.Author.Tests.{le-leb}
 use Rattle.refusals.specs.declared.Verdict.{Verdict}
 use Rattle.refusals.specs.declared.Verdict.the-variants.{Fine, Bad}
 use Rattle.refusals.specs.declared.Refusal.{Refusal}
-use Rattle.refusals.specs.declared.Refusal.the-variants.{Space, Stray}
-use Rattle.refusals.specs.Verdicts.{first, check}
+use Rattle.refusals.specs.declared.Refusal.the-variants.{Stray}
+use Rattle.refusals.specs.Verdicts.{first}
 use Rattle.refusals.proofs.Laws.{first-fine, first-bad, first-left, first-right, scan-fine, bad-fine}
-use Rattle.words.specs.Rows.{rowCount}
 use Rattle.words.proofs.Points.{cut}
 use Rattle.words.proofs.Bools.{or-neither}
-use Rattle.graph.specs.Line.{blocksOf, lineVerdict}
 use Rattle.carrying.specs.Insts.{instsOf, instAt, isSet}
-use Rattle.carrying.specs.Carried.{Mention, mentionsOf}
-use Rattle.carrying.specs.Checks.{instVerdict, crossingVerdict, addressVerdict, endVerdict, absent, mentionAt}
+use Rattle.carrying.specs.Carried.{mentionsOf}
+use Rattle.carrying.specs.Checks.{crossingVerdict, addressVerdict, endVerdict, absent, mentionAt}
 use Rattle.insts.specs.Counts.{rowsVerdict, mostVerdict, blockCounts, instCounts, codeCounts}
 use Rattle.insts.specs.Rows.{AddsUp}
 use Rattle.insts.proofs.DealtLaws.{insts-length}
 use Rattle.insts.proofs.CheckLaws.{most-few, rows-few, blocks-few, blocks-some, insts-counted, inst-is, address-whatever, end-whatever}
-use Rattle.reach.specs.Prepared.{wordsOf}
 use Rattle.reach.proofs.ReadyLaws.{mentions-count}
 use Rattle.rooms.proofs.RoomLaws.{room-answer, room-work}
 use Rattle.carry_checks.specs.Checks.{carryCounts, placeVerdict, strayVerdict, carrySpace, roomVerdict, carryVerdict}
-use Rattle.carry_checks.specs.Layout.{usedOf, Checked}
+use Rattle.carry_checks.specs.Layout.{Checked}
 
 -- ---- number 7
 

@@ -1,16 +1,14 @@
 -- The regions as they are laid are ready for a walk once prepared; the work space after an answer.
-use Prim.Native.Nat.{ℕ, _+_, _-_, _*_, _/_, _≤_, _<_}
+use Prim.Native.Nat.{ℕ, _+_, _-_, _/_, _≤_}
 use native.Mathlib.Omega.{arith}
 use mathlib.Core.Path.{_≡_, refl, sym, ap, _∙_}
 use mathlib.Core.List.{List, _++_}
-use lib.ListN.{length, getD, drop, replicate, length-replicate, length-drop}
-use lib.Seq.{ext-getD, getD-drop}
+use lib.ListN.{length, drop, replicate, length-replicate}
 use Rattle.words.specs.Regions.{cleared}
 use Rattle.words.proofs.RegionLaws.{drop-same}
 use Rattle.graph.specs.Work.{Within}
 use Rattle.reach.specs.declared.Lay.{Lay}
 use Rattle.reach.specs.Prepared.{Laid, wordsOf, codeOf, Readied}
-use Rattle.follow.specs.declared.Sizes.{Sizes}
 use Rattle.follow.specs.Followed.{Ready}
 use Rattle.follow.proofs.KeptLaws.{made-ready}
 use Rattle.carry_checks.specs.Layout.{usedOf, Checked}

@@ -1,9 +1,8 @@
 // The refusals of the entries of carrying, in linear time and without work space.
 ghost use mathlib.Core.Path.{_≡_};
 ghost use mathlib.Core.List.{[]};
-ghost use Prim.Native.Nat.{_+_, _*_, _/_, _≤_, _<_};
+ghost use Prim.Native.Nat.{_+_, _*_, _/_, _≤_};
 ghost use lib.ListN.{length};
-ghost use Rattle.refusals.specs.Verdicts.{first};
 ghost use Rattle.carry_checks.specs.Checks.{carryCounts, strayVerdict, carrySpace, carryVerdict};
 use refusals::Verdict;
 

@@ -1,6 +1,6 @@
 // Where the regions that carrying uses stand in the work space.
 ghost use mathlib.Core.Path.{_≡_};
-ghost use Prim.Native.Nat.{_+_, _*_, _/_, _≤_, _<_};
+ghost use Prim.Native.Nat.{_+_, _/_, _≤_};
 ghost use Rattle.reach.specs.Prepared.{wordsOf, Laid};
 ghost use Rattle.carry_checks.specs.Layout.{usedOf};
 use reach::Lay;

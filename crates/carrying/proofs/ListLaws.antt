@@ -5,7 +5,6 @@ use mathlib.Core.Path.{_≡_, refl, sym, _∙_}
 use mathlib.Core.Logic.{_⊎_, inl, inr}
 use mathlib.Core.Bool.{Bool, true, false, cond, _||_, true≢false, false≢true}
 use mathlib.Core.List.{List, [], _∷_, _++_, List·Memᴰ, List·Memᴰ·head, List·Memᴰ·tail, List·Memᴰ·cases-cons, List·Memᴰ·not-nil, Memᴰ·append-left, Memᴰ·append-right, List·Memᴰ·append-cases}
-use lib.ListN.{length, getD}
 use Rattle.words.proofs.Bools.{or-right, or-cases, or-left}
 use Rattle.graph.proofs.RoundLaws.{last-or-less}
 use Rattle.carrying.specs.Lists.{any, keep, gather, below}

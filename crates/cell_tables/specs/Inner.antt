@@ -1,5 +1,5 @@
 -- What the functions of fitting promise each other: a cell's lists of ranges are linked, latest first, by their places in the order. A place's list is its item's area, or its union with earlier lists of the cell.
-use Prim.Native.Nat.{ℕ, zero, suc, _+_, _-_, _*_, _/_, _%_, _^_, _<_, _≤_, max}
+use Prim.Native.Nat.{ℕ, zero, suc, _+_, _-_, _*_, _/_, _^_, _<_, _≤_}
 use mathlib.Core.Path.{_≡_}
 use mathlib.Core.Logic.{_⊎_}
 use mathlib.Core.Bool.{Bool, true, false, _&&_, _||_}
@@ -8,12 +8,10 @@ use mathlib.Core.List.{List, [], _∷_}
 use lib.ListN.{length, getD, set}
 use Rattle.ranges.specs.declared.Range.{Range}
 use Rattle.ranges.specs.Points.{Upright, Apart, Point}
-use Rattle.ranges.specs.Forms.{unpacked}
-use Rattle.words.specs.Regions.{part}
 use Rattle.bits.specs.Bits.{bitOf, bit, Row}
-use Rattle.fitting.specs.Wants.{Want, wantAt, orderOf}
+use Rattle.fitting.specs.Wants.{orderOf}
 use Rattle.fitting.specs.Plan.{Cell, cellAt, joinable, Plan, put, depthOf}
-use Rattle.order.specs.Keys.{sizeOf, alignOf}
+use Rattle.order.specs.Keys.{sizeOf}
 use Rattle.cell_tables.specs.declared.Progress.{Progress}
 use Rattle.cell_tables.specs.declared.Own.{Own}
 use Rattle.cell_tables.specs.Tables.{firstOf, countOf, rangesAt, areaIn, wantsIn, Lent, Shown, planIn}

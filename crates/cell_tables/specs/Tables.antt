@@ -13,7 +13,7 @@ use Rattle.ranges.specs.declared.Range.{Range}
 use Rattle.ranges.specs.Points.{Apart}
 use Rattle.ranges.specs.Forms.{unpacked}
 use Rattle.fitting.specs.Wants.{Want, orderOf}
-use Rattle.fitting.specs.Plan.{Cell, cellAt, Plan, planOf, depthOf}
+use Rattle.fitting.specs.Plan.{cellAt, Plan, planOf, depthOf}
 use Rattle.order.specs.Keys.{sizeOf, alignOf}
 use Rattle.cell_tables.specs.declared.Counts.{Counts}
 

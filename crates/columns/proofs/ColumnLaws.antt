@@ -1,12 +1,10 @@
 -- What the functions over columns do, by the numbers that they read and store.
 use mathlib.Core.Path.{_≡_, refl, sym, ap, _∙_}
-use mathlib.Core.Logic.{_⊎_, inl, inr}
-use mathlib.Core.Bool.{Bool, true, false, cond, _&&_, _||_}
 use mathlib.Core.List.{List, [], _∷_, _++_}
-use Prim.Native.Nat.{ℕ, zero, suc, _+_, _-_, _≤_, _<_, max}
+use Prim.Native.Nat.{ℕ, suc, _+_, _-_, _≤_, _<_}
 use native.Mathlib.Omega.{arith}
 use lib.ListN.{length, getD, take, drop, set, length-drop, length-map}
-use lib.Seq.{set-getD, ext-getD, getD-drop}
+use lib.Seq.{set-getD}
 use native.Mathlib.Nat.{zero-add}
 use Rattle.words.specs.Regions.{Region}
 use Rattle.words.proofs.RegionLaws.{part-is, drop-same}
@@ -17,7 +15,7 @@ use Rattle.ranges.specs.Forms.{columns, starts, ends}
 use Rattle.ranges.specs.Inner.{TakenUp, Listing}
 use Rattle.ranges.proofs.ListingLaws.{up-first, up-next, up-wider, up-kept, listing-all, listing-length, listing-raise, listing-push}
 use Rattle.ranges.proofs.TakeLaws.{joined-first, joined-longer, joined-next}
-use Rattle.ranges.proofs.FormLaws.{columns-at, columns-length, columns-set, starts-columns, ends-columns, columns-take, columns-drop, map-append}
+use Rattle.ranges.proofs.FormLaws.{columns-length, columns-set, starts-columns, ends-columns, columns-take, columns-drop, map-append}
 use Rattle.ranges.proofs.FormLaws.{start-at, end-at}
 
 -- ---- one range taken up

@@ -1,5 +1,5 @@
 -- Laws of the entry: each way out.
-use Prim.Native.Nat.{ℕ, zero, suc, _+_, _*_, _/_, _≤_, _<_}
+use Prim.Native.Nat.{ℕ, _+_, _*_, _/_, _≤_, _<_}
 use mathlib.Core.Path.{_≡_, refl, sym, ap, _∙_, subst}
 use mathlib.Core.List.{List, _++_}
 use native.Mathlib.Omega.{arith}
@@ -8,12 +8,11 @@ use lib.Seq.{ext-getD, getD-drop}
 use Rattle.refusals.specs.declared.Refusal.{Refusal}
 use Rattle.refusals.specs.declared.Verdict.{Verdict}
 use Rattle.refusals.specs.declared.Verdict.the-variants.{Fine, Bad}
-use Rattle.refusals.specs.Verdicts.{first}
 use Rattle.refusals.proofs.Laws.{first-fine, first-bad, first-left, first-right, bad-fine}
 use Rattle.words.specs.Regions.{cleared}
 use Rattle.words.specs.Rows.{rowCount}
 use Rattle.words.specs.Regions.{Region}
-use Rattle.graph.specs.Line.{blocksOf, jumpsOf, edgeVerdict, Sound}
+use Rattle.graph.specs.Line.{blocksOf, jumpsOf}
 use Rattle.graph.specs.Checks.{graphVerdict, spaceOf, spaceVerdict}
 use Rattle.graph.specs.Paths.{Between}
 use Rattle.graph.specs.Work.{Within, EdgeRows, Neighbours}
@@ -21,9 +20,8 @@ use Rattle.graph.proofs.Within.{within-trans, within-wider}
 use Rattle.graph.proofs.Line.{blocks-length, edges-between}
 use Rattle.line_checks.proofs.Refusals.{Passed, passed, space-told}
 use Rattle.tarjan.specs.Components.{Components, Walkable, Found}
-use Rattle.components.specs.declared.Answer.{Answer}
 use Rattle.components.specs.declared.Answer.the-variants.{Given, Refused}
-use Rattle.components.specs.Entry.{verdictOf, edgesIn, Numbered, Turned, Answered, Solved}
+use Rattle.components.specs.Entry.{verdictOf, edgesIn, Turned, Answered, Solved}
 
 -- ---- the refusals
 

@@ -1,7 +1,7 @@
 -- Laws of the rows, of names in bars and of colours.
-use Prim.Native.Nat.{ℕ, zero, suc, _+_, _-_, _*_, _/_, _%_, _^_, _≤_, _<_}
+use Prim.Native.Nat.{ℕ, _+_, _-_, _*_, _/_, _%_, _^_, _≤_, _<_}
 use native.Mathlib.Omega.{arith}
-use native.Mathlib.Nat.{le-div-iff-mul-le, div-lt-iff-lt-mul, mul-le-mul-left, le-refl, mul-comm, zero-mul, pow-succ'}
+use native.Mathlib.Nat.{le-div-iff-mul-le, le-refl, mul-comm, zero-mul, pow-succ'}
 use native.Mathlib.Numerals.{add-one}
 use mathlib.Core.Path.{_≡_, refl, sym, ap, _∙_}
 use Rattle.words.proofs.Points.{same}

@@ -2,7 +2,6 @@
 // 9,700.
 ghost use mathlib.Core.Path.{_≡_};
 ghost use Prim.Native.Nat.{_+_, _-_, _<_, min, max};
-ghost use lib.ListN.{length};
 ghost use Rattle.words.specs.Rows.{rowCount};
 ghost use Rattle.drawing.specs.Axis.{leastOf, greatestOf, firstOf, lastOf, pointsBefore, Placed, Barred, rangesIn};
 ghost use Rattle.drawing.specs.Rows.{topOf, rowHeight, heightOf, Fits, Digits, hueOf};

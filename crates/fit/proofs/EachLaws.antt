@@ -1,12 +1,12 @@
 -- Items drawn, put and joined one after another: the tables hold the plan, and the rows its sample points.
-use Prim.Native.Nat.{ℕ, _+_, _-_, _*_, _/_, _%_, _^_, _≤_, _<_}
+use Prim.Native.Nat.{ℕ, _+_, _-_, _*_, _/_, _^_, _≤_, _<_}
 use native.Mathlib.Omega.{arith}
 use native.Mathlib.Decide.{ℕ-discrete}
 use native.Mathlib.Nat.{div-le-self}
 use mathlib.Core.Path.{_≡_, refl, ap, sym, _∙_, subst}
 use mathlib.Core.Logic.{_≢_, _⊎_, inl, inr, ⊎-elim}
-use mathlib.Core.Bool.{Bool, true, false, _||_}
-use mathlib.Core.Option.{some, none, Option·none-ne-some, Option·some-injective}
+use mathlib.Core.Bool.{true, false, _||_}
+use mathlib.Core.Option.{some, Option·none-ne-some, Option·some-injective}
 use mathlib.Core.List.{List}
 use lib.ListN.{length, getD}
 use Rattle.words.specs.Regions.{Kept}
@@ -25,9 +25,9 @@ use Rattle.order.specs.Keys.{sizeOf, alignOf}
 use Rattle.cell_tables.specs.declared.Own.{Own}
 use Rattle.cell_tables.specs.declared.Progress.{Progress}
 use Rattle.cell_tables.specs.Tables.{rangesAt, areaIn, wantsIn, Lent, Proper}
-use Rattle.cell_tables.specs.Inner.{chain, allow, orderAt, headAt, nextAt, listAt, areaAt, Listed, Linked, opens, itemAt, cellIn, Sure, Gridded, Marks, Drawn, Joined, Holds, InOrder, Ready, Stepped, Each}
+use Rattle.cell_tables.specs.Inner.{chain, allow, orderAt, headAt, nextAt, listAt, areaAt, opens, itemAt, cellIn, Sure, Gridded, Marks, Drawn, Joined, Holds, InOrder, Ready, Stepped, Each}
 use Rattle.cell_tables.proofs.ChainLaws.{chain-kept, allow-kept}
-use Rattle.cell_tables.proofs.TableLaws.{area-none, area-some, want-at, want-neat, area-kept, lent-kept, ranges-kept}
+use Rattle.cell_tables.proofs.TableLaws.{area-none, area-some, want-at, want-neat, area-kept, ranges-kept}
 use Rattle.cell_tables.proofs.ListLaws.{Same, list-kept, area-same}
 use Rattle.samples.proofs.MarkLaws.{some-bit, rows-apart, row-inside}
 use Rattle.fit.proofs.PlanLaws.{Grew, grew}

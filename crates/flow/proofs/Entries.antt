@@ -1,8 +1,7 @@
 -- Laws of the entry: each way out.
-use Prim.Native.Nat.{ℕ, zero, suc, _+_, _*_, _/_, _%_, _^_, _≤_, _<_}
+use Prim.Native.Nat.{ℕ, _+_, _*_, _/_, _%_, _^_, _≤_, _<_}
 use mathlib.Core.Path.{_≡_, refl, sym, ap, _∙_, subst}
-use mathlib.Core.Logic.{_⊎_, inl, inr, _↔_}
-use mathlib.Core.Bool.{Bool, true}
+use mathlib.Core.Logic.{inl}
 use mathlib.Core.List.{List}
 use mir.Syntax.{w64}
 use mir.Val.{Fits}
@@ -11,29 +10,24 @@ use lib.ListN.{length, getD, length-append, length-replicate, length-drop}
 use Rattle.refusals.specs.declared.Refusal.{Refusal}
 use Rattle.refusals.specs.declared.Verdict.{Verdict}
 use Rattle.refusals.specs.declared.Verdict.the-variants.{Fine, Bad}
-use Rattle.refusals.specs.Verdicts.{first}
 use Rattle.refusals.proofs.Laws.{first-fine, first-bad, first-left, first-right, bad-fine}
 use Rattle.words.specs.Rows.{rowCount}
 use Rattle.words.specs.Regions.{Region, cleared}
 use Rattle.words.proofs.RegionLaws.{row-before}
 use Rattle.bits.specs.Bits.{bit, bitOf}
-use Rattle.graph.specs.Paths.{Edge, Between, turned}
-use Rattle.graph.specs.Flow.{Reached, Reaching}
+use Rattle.graph.specs.Paths.{Edge}
 use Rattle.graph.specs.Checks.{graphVerdict, rowsVerdict, spaceOf, spaceVerdict}
-use Rattle.graph.specs.Work.{Within, EdgeRows, Neighbours}
+use Rattle.graph.specs.Work.{EdgeRows, Neighbours}
 use Rattle.graph.proofs.Within.{within-trans, within-wider, region-within, rows-moved}
 use Rattle.line_checks.proofs.Refusals.{Passed, passed, rows-told, space-told}
-use Rattle.tarjan.specs.Components.{Components, InOrder, Walkable, Found}
+use Rattle.tarjan.specs.Components.{InOrder, Walkable, Found}
 use Rattle.components.specs.Entry.{edgesIn}
 use Rattle.components.proofs.Entries.{cleared-same}
 use Rattle.flow_rows.specs.declared.Flow.{Flow}
 use Rattle.flow.specs.declared.Over.{Over}
-use Rattle.flow.specs.declared.Over.the-variants.{Predecessors, Successors}
-use Rattle.flow.specs.declared.Answer.{Answer}
 use Rattle.flow.specs.declared.Answer.the-variants.{Given, Refused}
-use Rattle.flow_rows.specs.Flowed.{which, order, touchedBit, outBit, Laid, Flowed}
-use Rattle.flow.specs.Entry.{FlowsTo, wayOf, verdictOf, rowBit, Filled, Turned, Answered, baseOf, Solved}
-use Rattle.flow_rows.proofs.Routes.{reached-turned}
+use Rattle.flow_rows.specs.Flowed.{which, order, touchedBit, Laid, Flowed}
+use Rattle.flow.specs.Entry.{wayOf, verdictOf, rowBit, Turned, Answered, baseOf, Solved}
 use Rattle.flow_rows.proofs.Moved.{components-as, order-as, reaching-as}
 use Rattle.flow.proofs.Ways.{flows-as}
 

@@ -1,5 +1,5 @@
 -- Laws of `gather`: the edges of one place, one after the other.
-use Prim.Native.Nat.{ℕ, suc, _+_, _*_, _^_, _≤_, _<_}
+use Prim.Native.Nat.{ℕ, _+_, _*_, _^_, _≤_, _<_}
 use mir.Syntax.{w64}
 use mir.Val.{Fits}
 use mathlib.Core.Path.{_≡_, refl, sym, ap, _∙_, subst}
@@ -7,17 +7,16 @@ use mathlib.Core.Logic.{_≢_, _⊎_, inl, inr, ⊎-elim}
 use mathlib.Core.Bool.{Bool, true, false, _||_}
 use mathlib.Core.List.{List}
 use native.Mathlib.Omega.{arith}
-use lib.ListN.{length, getD}
-use Rattle.words.proofs.Points.{cut, same}
+use lib.ListN.{length}
+use Rattle.words.proofs.Points.{same}
 use Rattle.words.proofs.FitLaws.{small, bytes}
 use Rattle.words.proofs.Bools.{or-right, or-left, or-cases, never}
 use Rattle.words.proofs.RegionLaws.{row-before}
 use Rattle.bits.specs.Bits.{bit, Row, Aligned}
-use Rattle.bits.proofs.BitLaws.{aligned-rows}
 use Rattle.graph.specs.Work.{Within}
 use Rattle.flow_rows.specs.declared.Flow.{Flow}
-use Rattle.flow_rows.specs.Flowed.{which, order, begins, ends, target, touchedBit, outBit, Laid, Across, Stays, Joins, Tells}
-use Rattle.flow_rows.proofs.Joins.{which-kept, target-kept, touched-kept, laid-kept, row-wide, other-row, joins-none, joins-then, joins-as, joins-row, touched-aligned}
+use Rattle.flow_rows.specs.Flowed.{which, begins, ends, target, touchedBit, outBit, Laid, Across, Stays, Joins, Tells}
+use Rattle.flow_rows.proofs.Joins.{which-kept, target-kept, touched-kept, row-wide, other-row, joins-none, joins-then, joins-as, joins-row, touched-aligned}
 
 -- the edges of u before e
 abbrev pub AcrossTo : Flow → List ℕ → ℕ → ℕ → ℕ → ℕ → Type 0

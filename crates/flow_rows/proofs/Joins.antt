@@ -1,22 +1,20 @@
 -- Laws of a row that grows: what a step leaves of the other rows, and several steps as one.
-use Prim.Native.Nat.{ℕ, zero, suc, _+_, _*_, _/_, _%_, _≤_, _<_}
-use mathlib.Core.Path.{_≡_, refl, sym, ap, _∙_, subst}
+use Prim.Native.Nat.{ℕ, _+_, _*_, _<_}
+use mathlib.Core.Path.{_≡_, sym, _∙_}
 use mathlib.Core.Logic.{_≢_, _⊎_, inl, inr, ⊎-elim}
-use mathlib.Core.Bool.{Bool, true, false, _||_}
+use mathlib.Core.Bool.{Bool, true, _||_}
 use mathlib.Core.List.{List}
-use native.Mathlib.Nat.{mul-le-mul-right}
 use native.Mathlib.Omega.{arith}
-use lib.ListN.{length, getD}
-use Rattle.bits.specs.Bits.{bit, bitOf, Row, Aligned, apart}
-use Rattle.bits.proofs.BitLaws.{aligned-rows, bit-kept}
-use Rattle.words.specs.Regions.{Region, Disjoint, below, above}
+use Rattle.bits.specs.Bits.{bit, Row, Aligned, apart}
+use Rattle.bits.proofs.BitLaws.{bit-kept}
+use Rattle.words.specs.Regions.{below, above}
 use Rattle.words.proofs.Points.{cut, same}
 use Rattle.words.proofs.RegionLaws.{row-before}
 use Rattle.words.proofs.Bools.{or-right, or-left, or-cases}
 use Rattle.graph.specs.Work.{Within}
 use Rattle.graph.proofs.Within.{within-refl, within-trans, within-wider}
 use Rattle.flow_rows.specs.declared.Flow.{Flow}
-use Rattle.flow_rows.specs.Flowed.{which, order, begins, ends, target, touchedBit, outBit, Laid, Across, Stays, Member, Joins, Tells}
+use Rattle.flow_rows.specs.Flowed.{which, order, begins, ends, target, touchedBit, outBit, Laid, Joins}
 
 module _ {f : Flow} {w₀ w : List ℕ} (L : Laid f w₀) where
   -- what is read is apart from the answer's rows
@@ -62,9 +60,11 @@ module _ {f : Flow} {w₀ w : List ℕ} (L : Laid f w₀) where
   -- the other rows are as they were
   pub other-row : (x v b : ℕ) → v ≢ x → b < f .words * 64 → Within (f .out + x * f .words) (f .out + x * f .words + f .words) w₀ w → outBit f w v b ≡ outBit f w₀ v b
   other-row x v b ne h K = bit-kept {w₀ = w₀} {w = w} {base = f .out + v * f .words} {n = f .words}
-      (record { same = λ i p q. cut v x
-      (λ l. K .below i (omega (arith, row-before v x (f .words) (omega arith))))
-      (λ l. K .past i (omega (arith, row-before x v (f .words) l))) }) b h
+      (record {
+        same = λ i p q. cut v x
+            (λ l. K .below i (omega (arith, row-before v x (f .words) (omega arith))))
+            (λ l. K .past i (omega (arith, row-before x v (f .words) l)));
+      }) b h
 
 -- ---- several steps as one
 

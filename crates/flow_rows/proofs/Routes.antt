@@ -1,12 +1,12 @@
 -- One visit of each component in order gives, for one bit, exactly what the paths of one or more edges say.
-use Prim.Native.Nat.{ℕ, zero, suc, _+_, _≤_, _<_}
-use mathlib.Core.Path.{_≡_, refl, sym, ap, _∙_, subst}
+use Prim.Native.Nat.{ℕ, zero, suc, _<_}
+use mathlib.Core.Path.{_≡_, refl, sym, _∙_, subst}
 use mathlib.Core.Logic.{_≢_, _⊎_, inl, inr, _↔_}
 use mathlib.Core.Bool.{Bool, true}
-use mathlib.Core.List.{List, [], _∷_, List·Memᴰ·cases-cons, List·Memᴰ·head, List·Memᴰ·tail, List·Memᴰ·not-nil}
+use mathlib.Core.List.{List}
 use native.Mathlib.Omega.{arith}
 use Rattle.words.proofs.Points.{same}
-use Rattle.graph.specs.Paths.{Edge, edge, Link, Route, one, more, turned, Together, same as alone, loop, Between}
+use Rattle.graph.specs.Paths.{Edge, Link, Route, one, more, turned, Together, same as alone, loop, Between}
 use Rattle.graph.specs.Flow.{Reached, Reaching}
 use Rattle.graph.proofs.RoundLaws.{turned-route, route-turned}
 use Rattle.tarjan.specs.Components.{Components}

@@ -1,18 +1,18 @@
 -- Laws of `share` and `visit`: the rows of one component, worked out and given to each of its places.
-use Prim.Native.Nat.{ℕ, suc, _+_, _*_, _/_, _%_, _^_, _≤_, _<_}
+use Prim.Native.Nat.{ℕ, _+_, _*_, _/_, _%_, _^_, _≤_, _<_}
 use mathlib.Core.Path.{_≡_, refl, sym, ap, _∙_, subst}
 use mathlib.Core.Logic.{_≢_, _⊎_, inl, inr, ⊎-elim}
 use mathlib.Core.Bool.{Bool, true, false}
 use mathlib.Core.List.{List}
 use native.Mathlib.Omega.{arith}
 use lib.ListN.{length, getD}
-use Rattle.bits.specs.Bits.{bit, bitOf}
+use Rattle.bits.specs.Bits.{bitOf}
 use Rattle.words.specs.Regions.{Region, Disjoint, below as lower, above as upper}
 use Rattle.words.proofs.Points.{cut, same}
 use Rattle.words.proofs.RegionLaws.{row-before}
 use Rattle.bits.proofs.DigitLaws.{bit-zero}
 use Rattle.graph.specs.Work.{Within}
-use Rattle.graph.proofs.Within.{within-refl, within-trans, within-wider, region-within}
+use Rattle.graph.proofs.Within.{within-refl, within-trans, region-within}
 use Rattle.flow_rows.specs.declared.Flow.{Flow}
 use Rattle.flow_rows.specs.Flowed.{which, orderFrom, order, touchedBit, outBit, Laid, Across, Stays, Member, Joins, Tells, Run, Shared, Source, Visited}
 use Rattle.flow_rows.proofs.Joins.{which-kept, order-kept, touched-kept, laid-kept, row-wide, other-row}

@@ -1,21 +1,17 @@
 -- Laws of the steps over a component's places: `pull`, `touch`, `share`, and the three as one visit.
-use Prim.Native.Nat.{ℕ, suc, _+_, _*_, _/_, _%_, _^_, _≤_, _<_}
+use Prim.Native.Nat.{ℕ, _+_, _*_, _^_, _≤_, _<_}
 use mathlib.Core.Path.{_≡_, refl, sym, ap, _∙_, subst}
 use mathlib.Core.Logic.{_≢_, _⊎_, inl, inr, ⊎-elim}
 use mathlib.Core.Bool.{Bool, true, false, _||_}
 use mathlib.Core.List.{List}
 use native.Mathlib.Omega.{arith}
 use lib.ListN.{length, getD}
-use Rattle.bits.specs.Bits.{bit, bitOf, Row, Aligned}
-use Rattle.words.specs.Regions.{Region, Disjoint, below as lower, above as upper}
-use Rattle.words.proofs.Points.{cut, same}
-use Rattle.words.proofs.RegionLaws.{row-before}
-use Rattle.bits.proofs.DigitLaws.{bit-zero}
+use Rattle.bits.specs.Bits.{bit, Row}
+use Rattle.words.proofs.Points.{same}
 use Rattle.graph.specs.Work.{Within}
-use Rattle.graph.proofs.Within.{within-refl, within-trans, within-wider, region-within}
 use Rattle.flow_rows.specs.declared.Flow.{Flow}
-use Rattle.flow_rows.specs.Flowed.{which, orderFrom, order, begins, ends, target, touchedBit, outBit, Laid, Across, Stays, Member, Joins, Tells, Run, Shared, Source, Visited}
-use Rattle.flow_rows.proofs.Joins.{which-kept, order-kept, begins-kept, ends-kept, target-kept, touched-kept, laid-kept, row-wide, other-row, joins-none, joins-then, joins-as, joins-row, touched-aligned}
+use Rattle.flow_rows.specs.Flowed.{which, orderFrom, order, begins, ends, target, touchedBit, outBit, Laid, Across, Stays, Member, Joins, Tells}
+use Rattle.flow_rows.proofs.Joins.{which-kept, order-kept, begins-kept, ends-kept, target-kept, touched-kept, laid-kept, row-wide, other-row, joins-none, joins-then, joins-as, joins-row}
 use Rattle.words.proofs.FitLaws.{as-long}
 use Rattle.words.proofs.Bools.{never}
 use Rattle.flow_rows.proofs.Places.{OrderAt, RowAt, order-at, row-at, here}

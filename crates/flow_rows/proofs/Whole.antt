@@ -1,21 +1,19 @@
 -- Laws of `flowed`: component after component, the rows that are worked out are final, and say what the paths say.
-use Prim.Native.Nat.{ℕ, suc, _+_, _*_, _≤_, _<_}
-use mathlib.Core.Path.{_≡_, refl, sym, ap, _∙_, subst}
-use mathlib.Core.Logic.{_≢_, _⊎_, inl, inr, ⊎-elim, _↔_}
+use Prim.Native.Nat.{ℕ, _+_, _*_, _≤_, _<_}
+use mathlib.Core.Path.{_≡_, sym, ap, _∙_, subst}
+use mathlib.Core.Logic.{_≢_, _⊎_, inl, inr, ⊎-elim}
 use mathlib.Core.Bool.{Bool, true}
 use mathlib.Core.List.{List}
 use native.Mathlib.Omega.{arith}
-use lib.ListN.{length, getD}
-use Rattle.words.proofs.Points.{cut, same}
+use Rattle.words.proofs.Points.{cut}
 use Rattle.graph.specs.Paths.{Edge, Link, Between}
 use Rattle.graph.specs.Work.{Within, EdgeRows}
 use Rattle.graph.proofs.Within.{within-refl, within-trans}
 use Rattle.tarjan.specs.Components.{Components, InOrder}
 use Rattle.flow_rows.specs.declared.Flow.{Flow}
-use Rattle.flow_rows.specs.Flowed.{which, order, begins, ends, target, touchedBit, outBit, Laid, Across, Stays, Member, Run, Source, Visited, Flowed}
+use Rattle.flow_rows.specs.Flowed.{which, order, begins, ends, target, touchedBit, outBit, Laid, Source, Visited, Flowed}
 use Rattle.flow_rows.proofs.Joins.{which-kept, order-kept, begins-kept, ends-kept, target-kept, touched-kept, laid-kept}
-use Rattle.flow_rows.proofs.Shares.{run-kept}
-use Rattle.flow_rows.proofs.Routes.{From, across, around, Flows, flows-reach}
+use Rattle.flow_rows.proofs.Routes.{From, across, around, flows-reach}
 
 -- one bit of the rows: of the touched ones, and of the answer's
 abbrev pub touchedOf : Flow → List ℕ → ℕ → ℕ → Bool

@@ -6,10 +6,10 @@ use mathlib.Core.Bool.{Bool, true}
 use mathlib.Core.List.{List}
 use lib.ListN.{length, getD}
 use Rattle.bits.specs.Bits.{bit}
-use Rattle.graph.specs.Paths.{Edge, Link, Between}
+use Rattle.graph.specs.Paths.{Edge, Between}
 use Rattle.graph.specs.Flow.{Reaching}
 use Rattle.graph.specs.Work.{Within, EdgeRows}
-use Rattle.tarjan.specs.Components.{Components, InOrder}
+use Rattle.tarjan.specs.Components.{Components}
 use Rattle.flow_rows.specs.declared.Flow.{Flow}
 
 -- ---- what stands in the work space

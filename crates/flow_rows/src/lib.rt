@@ -1,10 +1,9 @@
 // `flowed` in the work space: one visit of each component in order, each row worked out once from rows that are final.
 ghost use mathlib.Core.Path.{_≡_};
-ghost use mathlib.Core.Bool.{Bool, true};
-ghost use Prim.Native.Nat.{ℕ, _+_, _*_, _≤_, _<_};
-ghost use lib.ListN.{length, getD};
+ghost use mathlib.Core.Bool.{true};
+ghost use Prim.Native.Nat.{_+_, _*_, _≤_, _<_};
 ghost use Rattle.tarjan.specs.Components.{InOrder};
-ghost use Rattle.flow_rows.specs.Flowed.{Laid, which, orderFrom, order, touchedBit, outBit, Across, Stays, Member, Joins, Tells, Run, Shared, Visited, Flowed};
+ghost use Rattle.flow_rows.specs.Flowed.{Laid, which, orderFrom, order, touchedBit, Across, Stays, Member, Joins, Tells, Run, Shared, Visited, Flowed};
 
 // Where `flowed` finds and puts things in the work space, of n places: the edge rows from `at` on, the components' numbers from
 // `base` on and their order from `base + 5 * n` on; rows of `words` words, the touched ones from `touched` on, the answer's from `out` on.

@@ -7,7 +7,7 @@ use mir.Val.{Fits}
 use native.Mathlib.Omega.{arith}
 use lib.ListN.{length}
 use Rattle.words.proofs.FitLaws.{Word, word, small}
-use Rattle.cell_tables.specs.Inner.{nextAt, Topped, Meets, Folded}
+use Rattle.cell_tables.specs.Inner.{nextAt, Topped, Meets}
 use Rattle.folding.proofs.FoldLaws.{q-lt}
 
 -- the list and the link of place q

@@ -1,11 +1,11 @@
 -- The address entries of a local: along its chain, the last first.
-use Prim.Native.Nat.{ℕ, zero, suc, _+_, _-_, _*_, _/_, _≤_, _<_}
+use Prim.Native.Nat.{ℕ, zero, suc, _+_, _-_, _*_, _≤_, _<_}
 use native.Mathlib.Omega.{arith}
 use mathlib.Core.Path.{_≡_, refl, sym, ap, _∙_, subst}
 use mathlib.Core.Logic.{_≢_, _⊎_, inl, inr}
 use mathlib.Core.Bool.{Bool, true, false, cond, _&&_, _||_, true≢false, or-false, and-false, or-true}
 use mathlib.Core.List.{List}
-use lib.ListN.{length, getD}
+use lib.ListN.{getD}
 use lib.Dec.{eqb}
 use borrow.Author.Tests.{eqb-true, eq-eqb, ne-eqb}
 use Rattle.words.specs.Rows.{rowCount, field}
@@ -13,12 +13,12 @@ use Rattle.words.proofs.Points.{cut, same}
 use Rattle.words.proofs.Bools.{and-both, or-cases, or-left}
 use Rattle.carrying.specs.Insts.{isSet}
 use Rattle.reach.specs.declared.Lay.{Lay}
-use Rattle.reach.specs.Prepared.{Laid, latest}
+use Rattle.reach.specs.Prepared.{latest}
 use Rattle.reach.specs.Steps.{rowLocal}
 use Rattle.reach.proofs.UseLaws.{by-bool}
 use Rattle.follow.specs.declared.Sizes.{Sizes}
 use Rattle.follow.specs.declared.Begun.{Begun}
-use Rattle.queue.specs.Walk.{defAt, queued, Held, Listed, Grew, Joined}
+use Rattle.queue.specs.Walk.{defAt, Held, Listed, Grew, Joined}
 use Rattle.follow.specs.Steps.{Walkable, Entry, Chain, Took, Began}
 use Rattle.queue.proofs.QueueLaws.{grew-none, grew-def, grew-listed, grew-then}
 

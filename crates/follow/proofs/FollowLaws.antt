@@ -1,34 +1,34 @@
 -- What the walk finds is what the definitions of carrying say.
-use Prim.Native.Nat.{ℕ, zero, suc, _+_, _-_, _*_, _/_, _%_, _^_, _≤_, _<_}
+use Prim.Native.Nat.{ℕ, zero, suc, _+_, _-_, _*_, _/_, _%_, _≤_, _<_}
 use native.Mathlib.Omega.{arith}
 use native.Mathlib.Nat.{add-zero}
 use mathlib.Core.Path.{_≡_, refl, sym, ap, _∙_, subst}
 use mathlib.Core.Logic.{_≢_, _⊎_, inl, inr}
-use mathlib.Core.Bool.{Bool, true, false, cond, not, _&&_, _||_, true≢false, false≢true}
+use mathlib.Core.Bool.{Bool, true, false, not, _&&_, _||_, true≢false, false≢true}
 use mathlib.Core.Option.{Option, some, none}
-use mathlib.Core.List.{List, [], _∷_, List·Memᴰ}
+use mathlib.Core.List.{List, List·Memᴰ}
 use lib.ListN.{length, getD}
-use lib.Dec.{eqb, ltb}
-use borrow.Author.Tests.{eqb-true, eq-eqb, ne-eqb}
+use lib.Dec.{eqb}
+use borrow.Author.Tests.{eqb-true, eq-eqb}
 use Rattle.graph.specs.Work.{Within}
 use Rattle.graph.proofs.Line.{mem-at, at-mem}
-use Rattle.words.specs.Rows.{tabulate, rowCount, field, records}
+use Rattle.words.specs.Rows.{rowCount, field}
 use Rattle.words.proofs.RowLaws.{mem-tabulate, mem-of-tabulate}
-use Rattle.words.proofs.Points.{cut, same}
+use Rattle.words.proofs.Points.{cut}
 use Rattle.words.proofs.Bools.{or-right, and-both, or-cases, or-left, and-pair, both-ways}
 use Rattle.bits.specs.Bits.{bit, bitOf}
 use Rattle.bits.proofs.DigitLaws.{bit-zero}
 use Rattle.carrying.specs.declared.Kind.{Kind}
-use Rattle.carrying.specs.declared.Kind.the-variants.{Unfollowed, Plain, Ending}
-use Rattle.carrying.specs.Lists.{any, keep}
-use Rattle.carrying.specs.Insts.{Inst, instsOf, instAt, noInst, defOf, isSet, reads, addressed}
-use Rattle.carrying.specs.Carried.{Code, Mention, mentionsOf, mentions, mentioned, isNone, hands, Carries, taken, followed, carried, lost, dead, stuck, escapes, escaping, endsOf, empty, kindOf}
-use Rattle.carrying.proofs.ListLaws.{any-true, any-entry, any-false, false-any, kept, of-kept}
-use Rattle.carrying.proofs.CarryLaws.{def-below, carries-below, carried-least}
+use Rattle.carrying.specs.declared.Kind.the-variants.{Unfollowed}
+use Rattle.carrying.specs.Lists.{any}
+use Rattle.carrying.specs.Insts.{Inst, instsOf, instAt, noInst, defOf, isSet}
+use Rattle.carrying.specs.Carried.{Code, Mention, mentions, mentioned, isNone, Carries, taken, followed, carried, lost, dead, stuck, escapes, escaping, endsOf, empty, kindOf}
+use Rattle.carrying.proofs.ListLaws.{any-true, any-entry, kept, of-kept}
+use Rattle.carrying.proofs.CarryLaws.{carries-below, carried-least}
 use Rattle.insts.proofs.DealtLaws.{insts-length, lea-is}
 use Rattle.reach.specs.declared.Lay.{Lay}
 use Rattle.operands.specs.Numbers.{defNumber}
-use Rattle.reach.specs.Prepared.{Laid, wordsOf, key, latest, leaReader, Hands, codeOf, Prepared}
+use Rattle.reach.specs.Prepared.{wordsOf, key, latest, leaReader, Hands, codeOf, Prepared}
 use Rattle.reach.specs.Steps.{rowLocal}
 use Rattle.reach.proofs.UseLaws.{by-bool, not-false, Some, some-at, some-index}
 use Rattle.reach.proofs.ReadyLaws.{empty-keep, any-rows}
@@ -36,12 +36,11 @@ use Rattle.reach.proofs.ScanLaws.{same-bit, number-is, none-number}
 use Rattle.follow.specs.declared.Sizes.{Sizes}
 use Rattle.follow.specs.declared.Begun.{Begun}
 use Rattle.follow.specs.declared.Walk.{Walk}
-use Rattle.follow.specs.declared.Followed.{Followed}
-use Rattle.queue.specs.Walk.{defAt, queued, Held, Listed, Grew}
+use Rattle.queue.specs.Walk.{defAt, queued, Held, Listed}
 use Rattle.follow.specs.Steps.{Walkable, Edge, Entry, Chain, Began, registerAt, Walking, Walked, Unseen}
 use Rattle.follow.specs.Followed.{kindBy, Empty, FollowedTo}
 use Rattle.queue.proofs.QueueLaws.{grew-def, grew-listed}
-use Rattle.follow.proofs.WalkLaws.{edge-same, edge-on, edge-back}
+use Rattle.follow.proofs.WalkLaws.{edge-on, edge-back}
 use Rattle.follow.proofs.BeginLaws.{latest-le, latest-is, latest-gap}
 
 -- nothing is queued or seen yet

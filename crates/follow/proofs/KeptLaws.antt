@@ -1,9 +1,9 @@
 -- The preparation makes all locals ready, and they stay so while only the queue changes.
-use Prim.Native.Nat.{ℕ, zero, suc, _+_, _-_, _*_, _/_, _%_, _^_, _≤_, _<_}
+use Prim.Native.Nat.{ℕ, _+_, _-_, _*_, _^_, _≤_, _<_}
 use native.Mathlib.Omega.{arith}
-use mathlib.Core.Path.{_≡_, refl, sym, ap, _∙_, subst}
-use mathlib.Core.Logic.{_≢_, _⊎_, inl, inr}
-use mathlib.Core.Bool.{Bool, true, false, true≢false}
+use mathlib.Core.Path.{_≡_, sym, ap, _∙_}
+use mathlib.Core.Logic.{_≢_}
+use mathlib.Core.Bool.{false, true≢false}
 use mathlib.Core.Option.{Option, some, none}
 use mathlib.Core.List.{List}
 use lib.ListN.{length, getD}
@@ -11,19 +11,19 @@ use lib.Dec.{eqb, ltb}
 use Rattle.words.specs.Rows.{rowCount}
 use Rattle.graph.specs.Work.{Within}
 use Rattle.carrying.specs.Insts.{instsOf, instAt, defOf}
-use Rattle.carrying.specs.Carried.{Code, isNone, mentionsOf, endsOf, empty}
+use Rattle.carrying.specs.Carried.{Code, isNone, mentionsOf}
 use Rattle.insts.proofs.DealtLaws.{insts-length}
 use Rattle.reach.specs.declared.Lay.{Lay}
 use Rattle.operands.specs.Numbers.{defNumber}
-use Rattle.reach.specs.Prepared.{Laid, wordsOf, key, latest, localOf, codeOf, Prepared, Readied}
+use Rattle.reach.specs.Prepared.{Laid, wordsOf, latest, localOf, codeOf, Prepared, Readied}
 use Rattle.reach.specs.Steps.{rowLocal}
 use Rattle.reach.proofs.StepLaws.{splits-same}
 use Rattle.reach.proofs.ReadyLaws.{latest-same, local-is, mentions-count, def-small}
 use Rattle.reach.proofs.ScanLaws.{same-bit, number-is}
 use Rattle.follow.specs.declared.Sizes.{Sizes}
 use Rattle.queue.specs.Walk.{defAt}
-use Rattle.follow.specs.Steps.{Walkable, Chain}
-use Rattle.follow.specs.Followed.{Empty, Ready}
+use Rattle.follow.specs.Steps.{Walkable}
+use Rattle.follow.specs.Followed.{Ready}
 
 -- ---- after the preparation
 

@@ -1,25 +1,22 @@
 -- The loops of a walk: the edges of a register, the registers of the queue, and the way back.
-use Prim.Native.Nat.{ℕ, zero, suc, _+_, _-_, _*_, _/_, _%_, _^_, _≤_, _<_}
+use Prim.Native.Nat.{ℕ, suc, _+_, _-_, _*_, _/_, _%_, _^_, _≤_, _<_}
 use native.Mathlib.Omega.{arith}
-use native.Mathlib.Numerals.{add-one}
 use mathlib.Core.Path.{_≡_, refl, sym, ap, _∙_, subst}
 use mathlib.Core.Logic.{_≢_, _⊎_, inl, inr}
-use mathlib.Core.Bool.{Bool, true, false, cond, not, _&&_, _||_, true≢false, or-false, or-assoc}
+use mathlib.Core.Bool.{Bool, true, false, not, _&&_, _||_, true≢false, or-false, or-assoc}
 use mathlib.Core.List.{List}
 use lib.ListN.{length, getD, set, length-set}
 use lib.Seq.{getD-set-same, getD-set-other}
-use lib.Dec.{eqb, ltb}
-use borrow.Author.Tests.{eq-eqb, ne-eqb, ltb-true, ltb-false}
-use Rattle.words.specs.Rows.{tabulate}
+use lib.Dec.{ltb}
+use borrow.Author.Tests.{ltb-true, ltb-false}
 use Rattle.words.specs.Search.{Splits}
 use Rattle.words.proofs.SortLaws.{rising-le}
-use Rattle.words.proofs.Points.{cut, same, stored}
+use Rattle.words.proofs.Points.{cut, same}
 use Rattle.words.proofs.Bools.{both-ways}
 use Rattle.bits.specs.Bits.{bit}
-use Rattle.carrying.specs.Lists.{any}
 use Rattle.insts.proofs.DealtLaws.{any-none, any-next}
 use Rattle.reach.specs.declared.Lay.{Lay}
-use Rattle.reach.specs.Prepared.{Laid, wordsOf, key}
+use Rattle.reach.specs.Prepared.{wordsOf, key}
 use Rattle.reach.proofs.StepLaws.{splits-same}
 use Rattle.reach.proofs.UseLaws.{Some, some-at, some-index}
 use Rattle.reach.proofs.ScanLaws.{same-bit}

@@ -1,10 +1,10 @@
 -- What following a local promises, by the definitions of carrying.
-use Prim.Native.Nat.{ℕ, suc, _+_, _≤_, _<_}
+use Prim.Native.Nat.{ℕ, _+_, _≤_, _<_}
 use mathlib.Core.Path.{_≡_}
 use mathlib.Core.Logic.{_≢_, _⊎_}
 use mathlib.Core.Bool.{Bool, true, cond, _||_}
 use mathlib.Core.List.{List}
-use lib.ListN.{length, getD}
+use lib.ListN.{getD}
 use Rattle.graph.specs.Work.{Within}
 use Rattle.carrying.specs.declared.Kind.{Kind}
 use Rattle.carrying.specs.declared.Kind.the-variants.{Unfollowed, Plain, Ending}

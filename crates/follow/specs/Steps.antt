@@ -1,7 +1,7 @@
 -- What the steps of a walk ask and promise, by the tables in the work space.
-use Prim.Native.Nat.{ℕ, suc, _+_, _-_, _*_, _/_, _^_, _≤_, _<_}
+use Prim.Native.Nat.{ℕ, suc, _+_, _-_, _*_, _^_, _≤_, _<_}
 use mathlib.Core.Path.{_≡_}
-use mathlib.Core.Logic.{_≢_, _⊎_}
+use mathlib.Core.Logic.{_⊎_}
 use mathlib.Core.Bool.{Bool, true, false, not, _&&_, _||_}
 use mathlib.Core.List.{List}
 use lib.ListN.{length, getD}
@@ -18,7 +18,7 @@ use Rattle.reach.specs.Steps.{rowLocal}
 use Rattle.follow.specs.declared.Sizes.{Sizes}
 use Rattle.follow.specs.declared.Begun.{Begun}
 use Rattle.follow.specs.declared.Walk.{Walk}
-use Rattle.queue.specs.Walk.{defAt, queued, Held, Listed, Grew}
+use Rattle.queue.specs.Walk.{defAt, queued, Listed, Grew}
 
 -- tables that a walk can read: edges in order, each of a numbered register and an instruction with a def, and the first edge of each def
 pub record Walkable (lay : Lay) (z : Sizes) (w : List ℕ) : Type 0 where

@@ -1,7 +1,7 @@
 // One local's walk: the defs of its address entries, and from each the defs that its address is handed on to.
 ghost use mathlib.Core.Path.{_≡_};
 ghost use mathlib.Core.Bool.{not, _&&_, _||_};
-ghost use Prim.Native.Nat.{_+_, _-_, _/_, _≤_, _<_};
+ghost use Prim.Native.Nat.{_+_, _-_, _/_, _<_};
 ghost use lib.ListN.{length, set};
 ghost use Rattle.queue.specs.Walk.{defAt, Held};
 ghost use Rattle.follow.specs.Followed.{kindBy, Ready, FollowsAny};

@@ -1,15 +1,15 @@
 -- Where the last line stands at the instructions' place, the lines end in an instruction and its operands.
 use Prim.Native.Nat.{ℕ, zero, suc, _≤_, _<_}
 use native.Mathlib.Omega.{arith}
-use mathlib.Core.Path.{_≡_, refl, ap, sym, _∙_}
+use mathlib.Core.Path.{_≡_, ap, sym, _∙_}
 use mathlib.Core.Logic.{⊎-elim}
-use mathlib.Core.Bool.{Bool, true, false, _&&_}
+use mathlib.Core.Bool.{true, false, _&&_}
 use mathlib.Core.List.{List, []}
 use lib.ListN.{length, getD, take}
 use lib.Seq.{take-suc, take-length}
 use lib.Dec.{leb, ltb}
 use borrow.Author.Tests.{eq-eqb, ltb-true, leb-true, not-false}
-use Rattle.words.proofs.Bools.{and-both, never}
+use Rattle.words.proofs.Bools.{and-both}
 use Rattle.refusals.specs.declared.Verdict.the-variants.{Fine}
 use Rattle.refusals.specs.declared.Refusal.the-variants.{Text as TextRefused}
 use Rattle.refusals.proofs.Laws.{scan-fine}

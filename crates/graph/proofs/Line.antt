@@ -1,28 +1,26 @@
 -- Laws of the line: records by index, numbers and places the one from the other, and what numbers 2 and 3 leave.
 use Prim.Native.Nat.{ℕ, zero, suc, _+_, _-_, _*_, _/_, _≤_, _<_}
-use mathlib.Core.Path.{_≡_, refl, sym, ap, _∙_, subst}
+use mathlib.Core.Path.{_≡_, refl, sym, ap, _∙_}
 use mathlib.Core.Logic.{_≢_, _⊎_, inl, inr}
-use mathlib.Core.Bool.{Bool, true, false, cond, not, _||_}
-use mathlib.Core.List.{List, [], _∷_, map, List·Memᴰ, List·Memᴰ·head, List·Memᴰ·tail, List·Memᴰ·cases-cons, List·Memᴰ·not-nil}
+use mathlib.Core.Bool.{false}
+use mathlib.Core.List.{List, [], _∷_, List·Memᴰ, List·Memᴰ·head, List·Memᴰ·tail, List·Memᴰ·cases-cons, List·Memᴰ·not-nil}
 use native.Mathlib.Nat.{add-zero}
 use native.Mathlib.Numerals.{add-one}
 use native.Mathlib.Omega.{arith}
-use lib.Dec.{eqb, leb, ltb}
-use lib.ListN.{length, getD, length-map, List·getD-map}
+use lib.Dec.{leb, ltb}
+use lib.ListN.{length, getD, length-map}
 use borrow.Author.Tests.{eq-eqb, ne-eqb, eqb-true, eqb-false, leb-false, ltb-false, not-false}
-use Rattle.refusals.specs.declared.Verdict.{Verdict}
 use Rattle.refusals.specs.declared.Verdict.the-variants.{Fine}
 use Rattle.refusals.specs.declared.Refusal.the-variants.{Line, Edge as EdgeWord}
-use Rattle.refusals.specs.Verdicts.{scan}
 use Rattle.refusals.proofs.Laws.{scan-fine}
-use Rattle.words.specs.Rows.{tabulate, records, rowCount, field}
+use Rattle.words.specs.Rows.{field}
 use Rattle.words.specs.Sort.{Rising}
 use Rattle.words.proofs.RowLaws.{length-tabulate, getD-tabulate}
 use Rattle.words.proofs.Points.{cut, same}
 use Rattle.words.proofs.Bools.{or-neither}
 use Rattle.graph.specs.declared.Block.{Block}
 use Rattle.graph.specs.declared.Place.{Place}
-use Rattle.graph.specs.Paths.{Edge, edge, Link, Between, turned}
+use Rattle.graph.specs.Paths.{Edge, edge, Between}
 use Rattle.graph.specs.Line.{
   Stretch,
   Jump,
@@ -43,7 +41,7 @@ use Rattle.graph.specs.Line.{
   edgeVerdict,
   Sound,
 }
-use Rattle.graph.proofs.Counting.{Differ, all-taken}
+use Rattle.graph.proofs.Counting.{all-taken}
 
 -- ---- lists by index
 

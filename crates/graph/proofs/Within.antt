@@ -1,12 +1,10 @@
 -- Laws of a part of the work space: what a store in it leaves, and that edge rows below it stay.
-use Prim.Native.Nat.{ℕ, zero, suc, _+_, _≤_, _<_}
-use mathlib.Core.Path.{_≡_, refl, sym, ap, _∙_, subst}
-use mathlib.Core.Logic.{_≢_}
+use Prim.Native.Nat.{ℕ, _+_, _≤_, _<_}
+use mathlib.Core.Path.{_≡_, refl, sym, _∙_, subst}
 use mathlib.Core.List.{List}
 use native.Mathlib.Omega.{arith}
 use lib.ListN.{length, getD, set, length-set}
 use lib.Seq.{getD-set-other}
-use Rattle.words.proofs.Points.{cut, same, stored}
 use Rattle.words.specs.Regions.{Region}
 use Rattle.graph.specs.Paths.{Edge, Link, Between}
 use Rattle.graph.specs.Work.{Within, EdgeRows}

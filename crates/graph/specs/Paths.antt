@@ -1,7 +1,6 @@
 -- Document 01, "Blocks and edges": edges between places of the line, paths of one or more of them, and components.
 use Prim.Native.Nat.{ℕ, _<_}
 use mathlib.Core.Path.{_≡_}
-use mathlib.Core.Logic.{_⊎_}
 use mathlib.Core.List.{List, [], _∷_, List·Memᴰ}
 
 -- an edge from the block at one place to the block at another

@@ -1,35 +1,33 @@
 -- What each way out of a check comes to: numbers 1, 4 and 5.
-use Prim.Native.Nat.{ℕ, zero, suc, _+_, _-_, _*_, _/_, _%_, _≤_, _<_}
+use Prim.Native.Nat.{ℕ, _+_, _-_, _*_, _/_, _%_, _≤_, _<_}
 use native.Mathlib.Numerals.{add-one}
 use native.Mathlib.Nat.{add-zero}
 use native.Mathlib.Omega.{arith}
 use mathlib.Core.Path.{_≡_, refl, sym, ap, _∙_}
 use mathlib.Core.Logic.{_≢_}
-use mathlib.Core.Bool.{Bool, true, false, cond, not, _||_, _&&_}
-use mathlib.Core.List.{List, [], _∷_}
+use mathlib.Core.Bool.{Bool, true, false, not, _||_, _&&_}
+use mathlib.Core.List.{List, []}
 use lib.ListN.{length, getD}
 use lib.Dec.{eqb, leb, ltb}
-use borrow.Author.Tests.{eq-eqb, ne-eqb, lt-ltb, le-ltb, le-leb, lt-leb, eqb-true, ltb-false, leb-false, not-false}
+use borrow.Author.Tests.{eq-eqb, ne-eqb, lt-ltb, le-ltb, le-leb, lt-leb, leb-false}
 use Rattle.refusals.specs.declared.Verdict.{Verdict}
 use Rattle.refusals.specs.declared.Verdict.the-variants.{Fine, Bad}
 use Rattle.refusals.specs.declared.Refusal.{Refusal}
 use Rattle.refusals.specs.declared.Refusal.the-variants.{Count, Inst as InstWord, Stray}
 use Rattle.refusals.specs.Verdicts.{first, scan, check}
 use Rattle.refusals.proofs.Laws.{first-fine, first-bad, first-left, first-right, bad-fine}
-use Rattle.words.specs.Rows.{tabulate, rowCount, field, records}
-use Rattle.words.specs.Sort.{Rising}
+use Rattle.words.specs.Rows.{rowCount, field}
 use Rattle.words.specs.Search.{Splits}
-use Rattle.words.proofs.SortLaws.{rising-le}
 use Rattle.words.proofs.RowLaws.{length-records, getD-records}
 use Rattle.words.proofs.Points.{cut, same}
 use Rattle.graph.specs.Line.{Stretch, blocksOf, blockAt, placeIn, Sound}
 use Rattle.graph.proofs.Line.{blocks-length, number-is, start-is, end-is, place-of-number, place-lt, number-of-place}
 use Rattle.carrying.specs.Lists.{any}
-use Rattle.carrying.specs.Insts.{Operand, Inst, instOf, instsOf, instAt, isSet}
+use Rattle.carrying.specs.Insts.{instsOf, instAt, isSet}
 use Rattle.carrying.specs.Carried.{Mention, mentionsOf}
-use Rattle.carrying.specs.Checks.{misplaced, badRegister, badOperand, badFlags, badPositions, badInst, instVerdict, crossingVerdict, absent, mentionAt, addressVerdict, endVerdict}
-use Rattle.insts.specs.Counts.{badRows, rowsVerdict, mostVerdict, blockCounts, offset, addUp, instCounts, codeCounts}
-use Rattle.insts.specs.Rows.{operandAt, operandsFrom, placing, rowInst, AddsUp}
+use Rattle.carrying.specs.Checks.{misplaced, badRegister, badOperand, badFlags, badPositions, badInst, crossingVerdict, absent, mentionAt, addressVerdict, endVerdict}
+use Rattle.insts.specs.Counts.{rowsVerdict, mostVerdict, blockCounts, offset, addUp, instCounts, codeCounts}
+use Rattle.insts.specs.Rows.{operandsFrom, placing, rowInst, AddsUp}
 use Rattle.insts.proofs.DealtLaws.{scan-same, insts-length, inst-at, placed-is}
 
 -- ---- number 1

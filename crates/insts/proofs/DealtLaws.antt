@@ -1,26 +1,24 @@
 -- Laws of the lent rows: an instruction by its index, lists by a test over an index, and scans of equal tests.
-use Prim.Native.Nat.{ℕ, zero, suc, _+_, _-_, _*_, _/_, _≤_, _<_}
+use Prim.Native.Nat.{ℕ, zero, suc, _+_, _-_, _≤_, _<_}
 use native.Mathlib.Numerals.{add-one}
 use native.Mathlib.Nat.{add-assoc, add-zero, zero-add}
 use native.Mathlib.Omega.{arith}
 use mathlib.Core.Path.{_≡_, refl, sym, ap, _∙_}
-use mathlib.Core.Bool.{Bool, true, false, cond, _||_, or-false, or-assoc}
+use mathlib.Core.Bool.{Bool, true, false, _||_, or-false, or-assoc}
 use mathlib.Core.List.{List, [], _∷_, _++_}
 use lib.ListN.{length, getD, take, drop}
 use lib.Seq.{drop-drop}
 use Rattle.refusals.specs.declared.Refusal.{Refusal}
-use Rattle.refusals.specs.declared.Verdict.the-variants.{Fine, Bad}
-use Rattle.refusals.specs.Verdicts.{first, scan}
+use Rattle.refusals.specs.Verdicts.{scan}
 use Rattle.words.specs.Rows.{tabulate, rowCount, field, records}
-use Rattle.words.proofs.RowLaws.{length-tabulate, getD-tabulate, take-tabulate, drop-tabulate, tabulate-suc, tabulate-eq, mem-tabulate, length-records}
-use Rattle.words.proofs.Points.{same}
+use Rattle.words.proofs.RowLaws.{length-tabulate, getD-tabulate, take-tabulate, drop-tabulate, tabulate-suc, mem-tabulate}
 use Rattle.graph.specs.Work.{sumOf}
 use Rattle.graph.proofs.Sums.{sum-start, sum-within}
 use Rattle.carrying.specs.Lists.{any}
 use Rattle.carrying.specs.Insts.{Operand, Inst, instOf, dealt, instsOf, noInst, instAt}
 use Rattle.carrying.proofs.ListLaws.{any-true}
 use Rattle.insts.specs.Counts.{offset}
-use Rattle.insts.specs.Rows.{operandAt, operandsFrom, rowInst, AddsUp}
+use Rattle.insts.specs.Rows.{operandAt, operandsFrom, AddsUp}
 
 -- ---- scans of tests that agree
 

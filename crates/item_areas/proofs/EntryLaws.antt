@@ -8,7 +8,6 @@ use lib.ListN.{length, drop, replicate, length-replicate}
 use Rattle.refusals.specs.declared.Verdict.{Verdict}
 use Rattle.refusals.specs.declared.Verdict.the-variants.{Fine, Bad}
 use Rattle.refusals.specs.declared.Refusal.{Refusal}
-use Rattle.refusals.specs.Verdicts.{first}
 use Rattle.refusals.proofs.Laws.{first-fine, first-bad}
 use Rattle.words.specs.Regions.{cleared}
 use Rattle.graph.specs.Work.{Within}

@@ -1,23 +1,20 @@
 -- The answer lists' rows, by the words of the areas and of the items.
 use Prim.Native.Nat.{ℕ, _+_, _-_, _*_, _/_, _%_, _^_, _≤_, _<_}
 use native.Mathlib.Omega.{arith}
-use native.Mathlib.Nat.{add-zero}
 use mathlib.Core.Path.{_≡_, refl, sym, ap, _∙_}
-use mathlib.Core.Bool.{Bool, false, cond}
+use mathlib.Core.Bool.{false}
 use mathlib.Core.Option.{Option, some, none}
-use mathlib.Core.List.{List, [], _∷_, _++_, map}
-use lib.ListN.{length, getD, drop, set}
+use mathlib.Core.List.{List, _++_}
+use lib.ListN.{length, getD, drop}
 use lib.Dec.{eqb}
-use borrow.Author.Tests.{lt-ltb, le-ltb, eq-eqb, ne-eqb}
+use borrow.Author.Tests.{lt-ltb, le-ltb, ne-eqb}
 use Rattle.refusals.specs.declared.Verdict.the-variants.{Fine, Bad}
 use Rattle.refusals.specs.declared.Refusal.the-variants.{List as ListWord}
 use Rattle.refusals.specs.Verdicts.{check}
 use Rattle.refusals.specs.Outcomes.{given}
 use Rattle.words.specs.Rows.{tabulate, flat}
-use Rattle.words.specs.Regions.{part}
 use Rattle.words.proofs.RowLaws.{tabulate-eq}
-use Rattle.words.proofs.FlatLaws.{flat-length, flat-at}
-use Rattle.words.proofs.PasteLaws.{Filling, fill-more}
+use Rattle.words.proofs.FlatLaws.{flat-length}
 use Rattle.ranges.specs.declared.Range.{Range}
 use Rattle.areas.specs.Job.{rangesIn, rangesOf}
 use Rattle.area_measure.specs.Locals.{wordOf, ListedBy}

@@ -2,11 +2,10 @@
 use Prim.Native.Nat.{ℕ, _+_, _-_, _*_, _/_, _^_, _≤_, _<_}
 use native.Mathlib.Omega.{arith}
 use mathlib.Core.Path.{_≡_, refl, sym, ap, subst, _∙_}
-use mathlib.Core.Bool.{Bool, true, false, cond}
+use mathlib.Core.Bool.{Bool, cond}
 use mathlib.Core.Option.{Option}
 use mathlib.Core.List.{List, _++_}
 use lib.ListN.{length, getD, drop, replicate, length-replicate}
-use lib.Dec.{ltb}
 use borrow.Author.Tests.{lt-ltb, le-ltb}
 use native.Mathlib.Nat.{mul-le-mul-right}
 use Rattle.refusals.specs.declared.Verdict.the-variants.{Fine, Bad}
@@ -20,7 +19,7 @@ use Rattle.graph.specs.Work.{Within}
 use Rattle.components.proofs.Entries.{cleared-same}
 use Rattle.ranges.specs.declared.Range.{Range}
 use Rattle.reach.specs.Prepared.{wordsOf}
-use Rattle.areas.specs.Job.{Job, Local, localsOf, itemCount, itemArea, listVerdict}
+use Rattle.areas.specs.Job.{Local, localsOf, itemCount, itemArea, listVerdict}
 use Rattle.areas.proofs.ApartLaws.{areas-apart}
 use Rattle.fitting.specs.Wants.{Want, orderOf}
 use Rattle.fitting.specs.Plan.{Plan, planOf}
@@ -29,9 +28,9 @@ use Rattle.area_measure.specs.Locals.{wordOf, ListedBy}
 use Rattle.job_space.specs.declared.Sizes.{Sizes}
 use Rattle.job_space.specs.Space.{sizesOf, spaceOf, Small}
 use Rattle.job_checks.specs.Job.{jobOf}
-use Rattle.job_areas.specs.Areas.{Lent, Solved}
-use Rattle.job_fit.specs.Wants.{countOf, sizeAt, alignAt, wantFor, wantsFor, planFor}
-use Rattle.soundness.specs.Demand.{wantOf, wantsOf, jobPlan}
+use Rattle.job_areas.specs.Areas.{Solved}
+use Rattle.job_fit.specs.Wants.{countOf, sizeAt, alignAt, wantFor, planFor}
+use Rattle.soundness.specs.Demand.{wantOf, jobPlan}
 use Rattle.job_answers.specs.declared.Shared.{Shared}
 use Rattle.job_answers.specs.declared.Shared.the-variants.{Refused}
 use Rattle.job.specs.Entry.{lentVerdict, SharedAs}

@@ -1,7 +1,7 @@
 -- The answer lists' rows, by the tables that fitting leaves.
-use Prim.Native.Nat.{ℕ, suc, _+_, _-_, _*_, _/_, _%_, _^_, _≤_, _<_}
+use Prim.Native.Nat.{ℕ, suc, _+_, _-_, _*_, _/_, _^_, _≤_, _<_}
 use native.Mathlib.Omega.{arith}
-use mathlib.Core.Path.{_≡_, refl, sym, ap, subst, _∙_}
+use mathlib.Core.Path.{_≡_, refl, sym, ap, _∙_}
 use mathlib.Core.Option.{Option}
 use mathlib.Core.List.{List, [], _∷_, _++_}
 use lib.ListN.{length, getD, drop}
@@ -12,12 +12,12 @@ use Rattle.words.proofs.RowLaws.{length-tabulate, tabulate-eq}
 use Rattle.words.proofs.FlatLaws.{flat-length}
 use Rattle.ranges.specs.declared.Range.{Range}
 use Rattle.fitting.specs.Wants.{orderOf}
-use Rattle.fitting.specs.Plan.{Plan, cellAt, depthOf}
+use Rattle.fitting.specs.Plan.{Plan, cellAt}
 use Rattle.fitting.proofs.OrderLaws.{order-names}
 use Rattle.fitting.proofs.PlanLaws.{facts}
 use Rattle.order.specs.Keys.{sizeOf, alignOf}
 use Rattle.cell_tables.specs.declared.Counts.{Counts}
-use Rattle.areas.specs.Job.{rangesIn, rangesOf}
+use Rattle.areas.specs.Job.{rangesOf}
 use Rattle.area_measure.specs.Locals.{wordOf, ListedBy}
 use Rattle.answer_rows.specs.Rows.{rowsIn}
 use Rattle.area_tables.specs.Tables.{listVerdict, areaRows, listing}

@@ -1,11 +1,10 @@
 -- The locals' phase of a job that no check refuses: where it stands, and what it gives.
-use Prim.Native.Nat.{ℕ, zero, suc, _+_, _*_, _/_, _^_, _≤_, _<_}
+use Prim.Native.Nat.{ℕ, _+_, _/_, _^_, _≤_, _<_}
 use native.Mathlib.Omega.{arith}
 use mathlib.Core.Path.{_≡_, refl, sym, ap, subst, _∙_}
-use mathlib.Core.Bool.{cond, _||_}
+use mathlib.Core.Bool.{_||_}
 use mathlib.Core.List.{List}
-use lib.ListN.{length, getD}
-use lib.Dec.{leb}
+use lib.ListN.{length}
 use Rattle.words.specs.Rows.{rowCount}
 use Rattle.ranges.specs.declared.Range.{Range}
 use Rattle.graph.specs.Paths.{Edge}
@@ -14,7 +13,7 @@ use Rattle.graph.proofs.Line.{blocks-length}
 use Rattle.components.specs.Entry.{edgesIn}
 use Rattle.carrying.specs.Carried.{piecesOf, touchesOf}
 use Rattle.carrying.proofs.ListLaws.{false-any}
-use Rattle.areas.specs.Blocks.{top, holding, blockOf, clip, reversed, inverted}
+use Rattle.areas.specs.Blocks.{blockOf, clip, reversed, inverted}
 use Rattle.areas.proofs.JobLaws.{touches-fine}
 use Rattle.reach.specs.declared.Lay.{Lay}
 use Rattle.reach.specs.Prepared.{codeOf}
@@ -25,7 +24,6 @@ use Rattle.area_layout.specs.Layout.{Gridded, markOf}
 use Rattle.area_pieces.specs.Local.{Upright}
 use Rattle.live.specs.Live.{InOrder}
 use Rattle.slot_spots.specs.declared.Places.{Places as SlotPlaces}
-use Rattle.area_measure.specs.declared.Listing.{Listing}
 use Rattle.area_measure.specs.Locals.{wordOf}
 use Rattle.area_measure.proofs.ListLaws.{listed-none}
 use Rattle.job_spots.specs.declared.Places.{Places}

@@ -1,13 +1,11 @@
 -- The slots' phase: their registers, the table of places and their moves stand, and then their areas are measured.
-use Prim.Native.Nat.{ℕ, _+_, _*_, _^_, _≤_, _<_}
+use Prim.Native.Nat.{ℕ, _+_, _≤_, _<_}
 use native.Mathlib.Omega.{arith}
-use mathlib.Core.Path.{_≡_, refl, sym, ap, subst, _∙_}
-use mathlib.Core.Option.{Option}
-use mathlib.Core.List.{List, []}
+use mathlib.Core.Path.{_≡_, refl, _∙_}
+use mathlib.Core.List.{List}
 use lib.ListN.{length, getD}
 use Rattle.words.specs.Rows.{rowCount}
 use Rattle.words.specs.Regions.{Region}
-use Rattle.ranges.specs.declared.Range.{Range}
 use Rattle.graph.specs.Line.{blocksOf}
 use Rattle.graph.specs.Work.{Tabled}
 use Rattle.graph.proofs.Line.{blocks-length}
@@ -15,7 +13,7 @@ use Rattle.areas.specs.Slots.{assignedOf, spilled}
 use Rattle.slot_spots.specs.declared.Places.{Places}
 use Rattle.slot_spots.specs.Slots.{heldWord, Chained}
 use Rattle.area_measure.specs.declared.Listing.{Listing}
-use Rattle.area_measure.specs.Locals.{wordOf, ListedBy}
+use Rattle.area_measure.specs.Locals.{wordOf}
 use Rattle.slot_measure.specs.All.{Ready, MeasuredSlots}
 use Rattle.job_areas.specs.Areas.{SlotsAsked, SlotsIn}
 use Rattle.job_areas.proofs.KeptLaws.{listed-kept}

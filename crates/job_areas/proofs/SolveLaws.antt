@@ -3,15 +3,13 @@ use Prim.Native.Nat.{ℕ, _+_, _-_, _*_, _/_, _^_, _≤_, _<_}
 use native.Mathlib.Nat.{mul-le-mul-left}
 use native.Mathlib.Omega.{arith}
 use mathlib.Core.Path.{_≡_, refl, sym, ap, subst, _∙_}
-use mathlib.Core.Bool.{Bool, true, false, cond}
-use mathlib.Core.Option.{Option}
-use mathlib.Core.List.{List, []}
+use mathlib.Core.Bool.{Bool, cond}
+use mathlib.Core.List.{List}
 use lib.ListN.{length, getD}
-use lib.Dec.{ltb, leb}
+use lib.Dec.{leb}
 use borrow.Author.Tests.{lt-ltb, le-ltb, leb-false}
 use Rattle.words.specs.Rows.{rowCount}
 use Rattle.words.proofs.RowLaws.{length-records}
-use Rattle.ranges.specs.declared.Range.{Range}
 use Rattle.refusals.specs.declared.Refusal.the-variants.{Piece as PieceWord}
 use Rattle.refusals.proofs.Laws.{scan-fine}
 use Rattle.graph.proofs.Within.{within-wider}
@@ -20,14 +18,14 @@ use Rattle.graph.proofs.Line.{at-mem}
 use Rattle.carrying.specs.Carried.{piecesOf}
 use Rattle.areas.specs.Slots.{Assigned, assignedOf, movesOf, spilled, slotArea}
 use Rattle.spill_checks.proofs.OperandLaws.{moved-whatever}
-use Rattle.areas.specs.Job.{Job, localsOf, localArea, slotAreaIn, itemCount, itemArea}
+use Rattle.areas.specs.Job.{Job, localArea, slotAreaIn, itemArea}
 use Rattle.live.specs.Live.{PutInOrder}
 use Rattle.slot_spots.specs.declared.Places.{Places}
 use Rattle.slot_spots.specs.Slots.{heldWord}
 use Rattle.area_measure.specs.Locals.{wordOf, ListedBy}
-use Rattle.slot_measure.specs.All.{mostFor, AreasBy}
+use Rattle.slot_measure.specs.All.{mostFor}
 use Rattle.job_space.specs.declared.Sizes.{Sizes}
-use Rattle.job_space.specs.Space.{sizesOf, spaceOf, Small}
+use Rattle.job_space.specs.Space.{sizesOf, spaceOf}
 use Rattle.job_checks.specs.Job.{jobOf}
 use Rattle.job_layout.specs.declared.Regions.{Regions}
 use Rattle.job_layout.specs.Layout.{Placed, SlotsFrom, mostOfLocal, mostOfSlot}

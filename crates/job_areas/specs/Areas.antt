@@ -11,7 +11,7 @@ use Rattle.graph.specs.Line.{blocksOf, Sound}
 use Rattle.graph.specs.Work.{Within}
 use Rattle.carrying.specs.Insts.{instsOf}
 use Rattle.areas.specs.Slots.{assignedOf, spilled, movesOf, moveVerdict}
-use Rattle.areas.specs.Job.{Job, itemCount, itemArea, localArea}
+use Rattle.areas.specs.Job.{itemCount, itemArea, localArea}
 use Rattle.live.specs.Live.{InOrder}
 use Rattle.slot_spots.specs.declared.Places.{Places}
 use Rattle.slot_spots.specs.Slots.{heldWord, Laid}

@@ -1,6 +1,5 @@
 // The areas of all items of a job in the work space, from records that no check refuses: the locals', then the slots'.
 ghost use mathlib.Core.Path.{_≡_};
-ghost use lib.ListN.{length};
 ghost use Rattle.job_space.specs.Space.{sizesOf};
 ghost use Rattle.job_layout.specs.Layout.{Placed};
 ghost use Rattle.live.specs.Live.{InOrder};

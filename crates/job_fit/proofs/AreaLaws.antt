@@ -1,5 +1,5 @@
 -- Areas that stand one behind another are, by their items' words, the areas that fitting reads.
-use Prim.Native.Nat.{ℕ, _+_, _-_, _*_, _/_, _%_, _^_, _≤_, _<_}
+use Prim.Native.Nat.{ℕ, _+_, _-_, _*_, _^_, _≤_, _<_}
 use native.Mathlib.Omega.{arith}
 use mathlib.Core.Path.{_≡_, refl, sym, ap, subst, _∙_}
 use mathlib.Core.Option.{Option, some, none, Option·some-injective}
@@ -22,7 +22,7 @@ use Rattle.area_measure.proofs.ListLaws.{ranges-append, ranges-more, gather-mor
 use Rattle.cell_tables.specs.Tables.{firstOf, countOf, rangesAt, areaIn, Proper}
 use Rattle.cell_tables.proofs.TableLaws.{area-none, area-some}
 use Rattle.area_tables.specs.Tables.{listing}
-use Rattle.area_tables.proofs.RowLaws.{gathered-long}
+use Rattle.area_tables.proofs.RowLaws.{gathered-long, listed-long}
 
 -- ---- lists
 

@@ -1,27 +1,25 @@
 -- The loaded tables hold the wants of the items, so what fitting leaves is their plan.
-use Prim.Native.Nat.{ℕ, _+_, _-_, _*_, _/_, _%_, _^_, _≤_, _<_}
+use Prim.Native.Nat.{ℕ, _+_, _-_, _*_, _^_, _≤_, _<_}
 use native.Mathlib.Omega.{arith}
 use native.Mathlib.Nat.{add-zero}
 use mathlib.Core.Path.{_≡_, refl, sym, ap, subst, _∙_}
-use mathlib.Core.Logic.{_⊎_, inl, inr}
+use mathlib.Core.Logic.{inl, inr}
 use mathlib.Core.Bool.{Bool, true, false, cond}
-use mathlib.Core.Option.{Option, some, none}
+use mathlib.Core.Option.{Option}
 use mathlib.Core.List.{List}
 use lib.ListN.{length, getD}
 use lib.Dec.{ltb}
 use borrow.Author.Tests.{lt-ltb, le-ltb}
-use Rattle.words.specs.Rows.{rowCount, field, tabulate}
+use Rattle.words.specs.Rows.{rowCount, field}
 use Rattle.words.specs.Regions.{Region}
 use Rattle.words.proofs.RowLaws.{tabulate-eq}
 use Rattle.words.proofs.RegionLaws.{region-next}
 use Rattle.ranges.specs.declared.Range.{Range}
-use Rattle.ranges.specs.Points.{Apart}
-use Rattle.graph.specs.Work.{Within}
 use Rattle.fitting.specs.Wants.{Want, orderOf}
-use Rattle.fitting.specs.Plan.{Plan, planOf, depthOf}
+use Rattle.fitting.specs.Plan.{planOf}
 use Rattle.order.specs.Keys.{sizeOf, alignOf}
 use Rattle.cell_tables.specs.declared.Counts.{Counts}
-use Rattle.cell_tables.specs.Tables.{areaIn, wantIn, wantsIn, planIn, Lent, Shown, Fitted}
+use Rattle.cell_tables.specs.Tables.{wantIn, wantsIn, Lent, Fitted}
 use Rattle.area_measure.specs.Locals.{wordOf, ListedBy}
 use Rattle.area_tables.specs.Tables.{listing}
 use Rattle.job_fit.specs.Wants.{countOf, sizeAt, alignAt, localWord, slotWord, wantWord, wantFor, wantsFor, planFor, Ready, Holds, FittedFor}

@@ -1,9 +1,8 @@
 -- The locals' phase: what the tables leave is what the rows ask, and what the rows leave is what measuring asks.
-use Prim.Native.Nat.{ℕ, _+_, _*_, _≤_, _<_}
+use Prim.Native.Nat.{ℕ, _+_, _*_, _≤_}
 use native.Mathlib.Omega.{arith}
-use mathlib.Core.Path.{_≡_, refl, sym, ap, _∙_}
+use mathlib.Core.Path.{_≡_, refl, ap, _∙_}
 use mathlib.Core.List.{List}
-use lib.ListN.{length, getD}
 use Rattle.words.specs.Rows.{rowCount}
 use Rattle.components.specs.Entry.{edgesIn}
 use Rattle.reach.specs.declared.Lay.{Lay}
@@ -16,7 +15,7 @@ use Rattle.area_measure.specs.declared.Listing.{Listing}
 use Rattle.job_spots.specs.declared.Places.{Places}
 use Rattle.job_spots.specs.Fetch as fetching
 use Rattle.job_spots.proofs.FetchLaws.{prepared-kept, ready-since}
-use Rattle.job_measure.specs.Measure.{mostIn, Fits, MeasuredLocals}
+use Rattle.job_measure.specs.Measure.{Fits, MeasuredLocals}
 use Rattle.job_measure.specs.Measure.{Ready as MeasureReady}
 use Rattle.job_locals.specs.Locals.{sizes, TablesIn, RowsAsked, RowsIn, Asked, LocalsIn}
 

@@ -1,14 +1,13 @@
 -- From the marks of all locals to their rows.
-use Prim.Native.Nat.{ℕ, _+_, _*_, _/_, _%_, _≤_, _<_}
+use Prim.Native.Nat.{ℕ, _+_, _/_, _%_, _≤_, _<_}
 use native.Mathlib.Omega.{arith}
-use mathlib.Core.Path.{_≡_, refl, sym, ap, _∙_}
+use mathlib.Core.Path.{_≡_, refl, ap, _∙_}
 use mathlib.Core.Logic.{inl, inr}
-use mathlib.Core.Bool.{false}
 use mathlib.Core.List.{List, []}
-use lib.ListN.{length, getD}
+use lib.ListN.{getD}
 use Rattle.words.specs.Rows.{rowCount}
 use Rattle.words.specs.Regions.{Region}
-use Rattle.bits.specs.Bits.{bit, bitOf}
+use Rattle.bits.specs.Bits.{bitOf}
 use Rattle.bits.proofs.DigitLaws.{bit-zero}
 use Rattle.components.specs.Entry.{edgesIn}
 use Rattle.reach.specs.declared.Lay.{Lay}

@@ -1,14 +1,12 @@
 -- The tables that all walks read: the code prepared, then the chains of the ends.
-use Prim.Native.Nat.{ℕ, _+_, _*_, _≤_, _<_}
+use Prim.Native.Nat.{ℕ, _+_}
 use native.Mathlib.Omega.{arith}
-use mathlib.Core.Path.{_≡_, refl, sym, _∙_}
+use mathlib.Core.Path.{refl, _∙_}
 use mathlib.Core.Logic.{inl, inr}
 use mathlib.Core.List.{List}
-use lib.ListN.{length, getD}
 use Rattle.words.specs.Rows.{rowCount, field}
 use Rattle.words.specs.Regions.{Region}
 use Rattle.graph.specs.Work.{Within}
-use Rattle.graph.proofs.Within.{within-trans, within-wider}
 use Rattle.insts.proofs.DealtLaws.{insts-length}
 use Rattle.reach.specs.declared.Lay.{Lay}
 use Rattle.reach.specs.Prepared.{codeOf, Readied}

@@ -1,6 +1,5 @@
 // The locals of a job, from its records to their areas in the work space.
-ghost use Prim.Native.Nat.{_+_, _*_, _/_, _≤_};
-ghost use lib.ListN.{length};
+ghost use Prim.Native.Nat.{_/_};
 ghost use Rattle.job_locals.specs.Locals.{TablesAsked, TablesIn, RowsAsked, RowsIn, Asked, LocalsIn};
 use area_flow::Grid;
 use area_measure::Listing;

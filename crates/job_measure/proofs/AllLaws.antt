@@ -4,7 +4,6 @@ use native.Mathlib.Omega.{arith}
 use mathlib.Core.Path.{_≡_, refl, _∙_}
 use mathlib.Core.Bool.{false}
 use mathlib.Core.List.{List}
-use lib.ListN.{length, getD}
 use Rattle.bits.specs.Bits.{bit}
 use Rattle.reach.specs.declared.Lay.{Lay}
 use Rattle.follow.specs.declared.Sizes.{Sizes}

@@ -1,7 +1,7 @@
 -- One local of a job: fetched, and its area put behind those so far; its rows and what is read for the others stand.
 use Prim.Native.Nat.{ℕ, _+_, _-_, _*_, _/_, _%_, _≤_, _<_}
 use native.Mathlib.Omega.{arith}
-use mathlib.Core.Path.{_≡_, refl, sym, ap, subst, _∙_}
+use mathlib.Core.Path.{_≡_, refl, sym, ap, _∙_}
 use mathlib.Core.Logic.{_≢_, _⊎_, inl, inr, ⊎-elim}
 use mathlib.Core.Bool.{Bool, true, false, _&&_, true≢false}
 use mathlib.Core.Option.{Option, some, none}
@@ -22,14 +22,13 @@ use Rattle.graph.proofs.Line.{blocks-length}
 use Rattle.carrying.specs.declared.Kind.{Kind}
 use Rattle.carrying.specs.declared.Kind.the-variants.{Unfollowed, Plain, Ending}
 use Rattle.carrying.specs.Carried.{Code, Piece, piecesOf, kindOf, touchesOf, endsOf}
-use Rattle.areas.specs.Blocks.{Graph, inverted, touched, leaves, passes}
+use Rattle.areas.specs.Blocks.{Graph, inverted, passes}
 use Rattle.areas.specs.Pieces.{beforeRow, afterRow, arrivesRow}
 use Rattle.areas.specs.Job.{areaBy, rangesIn}
 use Rattle.areas.proofs.PermuteLaws.{any-perm, touched-perm, leaves-perm, plain-permuted, end-permuted}
 use Rattle.reach.specs.declared.Lay.{Lay}
 use Rattle.reach.specs.Prepared.{codeOf, Prepared}
 use Rattle.follow.specs.declared.Sizes.{Sizes}
-use Rattle.spots.specs.declared.Spots.{Spots}
 use Rattle.spots.specs.Spots.{lineOf, touchesAt, endsAt}
 use Rattle.local_spots.specs.Locals.{kindBy}
 use Rattle.local_spots.proofs.OrderLaws.{arrives-sorted, ending-sorted}
@@ -39,7 +38,7 @@ use Rattle.area_flow.specs.declared.Grid.{Grid}
 use Rattle.area_flow.specs.Grid.{rowBit, blockBit}
 use Rattle.area_measure.specs.declared.Listing.{Listing}
 use Rattle.area_measure.specs.Measure.{itemWord, RowsFor, Measurable, Listable, Measured}
-use Rattle.area_measure.specs.Locals.{listed, wordOf, localAt, ListedBy}
+use Rattle.area_measure.specs.Locals.{listed, wordOf, localAt}
 use Rattle.area_measure.proofs.ListLaws.{listed-more}
 use Rattle.job_spots.specs.declared.Places.{Places}
 use Rattle.job_spots.specs.declared.JobLocal.{JobLocal}

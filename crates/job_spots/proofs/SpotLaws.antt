@@ -1,5 +1,5 @@
 -- One local's touches, of registers and then of entries; its ends, sorted.
-use Prim.Native.Nat.{ℕ, _+_, _≤_, _<_}
+use Prim.Native.Nat.{ℕ, _+_, _≤_}
 use native.Mathlib.Omega.{arith}
 use mathlib.Core.Path.{_≡_, refl, sym, ap, _∙_}
 use mathlib.Core.List.{List, _++_}
@@ -12,7 +12,6 @@ use Rattle.words.proofs.SortLaws.{length-sort, sorted-rising}
 use Rattle.ranges.specs.declared.Range.{Range}
 use Rattle.ranges.specs.Forms.{unpack, unpacked}
 use Rattle.ranges.proofs.FormLaws.{map-append}
-use Rattle.graph.specs.Work.{Within}
 use Rattle.graph.proofs.Within.{within-trans, within-wider, region-within}
 use Rattle.carrying.specs.Lists.{gather}
 use Rattle.carrying.specs.Carried.{piecesOf, livePieces}

@@ -2,7 +2,7 @@
 use Prim.Native.Nat.{ℕ, _+_, _≤_}
 use mathlib.Core.Path.{_≡_}
 use mathlib.Core.List.{List, _++_}
-use lib.ListN.{length, getD}
+use lib.ListN.{getD}
 use Rattle.words.specs.Rows.{rowCount}
 use Rattle.words.specs.Regions.{part}
 use Rattle.words.specs.Sort.{Rising, sortOf}

@@ -1,5 +1,4 @@
 // The touches and the ends of one local of a job, each list in one piece of the work space.
-ghost use mathlib.Core.Path.{_≡_};
 ghost use Prim.Native.Nat.{ℕ, _+_, _^_, _≤_, _<_};
 ghost use lib.ListN.{length, getD};
 ghost use Rattle.words.specs.Sort.{Distinct};

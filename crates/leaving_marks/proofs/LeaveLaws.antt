@@ -1,9 +1,9 @@
 -- Where a local leaves: by each touch, whose cover may reach a block's last point.
-use Prim.Native.Nat.{ℕ, zero, suc, _+_, _*_, _/_, _≤_, _<_, min}
+use Prim.Native.Nat.{ℕ, _+_, _*_, _/_, _≤_, _<_, min}
 use native.Mathlib.Omega.{arith}
-use mathlib.Core.Path.{_≡_, refl, sym, ap, _∙_}
+use mathlib.Core.Path.{_≡_, sym, ap, _∙_}
 use mathlib.Core.Logic.{_⊎_, inl, inr, ⊎-elim}
-use mathlib.Core.Bool.{Bool, true, cond, _&&_, _||_}
+use mathlib.Core.Bool.{Bool, true, _&&_, _||_}
 use mathlib.Core.List.{List, []}
 use lib.ListN.{length, getD}
 use lib.Dec.{eqb, leb, ltb}
@@ -16,7 +16,7 @@ use Rattle.graph.specs.Line.{blocksOf}
 use Rattle.graph.specs.Work.{Within}
 use Rattle.graph.proofs.Line.{end-is}
 use Rattle.carrying.specs.Lists.{any}
-use Rattle.areas.specs.Blocks.{Graph, top, bottom, holding, blockOf, bounds, between, until, cover, leaves}
+use Rattle.areas.specs.Blocks.{Graph, bottom, blockOf, bounds, between, until, cover, leaves}
 use Rattle.areas.proofs.BlockLaws.{bounds-cases, bounds-first, bounds-last, between-cases, between-test}
 use Rattle.spots.specs.declared.Spots.{Spots}
 use Rattle.spots.specs.Spots.{lineOf, touchesAt, endsAt, Stand}

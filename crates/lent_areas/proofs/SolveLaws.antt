@@ -1,5 +1,5 @@
 -- The areas in the work space: the regions fit, and each phase leaves what the next one asks.
-use Prim.Native.Nat.{ℕ, zero, suc, _+_, _*_, _/_, _%_, _^_, _≤_, _<_}
+use Prim.Native.Nat.{ℕ, zero, _+_, _*_, _/_, _%_, _^_, _≤_, _<_}
 use native.Mathlib.Nat.{mul-le-mul-right}
 use mir.Syntax.{w64}
 use mir.Val.{Fits as WordFits}

@@ -3,27 +3,25 @@ use Prim.Native.Nat.{ℕ, zero, suc, _+_, _-_, _*_, _/_, _%_, _≤_, _<_}
 use mathlib.Core.Path.{_≡_, refl, sym, ap, _∙_}
 use mathlib.Core.Logic.{_≢_}
 use mathlib.Core.Bool.{Bool, true, false, cond, not, _||_}
-use mathlib.Core.List.{List, [], _∷_}
+use mathlib.Core.List.{List}
 use native.Mathlib.Numerals.{add-one}
 use native.Mathlib.Nat.{div-add-mod', mul-div-cancel}
 use native.Mathlib.Omega.{arith}
-use lib.Dec.{eqb, leb, ltb}
+use lib.Dec.{eqb, ltb}
 use lib.ListN.{length, getD, replicate, getD-replicate}
 use borrow.Author.Tests.{eq-eqb, ne-eqb, lt-ltb, le-ltb, le-leb, lt-leb}
 use Rattle.refusals.specs.declared.Verdict.{Verdict}
 use Rattle.refusals.specs.declared.Verdict.the-variants.{Fine, Bad}
 use Rattle.refusals.specs.declared.Refusal.{Refusal}
-use Rattle.refusals.specs.declared.Refusal.the-variants.{Count, Line, Edge as EdgeWord, Space}
-use Rattle.refusals.specs.Verdicts.{first, scan}
+use Rattle.refusals.specs.declared.Refusal.the-variants.{Count, Space}
 use Rattle.refusals.proofs.Laws.{first-fine, first-bad, first-left, first-right}
 use Rattle.bits.specs.Bits.{bit, bitOf, PutBit}
 use Rattle.bits.proofs.DigitLaws.{bit-zero}
-use Rattle.words.specs.Rows.{rowCount, wholeRows}
 use Rattle.words.proofs.Points.{cut, same}
 use Rattle.words.proofs.Bools.{or-cond}
-use Rattle.graph.specs.Line.{Stretch, blocksOf, jumpsOf, blockAt, usedBefore, gapAt, pastPoints, badBlock, lineVerdict, badEdge, edgeVerdict, Sound}
+use Rattle.graph.specs.Line.{Stretch, blocksOf, jumpsOf, blockAt, usedBefore, gapAt, badBlock, lineVerdict, badEdge, edgeVerdict, Sound}
 use Rattle.graph.specs.Checks.{badCount, countVerdict, badSpan, graphVerdict, rowsVerdict, spaceOf, spaceVerdict}
-use Rattle.graph.proofs.Line.{blocks-length, jumps-length, start-is, end-is, number-is, from-is, to-is, line-sound}
+use Rattle.graph.proofs.Line.{blocks-length, from-is, to-is, line-sound}
 
 -- ---- number 1
 

@@ -1,8 +1,7 @@
 // The checks of the blocks and the edges that an entry is lent: refusals 1, 2 and 3, in linear time and without work space.
 ghost use mathlib.Core.Path.{_≡_};
-ghost use mathlib.Core.Bool.{Bool};
-ghost use Prim.Native.Nat.{ℕ, _+_, _*_, _/_, _≤_, _<_};
-ghost use lib.ListN.{length, getD};
+ghost use Prim.Native.Nat.{_+_, _*_, _/_, _≤_, _<_};
+ghost use lib.ListN.{length};
 ghost use lib.Dec.{eqb};
 ghost use Rattle.refusals.specs.declared.Refusal.the-variants.{Edge as EdgeWord};
 ghost use Rattle.refusals.specs.Verdicts.{scan};

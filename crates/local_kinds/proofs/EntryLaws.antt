@@ -1,22 +1,19 @@
 -- The entry `reach`: the kinds one after another, and the ways out.
-use Prim.Native.Nat.{ℕ, _+_, _-_, _*_, _/_, _≤_, _<_}
+use Prim.Native.Nat.{ℕ, _+_, _-_, _/_, _≤_, _<_}
 use native.Mathlib.Omega.{arith}
 use mathlib.Core.Path.{_≡_, refl, sym, ap, _∙_}
 use mathlib.Core.Bool.{Bool}
-use mathlib.Core.List.{List, [], _++_}
+use mathlib.Core.List.{List, _++_}
 use lib.ListN.{length, set, drop, length-set}
-use Rattle.refusals.specs.declared.Verdict.{Verdict}
 use Rattle.refusals.specs.declared.Verdict.the-variants.{Fine, Bad}
 use Rattle.refusals.specs.declared.Refusal.{Refusal}
-use Rattle.refusals.specs.Outcomes.{after}
 use Rattle.words.specs.Rows.{rowCount}
-use Rattle.words.specs.Regions.{Region, cleared}
+use Rattle.words.specs.Regions.{cleared}
 use Rattle.words.proofs.RowLaws.{length-tabulate}
 use Rattle.words.proofs.RegionLaws.{Done, done-start, done-more, done-all, region-front}
 use Rattle.graph.specs.Work.{Within}
 use Rattle.graph.proofs.Within.{within-refl, within-trans, within-wider}
-use Rattle.carrying.specs.declared.Kind.{Kind}
-use Rattle.carrying.specs.Carried.{Code, kindOf}
+use Rattle.carrying.specs.Carried.{kindOf}
 use Rattle.insts.proofs.DealtLaws.{insts-length}
 use Rattle.reach.specs.declared.Lay.{Lay}
 use Rattle.reach.proofs.ReadyLaws.{mentions-count}
@@ -26,7 +23,6 @@ use Rattle.follow.specs.declared.Followed.{Followed}
 use Rattle.follow.specs.Followed.{FollowsAny, Ready}
 use Rattle.follow.proofs.KeptLaws.{prepared-kept, ready-kept}
 use Rattle.carry_checks.proofs.LayoutLaws.{cleared-all}
-use Rattle.local_kinds.specs.declared.Answer.{Answer}
 use Rattle.local_kinds.specs.declared.Answer.the-variants.{Given, Refused}
 use Rattle.carry_checks.specs.Checks.{carrySpace, carryVerdict}
 use Rattle.local_kinds.specs.Entry.{kindNumber, kindsOf, Kinds, Measured, ReachTo}

@@ -8,8 +8,6 @@ use Rattle.refusals.specs.Outcomes.{Outcome, given, refused, unless, after}
 use Rattle.words.specs.Rows.{tabulate, rowCount}
 use Rattle.words.specs.Regions.{Region}
 use Rattle.graph.specs.Work.{Within}
-use Rattle.carrying.specs.declared.Kind.{Kind}
-use Rattle.carrying.specs.declared.Kind.the-variants.{Unfollowed, Plain, Ending}
 use Rattle.carrying.specs.Carried.{Code, kindOf}
 use Rattle.reach.specs.declared.Lay.{Lay}
 use Rattle.reach.specs.Prepared.{codeOf, Prepared}

@@ -1,6 +1,5 @@
 // The entry `reach`: what becomes of each local.
-ghost use mathlib.Core.Path.{_≡_};
-ghost use Prim.Native.Nat.{_+_, _*_, _/_, _≤_, _<_};
+ghost use Prim.Native.Nat.{_+_, _/_, _≤_, _<_};
 ghost use lib.ListN.{length};
 ghost use Rattle.reach.specs.Prepared.{wordsOf, codeOf};
 ghost use Rattle.follow.specs.Followed.{Ready};

@@ -1,7 +1,7 @@
 -- Laws of a pass over the locals: the first l are marked; of touches lent by themselves none of these is inverted.
 use Prim.Native.Nat.{ℕ, _+_, _*_, _≤_, _<_}
 use native.Mathlib.Omega.{arith}
-use mathlib.Core.Path.{_≡_, refl, sym, ap, _∙_, subst}
+use mathlib.Core.Path.{_≡_, sym, ap, _∙_, subst}
 use mathlib.Core.Bool.{Bool, true, false, cond, not, _&&_, _||_, or-false, and-true}
 use mathlib.Core.List.{List}
 use lib.ListN.{getD}

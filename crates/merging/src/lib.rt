@@ -1,6 +1,6 @@
 // `merged` over columns, by way of words: a range in each. `range_entries` checks the lists first.
 ghost use mathlib.Core.Path.{_≡_};
-ghost use Prim.Native.Nat.{ℕ, _/_, _%_, _^_, _≤_};
+ghost use Prim.Native.Nat.{_/_, _%_, _^_, _≤_};
 ghost use lib.ListN.{length, getD};
 ghost use Rattle.words.specs.Regions.{Region};
 ghost use Rattle.ranges.specs.Points.{range};

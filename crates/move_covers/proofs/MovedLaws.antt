@@ -1,25 +1,15 @@
 -- Laws of `moved`: ranges appended to an answer list.
-use Prim.Native.Nat.{ℕ, suc, _+_, _-_, _*_, _/_, _≤_, _<_}
+use Prim.Native.Nat.{ℕ, _+_, _-_, _*_, _≤_}
 use native.Mathlib.Numerals.{add-one}
 use native.Mathlib.Omega.{arith}
 use mathlib.Core.Path.{_≡_, refl, sym, ap, _∙_}
-use mathlib.Core.Logic.{_≢_}
-use mathlib.Core.Bool.{Bool, _||_}
 use mathlib.Core.List.{List, [], _∷_, _++_, append-assoc}
-use lib.ListN.{length, getD, set, length-set, length-append, drop}
-use lib.Seq.{drop-cons, set-at}
-use Rattle.refusals.specs.declared.Verdict.the-variants.{Fine, Bad}
-use Rattle.refusals.specs.declared.Refusal.the-variants.{Stray}
+use lib.ListN.{length, set, length-set, length-append, drop}
 use Rattle.words.specs.Rows.{tabulate}
 use Rattle.words.proofs.RowLaws.{tabulate-suc}
 use Rattle.words.proofs.RegionLaws.{push}
 use Rattle.ranges.specs.declared.Range.{Range}
-use Rattle.graph.specs.Line.{Stretch, Sound}
 use Rattle.carrying.specs.Lists.{gather}
-use Rattle.carrying.specs.Insts.{Inst}
-use Rattle.areas.specs.Slots.{Move}
-use Rattle.move_points.specs.declared.Spot.{Spot}
-use Rattle.move_points.specs.declared.Spot.the-variants.{At, Nowhere}
 use Rattle.move_covers.specs.Wrote.{rowsOf, Wrote}
 
 -- ---- ranges appended

@@ -1,5 +1,5 @@
 -- Where a move stands, and what it covers.
-use Prim.Native.Nat.{ℕ, zero, suc, _+_, _*_, _≤_, _<_}
+use Prim.Native.Nat.{ℕ, zero, suc, _+_, _≤_, _<_}
 use native.Mathlib.Omega.{arith}
 use mathlib.Core.Path.{_≡_, refl, sym, ap, _∙_}
 use mathlib.Core.Logic.{_≢_}
@@ -20,7 +20,6 @@ use Rattle.carrying.specs.Insts.{Inst, instsOf, instAt, isSet}
 use Rattle.carrying.specs.Checks.{absent}
 use Rattle.insts.proofs.DealtLaws.{insts-length, early-is, late-is}
 use Rattle.areas.specs.Slots.{Move, movesOf, around, position, covering, badMove, moveAt, moveVerdict}
-use Rattle.move_points.specs.declared.Spot.{Spot}
 use Rattle.move_points.specs.declared.Spot.the-variants.{At, Nowhere}
 use Rattle.move_points.specs.Moves.{positionAt}
 use Rattle.spill_checks.proofs.CheckLaws.{kind-0, kind-1, kind-2, kind-3, move-at, moves-length}

@@ -2,33 +2,30 @@
 use Prim.Native.Nat.{ℕ, _+_, _-_, _*_, _/_, _≤_, _<_}
 use native.Mathlib.Omega.{arith}
 use mathlib.Core.Path.{_≡_, refl, sym, ap, _∙_}
-use mathlib.Core.Bool.{Bool, _||_}
-use mathlib.Core.List.{List, [], _∷_, _++_}
-use lib.ListN.{length, getD, drop, replicate, length-replicate, length-drop, List·getD-eq-default}
-use lib.Seq.{ext-getD, getD-drop}
+use mathlib.Core.List.{List, [], _++_}
+use lib.ListN.{length, drop, replicate, length-replicate}
 use borrow.Author.Tests.{lt-ltb, le-ltb}
 use Rattle.refusals.specs.declared.Verdict.{Verdict}
 use Rattle.refusals.specs.declared.Verdict.the-variants.{Fine, Bad}
 use Rattle.refusals.specs.declared.Refusal.{Refusal}
-use Rattle.refusals.specs.declared.Refusal.the-variants.{Space, Stray}
+use Rattle.refusals.specs.declared.Refusal.the-variants.{Space}
 use Rattle.refusals.specs.Verdicts.{first}
-use Rattle.refusals.specs.Outcomes.{Outcome, given}
+use Rattle.refusals.specs.Outcomes.{given}
 use Rattle.refusals.proofs.Laws.{first-fine, first-bad, first-left, first-right, bad-fine}
 use Rattle.words.specs.Rows.{rowCount}
 use Rattle.words.specs.Regions.{cleared}
 use Rattle.words.proofs.Points.{cut}
 use Rattle.words.proofs.RegionLaws.{drop-same}
 use Rattle.ranges.specs.declared.Range.{Range}
-use Rattle.graph.specs.Line.{Stretch, blocksOf, lineVerdict, Sound}
+use Rattle.graph.specs.Line.{blocksOf, lineVerdict, Sound}
 use Rattle.graph.specs.Work.{Within}
 use Rattle.graph.proofs.Line.{blocks-length, line-sound}
-use Rattle.carrying.specs.Insts.{Inst, instsOf}
+use Rattle.carrying.specs.Insts.{instsOf}
 use Rattle.carrying.specs.Checks.{instVerdict}
 use Rattle.insts.specs.Counts.{rowsVerdict, mostVerdict, blockCounts, instCounts}
 use Rattle.insts.specs.Rows.{AddsUp}
 use Rattle.insts.proofs.CheckLaws.{most-few, rows-few, blocks-few, blocks-some, insts-counted}
-use Rattle.areas.specs.Slots.{Move, movesOf, moved, moveVerdict}
-use Rattle.spill_checks.specs.declared.Answer.{Answer}
+use Rattle.areas.specs.Slots.{movesOf, moved, moveVerdict}
 use Rattle.spill_checks.specs.declared.Answer.the-variants.{Given, Refused}
 use Rattle.moved_ranges.specs.Moved.{rowsOf, Wrote, movedCounts, movedSpace, movedRoom, movedVerdict, movedOf, MovedTo}
 use Rattle.move_covers.proofs.MovedLaws.{rows-length}

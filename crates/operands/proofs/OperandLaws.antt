@@ -1,5 +1,5 @@
 -- Laws of operands: the registers that they define, and uses by position.
-use Prim.Native.Nat.{ℕ, zero, suc, _+_, _-_, _*_, _/_, _≤_, _<_}
+use Prim.Native.Nat.{ℕ, zero, suc, _+_, _-_, _≤_, _<_}
 use native.Mathlib.Numerals.{add-one}
 use native.Mathlib.Omega.{arith}
 use native.Mathlib.Decide.{le-ind}
@@ -8,11 +8,11 @@ use mathlib.Core.Logic.{_≢_}
 use mathlib.Core.Bool.{Bool, true, false, cond, not, _&&_, _||_}
 use mathlib.Core.Option.{Option, some, none}
 use mathlib.Core.List.{List, [], _∷_, _++_, map, append-assoc, append-nil}
-use lib.ListN.{length, getD, drop, drop-of-length-le}
+use lib.ListN.{length, drop, drop-of-length-le}
 use lib.Seq.{drop-cons}
-use lib.Dec.{eqb, leb, ltb}
+use lib.Dec.{eqb, ltb}
 use borrow.Author.Tests.{eq-eqb, ne-eqb, lt-ltb, le-ltb}
-use Rattle.words.specs.Rows.{tabulate, field}
+use Rattle.words.specs.Rows.{tabulate}
 use Rattle.words.proofs.RowLaws.{tabulate-suc, length-tabulate, getD-tabulate}
 use Rattle.carrying.specs.Lists.{keep}
 use Rattle.carrying.specs.Insts.{Operand, Inst, isSet, onlyOne, isUse, addressPosition, eachAddress}

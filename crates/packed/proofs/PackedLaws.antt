@@ -1,10 +1,10 @@
 -- The range functions over words of one work space: what a store does to the list, and joining sorted words in place.
 use mathlib.Core.Path.{_≡_, refl, sym, ap, _∙_}
-use mathlib.Core.List.{List, [], _∷_, map}
-use Prim.Native.Nat.{ℕ, zero, suc, _+_, _-_, _*_, _/_, _%_, _^_, _≤_, _<_}
+use mathlib.Core.List.{List, [], _∷_}
+use Prim.Native.Nat.{ℕ, suc, _+_, _-_, _/_, _%_, _^_, _≤_, _<_}
 use native.Mathlib.Omega.{arith}
 use lib.ListN.{length, getD, take, drop, set, length-drop, length-take, drop-of-length-le}
-use lib.Seq.{getD-drop, getD-take, drop-set-add, drop-cons, length-take-le, take-length}
+use lib.Seq.{getD-drop, getD-take, drop-set-add, length-take-le}
 use Rattle.words.specs.Sort.{sortOf}
 use Rattle.words.specs.Regions.{Region, part}
 use Rattle.words.proofs.Points.{stored}
@@ -12,7 +12,6 @@ use Rattle.words.proofs.RegionLaws.{part-is, length-part}
 use Rattle.words.proofs.SortLaws.{length-sort}
 use Rattle.ranges.specs.declared.Range.{Range}
 use Rattle.ranges.specs.Points.{range, rangeAt}
-use Rattle.ranges.specs.Merged.{merged}
 use Rattle.ranges.specs.Forms.{pack, unpack, unpacked}
 use Rattle.ranges.specs.Inner.{Listing, TakenUp}
 use Rattle.packed.specs.Work.{TakenIn, MergedIn}

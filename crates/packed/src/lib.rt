@@ -1,6 +1,6 @@
 // The range functions over words that hold a range each: the form in which areas stand in a work space.
 ghost use mathlib.Core.Path.{_≡_};
-ghost use Prim.Native.Nat.{ℕ, _+_, _/_, _%_, _^_, _<_, _≤_};
+ghost use Prim.Native.Nat.{_+_, _/_, _%_, _^_, _<_, _≤_};
 ghost use lib.ListN.{length};
 ghost use Rattle.ranges.specs.Points.{range};
 ghost use Rattle.ranges.specs.Forms.{pack};

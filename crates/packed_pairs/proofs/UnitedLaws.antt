@@ -1,18 +1,16 @@
 -- `union` over words of one work space: the two lists stand outside the words that are written.
-use mathlib.Core.Path.{_≡_, refl, sym, ap, _∙_}
-use mathlib.Core.Logic.{_⊎_, inl, inr}
+use mathlib.Core.Path.{_≡_, refl, ap, _∙_}
+use mathlib.Core.Logic.{inl, inr}
 use mathlib.Core.Bool.{Bool, true, false}
-use mathlib.Core.List.{List, [], _∷_}
+use mathlib.Core.List.{List}
 use Prim.Native.Nat.{ℕ, _+_, _-_, _/_, _%_, _^_, _≤_, _<_}
 use native.Mathlib.Omega.{arith}
-use lib.ListN.{length, getD, take, drop, length-drop}
-use Rattle.words.specs.Regions.{Kept, part}
+use lib.ListN.{length, getD, drop, length-drop}
+use Rattle.words.specs.Regions.{part}
 use Rattle.words.proofs.RegionLaws.{kept-part-list}
-use Rattle.ranges.specs.declared.Range.{Range}
-use Rattle.ranges.specs.Points.{range, Apart}
-use Rattle.ranges.specs.Merged.{union}
+use Rattle.ranges.specs.Points.{Apart}
 use Rattle.ranges.specs.Forms.{unpack, unpacked}
-use Rattle.ranges.specs.Inner.{Listing, oneFirst}
+use Rattle.ranges.specs.Inner.{oneFirst}
 use Rattle.packed.specs.Work.{TakenIn, Clear}
 use Rattle.packed_pairs.specs.Pairs.{UnitedIn}
 use Rattle.ranges.proofs.FormLaws.{View, part-view, unpacked-length, map-take}

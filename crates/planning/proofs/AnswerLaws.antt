@@ -8,7 +8,7 @@ use mathlib.Core.Bool.{Bool, false}
 use mathlib.Core.List.{List, [], _∷_, _++_}
 use lib.ListN.{length, getD, take, drop, length-append}
 use lib.Seq.{take-append-seam}
-use lib.Dec.{ltb, leb, lit<, lit≤, leb→le}
+use lib.Dec.{ltb, lit<, lit≤}
 use borrow.Author.Tests.{le-ltb, ltb-false}
 use Rattle.refusals.specs.declared.Verdict.{Verdict}
 use Rattle.refusals.specs.declared.Verdict.the-variants.{Fine, Bad}
@@ -34,7 +34,7 @@ use Rattle.job.specs.Entry.{lentVerdict, verdictOf}
 use Rattle.grammar.specs.Groups.{groupAt, none, rowNumbers}
 use Rattle.grammar.specs.Lines.{linesOf}
 use Rattle.grammar.specs.Text.{countOf, crowded, tooMany, linesVerdict, readVerdict, registers as registersIn}
-use Rattle.grammar.proofs.TableLaws.{at, room-most}
+use Rattle.grammar.proofs.TableLaws.{room-most}
 use Rattle.job_rows.specs.declared.Reader.{Reader}
 use Rattle.text.specs.Read.{Ready, Records, Finishes}
 use Rattle.text.proofs.EndLaws.{head-counted}

@@ -1,8 +1,7 @@
 -- From the records in the reader's lists to the text of their plan.
-use Prim.Native.Nat.{ℕ, zero, suc, _+_, _-_, _≤_}
+use Prim.Native.Nat.{ℕ, suc, _+_, _-_, _≤_}
 use native.Mathlib.Omega.{arith}
-use mathlib.Core.Path.{_≡_, refl, ap, _∙_}
-use mathlib.Core.Bool.{Bool, true, false, cond}
+use mathlib.Core.Path.{_≡_}
 use mathlib.Core.Option.{Option, some, none}
 use mathlib.Core.List.{List, [], _∷_}
 use lib.ListN.{length, length-append, length-set}
@@ -14,7 +13,7 @@ use Rattle.words.specs.Rows.{tabulate}
 use Rattle.words.proofs.RowLaws.{length-tabulate}
 use Rattle.ranges.specs.declared.Range.{Range}
 use Rattle.areas.specs.Job.{Job, itemCount, itemArea, rangesOf, listVerdict}
-use Rattle.fitting.specs.Wants.{Want, wantAt, before, insert, ordered, orderOf}
+use Rattle.fitting.specs.Wants.{Want, wantAt, orderOf}
 use Rattle.fitting.specs.Plan.{Plan, lowest, cellOf, settled, placedBy, put, fit, nothing}
 use Rattle.fitting.proofs.PlanLaws.{facts}
 use Rattle.fitting.proofs.OrderLaws.{length-ordered}

@@ -1,7 +1,7 @@
 // The planning program between its reader and its writer: from a job's rows to the bytes that it prints.
 ghost use mathlib.Core.Path.{_≡_};
-ghost use Prim.Native.Nat.{ℕ, _≤_, _<_};
-ghost use lib.ListN.{length, getD};
+ghost use Prim.Native.Nat.{ℕ, _≤_};
+ghost use lib.ListN.{length};
 ghost use Rattle.refusals.specs.declared.Verdict.the-variants.{Fine};
 ghost use Rattle.refusals.specs.Verdicts.{numberOf};
 ghost use Rattle.refusals.specs.Outcomes.{given};

@@ -1,7 +1,6 @@
 -- The steps in the work space: what the stores leave, and the looks that are still to come.
 use Prim.Native.Nat.{ℕ, zero, suc, _+_, _-_, _≤_, _<_}
-use mathlib.Core.Path.{_≡_, refl, sym, ap, _∙_, subst}
-use mathlib.Core.Logic.{_≢_}
+use mathlib.Core.Path.{_≡_, refl, sym, _∙_, subst}
 use mathlib.Core.List.{List}
 use native.Mathlib.Omega.{arith}
 use lib.ListN.{length, getD, set, length-set}
@@ -11,7 +10,7 @@ use Rattle.graph.specs.Paths.{Edge, Between}
 use Rattle.graph.specs.Work.{Within, EdgeRows}
 use Rattle.graph.proofs.Within.{within-refl, within-set, rows-kept}
 use Rattle.tarjan.specs.Moves.{left as sumLeft}
-use Rattle.postorder.specs.Walk.{State, begins, ends, target, Walks}
+use Rattle.postorder.specs.Walk.{State, ends, Walks}
 use Rattle.postorder.specs.Space.{view, Held, toCome, pushList}
 use Rattle.postorder.proofs.Steps.{Pushed, Looked, Left}
 

@@ -1,17 +1,15 @@
 -- The walk from one root, and the walks from all.
-use Prim.Native.Nat.{ℕ, zero, suc, _+_, _-_, _≤_, _<_}
-use mathlib.Core.Path.{_≡_, refl, sym, ap, _∙_, subst}
-use mathlib.Core.Logic.{_≢_}
+use Prim.Native.Nat.{ℕ, _+_, _-_, _≤_, _<_}
+use mathlib.Core.Path.{_≡_, refl, sym, ap, subst}
 use mathlib.Core.List.{List}
 use native.Mathlib.Omega.{arith}
-use lib.ListN.{length, getD, set, length-set}
+use lib.ListN.{getD}
 use Rattle.words.proofs.Points.{same}
 use Rattle.words.specs.Regions.{Region}
 use Rattle.graph.specs.Paths.{Edge, Between}
 use Rattle.graph.specs.Work.{Within, EdgeRows}
 use Rattle.graph.proofs.Within.{within-refl, within-trans, within-wider, region-within}
-use Rattle.postorder.specs.Settling.{Settling, Walkable, Ordered}
-use Rattle.postorder.specs.Walk.{State, begins, Walks}
+use Rattle.postorder.specs.Settling.{Walkable, Ordered}
 use Rattle.postorder.specs.Space.{view, Held, Ready, Still, pushList, Turned, Walked}
 use Rattle.postorder.proofs.Steps.{Pushed, push-walks, start-walks, last-settling, last-ranks}
 use Rattle.postorder.proofs.Lists.{push-is, push-kept, held-from, held-on}

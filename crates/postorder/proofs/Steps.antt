@@ -1,19 +1,18 @@
 -- The steps of the walk: each keeps what holds of the state.
-use Prim.Native.Nat.{ℕ, zero, suc, _+_, _-_, _≤_, _<_}
-use mathlib.Core.Path.{_≡_, refl, sym, ap, _∙_, subst}
+use Prim.Native.Nat.{ℕ, suc, _+_, _-_, _≤_, _<_}
+use mathlib.Core.Path.{_≡_, sym, ap, _∙_, subst}
 use mathlib.Core.Logic.{_≢_, _⊎_, inl, inr, ⊎-elim}
 use mathlib.Core.List.{List}
 use native.Mathlib.Omega.{arith}
-use lib.ListN.{length, getD}
-use Rattle.words.proofs.Points.{cut, same}
+use Rattle.words.proofs.Points.{same}
 use Rattle.graph.specs.Paths.{Edge, Link, Route, one, Between}
 use Rattle.graph.specs.Work.{EdgeRows}
 use Rattle.tarjan.specs.Walk.{seen}
 use Rattle.tarjan.specs.Moves.{upd}
-use Rattle.tarjan.proofs.Tools.{upd-case, upd-at, upd-off, seen-same, seen-upd, seen-le, seen-lt}
+use Rattle.tarjan.proofs.Tools.{upd-case, seen-same, seen-upd, seen-le, seen-lt}
 use Rattle.tarjan.proofs.Whole.{zero-seen, all-seen}
 use Rattle.postorder.specs.Settling.{Settling}
-use Rattle.postorder.specs.Walk.{State, begins, ends, target, Stacked, Ranked, Walks}
+use Rattle.postorder.specs.Walk.{State, begins, ends, target, Ranked, Walks}
 
 -- ---- the steps, by what they leave of the n numbers of each region
 

@@ -1,17 +1,16 @@
 -- The turn in the work space: its three ways out.
-use Prim.Native.Nat.{ℕ, zero, suc, _+_, _-_, _≤_, _<_}
-use mathlib.Core.Path.{_≡_, refl, sym, ap, _∙_, subst}
-use mathlib.Core.Logic.{_≢_}
+use Prim.Native.Nat.{ℕ, _+_, _-_, _≤_, _<_}
+use mathlib.Core.Path.{_≡_, sym, ap, _∙_, subst}
 use mathlib.Core.List.{List}
 use native.Mathlib.Omega.{arith}
-use lib.ListN.{length, getD, set, length-set}
+use lib.ListN.{length, getD, set}
 use Rattle.words.proofs.Points.{same}
-use Rattle.graph.specs.Paths.{Edge, Link, Route, one, more, Between}
-use Rattle.graph.specs.Work.{Within, EdgeRows}
+use Rattle.graph.specs.Paths.{Edge, Link, Route, one, more}
+use Rattle.graph.specs.Work.{Within}
 use Rattle.graph.proofs.Within.{within-trans}
-use Rattle.postorder.specs.Walk.{State, begins, ends, target, Walks}
-use Rattle.postorder.specs.Space.{view, Held, Ready, Still, toCome, pushList, Turned}
-use Rattle.postorder.proofs.Steps.{Pushed, Looked, Left, depth-le, depth-lt, push-walks, look-walks, leave-walks}
+use Rattle.postorder.specs.Walk.{ends, target}
+use Rattle.postorder.specs.Space.{view, Held, Ready, pushList, Turned}
+use Rattle.postorder.proofs.Steps.{Pushed, depth-le, depth-lt, push-walks, look-walks, leave-walks}
 use Rattle.postorder.proofs.Lists.{push-is, look-is, leave-is, push-kept, look-kept, leave-kept, held-on, push-falls, look-falls, leave-falls}
 
 -- the place on top of the stack, one more than where its next edge stands, and where that leads

@@ -1,6 +1,5 @@
 -- The walk in a work space: what each function asks and gives.
 use Prim.Native.Nat.{ℕ, _+_, _≤_, _<_}
-use mathlib.Core.Path.{_≡_}
 use mathlib.Core.List.{List}
 use lib.ListN.{length, getD, set}
 use Rattle.graph.specs.Paths.{Edge, Between}

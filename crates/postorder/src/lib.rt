@@ -1,7 +1,7 @@
 // The places in the reverse postorder of a walk: loops aside, each after those that have an edge to it.
 // In the work space, of n places: the edge rows from `at` on, and from `base` on four regions of n numbers (specs/Walk.antt): order, rank, stack, next.
 ghost use mathlib.Core.Path.{_≡_};
-ghost use Prim.Native.Nat.{ℕ, _+_, _≤_, _<_};
+ghost use Prim.Native.Nat.{_+_, _≤_, _<_};
 ghost use lib.ListN.{length, getD};
 ghost use Rattle.postorder.specs.Settling.{Walkable, Ordered};
 ghost use Rattle.postorder.specs.Space.{Ready, pushList, Turned, Walked};

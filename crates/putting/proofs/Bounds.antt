@@ -5,7 +5,7 @@ use mathlib.Core.List.{List}
 use mir.Syntax.{w64}
 use mir.Val.{Fits}
 use native.Mathlib.Omega.{arith}
-use lib.ListN.{length, getD}
+use lib.ListN.{length}
 use Rattle.words.proofs.FitLaws.{Word, word, small}
 use Rattle.cell_tables.specs.Inner.{orderAt, Ready}
 

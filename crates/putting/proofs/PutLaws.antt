@@ -13,7 +13,7 @@ use Rattle.ranges.specs.Points.{Upright}
 use Rattle.ranges.specs.Merged.{union, clashes}
 use Rattle.ranges.proofs.PointLaws.{apart-upright}
 use Rattle.fitting.specs.Wants.{Want, wantAt}
-use Rattle.fitting.specs.Plan.{Cell, cellAt, joinable, takes, lowest, spent, Plan, assign, cellOf, opened, rangesIn, widened, entered, settled, placedBy, put}
+use Rattle.fitting.specs.Plan.{Cell, cellAt, joinable, lowest, spent, Plan, assign, cellOf, opened, rangesIn, widened, entered, settled, placedBy, put}
 use Rattle.fitting.proofs.SearchLaws.{lowest-found}
 use Rattle.fitting.proofs.CellLaws.{union-clashes, Neat, neat-put}
 use Rattle.order.specs.Keys.{sizeOf, alignOf}

@@ -1,24 +1,23 @@
 -- Every item in order: the tables hold the plan of the order's front, and at the end the whole plan.
-use Prim.Native.Nat.{ℕ, zero, suc, _+_, _-_, _*_, _^_, _≤_, _<_, min, max}
+use Prim.Native.Nat.{ℕ, _+_, _-_, _*_, _^_, _≤_, _<_, min, max}
 use native.Mathlib.Omega.{arith}
 use native.Mathlib.Numerals.{add-one}
 use mathlib.Core.Path.{_≡_, refl, ap, sym, _∙_, subst}
 use mathlib.Core.Logic.{_⊎_, inl, inr, ⊎-elim}
-use mathlib.Core.Bool.{Bool, true, false, cond}
 use mathlib.Core.Option.{some, none, Option·none-ne-some}
 use mathlib.Core.List.{List, [], _∷_, _++_}
 use lib.ListN.{length, getD, take}
 use lib.Seq.{take-suc, take-all}
 use Rattle.words.specs.Regions.{Region}
 use Rattle.words.proofs.RowLaws.{length-tabulate}
-use Rattle.fitting.specs.Wants.{Want, wantAt, before, insert, ordered, orderOf}
+use Rattle.fitting.specs.Wants.{Want, wantAt, before, orderOf}
 use Rattle.fitting.specs.Plan.{Plan, nothing, put, fit, planOf}
 use Rattle.fitting.proofs.OrderLaws.{order-names, length-ordered}
 use Rattle.order.specs.Keys.{sizeOf, alignOf, OrderedIn}
 use Rattle.sorting.proofs.RankLaws.{mem-at}
 use Rattle.cell_tables.specs.declared.Progress.{Progress}
 use Rattle.cell_tables.specs.Tables.{rangesAt, areaIn, wantIn, wantsIn, Lent, planIn, Fitted}
-use Rattle.cell_tables.specs.Inner.{orderAt, headAt, Linked, Probed, enteredIn, Holds, InOrder, Ready, Stepped, Placed, Each, Summed, Folded}
+use Rattle.cell_tables.specs.Inner.{orderAt, headAt, Probed, enteredIn, Holds, InOrder, Ready, Stepped, Placed, Each, Summed, Folded}
 use Rattle.cell_tables.proofs.TableLaws.{area-none, area-some, want-at, sized, area-kept, lent-kept, wants-kept}
 use Rattle.putting.proofs.EnterLaws.{entered-length, entered-rest}
 use Rattle.putting.proofs.StepLaws.{linked, order-kept}

@@ -1,6 +1,6 @@
 // One item put into the lowest cell that takes it, or into a new one, in tables of one work space.
 ghost use mathlib.Core.Path.{_≡_};
-ghost use Prim.Native.Nat.{ℕ, _+_, _-_, _*_, _/_, _%_, _<_, _≤_, max, min};
+ghost use Prim.Native.Nat.{_+_, _-_, _*_, _/_, _%_, _<_, _≤_, max, min};
 ghost use lib.ListN.{length};
 ghost use Rattle.order.specs.Keys.{sizeOf, alignOf};
 ghost use Rattle.cell_tables.specs.Inner.{itemAt, Sure, enteredIn, Ready, Stepped};

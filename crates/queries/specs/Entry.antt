@@ -1,5 +1,5 @@
 -- What the queries of a lent plan answer.
-use Prim.Native.Nat.{ℕ, _-_}
+use Prim.Native.Nat.{ℕ}
 use mathlib.Core.Option.{Option, some, none}
 use mathlib.Core.List.{List, []}
 use Rattle.refusals.specs.Verdicts.{numberOf}

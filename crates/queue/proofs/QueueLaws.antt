@@ -1,17 +1,17 @@
 -- Laws of the queue: room for one more, what a new entry leaves, and one growth after another.
-use Prim.Native.Nat.{ℕ, zero, suc, _+_, _-_, _*_, _/_, _≤_, _<_}
+use Prim.Native.Nat.{ℕ, suc, _+_, _-_, _/_, _≤_, _<_}
 use native.Mathlib.Omega.{arith}
 use mathlib.Core.Path.{_≡_, refl, sym, ap, _∙_, subst}
 use mathlib.Core.Logic.{_≢_, _⊎_, inl, inr}
 use mathlib.Core.Bool.{Bool, true, false, cond, true≢false}
 use mathlib.Core.List.{List}
-use lib.ListN.{length, getD, set, length-set}
+use lib.ListN.{getD, set, length-set}
 use lib.Seq.{getD-set-same, getD-set-other}
 use lib.Dec.{eqb}
 use borrow.Author.Tests.{eq-eqb, ne-eqb}
-use Rattle.words.proofs.Points.{cut, same, stored}
+use Rattle.words.proofs.Points.{cut, same}
 use Rattle.bits.specs.Bits.{bit, PutBit}
-use Rattle.graph.proofs.Counting.{Differ, all-taken}
+use Rattle.graph.proofs.Counting.{all-taken}
 use Rattle.reach.specs.declared.Lay.{Lay}
 use Rattle.reach.specs.Prepared.{wordsOf}
 use Rattle.reach.proofs.ScanLaws.{same-bit}

@@ -1,7 +1,5 @@
 // The queue of a walk: instructions whose defs are carried, each def once.
-ghost use mathlib.Core.Path.{_≡_};
-ghost use Prim.Native.Nat.{_+_, _≤_, _<_};
-ghost use lib.ListN.{length};
+ghost use Prim.Native.Nat.{_+_, _<_};
 ghost use Rattle.queue.specs.Walk.{defAt, Held, Joined};
 use reach::Lay;
 

@@ -1,7 +1,7 @@
 // The refusals of the range entries: numbers 1, 7 and 10, in this order.
 ghost use mathlib.Core.Path.{_≡_};
 ghost use mathlib.Core.Bool.{true};
-ghost use Prim.Native.Nat.{ℕ, _+_, _<_, _≤_, _^_};
+ghost use Prim.Native.Nat.{_+_, _<_, _^_};
 ghost use lib.ListN.{length};
 ghost use Rattle.refusals.specs.Verdicts.{countedOn};
 ghost use Rattle.ranges.specs.Points.{range};

@@ -1,5 +1,5 @@
 -- The range entries: what a verdict that is fine says of the lists, and what an answer or a refusal leaves.
-use mathlib.Core.Path.{_≡_, refl, sym, ap, _∙_}
+use mathlib.Core.Path.{_≡_, refl, sym, ap}
 use mathlib.Core.Bool.{Bool, true, false, _||_}
 use mathlib.Core.List.{List, [], _∷_}
 use Prim.Native.Nat.{ℕ, _+_, _≤_}
@@ -18,7 +18,7 @@ use Rattle.ranges.specs.declared.Range.{Range}
 use Rattle.range_entries.specs.declared.Counted.the-variants.{Ranges, Refused}
 use Rattle.range_entries.specs.declared.Clash.the-variants.{Is, Refused as ClashRefused}
 use Rattle.ranges.specs.Points.{Apart}
-use Rattle.ranges.specs.Forms.{columns, starts, ends}
+use Rattle.ranges.specs.Forms.{columns}
 use Rattle.range_checks.specs.Verdicts.{uneven, badList, pairVerdict, entryVerdict, mergedVerdict, joinedVerdict, unionVerdict, clashesVerdict}
 use Rattle.range_entries.specs.Entries.{clashing, Listed}
 use Rattle.ranges.specs.Inner.{Listing}

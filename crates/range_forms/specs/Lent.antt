@@ -1,5 +1,4 @@
 -- Document 01, "The form for each place": the range functions over ranges that are lent as structs.
-use Prim.Native.Nat.{ℕ}
 use mathlib.Core.Path.{_≡_}
 use mathlib.Core.Bool.{Bool, true, false, _||_}
 use mathlib.Core.List.{List, [], _∷_}

@@ -2,7 +2,6 @@
 // proved by a walk of its code: it takes the ranges apart and calls a covered function.
 ghost use mathlib.Core.Path.{_≡_};
 ghost use Prim.Native.Nat.{min};
-ghost use lib.ListN.{length};
 ghost use Rattle.range_entries.specs.Entries.{clashing};
 ghost use Rattle.range_forms.specs.Lent.{joinedOf, takenUp, lastAfter, taking, Joins, clashesOf};
 ghost use Rattle.range_forms.specs.Inner.{pointOf, Column, clashesOver};

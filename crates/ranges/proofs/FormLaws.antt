@@ -1,15 +1,14 @@
 -- Laws of the two forms of a list of ranges: what is read, stored or cut in columns or words is so in the list.
-use mathlib.Core.Path.{_≡_, refl, sym, ap, _∙_}
+use mathlib.Core.Path.{_≡_, refl, ap, _∙_}
 use mathlib.Core.List.{List, [], _∷_, _++_, map}
 use Prim.Native.Nat.{ℕ, zero, suc, _+_, _*_, _/_, _%_, _^_, _≤_, _<_}
 use native.Mathlib.Omega.{arith}
-use native.Mathlib.Nat.{div-eq-of-lt, mod-eq-of-lt}
 use lib.ListN.{length, getD, take, drop, set, length-map}
 use Rattle.words.specs.Regions.{part}
 use Rattle.words.proofs.RegionLaws.{length-part, getD-part}
 use Rattle.ranges.specs.declared.Range.{Range}
 use Rattle.ranges.specs.Points.{range, rangeAt}
-use Rattle.ranges.specs.Forms.{columns, starts, ends, pack, unpack, unpacked, packed}
+use Rattle.ranges.specs.Forms.{columns, starts, ends, pack, unpack, unpacked}
 
 -- ---- columns
 

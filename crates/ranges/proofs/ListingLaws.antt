@@ -1,14 +1,14 @@
 -- An answer list that is written in order: one range appended, or the last one's end raised. The list may stand in columns or in words.
 use mathlib.Core.Path.{_≡_, refl, sym, ap, _∙_}
 use mathlib.Core.List.{List, [], _∷_, _++_}
-use Prim.Native.Nat.{ℕ, zero, suc, _+_, _-_, _≤_, _<_, max}
+use Prim.Native.Nat.{ℕ, suc, _+_, _-_, _≤_, _<_, max}
 use native.Mathlib.Omega.{arith}
 use native.Mathlib.Numerals.{add-one}
-use lib.ListN.{length, getD, take, drop, set, length-set, take-append-drop}
+use lib.ListN.{length, take, drop, set, length-set, take-append-drop}
 use lib.Seq.{length-take-le, take-suc-set, take-set-lt, drop-set-lt, drop-drop, set-getD, getD-take}
 use Rattle.ranges.specs.declared.Range.{Range}
 use Rattle.ranges.specs.Points.{range, rangeAt}
-use Rattle.ranges.specs.Inner.{taken, Listing, TakenUp}
+use Rattle.ranges.specs.Inner.{Listing, TakenUp}
 use Rattle.ranges.proofs.TakeLaws.{taken-first, taken-wider, taken-next}
 
 drop-more : (k n : ℕ) (L M : List Range) → k ≤ n → drop k L ≡ drop k M → drop n L ≡ drop n M

@@ -1,8 +1,8 @@
 -- Laws of `merged`: the same points, in order and apart, whatever the order of the lent ranges.
-use mathlib.Core.Path.{_≡_, refl, sym, ap, _∙_}
+use mathlib.Core.Path.{_≡_, refl, ap, _∙_}
 use mathlib.Core.Logic.{_⊎_, inl, inr}
 use mathlib.Core.Bool.{Bool, true, false, cond}
-use mathlib.Core.List.{List, [], _∷_, _++_, List·Memᴰ, List·Memᴰ·head, List·Memᴰ·tail}
+use mathlib.Core.List.{List, [], _∷_, _++_, List·Memᴰ·head, List·Memᴰ·tail}
 use Prim.Native.Nat.{ℕ, _≤_, _<_, max}
 use native.Mathlib.Omega.{arith}
 use lib.Dec.{leb}
@@ -11,8 +11,8 @@ use Rattle.ranges.specs.declared.Range.{Range}
 use Rattle.ranges.specs.Points.{range, Within, Point, Upright, Past, Apart}
 use Rattle.ranges.specs.Merged.{insert, sort, join, joinAll, merged, union}
 use Rattle.ranges.specs.Inner.{Permuted}
-use Rattle.ranges.proofs.PointLaws.{point-head, point-tail, point-none, point-cases, point-left, point-right, point-split, upright-head, upright-tail, apart-upright, past-point}
-use Rattle.ranges.proofs.SortLaws.{From, Sorted, sort-sorted, sort-member, member-sort, insert-swap, sort-insert}
+use Rattle.ranges.proofs.PointLaws.{point-head, point-tail, point-cases, point-left, point-right, point-split, upright-head, upright-tail, apart-upright}
+use Rattle.ranges.proofs.SortLaws.{From, Sorted, sort-sorted, sort-member, member-sort, insert-swap}
 
 -- ---- one step of joining
 

@@ -1,12 +1,12 @@
 -- The clash test skips ranges that end before the other list's front starts: that changes nothing.
 use mathlib.Core.Path.{_≡_, refl, sym, ap, _∙_, subst}
 use mathlib.Core.Logic.{_⊎_, inl, inr}
-use mathlib.Core.Bool.{Bool, true, false, _&&_, _||_, and-comm, or-false}
+use mathlib.Core.Bool.{Bool, true, false, _||_, and-comm}
 use mathlib.Core.List.{List, [], _∷_, List·Memᴰ, List·Memᴰ·head, List·Memᴰ·tail, List·Memᴰ·cases-cons, List·Memᴰ·not-nil}
 use Prim.Native.Nat.{ℕ, zero, suc, _+_, _≤_, _<_}
 use native.Mathlib.Omega.{arith}
 use native.Mathlib.Numerals.{add-one}
-use lib.ListN.{length, getD, drop, drop-of-length-le}
+use lib.ListN.{length, drop, drop-of-length-le}
 use lib.Seq.{drop-cons, drop-drop, getD-drop}
 use native.Mathlib.Decide.{ℕ-discrete}
 use lib.Dec.{leb}
@@ -14,7 +14,7 @@ use borrow.Author.Tests.{lt-leb}
 use Rattle.ranges.specs.declared.Range.{Range}
 use Rattle.ranges.specs.Points.{range, overlaps, Past, Apart, rangeAt}
 use Rattle.ranges.specs.Merged.{meets, clashes}
-use Rattle.ranges.proofs.PointLaws.{past-apart, apart-tail}
+use Rattle.ranges.proofs.PointLaws.{apart-tail}
 
 -- ---- lists in order and apart, from a place on
 

@@ -2,16 +2,16 @@
 -- This is how `merged` and `union` build their answer, and that of any rest of a sorted list is said by `onto`.
 use mathlib.Core.Path.{_≡_, refl, sym, ap, _∙_}
 use mathlib.Core.Logic.{_⊎_, inl, inr}
-use mathlib.Core.Bool.{Bool, true, false, cond, true≢false}
-use mathlib.Core.List.{List, [], _∷_, _++_, append-nil, List·Memᴰ, List·Memᴰ·head, List·Memᴰ·tail, List·Memᴰ·cases-cons, List·Memᴰ·append-cases, List·Memᴰ·not-nil}
+use mathlib.Core.Bool.{Bool, true, false, cond}
+use mathlib.Core.List.{List, [], _∷_, _++_, List·Memᴰ, List·Memᴰ·cases-cons, List·Memᴰ·append-cases, List·Memᴰ·not-nil}
 use Prim.Native.Nat.{ℕ, zero, suc, _+_, _≤_, _<_, max}
 use native.Mathlib.Omega.{arith}
-use lib.ListN.{length, getD, take, drop, set}
-use lib.Dec.{leb, eqb}
+use lib.ListN.{length, set}
+use lib.Dec.{leb}
 use borrow.Author.Tests.{le-leb, lt-leb, eq-eqb, ne-eqb}
 use Rattle.ranges.specs.declared.Range.{Range}
 use Rattle.ranges.specs.Points.{range, Past, Apart, rangeAt}
-use Rattle.ranges.specs.Merged.{notAfter, insert, sort, join, joinAll, merged, joined, union}
+use Rattle.ranges.specs.Merged.{sort, join, joinAll, merged, joined}
 use Rattle.ranges.specs.Inner.{taken}
 use Rattle.ranges.proofs.SortLaws.{Le, le-trans, insert-least, sort-insert, member-sort}
 use Rattle.ranges.proofs.MergeLaws.{join-none}

@@ -2,8 +2,8 @@
 use mathlib.Core.Path.{_≡_, refl, sym, ap, _∙_}
 use mathlib.Core.Logic.{_⊎_, inl, inr}
 use mathlib.Core.Bool.{Bool, true, false, cond, true≢false, false≢true}
-use mathlib.Core.List.{List, [], _∷_, _++_, append-nil, nil≢cons, head-eq-of-cons-eq}
-use Prim.Native.Nat.{ℕ, zero, suc, _+_, _/_, _%_, _^_, _≤_, _<_}
+use mathlib.Core.List.{List, [], _∷_, _++_, nil≢cons, head-eq-of-cons-eq}
+use Prim.Native.Nat.{ℕ, _+_, _/_, _%_, _^_, _≤_, _<_}
 use native.Mathlib.Omega.{arith}
 use lib.ListN.{length, take, drop, drop-of-length-le}
 use lib.Dec.{leb, eqb}
@@ -11,8 +11,8 @@ use borrow.Author.Tests.{leb-true, leb-false, le-leb, lt-leb, lt-ltb, le-ltb, eq
 use Rattle.words.proofs.Points.{cut}
 use Rattle.ranges.specs.declared.Range.{Range}
 use Rattle.ranges.specs.Points.{range, Apart, rangeAt}
-use Rattle.ranges.specs.Merged.{notAfter, sort, merged, union}
-use Rattle.ranges.specs.Inner.{taken, Listing, TakenUp, oneFirst}
+use Rattle.ranges.specs.Merged.{notAfter, sort, union}
+use Rattle.ranges.specs.Inner.{Listing, TakenUp, oneFirst}
 use Rattle.ranges.proofs.FormLaws.{View}
 use Rattle.ranges.proofs.WordLaws.{word-order}
 use Rattle.ranges.proofs.SortLaws.{Le, not-after, total}

@@ -1,6 +1,6 @@
 -- Document 01, "Ranges": `merged`, `joined`, `union` and `clashes`, over lists of ranges.
-use Prim.Native.Nat.{ℕ, zero, suc, _+_, _≤_, _<_, max}
-use mathlib.Core.Bool.{Bool, true, false, cond, _&&_, _||_}
+use Prim.Native.Nat.{_+_, max}
+use mathlib.Core.Bool.{Bool, false, cond, _&&_, _||_}
 use mathlib.Core.List.{List, [], _∷_, _++_}
 use lib.Dec.{leb, ltb, eqb}
 use Rattle.ranges.specs.Points.{range, overlaps}

@@ -1,25 +1,21 @@
 -- What an instruction of the lent rows does with a register, and what the pass has after some of them.
-use Prim.Native.Nat.{ℕ, zero, suc, _+_, _-_, _*_, _/_, _%_, _^_, _≤_, _<_}
+use Prim.Native.Nat.{ℕ, suc, _+_, _-_, _/_, _%_, _≤_, _<_}
 use native.Mathlib.Omega.{arith}
-use native.Mathlib.Nat.{add-zero}
 use mathlib.Core.Path.{_≡_, refl, sym, ap, _∙_, subst}
 use mathlib.Core.Logic.{_≢_, _⊎_, inl, inr}
-use mathlib.Core.Bool.{Bool, true, false, cond, not, _&&_, _||_, true≢false, or-false, and-false, and-true}
+use mathlib.Core.Bool.{Bool, true, false, not, _&&_, _||_, true≢false, or-false, and-false, and-true}
 use mathlib.Core.Option.{Option, some, none}
 use mathlib.Core.List.{List, [], _∷_}
 use lib.ListN.{length, getD, set, length-set}
 use lib.Seq.{getD-set-same, getD-set-other}
-use lib.Dec.{eqb, ltb}
-use borrow.Author.Tests.{eq-eqb, ne-eqb, not-true, not-false}
-use Rattle.words.specs.Rows.{tabulate, rowCount, field}
-use Rattle.words.specs.Regions.{Kept}
-use Rattle.words.proofs.Points.{cut, same, stored}
+use borrow.Author.Tests.{not-true, not-false}
+use Rattle.words.specs.Rows.{field}
+use Rattle.words.proofs.Points.{cut, same}
 use Rattle.bits.specs.Bits.{bit, bitOf}
-use Rattle.graph.specs.Work.{Within, sumOf}
-use Rattle.graph.proofs.Within.{within-refl, within-set, within-trans, within-wider}
-use Rattle.graph.proofs.Sums.{sum-start, sum-next}
+use Rattle.graph.proofs.Within.{within-refl, within-trans, within-wider}
+use Rattle.graph.proofs.Sums.{sum-next}
 use Rattle.carrying.specs.Lists.{any}
-use Rattle.carrying.specs.Insts.{Operand, Inst, instOf, instsOf, instAt, defOf, isSet, isUse, addressPosition, eachAddress, reads, addressed}
+use Rattle.carrying.specs.Insts.{Operand, Inst, instOf, instsOf, instAt, defOf, isSet, isUse, addressPosition, eachAddress}
 use Rattle.carrying.specs.Carried.{isNone}
 use Rattle.insts.specs.Counts.{offset}
 use Rattle.insts.specs.Rows.{operandsFrom, AddsUp}

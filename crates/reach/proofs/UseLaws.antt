@@ -1,19 +1,19 @@
 -- Uses by position, and which registers the tests of single operands find.
-use Prim.Native.Nat.{ℕ, zero, suc, _+_, _*_, _/_, _≤_, _<_}
+use Prim.Native.Nat.{ℕ, zero, suc, _+_, _<_}
 use native.Mathlib.Omega.{arith}
-use mathlib.Core.Path.{_≡_, refl, sym, ap, _∙_}
+use mathlib.Core.Path.{_≡_, refl, sym, _∙_}
 use mathlib.Core.Logic.{_⊎_, inl, inr}
-use mathlib.Core.Bool.{Bool, true, false, not, _&&_, _||_, true≢false, false≢true}
+use mathlib.Core.Bool.{Bool, true, false, not, _&&_, _||_, true≢false}
 use mathlib.Core.List.{List, [], _∷_}
 use lib.ListN.{length, getD}
 use lib.Dec.{eqb, ltb}
 use borrow.Author.Tests.{eqb-true, eq-eqb, lt-ltb, ltb-true, not-true}
 use Rattle.words.specs.Rows.{tabulate}
 use Rattle.words.proofs.RowLaws.{length-tabulate, getD-tabulate, mem-tabulate, mem-of-tabulate}
-use Rattle.words.proofs.Bools.{and-both, or-cases, or-left, and-pair, both-ways}
+use Rattle.words.proofs.Bools.{and-both, or-cases, and-pair, both-ways}
 use Rattle.carrying.specs.Lists.{any}
 use Rattle.carrying.specs.Insts.{Operand, Inst, isSet, isUse, addressPosition, eachAddress}
-use Rattle.carrying.proofs.ListLaws.{any-true, any-entry, any-false, false-any}
+use Rattle.carrying.proofs.ListLaws.{any-true, any-entry, any-false}
 use Rattle.operands.specs.Numbers.{addressing}
 use Rattle.reach.specs.Scan.{escapesIn, handsIn}
 

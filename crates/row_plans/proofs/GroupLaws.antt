@@ -1,11 +1,10 @@
 -- The records in the reader's lists are those of the groups.
-use Prim.Native.Nat.{ℕ, _+_, _-_, _*_, _≤_, _<_}
+use Prim.Native.Nat.{ℕ, _-_, _*_, _≤_, _<_}
 use native.Mathlib.Omega.{arith}
 use native.Mathlib.Nat.{zero-add, mul-le-mul-left}
 use mathlib.Core.Path.{_≡_, sym, ap, _∙_}
 use mathlib.Core.List.{List}
-use lib.ListN.{length, getD, take, drop}
-use Rattle.words.specs.Regions.{part}
+use lib.ListN.{length, getD}
 use Rattle.words.proofs.RegionLaws.{getD-part}
 use Rattle.grammar.specs.Groups.{rowNumbers}
 use Rattle.job_answers.specs.declared.Shared.{Shared}

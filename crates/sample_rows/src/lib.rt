@@ -1,7 +1,7 @@
 // The row of sample points of one item: a bit is set only where its area has the sample point.
 ghost use mathlib.Core.Path.{_≡_};
 ghost use Prim.Native.Nat.{_+_, _*_, _/_, _^_, _<_, _≤_};
-ghost use lib.ListN.{length, getD};
+ghost use lib.ListN.{length};
 ghost use Rattle.words.specs.Regions.{part};
 ghost use Rattle.ranges.specs.Forms.{unpacked};
 ghost use Rattle.cell_tables.specs.Tables.{Lent};

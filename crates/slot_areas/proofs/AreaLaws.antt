@@ -1,10 +1,10 @@
 -- Laws of a slot's area: the order of its moves does not matter.
-use Prim.Native.Nat.{ℕ, zero, suc, _+_, _-_, _≤_, _<_}
+use Prim.Native.Nat.{ℕ, suc, _+_, _-_, _≤_, _<_}
 use native.Mathlib.Omega.{arith}
 use mathlib.Core.Path.{_≡_, refl, sym, ap, subst, _∙_}
-use mathlib.Core.Option.{Option, some, none}
+use mathlib.Core.Option.{some, none}
 use mathlib.Core.List.{List, [], _∷_, _++_}
-use lib.ListN.{length, getD}
+use lib.ListN.{length}
 use Rattle.words.specs.Rows.{rowCount}
 use Rattle.words.specs.Regions.{part, Kept}
 use Rattle.words.proofs.RegionLaws.{length-part, kept-part-list}
@@ -16,19 +16,18 @@ use Rattle.ranges.proofs.MergeLaws.{merged-permuted}
 use Rattle.ranges.proofs.FormLaws.{unpacked-length}
 use Rattle.packed.specs.Work.{MergedIn}
 use Rattle.graph.specs.Line.{blocksOf}
-use Rattle.graph.specs.Work.{Within, Table}
+use Rattle.graph.specs.Work.{Table}
 use Rattle.graph.proofs.Within.{within-trans, within-wider}
 use Rattle.carrying.specs.Insts.{instsOf}
 use Rattle.carrying.specs.Carried.{Piece, piecesOf, livePieces}
 use Rattle.areas.specs.Slots.{movesOf, moved, slotArea, liveArea}
-use Rattle.areas.proofs.PermuteLaws.{perm-refl, perm-append, perm-exchange, perm-turn}
+use Rattle.areas.proofs.PermuteLaws.{perm-refl, perm-append, perm-turn}
 use Rattle.slot_spots.specs.Slots.{Laid, Chains, Fetched}
 use Rattle.slot_spots.proofs.MoveLaws.{moved-permuted, table-kept, chains-kept}
 use Rattle.slot_spots.specs.declared.Places.{Places}
 use Rattle.live.specs.Live.{Fetched as LiveFetched}
 use Rattle.area_pieces.proofs.AreaLaws.{unpacked-both}
-use Rattle.slot_areas.specs.declared.Found.{Found}
-use Rattle.slot_areas.specs.Areas.{Stands, MovedIn, HeldIn}
+use Rattle.slot_areas.specs.Areas.{MovedIn, HeldIn}
 
 -- as many ranges in another order
 perm-length : {rs ss : List Range} → Permuted rs ss → length rs ≡ length ss

@@ -4,16 +4,14 @@ use native.Mathlib.Omega.{arith}
 use mathlib.Core.Path.{_≡_, refl, sym, ap, subst, _∙_}
 use mathlib.Core.Logic.{inl, inr}
 use mathlib.Core.Option.{Option}
-use mathlib.Core.List.{List, []}
-use lib.ListN.{length, getD}
+use mathlib.Core.List.{List}
+use lib.ListN.{getD}
 use Rattle.words.specs.Rows.{rowCount}
 use Rattle.words.proofs.RegionLaws.{row-before}
 use Rattle.ranges.specs.declared.Range.{Range}
-use Rattle.graph.specs.Line.{blocksOf}
 use Rattle.areas.specs.Job.{rangesIn}
 use Rattle.graph.proofs.Line.{blocks-length}
 use Rattle.slot_spots.specs.declared.Places.{Places}
-use Rattle.slot_spots.specs.Slots.{heldWord}
 use Rattle.slot_spots.proofs.MoveLaws.{chains-kept}
 use Rattle.slot_areas.specs.declared.Found.{Found}
 use Rattle.area_measure.specs.declared.Listing.{Listing}

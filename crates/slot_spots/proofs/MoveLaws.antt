@@ -5,7 +5,7 @@ use mathlib.Core.Path.{_≡_, refl, sym, ap, subst, _∙_}
 use mathlib.Core.Logic.{inl, inr}
 use mathlib.Core.Bool.{Bool, true, false, cond}
 use mathlib.Core.List.{List, [], _∷_, _++_, append-assoc}
-use lib.ListN.{length, getD, take, drop}
+use lib.ListN.{getD, take, drop}
 use lib.Seq.{take-add, drop-drop}
 use lib.Dec.{eqb}
 use Rattle.words.specs.Rows.{tabulate, rowCount, field}
@@ -23,12 +23,12 @@ use Rattle.graph.proofs.Within.{within-trans, within-wider}
 use Rattle.carrying.specs.Lists.{gather}
 use Rattle.carrying.specs.Insts.{Inst, instsOf}
 use Rattle.areas.specs.Slots.{Move, movesOf, moved, badMove}
-use Rattle.areas.proofs.PermuteLaws.{perm-refl, perm-front, perm-append, perm-exchange}
+use Rattle.areas.proofs.PermuteLaws.{perm-refl, perm-front, perm-exchange}
 use Rattle.reach.specs.Prepared.{latest}
 use Rattle.move_points.specs.declared.Spot.the-variants.{At}
 use Rattle.move_points.specs.Moves.{positionAt, moveRow}
 use Rattle.move_points.proofs.MoveLaws.{point-is}
-use Rattle.chains.specs.Chains.{Chain, Linked, Walkable, wordsOf, Walked}
+use Rattle.chains.specs.Chains.{Linked, Walkable, wordsOf, Walked}
 use Rattle.chains.proofs.ChainLaws.{chain-kept}
 use Rattle.chains.proofs.WalkLaws.{words-are}
 use Rattle.slot_spots.specs.declared.Places.{Places}

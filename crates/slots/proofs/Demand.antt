@@ -8,7 +8,7 @@ use Rattle.refusals.specs.declared.Verdict.{Verdict}
 use Rattle.refusals.specs.declared.Verdict.the-variants.{Fine, Bad}
 use Rattle.refusals.specs.Outcomes.{unless}
 use Rattle.fitting.specs.Plan.{Plan}
-use Rattle.wants.specs.Entry.{Tally, tallyOf}
+use Rattle.wants.specs.Entry.{tallyOf}
 use Rattle.soundness.specs.Walks.{Step, Legal}
 use Rattle.soundness.specs.Demand.{frameOf, jobPlan}
 use Rattle.job_answers.specs.declared.Shared.the-variants.{Plan as Planned}

@@ -1,15 +1,14 @@
 -- Demand 3, for every job whose records pass the checks, every budget and every walk.
-use Prim.Native.Nat.{ℕ, zero, suc, _-_, _≤_, _<_}
+use Prim.Native.Nat.{ℕ, _-_, _≤_, _<_}
 use native.Mathlib.Omega.{arith}
 use mathlib.Core.Path.{_≡_, refl, ap, sym, _∙_}
 use mathlib.Core.Logic.{_⊎_, inl, inr}
 use mathlib.Core.Bool.{Bool, true, false, cond}
 use mathlib.Core.Option.{some, Option·some-injective}
 use mathlib.Core.List.{List}
-use lib.ListN.{length, getD, getElem?}
+use lib.ListN.{length, getElem?}
 use lib.Dec.{ltb}
 use Rattle.words.proofs.RowLaws.{length-tabulate, getD-tabulate}
-use Rattle.words.specs.Rows.{tabulate}
 use Rattle.carrying.specs.declared.Kind.{Kind}
 use Rattle.carrying.specs.declared.Kind.the-variants.{Unfollowed, Plain, Ending}
 use Rattle.carrying.specs.Carried.{kindOf, endsOf}

@@ -3,23 +3,22 @@ use Prim.Native.Nat.{ℕ, zero, suc, _+_, _-_, _*_, _/_, _≤_, _<_}
 use native.Mathlib.Nat.{add-zero}
 use native.Mathlib.Omega.{arith}
 use mathlib.Core.Path.{_≡_, refl, sym, ap, _∙_}
-use mathlib.Core.Bool.{Bool, true, false, not, _||_}
-use mathlib.Core.List.{List, []}
+use mathlib.Core.Bool.{Bool, true, not, _||_}
+use mathlib.Core.List.{List}
 use lib.ListN.{length, getD}
-use lib.Dec.{leb, ltb}
+use lib.Dec.{leb}
 use borrow.Author.Tests.{lt-ltb, le-ltb}
-use Rattle.refusals.specs.declared.Refusal.the-variants.{Stray, Piece as PieceWord}
+use Rattle.refusals.specs.declared.Refusal.the-variants.{Piece as PieceWord}
 use Rattle.refusals.specs.Verdicts.{scan}
-use Rattle.words.specs.Rows.{rowCount, field, records}
+use Rattle.words.specs.Rows.{rowCount, field}
 use Rattle.words.proofs.RowLaws.{length-records, getD-records}
 use Rattle.graph.specs.Line.{Stretch, blocksOf, blockAt}
 use Rattle.graph.proofs.Line.{blocks-length, start-is, end-is}
-use Rattle.carrying.specs.Insts.{Inst, instsOf, instAt, isSet}
+use Rattle.carrying.specs.Insts.{Inst, instAt, isSet}
 use Rattle.carrying.specs.Carried.{Piece, piecesOf}
 use Rattle.carrying.specs.Checks.{absent}
-use Rattle.areas.specs.Slots.{Assigned, Move, assignedOf, movesOf, badMove, moveAt, moveVerdict, badPiece, pieceVerdict, assignedVerdict}
+use Rattle.areas.specs.Slots.{Assigned, Move, assignedOf, movesOf, badMove, moveAt, badPiece, assignedVerdict}
 use Rattle.insts.proofs.DealtLaws.{scan-same}
-use Rattle.insts.proofs.CheckLaws.{unplaced-same}
 use Rattle.spill_checks.specs.Rows.{pieceAt}
 
 -- ---- moves

@@ -3,7 +3,7 @@ ghost use mathlib.Core.Path.{_≡_};
 ghost use mathlib.Core.List.{[]};
 ghost use Prim.Native.Nat.{_+_, _*_, _/_, _≤_, _<_};
 ghost use lib.ListN.{length};
-ghost use Rattle.graph.specs.Line.{blocksOf, Sound};
+ghost use Rattle.graph.specs.Line.{blocksOf};
 ghost use Rattle.carrying.specs.Insts.{instsOf};
 ghost use Rattle.carrying.specs.Carried.{piecesOf};
 ghost use Rattle.areas.specs.Slots.{assignedOf, movesOf, badMove, moveVerdict, badPiece, pieceVerdict, assignedVerdict};

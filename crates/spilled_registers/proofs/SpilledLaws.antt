@@ -1,11 +1,8 @@
 -- Laws of `spilled`: one assignment more, and the entry's two ways out.
-use Prim.Native.Nat.{ℕ, _+_, _*_, _/_, _≤_, _<_}
+use Prim.Native.Nat.{ℕ, _+_, _≤_, _<_}
 use native.Mathlib.Omega.{arith}
 use mathlib.Core.Path.{_≡_, refl, sym, ap, _∙_}
-use mathlib.Core.Logic.{_≢_}
-use mathlib.Core.Bool.{Bool}
-use mathlib.Core.Option.{Option, some}
-use mathlib.Core.List.{List, [], _∷_, _++_}
+use mathlib.Core.List.{List, _++_}
 use lib.ListN.{length, getD, set, length-set, drop}
 use lib.Seq.{getD-set-same, getD-set-other}
 use borrow.Author.Tests.{lt-ltb, le-ltb}
@@ -14,7 +11,7 @@ use Rattle.refusals.specs.declared.Verdict.the-variants.{Fine, Bad}
 use Rattle.refusals.specs.declared.Refusal.{Refusal}
 use Rattle.refusals.specs.declared.Refusal.the-variants.{Space}
 use Rattle.refusals.specs.Verdicts.{first}
-use Rattle.refusals.specs.Outcomes.{Outcome, after}
+use Rattle.refusals.specs.Outcomes.{after}
 use Rattle.refusals.proofs.Laws.{first-right, bad-fine}
 use Rattle.words.specs.Rows.{tabulate}
 use Rattle.words.specs.Regions.{Region}
@@ -23,7 +20,6 @@ use Rattle.words.proofs.Points.{cut, same}
 use Rattle.words.proofs.RegionLaws.{region-front}
 use Rattle.insts.specs.Counts.{rowsVerdict, mostVerdict}
 use Rattle.areas.specs.Slots.{Assigned, assignedOf, spilled, assignedVerdict}
-use Rattle.spill_checks.specs.declared.Answer.{Answer}
 use Rattle.spill_checks.specs.declared.Answer.the-variants.{Given, Refused}
 use Rattle.spill_checks.proofs.AssignedLaws.{next-same, next-other}
 use Rattle.spilled_registers.specs.Spilled.{spaceVerdict, spilledVerdict, registerOr, registers, SpilledTo}

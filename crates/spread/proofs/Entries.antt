@@ -1,8 +1,6 @@
 -- Laws of the entries: each way out.
-use Prim.Native.Nat.{ℕ, zero, suc, _+_, _-_, _*_, _/_, _%_, _^_, _≤_, _<_}
+use Prim.Native.Nat.{ℕ, _+_, _-_, _*_, _/_, _%_, _^_, _≤_, _<_}
 use mathlib.Core.Path.{_≡_, refl, sym, ap, _∙_, subst}
-use mathlib.Core.Logic.{_↔_}
-use mathlib.Core.Bool.{Bool, true}
 use mathlib.Core.List.{List}
 use mir.Syntax.{w64}
 use mir.Val.{Fits}
@@ -11,16 +9,14 @@ use lib.ListN.{length, getD}
 use Rattle.refusals.specs.declared.Refusal.{Refusal}
 use Rattle.refusals.specs.declared.Verdict.{Verdict}
 use Rattle.refusals.specs.declared.Verdict.the-variants.{Fine, Bad}
-use Rattle.refusals.specs.Verdicts.{first}
 use Rattle.refusals.proofs.Laws.{first-fine, first-bad, first-left, first-right, bad-fine}
 use Rattle.words.specs.Rows.{rowCount}
 use Rattle.words.specs.Regions.{Region, cleared}
 use Rattle.words.proofs.RegionLaws.{row-before}
 use Rattle.bits.specs.Bits.{bit, bitOf}
-use Rattle.graph.specs.Paths.{Edge, Between}
-use Rattle.graph.specs.Flow.{Arrives}
+use Rattle.graph.specs.Paths.{Edge}
 use Rattle.graph.specs.Checks.{rowsVerdict, spaceOf}
-use Rattle.graph.specs.Work.{Within, EdgeRows, Neighbours}
+use Rattle.graph.specs.Work.{EdgeRows, Neighbours}
 use Rattle.graph.proofs.Within.{within-trans, within-wider, region-within, rows-moved}
 use Rattle.line_checks.proofs.Refusals.{rows-told}
 use Rattle.components.specs.Entry.{edgesIn, verdictOf as orderVerdict}
@@ -29,10 +25,9 @@ use Rattle.postorder.specs.Settling.{Settling, Walkable, Ordered as InOrder}
 use Rattle.flow.specs.Entry.{rowBit, baseOf, verdictOf as rowVerdict}
 use Rattle.flow.proofs.Entries.{Known as RowsKnown, known as rows-known}
 use Rattle.spread_rows.specs.declared.Layout.{Layout}
-use Rattle.spread.specs.declared.Answer.{Answer}
 use Rattle.spread.specs.declared.Answer.the-variants.{Given, Refused}
-use Rattle.spread_rows.specs.Spread.{leaveBit, passBit, outBit, Laid, Arrived}
-use Rattle.spread.specs.Entry.{Turned, Ordered, Settled, verdictOf, Filled, Answered, Prepared, Solved}
+use Rattle.spread_rows.specs.Spread.{leaveBit, passBit, Laid, Arrived}
+use Rattle.spread.specs.Entry.{Turned, Settled, verdictOf, Answered, Prepared, Solved}
 use Rattle.spread_rows.proofs.Turns.{arrives-as}
 
 same-bad : (r : Refusal) (i : ℕ) (list work : List ℕ) (k : Refusal) (j : ℕ) → Bad r i ≡ Bad k j → Turned k j list work (Refused r i) list work

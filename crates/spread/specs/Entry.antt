@@ -2,7 +2,7 @@
 use Prim.Native.Nat.{ℕ, _+_, _*_, _/_, _≤_, _<_}
 use mathlib.Core.Path.{_≡_}
 use mathlib.Core.Logic.{_↔_}
-use mathlib.Core.Bool.{Bool, true}
+use mathlib.Core.Bool.{true}
 use mathlib.Core.List.{List}
 use lib.ListN.{length, getD}
 use Rattle.refusals.specs.declared.Refusal.{Refusal}
@@ -13,7 +13,7 @@ use Rattle.refusals.specs.Outcomes.{Outcome, given, refused}
 use Rattle.words.specs.Rows.{rowCount}
 use Rattle.words.specs.Regions.{cleared}
 use Rattle.bits.specs.Bits.{bit}
-use Rattle.graph.specs.Paths.{Edge, Between}
+use Rattle.graph.specs.Paths.{Between}
 use Rattle.graph.specs.Flow.{Arrives}
 use Rattle.graph.specs.Checks.{rowsVerdict, spaceOf}
 use Rattle.graph.specs.Work.{Within, EdgeRows}

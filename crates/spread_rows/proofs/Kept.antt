@@ -1,12 +1,11 @@
 -- What a change of the waiting row and of the arriving rows leaves: everything that is read lies below them.
-use Prim.Native.Nat.{ℕ, suc, _+_, _*_, _/_, _%_, _≤_, _<_}
-use mathlib.Core.Path.{_≡_, refl, sym, ap, _∙_, subst}
-use mathlib.Core.Logic.{_≢_, _⊎_, inl, inr}
-use mathlib.Core.Bool.{Bool, true, false}
+use Prim.Native.Nat.{ℕ, _+_, _*_, _/_, _≤_, _<_}
+use mathlib.Core.Path.{_≡_, sym, ap, _∙_, subst}
+use mathlib.Core.Logic.{_≢_}
 use mathlib.Core.List.{List}
 use native.Mathlib.Omega.{arith}
 use lib.ListN.{length, getD}
-use Rattle.bits.specs.Bits.{bit, bitOf, Aligned, apart}
+use Rattle.bits.specs.Bits.{Aligned, apart}
 use Rattle.bits.proofs.BitLaws.{bit-kept}
 use Rattle.words.specs.Regions.{above}
 use Rattle.words.proofs.Points.{cut}
@@ -79,9 +78,11 @@ row-wide s v h K = within-wider (s .wait) (outOf s + s .n * s .words) (omega ari
 
 pub other-row : (s : Layout) (w₀ w : List ℕ) (x v b : ℕ) → v ≢ x → b < s .words * 64 → Within (outOf s + x * s .words) (outOf s + x * s .words + s .words) w₀ w → outBit s w v b ≡ outBit s w₀ v b
 other-row s w₀ w x v b ne h K = bit-kept {w₀ = w₀} {w = w} {base = outOf s + v * s .words} {n = s .words}
-    (record { same = λ i p q. cut v x
-    (λ l. K .below i (omega (arith, row-before v x (s .words) (omega arith))))
-    (λ l. K .past i (omega (arith, row-before x v (s .words) l))) }) b h
+    (record {
+      same = λ i p q. cut v x
+          (λ l. K .below i (omega (arith, row-before v x (s .words) (omega arith))))
+          (λ l. K .past i (omega (arith, row-before x v (s .words) l)));
+    }) b h
 
 -- the waiting row is below the arriving rows
 pub waits-kept : (s : Layout) (w₀ w : List ℕ) (v r : ℕ) → r < (s .n / 64 + 1) * 64 → Within (outOf s + v * s .words) (outOf s + v * s .words + s .words) w₀ w → waits s w r ≡ waits s w₀ r

@@ -1,25 +1,22 @@
 -- Laws of `push`: the edges of one place, one after the other.
-use Prim.Native.Nat.{ℕ, suc, _+_, _*_, _/_, _≤_, _<_}
+use Prim.Native.Nat.{ℕ, _+_, _*_, _/_, _≤_, _<_}
 use mathlib.Core.Path.{_≡_, refl, sym, ap, _∙_, subst}
 use mathlib.Core.Logic.{_≢_, _⊎_, inl, inr, ⊎-elim}
-use mathlib.Core.Bool.{Bool, true, false, cond, not, _||_, _&&_}
+use mathlib.Core.Bool.{Bool, true, false, _||_, _&&_}
 use mathlib.Core.List.{List}
 use native.Mathlib.Omega.{arith}
-use lib.Dec.{eqb}
-use lib.ListN.{length, getD}
 use borrow.Author.Tests.{eq-eqb, ne-eqb}
-use Rattle.words.proofs.Points.{cut, same}
-use Rattle.words.proofs.RegionLaws.{row-before}
+use Rattle.words.proofs.Points.{same}
 use Rattle.words.proofs.Bools.{and-pair, or-right, and-both, or-left, or-cases}
 use Rattle.bits.specs.Bits.{bit, Grown, PutBit}
 use Rattle.graph.specs.Paths.{Edge, Link}
 use Rattle.graph.specs.Flow.{Arrives, left, passed}
-use Rattle.graph.specs.Work.{Within, EdgeRows, one, sumOf}
+use Rattle.graph.specs.Work.{Within, EdgeRows}
 use Rattle.graph.proofs.Within.{within-refl, within-trans}
 use Rattle.spread_rows.specs.declared.Layout.{Layout}
-use Rattle.spread_rows.specs.Spread.{begins, ends, target, orderAt, rankOf, outOf, leaveBit, passBit, outBit, waits, Laid, Sends, Sound, missing, Pushed}
+use Rattle.spread_rows.specs.Spread.{begins, ends, target, rankOf, outOf, leaveBit, passBit, outBit, waits, Laid, Sends, Sound, missing, Pushed}
 use Rattle.spread_rows.proofs.Sums.{sum-le, sum-lt, not-le, not-lt}
-use Rattle.spread_rows.proofs.Kept.{begins-kept, ends-kept, target-kept, rank-kept, leave-kept, pass-kept, laid-kept, row-wide, other-row, waits-kept, rank-in, out-kept, word-within}
+use Rattle.spread_rows.proofs.Kept.{target-kept, rank-kept, leave-kept, pass-kept, laid-kept, row-wide, other-row, waits-kept, rank-in, out-kept, word-within}
 
 -- ---- tests
 

@@ -1,12 +1,12 @@
 -- Document 01, "Blocks and edges", `spread`: the rows in the work space, and what each of its steps leaves of them.
-use Prim.Native.Nat.{ℕ, suc, _+_, _*_, _/_, _≤_, _<_}
+use Prim.Native.Nat.{ℕ, _+_, _*_, _/_, _≤_, _<_}
 use mathlib.Core.Path.{_≡_}
-use mathlib.Core.Logic.{_≢_, _⊎_, _↔_}
+use mathlib.Core.Logic.{_⊎_, _↔_}
 use mathlib.Core.Bool.{Bool, true, false, not}
 use mathlib.Core.List.{List}
 use lib.ListN.{length, getD}
 use Rattle.bits.specs.Bits.{bit}
-use Rattle.graph.specs.Paths.{Edge, Link, Between}
+use Rattle.graph.specs.Paths.{Edge, Between}
 use Rattle.graph.specs.Flow.{Arrives}
 use Rattle.graph.specs.Work.{Within, EdgeRows, one, sumOf}
 use Rattle.spread_rows.specs.declared.Layout.{Layout}

@@ -1,8 +1,5 @@
 // `spread` in the work space: a place is looked at again only when its row grew, the lowest rank first.
-ghost use mathlib.Core.Path.{_≡_};
-ghost use mathlib.Core.Bool.{Bool, true};
-ghost use Prim.Native.Nat.{ℕ, _+_, _*_, _/_, _≤_, _<_};
-ghost use lib.ListN.{length, getD};
+ghost use Prim.Native.Nat.{_+_, _*_, _/_, _<_};
 ghost use Rattle.spread_rows.specs.Spread.{Laid, Pushed, Begun, Arrived};
 
 // Where `spread` finds and puts things in the work space, of n places: the edge rows from `at` on, the order in which places are looked at

@@ -1,15 +1,15 @@
 -- What the walk computes fits and stands in the work space, each bound as the code asks for it.
 use Prim.Native.Nat.{ℕ, _+_, _-_, _*_, _^_, _≤_, _<_}
-use mathlib.Core.Path.{_≡_, sym}
+use mathlib.Core.Path.{_≡_}
 use mathlib.Core.List.{List}
 use mir.Syntax.{w64}
 use mir.Val.{Fits}
 use native.Mathlib.Omega.{arith}
 use lib.ListN.{length, getD}
 use Rattle.words.proofs.FitLaws.{Word, word, small}
-use Rattle.tarjan.specs.Space.{Pl, Nd, Ed, Ready, Looking, Leaving, Closes, Closed}
+use Rattle.tarjan.specs.Space.{Pl, Nd, Ready, Looking, Leaving, Closes, Closed}
 use Rattle.tarjan.specs.Components.{Walkable}
-use Rattle.tarjan.proofs.Laws.{Top, top, v-ok, room-for, under, closes}
+use Rattle.tarjan.proofs.Laws.{top, v-ok, room-for, under, closes}
 use Rattle.tarjan.proofs.Lists.{close-node}
 use Rattle.tarjan.proofs.Roots.{Roots}
 

@@ -1,15 +1,14 @@
 -- The rows that the walk reads are those of the graph: its steps are edges, and its pieces the components.
-use Prim.Native.Nat.{ℕ, suc, _+_, _≤_, _<_}
-use mathlib.Core.Path.{_≡_, refl, sym, ap, _∙_, subst}
-use mathlib.Core.Logic.{_≢_, _⊎_, inl, inr}
+use Prim.Native.Nat.{ℕ, _+_, _<_}
+use mathlib.Core.Path.{_≡_, refl, sym, ap, subst}
+use mathlib.Core.Logic.{_⊎_, inl, inr}
 use mathlib.Core.List.{List}
 use native.Mathlib.Omega.{arith}
-use lib.ListN.{length, getD}
-use Rattle.graph.specs.Paths.{Edge as Jump, edge, Link, Route, one, more, Together, same as alone, loop, Between}
+use Rattle.graph.specs.Paths.{Edge as Jump, Link, Route, one, more, Together, same as alone, loop, Between}
 use Rattle.graph.specs.Work.{EdgeRows}
 use Rattle.tarjan.specs.Graph.{Edge, Reach, here, step, ComponentsOf}
 use Rattle.tarjan.specs.Space.{graph, rowsOf, Given, Pieced}
-use Rattle.tarjan.specs.Components.{Components, InOrder, Walkable, Found}
+use Rattle.tarjan.specs.Components.{Components, Walkable, Found}
 
 -- what the walk asks, of the rows of any graph
 pub rows-given : {n at base : ℕ} {w : List ℕ} → Walkable n at base w → Given n at (at + n + 1) base w

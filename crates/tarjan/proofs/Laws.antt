@@ -1,22 +1,20 @@
 -- The turn in the work space.
 -- Assumes nothing.
 use mathlib.Core.Path.{_≡_, refl, sym, ap, _∙_, subst}
-use mathlib.Core.Logic.{_≢_}
 use mathlib.Core.List.{List}
 use Prim.Native.Nat.{ℕ, zero, suc, _+_, _-_, _≤_, _<_, min}
 use native.Mathlib.Omega.{arith}
 use lib.ListN.{length, getD, set, length-set}
-use lib.Seq.{getD-set-same, getD-set-other}
-use Rattle.words.proofs.Points.{cut, same, stored}
-use Rattle.tarjan.specs.Graph.{Graph, Sound, Edge, Reach}
-use Rattle.tarjan.specs.Walk.{State, Inv, Order, Walks}
-use Rattle.tarjan.specs.Moves.{upd, shutAt, pasted, view, Agree, left, pushed, advanced, lowered, retired, closed}
-use Rattle.tarjan.specs.Space.{Rows, graph, Reads, Held, Ready, Kept, Still, leftOf, pushList, Closes, Closed, Turned, Pl, Nd, Ed}
+use lib.Seq.{getD-set-other}
+use Rattle.words.proofs.Points.{stored}
+use Rattle.tarjan.specs.Walk.{State, Walks}
+use Rattle.tarjan.specs.Moves.{upd, shutAt, view, Agree, pushed, advanced, lowered, retired, closed}
+use Rattle.tarjan.specs.Space.{Rows, graph, Reads, Held, Ready, Kept, leftOf, pushList, Closes, Closed, Turned, Pl, Nd, Ed}
 use Rattle.tarjan.proofs.Tools.{upd-case, upd-at, upd-off, shut-case, seen-le}
 use Rattle.tarjan.proofs.Steps.{s-le, d-le, s-lt}
 use Rattle.tarjan.proofs.Whole.{agree-walks, left-same, left-falls}
-use Rattle.tarjan.proofs.Lists.{kept-refl, kept-set, kept-trans}
-use Rattle.tarjan.proofs.Turns.{p-lt, u-lt, v-lt, take-new, take-held, take-shut, lower-frame, leave-held, leave-closed, root-walks}
+use Rattle.tarjan.proofs.Lists.{kept-refl, kept-set}
+use Rattle.tarjan.proofs.Turns.{p-lt, u-lt, v-lt, take-new, take-held, take-shut, lower-frame, leave-held, leave-closed}
 
 -- ---- stores in a region
 pub hit : (l : List ℕ) (b i x j : ℕ) → b + i < length l → getD (set l (b + i) x) (b + j) 0 ≡ upd (λ t. getD l (b + t) 0) i x j

@@ -1,13 +1,13 @@
 -- The loops over the regions: begin, close, number.
 -- Assumes nothing.
-use mathlib.Core.Path.{_≡_, refl, sym, ap, _∙_, subst}
+use mathlib.Core.Path.{_≡_, refl, sym, ap, _∙_}
 use mathlib.Core.Logic.{_≢_}
 use mathlib.Core.List.{List}
-use Prim.Native.Nat.{ℕ, zero, suc, _+_, _-_, _≤_, _<_}
+use Prim.Native.Nat.{ℕ, suc, _+_, _-_, _≤_, _<_}
 use native.Mathlib.Omega.{arith}
 use lib.ListN.{length, getD, set, length-set}
-use lib.Seq.{getD-set-same, getD-set-other}
-use Rattle.words.proofs.Points.{cut, same, stored}
+use lib.Seq.{getD-set-other}
+use Rattle.words.proofs.Points.{stored}
 use Rattle.tarjan.specs.Moves.{shutAt, pasted}
 use Rattle.tarjan.specs.Space.{Kept, Begun, Numbered, Closes, Closed}
 use Rattle.tarjan.proofs.Tools.{shut-case, pasted-old, pasted-new}

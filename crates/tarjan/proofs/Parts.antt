@@ -1,10 +1,10 @@
 -- The ways out of a turn's two parts.
-use Prim.Native.Nat.{ℕ, suc, _+_, _-_, _≤_, _<_, min}
-use mathlib.Core.Path.{_≡_, refl, sym, ap, _∙_}
+use Prim.Native.Nat.{ℕ, _+_, _-_, _≤_, _<_, min}
+use mathlib.Core.Path.{_≡_, refl}
 use mathlib.Core.List.{List}
 use native.Mathlib.Omega.{arith}
-use lib.ListN.{length, getD, set}
-use Rattle.tarjan.specs.Space.{pushList, Closed, Ready, Turned, Pl, Nd, Ed, Looking, Looked, Leaving, Left}
+use lib.ListN.{getD, set}
+use Rattle.tarjan.specs.Space.{pushList, Closed, Pl, Looking, Looked, Leaving, Left}
 use Rattle.tarjan.proofs.Laws.{turn-new, turn-held, turn-shut, under, turn-left, turn-closed}
 
 -- an edge is looked at: its target was not seen, is held, or is closed

@@ -5,7 +5,7 @@ use Prim.Native.Nat.{ℕ, zero, suc, _+_, _≤_, _<_, min}
 use native.Mathlib.Omega.{arith}
 use Rattle.words.proofs.Points.{cut, same}
 use Rattle.tarjan.specs.Graph.{Graph, Sound, Edge, Reach, here, step}
-use Rattle.tarjan.specs.Walk.{State, Bound, Fwd, seen, Inv, Order}
+use Rattle.tarjan.specs.Walk.{State, Bound, Fwd, Inv, Order}
 use Rattle.tarjan.specs.Moves.{pushed, advanced, lowered}
 use Rattle.tarjan.proofs.Tools.{seen-upd, upd-case, upd-at, upd-off, seen-more, seen-le, seen-lt}
 

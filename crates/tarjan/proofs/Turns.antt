@@ -1,15 +1,14 @@
 -- The five ways of a turn, at the level of states.
 -- Assumes nothing.
 use mathlib.Core.Path.{_≡_, refl, sym, ap, _∙_, subst}
-use mathlib.Core.Logic.{_≢_}
-use Prim.Native.Nat.{ℕ, zero, suc, _+_, _-_, _≤_, _<_, min}
+use Prim.Native.Nat.{ℕ, suc, _-_, _≤_, _<_}
 use native.Mathlib.Omega.{arith}
-use Rattle.words.proofs.Points.{cut, same}
-use Rattle.tarjan.specs.Graph.{Graph, Sound, Edge, Reach, here, step}
-use Rattle.tarjan.specs.Walk.{State, Bound, Fwd, seen, Inv, Order, Walks}
-use Rattle.tarjan.specs.Moves.{upd, pushed, advanced, lowered, retired, closed}
-use Rattle.tarjan.proofs.Tools.{upd-case, upd-at, upd-off}
-use Rattle.tarjan.proofs.Steps.{s-le, d-le, edge-node, bound-lt, bound-top, to-top, push-inv, push-order, advance-inv, lower-inv, lower-fwd}
+use Rattle.words.proofs.Points.{same}
+use Rattle.tarjan.specs.Graph.{Graph, Sound, Edge, Reach, step}
+use Rattle.tarjan.specs.Walk.{State, Fwd, Inv, Walks}
+use Rattle.tarjan.specs.Moves.{pushed, advanced, lowered, retired, closed}
+use Rattle.tarjan.proofs.Tools.{upd-at, upd-off}
+use Rattle.tarjan.proofs.Steps.{edge-node, bound-lt, to-top, push-inv, push-order, advance-inv, lower-inv, lower-fwd}
 use Rattle.tarjan.proofs.Leaves.{retire-inv, close-inv, close-order}
 
 -- a node that nothing is held above

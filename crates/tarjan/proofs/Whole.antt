@@ -1,15 +1,15 @@
 -- States that agree; the first state; the last; the edges left.
 -- Assumes nothing.
-use mathlib.Core.Path.{_≡_, refl, sym, ap, _∙_, subst}
-use mathlib.Core.Logic.{_≢_, _⊎_, inl, inr}
-use Prim.Native.Nat.{ℕ, zero, suc, _+_, _-_, _≤_, _<_, min}
+use mathlib.Core.Path.{_≡_, refl, sym, ap, _∙_}
+use mathlib.Core.Logic.{_≢_}
+use Prim.Native.Nat.{ℕ, zero, suc, _+_, _-_, _≤_, _<_}
 use native.Mathlib.Omega.{arith}
 use Rattle.words.proofs.Points.{cut, same}
-use Rattle.tarjan.specs.Graph.{Graph, Sound, Edge, Reach, here, step, ComponentsOf, Listed}
-use Rattle.tarjan.specs.Walk.{State, Bound, Fwd, one, seen, Inv, Order, Walks}
-use Rattle.tarjan.specs.Moves.{upd, Agree, left}
-use Rattle.tarjan.proofs.Tools.{upd-case, upd-at, upd-off, seen-mono, seen-same, seen-le, one-pos}
-use Rattle.tarjan.proofs.Steps.{s-le, d-le, looked, edge-node, bound-lt}
+use Rattle.tarjan.specs.Graph.{Graph, Sound, Reach, here, step, ComponentsOf, Listed}
+use Rattle.tarjan.specs.Walk.{State, Bound, one, seen, Inv, Order, Walks}
+use Rattle.tarjan.specs.Moves.{Agree, left}
+use Rattle.tarjan.proofs.Tools.{seen-mono, seen-same, seen-le, one-pos}
+use Rattle.tarjan.proofs.Steps.{s-le, d-le, looked, edge-node}
 
 module _ {G : Graph} {z z' : State} (S : Sound G) (I : Inv G z) (A : Agree (G .n) z z') where
   size : z .c + z .s ≤ G .n

@@ -2,11 +2,10 @@
 -- Assumes nothing.
 use mathlib.Core.Path.{_≡_}
 use mathlib.Core.List.{List}
-use Prim.Native.Nat.{ℕ, zero, suc, _+_, _-_, _≤_, _<_, min}
+use Prim.Native.Nat.{ℕ, zero, suc, _+_, _-_, _<_, min}
 use native.Mathlib.Decide.{decLe, ℕ-discrete}
-use lib.ListN.{length, getD, set}
-use Rattle.tarjan.specs.Graph.{Graph, Sound}
-use Rattle.tarjan.specs.Walk.{State, Walks}
+use lib.ListN.{getD}
+use Rattle.tarjan.specs.Walk.{State}
 
 abbrev pub pick : {A : Type 0} → Dec A → ℕ → ℕ → ℕ
 pick (yes h) x y = x

@@ -3,10 +3,10 @@
 -- Assumes nothing.
 use mathlib.Core.Path.{_≡_}
 use mathlib.Core.List.{List}
-use Prim.Native.Nat.{ℕ, zero, suc, _+_, _-_, _≤_, _<_}
+use Prim.Native.Nat.{ℕ, suc, _+_, _-_, _≤_, _<_}
 use lib.ListN.{length, getD, set}
 use Rattle.tarjan.specs.Graph.{Graph, Sound, ComponentsOf, Listed}
-use Rattle.tarjan.specs.Walk.{State, Walks}
+use Rattle.tarjan.specs.Walk.{Walks}
 use Rattle.tarjan.specs.Moves.{view, shutAt, pasted, left}
 
 pub record Rows : Type 0 where

@@ -2,7 +2,7 @@
 // w[at..at + n + 1] is where each row starts, w[to + k] the target of edge k, and from base on six regions of n numbers:
 // num, stk, fr, lw, nxt and ord (specs/Walk.antt).
 ghost use mathlib.Core.Path.{_≡_};
-ghost use Prim.Native.Nat.{ℕ, suc, _+_, _-_, _≤_, _<_, min};
+ghost use Prim.Native.Nat.{ℕ, _+_, _-_, _≤_, _<_, min};
 ghost use lib.ListN.{length, getD, set};
 ghost use Rattle.tarjan.specs.Space.{Ready, Turned, Walked, Begun, Numbered, Closes, Closed, pushList, Looking, Looked, Leaving, Left};
 ghost use Rattle.tarjan.specs.Components.{Walkable, Found};

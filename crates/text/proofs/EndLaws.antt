@@ -12,7 +12,6 @@ use lib.Seq.{take-suc, take-length}
 use lib.Dec.{T, eqb, leb, ltb, lit<, leb·suc-zero}
 use borrow.Author.Tests.{eq-eqb, ne-eqb, lt-ltb, le-ltb, eqb-true}
 use Rattle.refusals.specs.declared.Verdict.{Verdict}
-use Rattle.refusals.specs.declared.Refusal.{Refusal}
 use Rattle.refusals.specs.declared.Verdict.the-variants.{Fine, Bad}
 use Rattle.refusals.specs.declared.Refusal.the-variants.{Count, Text as TextRefused}
 use Rattle.refusals.specs.Verdicts.{first, scan, check}

@@ -1,6 +1,6 @@
 -- What is computed at a row of the chain fits and stands in the lists, each bound as the code asks for it.
 use Prim.Native.Nat.{ℕ, _+_, _-_, _*_, _^_, _≤_, _<_}
-use mathlib.Core.Path.{_≡_, refl}
+use mathlib.Core.Path.{refl}
 use mathlib.Core.Logic.{_≢_}
 use mathlib.Core.List.{List}
 use mir.Syntax.{w64}
@@ -11,7 +11,7 @@ use Rattle.words.specs.Rows.{rowCount}
 use Rattle.words.proofs.FitLaws.{Word, word}
 use Rattle.words.proofs.RowLaws.{rows-within}
 use Rattle.touches.specs.Touches.{Linked}
-use Rattle.touches.proofs.EntryLaws.{Walking, Turn, turn}
+use Rattle.touches.proofs.EntryLaws.{Walking, turn}
 
 -- number a of n is read
 pub record Number (a n : ℕ) : Type 0 where

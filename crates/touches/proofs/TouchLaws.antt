@@ -3,9 +3,9 @@ use Prim.Native.Nat.{ℕ, zero, suc, _+_, _*_, _^_, _≤_, _<_}
 use mathlib.Core.Path.{_≡_, refl, sym, ap, subst, _∙_}
 use mathlib.Core.Logic.{_⊎_, inl, inr}
 use mathlib.Core.Bool.{Bool, true, false, cond}
-use mathlib.Core.List.{List, [], _∷_, _++_, map, append-nil, append-assoc, List·Memᴰ, List·Memᴰ·head, List·Memᴰ·tail, List·Memᴰ·cases-cons, List·Memᴰ·not-nil, List·Memᴰ·append-cases}
+use mathlib.Core.List.{List, [], _∷_, _++_, map, append-nil, List·Memᴰ, List·Memᴰ·head, List·Memᴰ·tail, List·Memᴰ·cases-cons, List·Memᴰ·not-nil, List·Memᴰ·append-cases}
 use native.Mathlib.Omega.{arith}
-use lib.ListN.{length, getD}
+use lib.ListN.{getD}
 use lib.Dec.{eqb}
 use Rattle.words.specs.Rows.{rowCount, field, tabulate}
 use Rattle.words.specs.Sort.{sortOf, Distinct}
@@ -17,12 +17,12 @@ use Rattle.ranges.specs.Inner.{Permuted}
 use Rattle.ranges.specs.Forms.{unpack, unpacked}
 use Rattle.ranges.proofs.FormLaws.{map-append, unpack-pack}
 use Rattle.carrying.specs.Lists.{keep, gather, below}
-use Rattle.carrying.specs.Carried.{Mention, Code, Carries, mentions, mentionsOf, mentioned, carried, carries, piecesOf, livePieces, touchesOf, endsOf}
+use Rattle.carrying.specs.Carried.{Mention, Code, Carries, mentioned, carried, carries, piecesOf, livePieces, touchesOf, endsOf}
 use Rattle.carrying.proofs.CarryLaws.{carried-least}
 use Rattle.carrying.proofs.ListLaws.{of-below}
 use Rattle.carrying.specs.Insts.{instsOf, instAt, isSet}
 use Rattle.insts.proofs.DealtLaws.{placed-is, early-is, late-is}
-use Rattle.areas.proofs.PermuteLaws.{perm-refl, perm-is, perm-front, perm-append, perm-exchange, perm-turn}
+use Rattle.areas.proofs.PermuteLaws.{perm-is, perm-front, perm-append, perm-exchange, perm-turn}
 use Rattle.area_pieces.proofs.HullLaws.{keep-append, gather-append}
 use Rattle.live.proofs.LiveLaws.{keep-one}
 use Rattle.reach.specs.Prepared.{codeOf}

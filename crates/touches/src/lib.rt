@@ -1,5 +1,4 @@
 // The touches and ends of one local of a job, in the work space: live pieces of the registers that carry its address, the points of its listed instructions, and its ends.
-ghost use mathlib.Core.Path.{_≡_};
 ghost use Prim.Native.Nat.{ℕ, _+_, _^_, _≤_, _<_};
 ghost use lib.ListN.{length, getD};
 ghost use Rattle.words.specs.Sort.{Distinct};

@@ -1,8 +1,7 @@
 // The refusals of fitting alone: numbers 1, 7 and 10, in this order.
 ghost use mathlib.Core.Path.{_≡_};
-ghost use mathlib.Core.Bool.{Bool};
-ghost use Prim.Native.Nat.{ℕ, _+_, _*_, _/_, _≤_, _<_};
-ghost use lib.ListN.{length, take, drop};
+ghost use Prim.Native.Nat.{_+_, _*_, _/_, _≤_, _<_};
+ghost use lib.ListN.{take, drop};
 ghost use Rattle.words.specs.Rows.{rowCount};
 ghost use Rattle.ranges.specs.Lent.{faulty};
 ghost use Rattle.fitting.specs.Queries.{areasOf};

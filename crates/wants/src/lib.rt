@@ -1,5 +1,4 @@
 // Fitting alone: the lowest fitting cell for each of the wants that are lent.
-ghost use mathlib.Core.Path.{_≡_};
 ghost use lib.ListN.{length};
 ghost use Rattle.wants.specs.Entry.{planFor, outcome, FittedAlone};
 ghost use Rattle.want_checks.specs.Checks.{Granted};

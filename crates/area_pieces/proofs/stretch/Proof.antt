@@ -3,9 +3,7 @@ use denote.Ref.{now}
 use Prim.Native.Nat.{_+_, _-_, _*_}
 use Rattle.area_pieces.proofs.RunLaws.{run-is}
 use native.Mathlib.Omega.{arith}
-use Prim.Native.Nat.{ℕ, suc, _+_, _-_, _*_, _≤_, _<_}
-use mathlib.Core.Path.{_≡_, refl, sym, ap, _∙_}
-use lib.ListN.{length, take, drop, getD, set, length-set}
+use Prim.Native.Nat.{_+_, _-_, _*_}
 use Rattle.area_pieces.proofs.PlaceLaws.{one-lt, two-lt, field, blocks}
 use Rattle.area_pieces.proofs.stretch.Statement.{statement}
 use Rattle.area_pieces.proofs.stretch.Tie as tie

@@ -1,7 +1,6 @@
 -- `unmark` meets its contract: a word, or bit by bit.
 use native.Mathlib.Omega.{arith}
-use Prim.Native.Nat.{_+_, _-_, _*_, _/_, _%_, _≤_}
-use mathlib.Core.Path.{_≡_}
+use Prim.Native.Nat.{_+_, _-_, _/_, _≤_}
 use denote.Ref.{now}
 use lib.ListN.{length-set}
 use Rattle.area_pieces.specs.Inner.{Taken}

@@ -2,7 +2,6 @@
 use Rattle.bits.proofs.DigitLaws.{lowest-is}
 use lib.Count.{trailing-le}
 use native.Mathlib.Omega.{arith}
-use lib.ListN.{set}
 use Rattle.bits.proofs.lowest.Statement.{statement}
 use Rattle.bits.proofs.lowest.Tie as tie
 

@@ -3,7 +3,7 @@ use Rattle.words.proofs.PasteLaws.{Filling}
 use Rattle.capping.specs.Cap.{capRows}
 use Rattle.capping.proofs.CapLaws.{capRow, row-was}
 use Rattle.words.proofs.FlatLaws.{flat-start, flat-done, two-more}
-use Prim.Native.Nat.{ℕ, _+_, _-_, _*_, _≤_, min}
+use Prim.Native.Nat.{ℕ, _-_, _*_, _≤_, min}
 use denote.Ref.{now}
 use native.Mathlib.Omega.{arith}
 use mathlib.Core.Path.{refl, ap, _∙_}

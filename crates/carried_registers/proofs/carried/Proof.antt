@@ -1,17 +1,11 @@
 -- `carried_registers::carried` meets its contract: the refusal, no such local, or its registers and the cleared words.
 use native.Mathlib.Omega.{arith}
-use Prim.Native.Nat.{ℕ, suc, _+_, _-_, _*_, _≤_, _<_}
-use mathlib.Core.Path.{_≡_, refl, sym, ap, _∙_}
-use lib.ListN.{length, take, drop, getD, set, length-set}
+use Prim.Native.Nat.{_-_}
+use mathlib.Core.Path.{refl, sym, _∙_}
+use lib.ListN.{length}
 use borrow.Author.Needs.{needs}
-use Prim.Native.Nat.{_/_}
-use Rattle.carry_checks.proofs.LayoutLaws.{laid-longer, measure-ready}
 use Rattle.carried_registers.proofs.CarriedLaws.{fits-as, carried-refused, carried-absent, carried-given}
 use Rattle.carry_checks.proofs.CheckLaws.{fit}
-use Rattle.reach.specs.Prepared.{codeOf}
-use Rattle.follow.specs.declared.Sizes.{Sizes}
-use Rattle.graph.proofs.Within.{within-wider}
-use Rattle.carried_registers.specs.Carried.{mostOf}
 use Rattle.carried_registers.proofs.carried.Statement.{statement}
 use Rattle.carried_registers.proofs.carried.Tie as tie
 

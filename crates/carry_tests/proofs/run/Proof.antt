@@ -1,6 +1,6 @@
 -- `run` is safe and ends: it counts up to the last local.
 use native.Mathlib.Omega.{arith}
-use Prim.Native.Nat.{_+_, _-_, _≤_}
+use Prim.Native.Nat.{_-_, _≤_}
 use Rattle.carry_tests.proofs.run.Statement.{statement}
 use Rattle.carry_tests.proofs.run.Tie as tie
 

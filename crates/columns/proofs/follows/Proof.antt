@@ -1,6 +1,6 @@
 -- `follows` meets its contract: the difference is 1.
 use Prim.Native.Nat.{_+_, _-_}
-use mathlib.Core.Path.{_≡_, sym, _∙_}
+use mathlib.Core.Path.{sym, _∙_}
 use native.Mathlib.Omega.{arith}
 use borrow.Author.Tests.{ne-eqb, le-ltb}
 use Rattle.columns.proofs.TestLaws.{eqb-iff}

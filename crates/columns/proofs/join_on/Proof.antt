@@ -1,6 +1,6 @@
 -- `join_on` meets its contract: the copied list is lengthened or has the new range appended.
 use lib.ListN.{length-set}
-use mathlib.Core.Path.{_≡_, sym, _∙_}
+use mathlib.Core.Path.{sym, _∙_}
 use mathlib.Core.Logic.{⊎-elim}
 use native.Mathlib.Omega.{arith}
 use denote.Ref.{now}

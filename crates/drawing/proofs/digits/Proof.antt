@@ -1,9 +1,6 @@
 use Rattle.drawing.proofs.RowLaws.{Counted, counted-start, counted-few, counted-more, counted-done}
 use native.Mathlib.Omega.{arith}
-use Prim.Native.Nat.{ℕ, suc, _+_, _-_, _*_, _≤_, _<_}
-use mathlib.Core.Path.{_≡_, refl, sym, ap, _∙_}
-use lib.ListN.{length, take, drop, getD, set, length-set}
-use borrow.Author.Needs.{needs}
+use Prim.Native.Nat.{_+_, _-_}
 use Rattle.drawing.proofs.digits.Statement.{statement}
 use Rattle.drawing.proofs.digits.Tie as tie
 use Rattle.drawing.proofs.digits.Reads as reads

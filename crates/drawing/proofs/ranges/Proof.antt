@@ -4,10 +4,8 @@ use Rattle.words.specs.Rows.{rowCount}
 use denote.Ref.{now}
 use Prim.Native.Nat.{min}
 use native.Mathlib.Omega.{arith}
-use Prim.Native.Nat.{ℕ, suc, _+_, _-_, _*_, _≤_, _<_}
-use mathlib.Core.Path.{_≡_, refl, sym, ap, _∙_}
-use lib.ListN.{length, take, drop, getD, set, length-set}
-use borrow.Author.Needs.{needs}
+use Prim.Native.Nat.{ℕ, _+_, _-_, _*_, _≤_}
+use mathlib.Core.Path.{_≡_, ap, _∙_}
 use Rattle.drawing.proofs.ranges.Statement.{statement}
 use Rattle.drawing.proofs.ranges.Tie as tie
 use Rattle.drawing.proofs.ranges.Reads as reads

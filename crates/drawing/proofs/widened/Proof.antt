@@ -6,10 +6,9 @@ use Rattle.words.specs.Rows.{rowCount}
 use Rattle.words.proofs.RowLaws.{field-within, rows-within}
 use denote.Ref.{now}
 use native.Mathlib.Omega.{arith}
-use Prim.Native.Nat.{ℕ, suc, _+_, _-_, _*_, _≤_, _<_}
-use mathlib.Core.Path.{_≡_, refl, sym, ap, _∙_}
-use lib.ListN.{length, take, drop, getD, set, length-set}
-use borrow.Author.Needs.{needs}
+use Prim.Native.Nat.{ℕ, _+_, _-_, _*_, _≤_}
+use mathlib.Core.Path.{_≡_, sym, ap, _∙_}
+use lib.ListN.{length, getD}
 use Rattle.drawing.proofs.widened.Statement.{statement}
 use Rattle.drawing.proofs.widened.Tie as tie
 use Rattle.drawing.proofs.widened.Reads as reads

@@ -1,10 +1,7 @@
 -- `each` meets its contract: the tables hold the plan of the places passed, and the rows its sample points.
-use Rattle.fit.proofs.EachLaws.{Going, going-start, lent-in, order-in, cells-in, low-in, end-in, row-in, ready-drawn, sure-drawn, order-in-put, cell-in-put, end-put, going-more, going-done}
+use Rattle.fit.proofs.EachLaws.{Going, going-start, lent-in, order-in, cells-in, low-in, row-in, ready-drawn, sure-drawn, order-in-put, cell-in-put, end-put, going-more, going-done}
 use native.Mathlib.Omega.{arith}
-use Prim.Native.Nat.{ℕ, suc, _+_, _-_, _*_, _≤_, _<_}
-use mathlib.Core.Path.{_≡_, refl, sym, ap, _∙_}
-use lib.ListN.{length, take, drop, getD, set, length-set}
-use borrow.Author.Needs.{needs}
+use Prim.Native.Nat.{_-_}
 use Rattle.fit.proofs.each.Statement.{statement}
 use Rattle.fit.proofs.each.Tie as tie
 

@@ -1,9 +1,7 @@
 -- `place` meets its contract: the rows stand at the end of the room.
 use Rattle.fit.proofs.EachLaws.{in-order-below, step-fits, step-word}
 use native.Mathlib.Omega.{arith}
-use Prim.Native.Nat.{ℕ, suc, _+_, _-_, _*_, _≤_, _<_}
-use mathlib.Core.Path.{_≡_, refl, sym, ap, _∙_}
-use lib.ListN.{length, take, drop, getD, set, length-set}
+use Prim.Native.Nat.{_-_}
 use borrow.Author.Needs.{needs}
 use Rattle.fit.proofs.place.Statement.{statement}
 use Rattle.fit.proofs.place.Tie as tie

@@ -2,13 +2,10 @@
 use native.Mathlib.Omega.{arith}
 use Prim.Native.Nat.{ℕ, _-_, _≤_, _<_}
 use mathlib.Core.Path.{_≡_, refl}
-use mathlib.Core.List.{List}
-use lib.ListN.{length}
-use denote.Ref.{now}
 use Rattle.flow_rows.proofs.gather.Statement.{statement}
 use Rattle.bits.proofs.BitLaws.{aligned-rows}
 use Rattle.flow_rows.proofs.GatherLaws.{Gathering, before-edges, gather-start, gather-stay, gather-go, gather-done, at-edge, touched-apart}
-use Rattle.flow_rows.specs.Flowed.{ends, target}
+use Rattle.flow_rows.specs.Flowed.{ends}
 use Rattle.flow_rows.proofs.gather.Tie as tie
 
 abbrev Inv-loop : tie.InvT-loop

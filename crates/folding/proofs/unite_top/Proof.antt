@@ -1,6 +1,6 @@
 -- `unite_top` meets its contract: the union is stored behind the lists, and takes the place of the two.
 use mathlib.Core.Logic.{inl}
-use Rattle.folding.proofs.FoldLaws.{q-lt, one-end, two-end, one-listed, two-listed, folded, next-falls}
+use Rattle.folding.proofs.FoldLaws.{one-end, two-end, one-listed, two-listed, folded, next-falls}
 use Rattle.folding.proofs.Bounds.{own-place, met-place, as-long}
 use native.Mathlib.Omega.{arith}
 use Prim.Native.Nat.{_-_}

@@ -1,8 +1,7 @@
 -- `load_slots` meets its contract: a turn keeps `Done`.
 use native.Mathlib.Omega.{arith}
-use Prim.Native.Nat.{_+_, _-_, _*_}
+use Prim.Native.Nat.{_-_}
 use mathlib.Core.Path.{refl}
-use denote.Ref.{now}
 use Rattle.words.proofs.RegionLaws.{Done, done-start, done-more, done-all}
 use Rattle.job_fit.specs.Wants.{slotWord}
 use Rattle.job_fit.proofs.load_slots.Statement.{statement}

@@ -1,8 +1,6 @@
 -- `layout` meets its contract: each region begins where the one before ends.
 use native.Mathlib.Omega.{arith}
-use Prim.Native.Nat.{ℕ, suc, _+_, _-_, _*_, _≤_, _<_}
-use mathlib.Core.Path.{_≡_, refl, sym, ap, _∙_}
-use lib.ListN.{length, take, drop, getD, set, length-set}
+use Prim.Native.Nat.{_-_}
 use borrow.Author.Needs.{needs}
 use Rattle.job_layout.proofs.layout.Statement.{statement}
 use Rattle.job_layout.proofs.layout.Tie as tie

@@ -1,7 +1,5 @@
 -- `bad_shape` meets its contract: one law for each way out.
-use native.Mathlib.Omega.{arith}
 use mathlib.Core.Path.{refl}
-use borrow.Author.Tests.{eq-eqb, ne-eqb}
 use Rattle.job_space.proofs.SpaceLaws.{over-budget, odd-cells, by-items}
 use Rattle.job_space.proofs.bad_shape.Statement.{statement}
 use Rattle.job_space.proofs.bad_shape.Tie as tie

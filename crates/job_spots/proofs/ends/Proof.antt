@@ -1,6 +1,5 @@
 -- `job_spots::ends` meets its contract: the ends are put there, then sorted.
 use borrow.Author.Needs.{needs}
-use native.Mathlib.Omega.{arith}
 use Rattle.job_spots.proofs.SpotLaws.{sorted}
 use Rattle.job_spots.proofs.ends.Statement.{statement}
 use Rattle.job_spots.proofs.ends.Tie as tie

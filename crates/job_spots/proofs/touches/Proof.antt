@@ -1,6 +1,5 @@
 -- `job_spots::touches` meets its contract: the registers' pieces, then the entries' points.
 use borrow.Author.Needs.{needs}
-use native.Mathlib.Omega.{arith}
 use Rattle.job_spots.proofs.SpotLaws.{still-linked, both}
 use Rattle.job_spots.proofs.touches.Statement.{statement}
 use Rattle.job_spots.proofs.touches.Tie as tie

@@ -1,5 +1,4 @@
 -- `solve` meets its contract: the regions are laid out, the locals marked, the rows made, and the areas measured.
-use native.Mathlib.Omega.{arith}
 use Prim.Native.Nat.{_-_}
 use denote.Ref.{now}
 use borrow.Author.Needs.{needs}

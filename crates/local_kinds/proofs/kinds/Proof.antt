@@ -1,11 +1,8 @@
 -- `local_kinds::kinds` meets its contract: the kinds of the first l locals.
 use native.Mathlib.Omega.{arith}
-use Prim.Native.Nat.{ℕ, suc, _+_, _-_, _*_, _≤_, _<_}
-use mathlib.Core.Path.{_≡_, refl, sym, ap, _∙_}
-use lib.ListN.{length, take, drop, getD, set, length-set}
-use borrow.Author.Needs.{needs}
-use Rattle.local_kinds.proofs.EntryLaws.{Listing, list-start, list-ready, list-more, list-done, measured, reach-refused, reach-given}
-use Rattle.carry_checks.proofs.LayoutLaws.{laid-longer, measure-ready}
+use Prim.Native.Nat.{_-_}
+use mathlib.Core.Path.{refl}
+use Rattle.local_kinds.proofs.EntryLaws.{Listing, list-start, list-ready, list-more, list-done}
 use Rattle.local_kinds.proofs.kinds.Statement.{statement}
 use Rattle.local_kinds.proofs.kinds.Tie as tie
 

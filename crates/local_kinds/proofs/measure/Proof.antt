@@ -1,10 +1,9 @@
 -- `local_kinds::measure` meets its contract: the layout, the preparation, the kinds.
 use native.Mathlib.Omega.{arith}
-use Prim.Native.Nat.{ℕ, suc, _+_, _-_, _*_, _≤_, _<_}
-use mathlib.Core.Path.{_≡_, refl, sym, ap, _∙_}
-use lib.ListN.{length, take, drop, getD, set, length-set}
-use borrow.Author.Needs.{needs}
-use Rattle.local_kinds.proofs.EntryLaws.{Listing, list-start, list-ready, list-more, list-done, measured, reach-refused, reach-given}
+use Prim.Native.Nat.{_-_}
+use mathlib.Core.Path.{_∙_}
+use lib.ListN.{length}
+use Rattle.local_kinds.proofs.EntryLaws.{measured}
 use Rattle.carry_checks.proofs.LayoutLaws.{laid-longer, measure-ready}
 use Rattle.local_kinds.proofs.measure.Statement.{statement}
 use Rattle.local_kinds.proofs.measure.Tie as tie

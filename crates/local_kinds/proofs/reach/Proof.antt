@@ -1,11 +1,10 @@
 -- `local_kinds::reach` meets its contract: the refusal, or the kinds and the cleared words.
 use native.Mathlib.Omega.{arith}
-use Prim.Native.Nat.{ℕ, suc, _+_, _-_, _*_, _≤_, _<_}
-use mathlib.Core.Path.{_≡_, refl, sym, ap, _∙_}
-use lib.ListN.{length, take, drop, getD, set, length-set}
+use Prim.Native.Nat.{_-_}
+use mathlib.Core.Path.{sym, _∙_}
+use lib.ListN.{length}
 use borrow.Author.Needs.{needs}
-use Rattle.local_kinds.proofs.EntryLaws.{Listing, list-start, list-ready, list-more, list-done, measured, reach-refused, reach-given}
-use Rattle.carry_checks.proofs.LayoutLaws.{laid-longer, measure-ready}
+use Rattle.local_kinds.proofs.EntryLaws.{reach-refused, reach-given}
 use Rattle.carry_checks.proofs.CheckLaws.{fit}
 use Rattle.local_kinds.proofs.reach.Statement.{statement}
 use Rattle.local_kinds.proofs.reach.Tie as tie

@@ -1,10 +1,6 @@
 -- `merge_by` meets its contract: packed, merged, and unpacked.
-use mathlib.Core.Path.{_≡_, refl, sym, _∙_, ap}
 use native.Mathlib.Omega.{arith}
-use lib.ListN.{length}
 use denote.Ref.{now}
-use borrow.Author.Needs.{needs}
-use Prim.Native.Nat.{_+_}
 use Rattle.merging.proofs.MergingLaws.{merged-columns}
 use Rattle.merging.proofs.merge_by.Statement.{statement}
 use Rattle.merging.proofs.merge_by.Tie as tie

@@ -1,6 +1,5 @@
 -- `pack_columns` meets its contract: one word more a turn.
 use Prim.Native.Nat.{_-_}
-use mathlib.Core.Path.{_≡_, refl}
 use native.Mathlib.Omega.{arith}
 use lib.ListN.{length, getD}
 use Rattle.words.proofs.RegionLaws.{Done, done-start, done-more, done-all}

@@ -1,8 +1,7 @@
 -- `unpack_ends` meets its contract: one number more a turn.
 use Prim.Native.Nat.{_-_, _%_, _^_}
-use mathlib.Core.Path.{_≡_, refl}
 use native.Mathlib.Omega.{arith}
-use lib.ListN.{length, getD}
+use lib.ListN.{getD}
 use Rattle.words.proofs.RegionLaws.{Done, done-start, done-more, done-all}
 use Rattle.merging.proofs.unpack_ends.Statement.{statement}
 use Rattle.merging.proofs.unpack_ends.Tie as tie

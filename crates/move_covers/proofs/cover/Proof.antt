@@ -1,11 +1,8 @@
 -- `move_covers::cover` meets its contract: two stores.
 use native.Mathlib.Omega.{arith}
-use Prim.Native.Nat.{ℕ, suc, _+_, _-_, _*_, _/_, _%_, _≤_, _<_}
-use mathlib.Core.Path.{_≡_, refl, sym, ap, _∙_}
-use mathlib.Core.Bool.{Bool, true, false}
-use lib.ListN.{length, getD}
+use Prim.Native.Nat.{_-_}
+use mathlib.Core.Path.{refl, sym}
 use denote.Ref.{now}
-use borrow.Author.Needs.{needs}
 use Rattle.move_covers.proofs.MovedLaws.{wrote-one}
 use lib.ListN.{length-set}
 use Rattle.move_covers.proofs.cover.Statement.{statement}

@@ -1,9 +1,8 @@
 -- `move_covers::covers` meets its contract: to the slot, from it, both or neither.
 use native.Mathlib.Omega.{arith}
-use Prim.Native.Nat.{ℕ, suc, _+_, _-_, _*_, _/_, _%_, _≤_, _<_}
-use mathlib.Core.Path.{_≡_, refl, sym, ap, _∙_}
-use mathlib.Core.Bool.{Bool, true, false}
-use lib.ListN.{length, getD}
+use Prim.Native.Nat.{ℕ, _+_, _-_, _*_}
+use mathlib.Core.Path.{sym, ap, _∙_}
+use lib.ListN.{getD}
 use denote.Ref.{now}
 use borrow.Author.Needs.{needs}
 use Rattle.move_covers.proofs.MovedLaws.{wrote-none, wrote-then, wrote-as}
@@ -13,9 +12,8 @@ use mathlib.Core.List.{[], _∷_, _++_}
 use Rattle.ranges.specs.declared.Range.{Range}
 use Rattle.graph.specs.Line.{blocksOf}
 use Rattle.carrying.specs.Insts.{instsOf}
-use Rattle.areas.specs.Slots.{badMove, covering}
+use Rattle.areas.specs.Slots.{badMove}
 use Rattle.move_points.specs.Moves.{positionAt, moveRow}
-use Rattle.move_covers.specs.Wrote.{Wrote}
 use Rattle.move_covers.proofs.covers.Statement.{statement}
 use Rattle.move_covers.proofs.covers.Tie as tie
 

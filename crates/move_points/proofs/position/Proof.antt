@@ -1,11 +1,8 @@
 -- `move_points::position` meets its contract: a law for each kind.
 use native.Mathlib.Omega.{arith}
-use Prim.Native.Nat.{ℕ, suc, _+_, _-_, _*_, _/_, _%_, _≤_, _<_}
-use mathlib.Core.Path.{_≡_, refl, sym, ap, _∙_}
-use mathlib.Core.Bool.{Bool, true, false}
-use lib.ListN.{length, getD}
+use Prim.Native.Nat.{_-_}
+use mathlib.Core.Path.{_≡_, _∙_}
 use denote.Ref.{now}
-use borrow.Author.Needs.{needs}
 use Rattle.move_points.proofs.MoveLaws.{inst-there-0, inst-there-1, block-there-2, block-there-3, spot-0, spot-1, spot-2, spot-3, spot-over}
 use Rattle.graph.specs.Line.{blocksOf, placeIn}
 use Rattle.graph.proofs.Line.{blocks-length, place-lt}

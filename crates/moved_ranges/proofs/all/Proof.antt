@@ -1,15 +1,12 @@
 -- `moved_ranges::all` meets its contract: what the moves passed cover.
 use native.Mathlib.Omega.{arith}
-use Prim.Native.Nat.{ℕ, suc, _+_, _-_, _*_, _/_, _%_, _≤_, _<_}
-use mathlib.Core.Path.{_≡_, refl, sym, ap, _∙_}
-use mathlib.Core.Bool.{Bool, true, false}
-use lib.ListN.{length, getD}
+use Prim.Native.Nat.{_-_, _*_, _/_, _≤_}
+use mathlib.Core.Path.{_≡_}
+use lib.ListN.{length}
 use denote.Ref.{now}
-use borrow.Author.Needs.{needs}
 use Rattle.move_covers.proofs.MovedLaws.{wrote-none, wrote-then, gather-next, gather-none}
 use Rattle.move_points.proofs.MoveLaws.{covers-two}
-use mathlib.Core.List.{List, [], _++_}
-use Rattle.ranges.specs.declared.Range.{Range}
+use mathlib.Core.List.{[]}
 use Rattle.words.specs.Rows.{tabulate}
 use Rattle.carrying.specs.Lists.{gather}
 use Rattle.graph.specs.Line.{blocksOf}

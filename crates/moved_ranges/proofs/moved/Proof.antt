@@ -1,14 +1,11 @@
 -- `moved_ranges::moved` meets its contract: the refusal, or the table, the ranges and the cleared words.
 use native.Mathlib.Omega.{arith}
-use Prim.Native.Nat.{ℕ, suc, _+_, _-_, _*_, _/_, _%_, _≤_, _<_}
-use mathlib.Core.Path.{_≡_, refl, sym, ap, _∙_}
-use mathlib.Core.Bool.{Bool, true, false}
-use lib.ListN.{length, getD}
+use Prim.Native.Nat.{_-_}
+use mathlib.Core.Path.{sym, _∙_}
+use lib.ListN.{length}
 use denote.Ref.{now}
 use borrow.Author.Needs.{needs}
 use Rattle.moved_ranges.proofs.MovedEntry.{fit, moved-refused, moved-given}
-use Rattle.words.specs.Regions.{cleared}
-use Rattle.graph.proofs.Line.{blocks-length}
 use Rattle.moved_ranges.proofs.moved.Statement.{statement}
 use Rattle.moved_ranges.proofs.moved.Tie as tie
 

@@ -1,11 +1,6 @@
 -- `moved_ranges::space` meets its contract: a law for each way out.
 use native.Mathlib.Omega.{arith}
-use Prim.Native.Nat.{ℕ, suc, _+_, _-_, _*_, _/_, _%_, _≤_, _<_}
-use mathlib.Core.Path.{_≡_, refl, sym, ap, _∙_}
-use mathlib.Core.Bool.{Bool, true, false}
-use lib.ListN.{length, getD}
-use denote.Ref.{now}
-use borrow.Author.Needs.{needs}
+use Prim.Native.Nat.{_-_}
 use Rattle.moved_ranges.proofs.MovedEntry.{space-answer, space-work, space-fine}
 use Rattle.moved_ranges.proofs.space.Statement.{statement}
 use Rattle.moved_ranges.proofs.space.Tie as tie

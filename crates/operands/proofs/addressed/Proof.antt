@@ -1,11 +1,8 @@
 -- `operands::addressed` meets its contract: what is left of the operands decides.
 use native.Mathlib.Omega.{arith}
-use Prim.Native.Nat.{ℕ, suc, _+_, _-_, _*_, _/_, _%_, _≤_, _<_}
+use Prim.Native.Nat.{_+_, _-_, _≤_}
 use mathlib.Core.Path.{_≡_, refl, sym, ap, _∙_}
-use mathlib.Core.Bool.{Bool, true, false}
-use lib.ListN.{length, getD}
 use denote.Ref.{now}
-use borrow.Author.Needs.{needs}
 use Rattle.operands.proofs.OperandLaws.{From, each-pass, each-fail, each-end}
 use Rattle.insts.specs.Rows.{operandAt}
 use Rattle.operands.specs.Numbers.{addressing}

@@ -1,12 +1,10 @@
 -- `operands::def` meets its contract: no register was found, or one.
 use native.Mathlib.Omega.{arith}
-use Prim.Native.Nat.{ℕ, suc, _+_, _-_, _*_, _/_, _%_, _≤_, _<_}
+use Prim.Native.Nat.{ℕ, _+_, _-_, _*_, _≤_}
 use mathlib.Core.Path.{_≡_, refl, sym, ap, _∙_}
-use mathlib.Core.Bool.{Bool, true, false}
-use lib.ListN.{length, getD}
+use lib.ListN.{getD}
 use denote.Ref.{now}
-use borrow.Author.Needs.{needs}
-use Rattle.operands.proofs.OperandLaws.{held, defs, found-none, found-def, found-use, def-two, def-none, def-one, def-physical}
+use Rattle.operands.proofs.OperandLaws.{defs, found-none, found-def, found-use, def-two, def-none, def-one, def-physical}
 use native.Mathlib.Nat.{add-zero}
 use mathlib.Core.List.{[], _∷_}
 use Rattle.insts.specs.Rows.{operandAt}

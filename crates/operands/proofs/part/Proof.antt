@@ -1,11 +1,6 @@
 -- `operands::part` meets its contract: a law for each way out.
 use native.Mathlib.Omega.{arith}
-use Prim.Native.Nat.{ℕ, suc, _+_, _-_, _*_, _/_, _%_, _≤_, _<_}
-use mathlib.Core.Path.{_≡_, refl, sym, ap, _∙_}
-use mathlib.Core.Bool.{Bool, true, false}
-use lib.ListN.{length, getD}
-use denote.Ref.{now}
-use borrow.Author.Needs.{needs}
+use Prim.Native.Nat.{_-_}
 use Rattle.operands.proofs.OperandLaws.{part-far, part-base, part-index}
 use Rattle.operands.proofs.part.Statement.{statement}
 use Rattle.operands.proofs.part.Tie as tie

@@ -1,9 +1,7 @@
 -- `merge` meets its contract: the words are sorted, and joined in place.
 use Prim.Native.Nat.{_-_}
-use mathlib.Core.Path.{_≡_, refl}
+use mathlib.Core.Path.{refl}
 use native.Mathlib.Omega.{arith}
-use lib.ListN.{length}
-use denote.Ref.{now}
 use Rattle.packed.proofs.PackedLaws.{Joining, join-start, join-more, join-done}
 use Rattle.packed.proofs.merge.Statement.{statement}
 use Rattle.packed.proofs.merge.Tie as tie

@@ -1,6 +1,5 @@
 -- `take_up` meets its contract: the last range is widened, kept, or followed by the new one.
 use lib.ListN.{length-set}
-use mathlib.Core.Path.{_≡_}
 use mathlib.Core.Logic.{⊎-elim}
 use native.Mathlib.Omega.{arith}
 use denote.Ref.{now}

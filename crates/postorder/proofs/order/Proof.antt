@@ -1,7 +1,6 @@
 -- `postorder::order` meets its contract: a walk from each place that was not seen.
-use Prim.Native.Nat.{ℕ, _+_, _-_, _*_, _≤_, _<_}
+use Prim.Native.Nat.{_+_, _-_}
 use mathlib.Core.Path.{_≡_, refl}
-use lib.ListN.{length, getD}
 use Rattle.postorder.proofs.Roots.{Roots, roots-start, roots-walk, roots-skip, roots-done}
 use Rattle.postorder.proofs.Bounds.{start, at-root}
 use Rattle.postorder.proofs.order.Statement.{statement}

@@ -1,8 +1,8 @@
 -- `postorder::turn` meets its contract: each of its three ways out is a law of `Turns`.
 use native.Mathlib.Omega.{arith}
-use Prim.Native.Nat.{ℕ, suc, _+_, _-_, _*_, _≤_, _<_}
-use mathlib.Core.Path.{_≡_, refl, sym, ap, _∙_}
-use lib.ListN.{length, getD, set, length-set}
+use Prim.Native.Nat.{_-_, _≤_}
+use mathlib.Core.Path.{refl}
+use lib.ListN.{length-set}
 use Rattle.postorder.specs.Walk.{ends}
 use Rattle.postorder.proofs.Turns.{topOf, nextOf, top, v-ok, first-ok, room-for, turn-seen, turn-new, turn-left}
 use Rattle.postorder.proofs.Bounds.{Turning, AtEdge, turning, edge, deeper, few}

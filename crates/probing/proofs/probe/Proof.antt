@@ -8,10 +8,8 @@ use Rattle.cell_tables.proofs.CodeLaws.{missed}
 use Rattle.samples.proofs.MarkLaws.{ruled}
 use denote.Ref.{now}
 use native.Mathlib.Omega.{arith}
-use Prim.Native.Nat.{ℕ, suc, _+_, _-_, _*_, _≤_, _<_}
-use mathlib.Core.Path.{_≡_, refl, sym, ap, _∙_}
-use lib.ListN.{length, take, drop, getD, set, length-set}
-use borrow.Author.Needs.{needs}
+use Prim.Native.Nat.{ℕ, _-_, _≤_, _<_}
+use mathlib.Core.Path.{_≡_, sym, _∙_}
 use Rattle.probing.proofs.probe.Statement.{statement}
 use Rattle.probing.proofs.probe.Tie as tie
 

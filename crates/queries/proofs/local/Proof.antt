@@ -1,8 +1,8 @@
 -- `local` meets its contract: refused, told or absent.
 use Rattle.query_checks.specs.Checks.{planVerdict}
-use Rattle.fitting.specs.Queries.{slotsOf, local, slot, saved}
+use Rattle.fitting.specs.Queries.{slotsOf, local}
 use Rattle.query_checks.proofs.CheckLaws.{sound}
-use Rattle.queries.proofs.QueryLaws.{local-at, local-none, slot-at, slot-none, saved-is, place-told, place-none, place-refused, saved-told, saved-refused}
+use Rattle.queries.proofs.QueryLaws.{local-at, local-none, place-told, place-none, place-refused}
 use mathlib.Core.List.{[]}
 use denote.Ref.{now}
 use native.Mathlib.Omega.{arith}

@@ -1,8 +1,8 @@
 -- `saved` meets its contract: refused, or items less cells.
 use Rattle.query_checks.specs.Checks.{planVerdict}
-use Rattle.fitting.specs.Queries.{slotsOf, local, slot, saved}
+use Rattle.fitting.specs.Queries.{slotsOf, saved}
 use Rattle.query_checks.proofs.CheckLaws.{sound}
-use Rattle.queries.proofs.QueryLaws.{local-at, local-none, slot-at, slot-none, saved-is, place-told, place-none, place-refused, saved-told, saved-refused}
+use Rattle.queries.proofs.QueryLaws.{saved-is, saved-told, saved-refused}
 use mathlib.Core.List.{[]}
 use denote.Ref.{now}
 use native.Mathlib.Omega.{arith}

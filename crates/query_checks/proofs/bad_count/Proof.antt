@@ -1,5 +1,5 @@
 -- `bad_count` meets its contract: the first test that holds, else the last.
-use borrow.Author.Tests.{lt-ltb, le-ltb, le-leb, lt-leb, eq-eqb, ne-eqb}
+use borrow.Author.Tests.{lt-ltb, le-ltb, eq-eqb, ne-eqb}
 use Rattle.query_checks.proofs.bad_count.Statement.{statement}
 use Rattle.query_checks.proofs.bad_count.Tie as tie
 

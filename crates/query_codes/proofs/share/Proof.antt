@@ -1,5 +1,4 @@
 -- `share` meets its contract.
-use mathlib.Core.Path.{sym}
 use borrow.Author.Needs.{needs}
 use Rattle.query_codes.proofs.CodeLaws.{part-told, part-absent, part-refused}
 use Rattle.query_codes.proofs.share.Statement.{statement}

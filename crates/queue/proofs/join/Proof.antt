@@ -1,11 +1,10 @@
 -- `join` meets its contract: the def is seen, or the entry is new.
 use native.Mathlib.Omega.{arith}
-use Prim.Native.Nat.{ℕ, suc, _+_, _-_, _*_, _≤_, _<_}
-use mathlib.Core.Path.{_≡_, refl, sym, ap, _∙_}
-use lib.ListN.{length, take, drop, getD, set, length-set}
+use Prim.Native.Nat.{_-_}
+use mathlib.Core.Path.{refl, sym, _∙_}
+use lib.ListN.{set, length-set}
 use borrow.Author.Needs.{needs}
 use Rattle.queue.proofs.QueueLaws.{held-room, joined-seen, joined-new}
-use Rattle.queue.specs.Walk.{defAt}
 use Rattle.queue.proofs.join.Statement.{statement}
 use Rattle.queue.proofs.join.Tie as tie
 

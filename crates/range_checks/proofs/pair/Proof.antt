@@ -1,11 +1,9 @@
 -- `pair` meets its contract: the second list is looked at where the first is fine.
-use mathlib.Core.Path.{_≡_, refl, sym, _∙_, ap}
+use mathlib.Core.Path.{sym, _∙_}
 use native.Mathlib.Omega.{arith}
 use lib.ListN.{length}
 use denote.Ref.{now}
 use borrow.Author.Needs.{needs}
-use borrow.Author.Tests.{lt-ltb, le-ltb}
-use Prim.Native.Nat.{_+_}
 use Rattle.refusals.proofs.Laws.{counted-from-none}
 use Rattle.ranges.specs.Forms.{columns}
 use Rattle.ranges.proofs.FormLaws.{columns-length}

@@ -1,10 +1,8 @@
 -- `clashes` meets its contract: refused, or told.
-use mathlib.Core.Path.{_≡_, refl, sym, _∙_, ap}
+use mathlib.Core.Path.{sym, _∙_}
 use native.Mathlib.Omega.{arith}
-use lib.ListN.{length}
 use denote.Ref.{now}
 use borrow.Author.Needs.{needs}
-use Prim.Native.Nat.{_+_}
 use Rattle.range_entries.proofs.EntryLaws.{clashes-fine, clash-told, clash-refused}
 use Rattle.range_entries.proofs.clashes.Statement.{statement}
 use Rattle.range_entries.proofs.clashes.Tie as tie

@@ -1,11 +1,10 @@
 -- `joined` meets its contract: refused, or the list with the new range.
-use mathlib.Core.Path.{_≡_, refl, sym, _∙_, ap}
+use mathlib.Core.Path.{sym, _∙_}
 use native.Mathlib.Omega.{arith}
 use lib.ListN.{length}
 use Rattle.ranges.specs.Points.{range}
 use denote.Ref.{now}
 use borrow.Author.Needs.{needs}
-use Prim.Native.Nat.{_+_}
 use Rattle.range_entries.proofs.EntryLaws.{joined-fine, listed, unlisted}
 use Rattle.range_entries.proofs.joined.Statement.{statement}
 use Rattle.range_entries.proofs.joined.Tie as tie

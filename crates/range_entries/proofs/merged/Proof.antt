@@ -1,10 +1,9 @@
 -- `merged` meets its contract: refused, or merged.
-use mathlib.Core.Path.{_≡_, refl, sym, _∙_, ap}
+use mathlib.Core.Path.{sym, _∙_}
 use native.Mathlib.Omega.{arith}
 use lib.ListN.{length}
 use denote.Ref.{now}
 use borrow.Author.Needs.{needs}
-use Prim.Native.Nat.{_+_}
 use Rattle.range_entries.proofs.EntryLaws.{merged-fine, listed, unlisted}
 use Rattle.range_entries.proofs.merged.Statement.{statement}
 use Rattle.range_entries.proofs.merged.Tie as tie

@@ -1,10 +1,9 @@
 -- `union` meets its contract: refused, or united in one pass.
-use mathlib.Core.Path.{_≡_, refl, sym, _∙_, ap}
+use mathlib.Core.Path.{sym, _∙_}
 use native.Mathlib.Omega.{arith}
 use lib.ListN.{length}
 use denote.Ref.{now}
 use borrow.Author.Needs.{needs}
-use Prim.Native.Nat.{_+_}
 use Rattle.range_entries.proofs.EntryLaws.{union-fine, listed, unlisted}
 use Rattle.range_entries.proofs.union.Statement.{statement}
 use Rattle.range_entries.proofs.union.Tie as tie

@@ -1,5 +1,4 @@
 -- `planned` meets its contract: each slice is its group's part of the rows.
-use native.Mathlib.Omega.{arith}
 use Prim.Native.Nat.{_*_}
 use lib.ListN.{getD}
 use lib.Dec.{lit<, lit≤}

@@ -3,9 +3,8 @@ use denote.Ref.{now}
 use mathlib.Core.Logic.{inl, inr}
 use Rattle.sample_rows.proofs.DrawLaws.{drawn-none, drawn-points}
 use native.Mathlib.Omega.{arith}
-use Prim.Native.Nat.{ℕ, suc, _+_, _-_, _*_, _≤_, _<_}
-use mathlib.Core.Path.{_≡_, refl, sym, ap, _∙_}
-use lib.ListN.{length, take, drop, getD, set, length-set}
+use Prim.Native.Nat.{_+_, _-_, _*_}
+use lib.ListN.{getD}
 use Rattle.sample_rows.proofs.draw.Statement.{statement}
 use Rattle.sample_rows.proofs.draw.Tie as tie
 

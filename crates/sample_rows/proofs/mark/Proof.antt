@@ -1,9 +1,8 @@
 -- `mark` meets its contract.
 use Rattle.sample_rows.proofs.DrawLaws.{marked-bit, marked-word}
 use native.Mathlib.Omega.{arith}
-use Prim.Native.Nat.{ℕ, suc, _+_, _-_, _*_, _≤_, _<_}
-use mathlib.Core.Path.{_≡_, refl, sym, ap, _∙_}
-use lib.ListN.{length, take, drop, getD, set, length-set}
+use Prim.Native.Nat.{_-_}
+use lib.ListN.{set, length-set}
 use Rattle.sample_rows.proofs.mark.Statement.{statement}
 use Rattle.sample_rows.proofs.mark.Tie as tie
 

@@ -5,10 +5,8 @@ use Rattle.ranges.specs.Forms.{unpacked}
 use Rattle.cell_tables.specs.Inner.{Pointed}
 use Rattle.sample_rows.proofs.DrawLaws.{pointed-start, pointed-more, point-at, pointed-range, product-fits, product-small}
 use native.Mathlib.Omega.{arith}
-use Prim.Native.Nat.{ℕ, suc, _+_, _-_, _*_, _≤_, _<_}
-use mathlib.Core.Path.{_≡_, refl, sym, ap, _∙_}
-use lib.ListN.{length, take, drop, getD, set, length-set}
-use borrow.Author.Needs.{needs}
+use Prim.Native.Nat.{_+_, _-_, _*_, _≤_}
+use mathlib.Core.Path.{refl}
 use Rattle.sample_rows.proofs.points.Statement.{statement}
 use Rattle.sample_rows.proofs.points.Tie as tie
 

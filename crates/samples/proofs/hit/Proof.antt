@@ -4,10 +4,8 @@ use lib.Bits.{bitAnd}
 use mathlib.Core.Bool.{false≢true}
 use Rattle.samples.proofs.MarkLaws.{nonzero}
 use native.Mathlib.Omega.{arith}
-use Prim.Native.Nat.{ℕ, suc, _+_, _-_, _*_, _≤_, _<_}
-use mathlib.Core.Path.{_≡_, refl, sym, ap, _∙_}
-use lib.ListN.{length, take, drop, getD, set, length-set}
-use borrow.Author.Needs.{needs}
+use Prim.Native.Nat.{_+_, _-_, _*_}
+use lib.ListN.{getD}
 use Rattle.samples.proofs.hit.Statement.{statement}
 use Rattle.samples.proofs.hit.Tie as tie
 

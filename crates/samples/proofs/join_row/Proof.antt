@@ -4,9 +4,7 @@ use Rattle.bits.proofs.BitLaws.{aligned-rows}
 use Rattle.cell_tables.specs.Inner.{cellIn}
 use Rattle.samples.proofs.MarkLaws.{row-inside}
 use native.Mathlib.Omega.{arith}
-use Prim.Native.Nat.{ℕ, suc, _+_, _-_, _*_, _≤_, _<_}
-use mathlib.Core.Path.{_≡_, refl, sym, ap, _∙_}
-use lib.ListN.{length, take, drop, getD, set, length-set}
+use Prim.Native.Nat.{_-_}
 use Rattle.samples.proofs.join_row.Statement.{statement}
 use Rattle.samples.proofs.join_row.Tie as tie
 

@@ -1,6 +1,6 @@
 -- `slot_spots::walk` meets its contract: what the moves behind the next one cover stands.
 use native.Mathlib.Omega.{arith}
-use Prim.Native.Nat.{ℕ, _-_}
+use Prim.Native.Nat.{_-_}
 use mathlib.Core.Path.{refl}
 use mathlib.Core.List.{[]}
 use lib.ListN.{length-set}

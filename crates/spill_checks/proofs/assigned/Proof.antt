@@ -1,15 +1,10 @@
 -- `spill_checks::assigned` meets its contract: rows of two numbers.
 use native.Mathlib.Omega.{arith}
-use Prim.Native.Nat.{ℕ, suc, _+_, _-_, _*_, _/_, _%_, _≤_, _<_}
-use mathlib.Core.Path.{_≡_, refl, sym, ap, _∙_}
-use mathlib.Core.Bool.{Bool, true, false}
-use lib.ListN.{length, getD}
+use Prim.Native.Nat.{ℕ, _-_}
+use mathlib.Core.Path.{ap, _∙_}
 use denote.Ref.{now}
-use borrow.Author.Needs.{needs}
 use Rattle.refusals.specs.Verdicts.{scan}
-use Rattle.refusals.specs.declared.Verdict.the-variants.{Fine, Bad}
-use Rattle.refusals.specs.declared.Refusal.the-variants.{Stray, Piece as PieceWord}
-use Rattle.refusals.proofs.Laws.{scan-none, scan-miss, scan-hit, scan-end}
+use Rattle.refusals.specs.declared.Refusal.the-variants.{Piece as PieceWord}
 use Rattle.words.specs.Rows.{rowCount, field}
 use Rattle.spill_checks.proofs.CheckLaws.{assigned-is}
 use lib.Dec.{leb}

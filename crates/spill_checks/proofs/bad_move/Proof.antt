@@ -1,13 +1,10 @@
 -- `spill_checks::bad_move` meets its contract: a law for each kind.
 use native.Mathlib.Omega.{arith}
-use Prim.Native.Nat.{ℕ, suc, _+_, _-_, _*_, _/_, _%_, _≤_, _<_}
-use mathlib.Core.Path.{_≡_, refl, sym, ap, _∙_}
-use mathlib.Core.Bool.{Bool, true, false}
-use lib.ListN.{length, getD}
+use Prim.Native.Nat.{ℕ, _-_, _/_}
+use mathlib.Core.Path.{sym, ap, _∙_}
+use lib.ListN.{length}
 use denote.Ref.{now}
-use borrow.Author.Needs.{needs}
 use Rattle.spill_checks.proofs.CheckLaws.{kind-0, kind-1, kind-2, kind-3, kind-over}
-use Rattle.words.specs.Rows.{rowCount, field}
 use mathlib.Core.List.{[]}
 use lib.Dec.{leb}
 use Rattle.graph.specs.Line.{blocksOf}

@@ -1,11 +1,9 @@
 -- `spill_checks::bad_piece` meets its contract: a law for each way out.
 use native.Mathlib.Omega.{arith}
-use Prim.Native.Nat.{ℕ, suc, _+_, _-_, _*_, _/_, _%_, _≤_, _<_}
-use mathlib.Core.Path.{_≡_, refl, sym, ap, _∙_}
-use mathlib.Core.Bool.{Bool, true, false}
-use lib.ListN.{length, getD}
+use Prim.Native.Nat.{ℕ, _-_, _*_}
+use mathlib.Core.Path.{sym, ap, _∙_}
+use lib.ListN.{getD}
 use denote.Ref.{now}
-use borrow.Author.Needs.{needs}
 use Rattle.spill_checks.proofs.CheckLaws.{line-start, line-end, piece-1, piece-2, piece-3, piece-4}
 use native.Mathlib.Nat.{add-zero}
 use lib.Dec.{leb}

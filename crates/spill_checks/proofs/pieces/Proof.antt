@@ -1,19 +1,16 @@
 -- `spill_checks::pieces` meets its contract: no piece before i is refused.
 use native.Mathlib.Omega.{arith}
-use Prim.Native.Nat.{ℕ, suc, _+_, _-_, _*_, _/_, _%_, _≤_, _<_}
-use mathlib.Core.Path.{_≡_, refl, sym, ap, _∙_}
-use mathlib.Core.Bool.{Bool, true, false}
+use Prim.Native.Nat.{_-_, _/_, _≤_}
+use mathlib.Core.Path.{_≡_, sym, ap, _∙_}
 use lib.ListN.{length, getD}
 use denote.Ref.{now}
-use borrow.Author.Needs.{needs}
 use Rattle.refusals.specs.Verdicts.{scan}
-use Rattle.refusals.specs.declared.Verdict.the-variants.{Fine, Bad}
-use Rattle.refusals.specs.declared.Refusal.the-variants.{Stray, Piece as PieceWord}
+use Rattle.refusals.specs.declared.Verdict.the-variants.{Fine}
+use Rattle.refusals.specs.declared.Refusal.the-variants.{Piece as PieceWord}
 use Rattle.refusals.proofs.Laws.{scan-none, scan-miss, scan-hit, scan-end}
-use Rattle.words.specs.Rows.{rowCount, field}
 use Rattle.spill_checks.proofs.CheckLaws.{pieces-length, piece-at}
 use Rattle.graph.specs.Line.{blocksOf}
-use Rattle.carrying.specs.Carried.{Piece, piecesOf}
+use Rattle.carrying.specs.Carried.{piecesOf}
 use Rattle.areas.specs.Slots.{badPiece}
 use Rattle.spill_checks.proofs.pieces.Statement.{statement}
 use Rattle.spill_checks.proofs.pieces.Tie as tie

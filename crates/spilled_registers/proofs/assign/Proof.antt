@@ -1,11 +1,9 @@
 -- `spilled_registers::assign` meets its contract: the last of the assignments passed.
 use native.Mathlib.Omega.{arith}
-use Prim.Native.Nat.{ℕ, suc, _+_, _-_, _*_, _/_, _%_, _≤_, _<_}
-use mathlib.Core.Path.{_≡_, refl, sym, ap, _∙_}
-use mathlib.Core.Bool.{Bool, true, false}
+use Prim.Native.Nat.{ℕ, _+_, _-_, _*_, _/_, _≤_}
+use mathlib.Core.Path.{_≡_, refl, sym, ap}
 use lib.ListN.{length, getD}
 use denote.Ref.{now}
-use borrow.Author.Needs.{needs}
 use Rattle.spilled_registers.proofs.SpilledLaws.{Held, held-start, held-store, held-skip}
 use Rattle.spill_checks.proofs.AssignedLaws.{assignedAt}
 use native.Mathlib.Nat.{add-zero}

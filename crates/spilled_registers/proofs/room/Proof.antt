@@ -1,11 +1,6 @@
 -- `spilled_registers::room` meets its contract: a law for each way out.
 use native.Mathlib.Omega.{arith}
-use Prim.Native.Nat.{ℕ, suc, _+_, _-_, _*_, _/_, _%_, _≤_, _<_}
-use mathlib.Core.Path.{_≡_, refl, sym, ap, _∙_}
-use mathlib.Core.Bool.{Bool, true, false}
-use lib.ListN.{length, getD}
-use denote.Ref.{now}
-use borrow.Author.Needs.{needs}
+use Prim.Native.Nat.{_-_}
 use Rattle.spilled_registers.proofs.SpilledLaws.{space-short, space-fine}
 use Rattle.spilled_registers.proofs.room.Statement.{statement}
 use Rattle.spilled_registers.proofs.room.Tie as tie

@@ -1,12 +1,7 @@
 -- `spilled_registers::without` meets its contract: the places passed hold v.
 use native.Mathlib.Omega.{arith}
-use Prim.Native.Nat.{ℕ, suc, _+_, _-_, _*_, _/_, _%_, _≤_, _<_}
-use mathlib.Core.Path.{_≡_, refl, sym, ap, _∙_}
-use mathlib.Core.Bool.{Bool, true, false}
-use lib.ListN.{length, getD}
-use denote.Ref.{now}
-use borrow.Author.Needs.{needs}
-use Rattle.words.specs.Regions.{Region}
+use Prim.Native.Nat.{_-_}
+use mathlib.Core.Path.{refl}
 use Rattle.words.proofs.RegionLaws.{Done, done-start, done-more, done-all}
 use Rattle.spilled_registers.proofs.without.Statement.{statement}
 use Rattle.spilled_registers.proofs.without.Tie as tie

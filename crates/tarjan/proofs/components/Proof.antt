@@ -1,8 +1,6 @@
 -- `tarjan::components` meets its contract: the pieces of the walks from all roots are the components.
-use Prim.Native.Nat.{ℕ, _+_, _-_, _*_, _≤_, _<_}
-use mathlib.Core.Path.{_≡_, refl}
+use Prim.Native.Nat.{_-_}
 use mathlib.Core.Logic.{⊎-elim}
-use lib.ListN.{length, getD}
 use Rattle.tarjan.proofs.Roots.{Roots, roots-start, roots-walk, roots-skip, roots-room, roots-shut, roots-found}
 use Rattle.tarjan.proofs.Edges.{rows-given, found}
 use Rattle.tarjan.proofs.Bounds.{start, at-root}

@@ -1,7 +1,5 @@
 -- `tarjan::leave` meets its contract: each of its two ways out is a law of `Parts`.
 use native.Mathlib.Omega.{arith}
-use Prim.Native.Nat.{ℕ, _+_, _*_, _<_}
-use lib.ListN.{length, getD}
 use Rattle.tarjan.proofs.Bounds.{AtEnd, end, few, below, below-low, to-close}
 use Rattle.tarjan.proofs.Parts.{left-held, left-closed}
 use Rattle.tarjan.proofs.leave.Statement.{statement}

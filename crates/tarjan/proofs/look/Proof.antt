@@ -1,8 +1,7 @@
 -- `tarjan::look` meets its contract: each of its three ways out is a law of `Parts`.
-use Prim.Native.Nat.{ℕ, _+_, _*_, _<_}
-use lib.ListN.{length, getD, length-set}
+use lib.ListN.{length-set}
 use Rattle.words.proofs.FitLaws.{not-none}
-use Rattle.tarjan.proofs.Bounds.{AtEdge, AtNew, edge, fresh}
+use Rattle.tarjan.proofs.Bounds.{AtEdge, edge, fresh}
 use Rattle.tarjan.proofs.Parts.{looked-new, looked-held, looked-shut}
 use Rattle.tarjan.proofs.look.Statement.{statement}
 use Rattle.tarjan.proofs.look.Tie as tie

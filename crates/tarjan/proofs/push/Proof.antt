@@ -1,7 +1,6 @@
 -- `tarjan::push` meets its contract: four stores.
-use Prim.Native.Nat.{ℕ, _+_, _*_, _≤_, _<_}
-use mathlib.Core.Path.{_≡_, refl}
-use lib.ListN.{length, set, length-set}
+use mathlib.Core.Path.{refl}
+use lib.ListN.{length-set}
 use Rattle.tarjan.proofs.Bounds.{at-push}
 use Rattle.tarjan.proofs.push.Statement.{statement}
 use Rattle.tarjan.proofs.push.Tie as tie

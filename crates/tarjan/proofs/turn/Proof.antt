@@ -1,9 +1,6 @@
 -- `tarjan::turn` meets its contract: it is the turn of the part that it calls.
-use native.Mathlib.Omega.{arith}
-use Prim.Native.Nat.{ℕ, _+_, _-_, _*_, _<_}
-use mathlib.Core.Path.{_≡_, refl}
-use lib.ListN.{length, getD}
-use Rattle.tarjan.specs.Space.{Looking, Leaving}
+use Prim.Native.Nat.{_-_}
+use mathlib.Core.Path.{refl}
 use Rattle.tarjan.proofs.Bounds.{Turning, turning, low-at}
 use Rattle.tarjan.proofs.turn.Statement.{statement}
 use Rattle.tarjan.proofs.turn.Tie as tie

@@ -1,10 +1,7 @@
-use Rattle.tarjan.specs.Space.{Ready, leftOf, pushList, Walked, Turned}
+use Rattle.tarjan.specs.Space.{Ready, leftOf}
 use Rattle.tarjan.proofs.Roots.{Going, going-start, going-more, ready-more, root-ready, walk-done}
 use native.Mathlib.Omega.{arith}
-use Prim.Native.Nat.{ℕ, suc, _+_, _-_, _*_, _≤_, _<_}
-use mathlib.Core.Path.{_≡_, refl, sym, ap, _∙_}
-use lib.ListN.{length, take, drop, getD, set, length-set}
-use borrow.Author.Needs.{needs}
+use Prim.Native.Nat.{_+_, _-_}
 use Rattle.tarjan.proofs.walk.Statement.{statement}
 use Rattle.tarjan.proofs.walk.Tie as tie
 use Rattle.tarjan.proofs.walk.Reads as reads

@@ -1,7 +1,7 @@
 -- `touches::of_ends` meets its contract: the placed ends behind `next` stand there.
 use native.Mathlib.Omega.{arith}
-use Prim.Native.Nat.{ℕ, _+_, _-_, _*_, _^_, _<_}
-use mathlib.Core.Path.{_≡_, refl, sym, ap, _∙_}
+use Prim.Native.Nat.{_+_, _-_, _*_, _^_, _<_}
+use mathlib.Core.Path.{refl}
 use lib.ListN.{length, getD}
 use Rattle.words.proofs.FitLaws.{not-none}
 use Rattle.touches.specs.Touches.{endAt}

@@ -1,8 +1,6 @@
 -- `touches::of_registers` meets its contract: the pieces of the registers before k stand there.
 use native.Mathlib.Omega.{arith}
-use Prim.Native.Nat.{_+_, _-_, _≤_, _<_}
-use mathlib.Core.Path.{_≡_, refl, sym, _∙_}
-use lib.ListN.{length}
+use Prim.Native.Nat.{_-_}
 use Rattle.touches.proofs.RegisterLaws.{Gathering, gather-start, order-now, register-now, gather-more, gather-done}
 use Rattle.touches.proofs.of_registers.Statement.{statement}
 use Rattle.touches.proofs.of_registers.Tie as tie

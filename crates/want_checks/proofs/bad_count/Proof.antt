@@ -1,5 +1,5 @@
 -- `bad_count` meets its contract: a list that is no whole rows, else the limits.
-use borrow.Author.Tests.{lt-ltb, le-ltb, eq-eqb, ne-eqb}
+use borrow.Author.Tests.{eq-eqb, ne-eqb}
 use borrow.Author.Needs.{needs}
 use Rattle.want_checks.proofs.bad_count.Statement.{statement}
 use Rattle.want_checks.proofs.bad_count.Tie as tie

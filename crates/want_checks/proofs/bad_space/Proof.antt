@@ -1,5 +1,5 @@
 -- `bad_space` meets its contract: the first length that is too short.
-use borrow.Author.Tests.{lt-ltb, le-ltb, eq-eqb, ne-eqb}
+use borrow.Author.Tests.{lt-ltb, le-ltb}
 use borrow.Author.Needs.{needs}
 use Rattle.want_checks.proofs.bad_space.Statement.{statement}
 use Rattle.want_checks.proofs.bad_space.Tie as tie

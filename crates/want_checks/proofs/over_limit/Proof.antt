@@ -1,5 +1,5 @@
 -- `over_limit` meets its contract: the first test that holds, else the last.
-use borrow.Author.Tests.{lt-ltb, le-ltb, eq-eqb, ne-eqb}
+use borrow.Author.Tests.{lt-ltb, le-ltb}
 use Rattle.want_checks.proofs.over_limit.Statement.{statement}
 use Rattle.want_checks.proofs.over_limit.Tie as tie
 

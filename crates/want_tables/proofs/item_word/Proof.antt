@@ -1,8 +1,5 @@
 -- `item_word` meets its contract, by the two forms of an item's word.
-use Rattle.words.proofs.RegionLaws.{Done, done-start, done-more, done-all}
-use Rattle.want_tables.specs.Tables.{areaWordAt, itemWordAt, wantWordAt}
-use Rattle.want_tables.proofs.TableLaws.{word-none, word-some, area-word, want-word, loaded}
-use denote.Ref.{now}
+use Rattle.want_tables.proofs.TableLaws.{word-none, word-some}
 use native.Mathlib.Omega.{arith}
 use mathlib.Core.Path.{sym}
 use borrow.Author.Needs.{needs}

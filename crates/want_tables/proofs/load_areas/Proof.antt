@@ -1,7 +1,7 @@
 -- `load_areas` meets its contract: a turn keeps `Done`.
 use Rattle.words.proofs.RegionLaws.{Done, done-start, done-more, done-all}
-use Rattle.want_tables.specs.Tables.{areaWordAt, itemWordAt, wantWordAt}
-use Rattle.want_tables.proofs.TableLaws.{word-none, word-some, area-word, want-word, loaded}
+use Rattle.want_tables.specs.Tables.{areaWordAt}
+use Rattle.want_tables.proofs.TableLaws.{area-word}
 use denote.Ref.{now}
 use native.Mathlib.Omega.{arith}
 use Prim.Native.Nat.{_+_, _-_, _*_}

@@ -1,8 +1,6 @@
 -- `load_items` meets its contract: a turn keeps `Done`.
 use Rattle.words.proofs.RegionLaws.{Done, done-start, done-more, done-all}
-use Rattle.want_tables.specs.Tables.{areaWordAt, itemWordAt, wantWordAt}
-use Rattle.want_tables.proofs.TableLaws.{word-none, word-some, area-word, want-word, loaded}
-use denote.Ref.{now}
+use Rattle.want_tables.specs.Tables.{itemWordAt}
 use native.Mathlib.Omega.{arith}
 use Prim.Native.Nat.{_-_}
 use mathlib.Core.Path.{refl}

@@ -1,10 +1,8 @@
 -- `write_cells` meets its contract: a row more is written each turn.
 use Rattle.words.proofs.PasteLaws.{Filling}
-use Rattle.words.specs.Rows.{tabulate, field}
 use Rattle.order.specs.Keys.{sizeOf, alignOf}
-use Rattle.want_tables.specs.Tables.{itemRow}
-use Rattle.want_tables.specs.Tables.{cellRowsIn, itemRowsIn}
-use Rattle.words.proofs.FlatLaws.{flat-start, flat-done, two-more, four-more}
+use Rattle.want_tables.specs.Tables.{cellRowsIn}
+use Rattle.words.proofs.FlatLaws.{flat-start, flat-done, two-more}
 use mathlib.Core.List.{[], _∷_}
 use denote.Ref.{now}
 use native.Mathlib.Omega.{arith}

@@ -1,11 +1,10 @@
 -- `write_items` meets its contract: a row more is written each turn.
 use Rattle.words.proofs.PasteLaws.{Filling}
-use Rattle.words.specs.Rows.{tabulate, field}
+use Rattle.words.specs.Rows.{field}
 use Rattle.want_tables.specs.Tables.{itemRow}
 use Rattle.want_tables.specs.Tables.{itemRowsIn}
 use Rattle.words.proofs.FlatLaws.{flat-start, flat-done, four-more}
 use Rattle.want_tables.proofs.TableLaws.{item-row-wide, row-absent, row-present}
-use mathlib.Core.List.{List}
 use denote.Ref.{now}
 use native.Mathlib.Omega.{arith}
 use Prim.Native.Nat.{_+_, _-_, _*_, _≤_}

@@ -3,9 +3,7 @@ use Rattle.wants.proofs.LoadLaws.{first-small, lent, wants-are, regions
 use Rattle.wants.proofs.EntryLaws.{cell-small, answered}
 use denote.Ref.{now}
 use native.Mathlib.Omega.{arith}
-use Prim.Native.Nat.{ℕ, suc, _+_, _-_, _*_, _≤_, _<_}
-use mathlib.Core.Path.{_≡_, refl, sym, ap, _∙_}
-use lib.ListN.{length, take, drop, getD, set, length-set}
+use Prim.Native.Nat.{_-_}
 use Rattle.wants.proofs.answer.Statement.{statement}
 use Rattle.wants.proofs.answer.Tie as tie
 

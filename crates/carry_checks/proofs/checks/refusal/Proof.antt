@@ -1,10 +1,8 @@
 -- `carry_checks::checks::refusal` meets its contract: the checks in their order.
-use native.Mathlib.Omega.{arith}
-use Prim.Native.Nat.{ℕ, suc, _+_, _-_, _*_, _≤_, _<_}
-use mathlib.Core.Path.{_≡_, refl, sym, ap, _∙_}
-use lib.ListN.{length, take, drop, getD, set, length-set}
+use Prim.Native.Nat.{_-_}
+use mathlib.Core.Path.{sym, ap, _∙_}
 use borrow.Author.Needs.{needs}
-use Rattle.carry_checks.proofs.CheckLaws.{counts-chain, counted, stray-chain, by-counts, by-place, by-rest, fit}
+use Rattle.carry_checks.proofs.CheckLaws.{counted, by-counts, by-place, by-rest}
 use Rattle.carry_checks.specs.Checks.{roomVerdict}
 use Rattle.carry_checks.proofs.checks.refusal.Statement.{statement}
 use Rattle.carry_checks.proofs.checks.refusal.Tie as tie

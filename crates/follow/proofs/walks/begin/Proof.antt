@@ -1,7 +1,6 @@
 -- `follow::walks::begin` meets its contract: the entries from c on were taken.
-use Prim.Native.Nat.{ℕ, _+_, _-_, _*_, _≤_, _<_}
-use mathlib.Core.Path.{_≡_, refl}
-use lib.ListN.{length, getD}
+use Prim.Native.Nat.{_-_}
+use mathlib.Core.Path.{refl}
 use Rattle.follow.proofs.BeginLaws.{Beginning, begin-start, begin-more, begin-done}
 use Rattle.follow.proofs.PlaceLaws.{head-at, entry-at}
 use Rattle.follow.proofs.walks.begin.Statement.{statement}

@@ -1,7 +1,6 @@
 -- `follow::walks::follow` meets its contract: the walk finds what the definitions say.
-use Prim.Native.Nat.{ℕ, _+_, _-_, _*_, _≤_, _<_}
-use mathlib.Core.Path.{_≡_, refl, _∙_}
-use lib.ListN.{length, getD}
+use Prim.Native.Nat.{_-_}
+use mathlib.Core.Path.{refl, _∙_}
 use Rattle.follow.proofs.WalkLaws.{walkable-still}
 use Rattle.follow.proofs.FollowLaws.{held-none, follow-kept, follows}
 use Rattle.follow.proofs.PlaceLaws.{head-at, ended-at}

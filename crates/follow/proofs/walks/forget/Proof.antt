@@ -1,7 +1,7 @@
 -- `follow::walks::forget` meets its contract: two stores.
-use Prim.Native.Nat.{ℕ, _+_, _-_, _*_, _/_, _≤_, _<_}
-use mathlib.Core.Path.{_≡_, refl}
-use lib.ListN.{length, getD, set, length-set}
+use Prim.Native.Nat.{_-_}
+use mathlib.Core.Path.{refl}
+use lib.ListN.{length-set}
 use Rattle.follow.proofs.PlaceLaws.{forgotten}
 use Rattle.follow.proofs.walks.forget.Statement.{statement}
 use Rattle.follow.proofs.walks.forget.Tie as tie

@@ -1,7 +1,7 @@
 -- `follow::walks::grow` meets its contract: the edges of the register before x were taken.
-use Prim.Native.Nat.{ℕ, _+_, _-_, _*_, _/_, _≤_, _<_}
-use mathlib.Core.Path.{_≡_, refl}
-use lib.ListN.{length, getD}
+use Prim.Native.Nat.{_+_, _-_}
+use mathlib.Core.Path.{refl}
+use lib.ListN.{getD}
 use Rattle.follow.proofs.WalkLaws.{Growing, grow-start, grow-turn, grow-more, grow-done, grow-stop}
 use Rattle.follow.proofs.PlaceLaws.{less-left, def-at, first-at, edge-at}
 use Rattle.follow.proofs.walks.grow.Statement.{statement}

@@ -1,8 +1,7 @@
 -- `follow::walks::step` meets its contract: two bits are read, and the register's edges taken.
-use Prim.Native.Nat.{ℕ, _+_, _-_, _*_, _≤_, _<_}
-use mathlib.Core.Path.{_≡_, ap, _∙_}
+use Prim.Native.Nat.{_-_}
+use mathlib.Core.Path.{ap, _∙_}
 use mathlib.Core.Bool.{Bool, _||_}
-use lib.ListN.{length, getD}
 use Rattle.follow.proofs.PlaceLaws.{looking}
 use Rattle.follow.proofs.walks.step.Statement.{statement}
 use Rattle.follow.proofs.walks.step.Tie as tie

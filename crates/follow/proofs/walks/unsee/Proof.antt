@@ -1,7 +1,6 @@
 -- `follow::walks::unsee` meets its contract: the first k of the queue are registers.
-use Prim.Native.Nat.{ℕ, _+_, _-_, _*_, _/_, _≤_, _<_}
-use mathlib.Core.Path.{_≡_, refl}
-use lib.ListN.{length, getD, set}
+use Prim.Native.Nat.{_-_}
+use mathlib.Core.Path.{refl}
 use Rattle.follow.proofs.WalkLaws.{Unseeing, unsee-start, unsee-more, unsee-done}
 use Rattle.follow.proofs.PlaceLaws.{less-left, to-forget, more-back}
 use Rattle.follow.proofs.walks.unsee.Statement.{statement}

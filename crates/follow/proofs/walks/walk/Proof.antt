@@ -1,7 +1,6 @@
 -- `follow::walks::walk` meets its contract: the first h of the queue were looked at.
-use Prim.Native.Nat.{ℕ, _+_, _-_, _*_, _≤_, _<_}
-use mathlib.Core.Path.{_≡_, sym, _∙_}
-use lib.ListN.{length, getD}
+use Prim.Native.Nat.{_-_}
+use mathlib.Core.Path.{sym, _∙_}
 use Rattle.follow.specs.Steps.{Walkable, Walking}
 use Rattle.follow.proofs.WalkLaws.{walk-start, walk-tables, walk-more, walk-done, walk-stop}
 use Rattle.follow.proofs.PlaceLaws.{more-in, less-in}

@@ -1,18 +1,14 @@
 -- `insts::checks::address` meets its contract: no address before i is refused.
 use native.Mathlib.Omega.{arith}
-use Prim.Native.Nat.{ℕ, suc, _+_, _-_, _*_, _/_, _%_, _≤_, _<_}
-use mathlib.Core.Path.{_≡_, refl, sym, ap, _∙_}
-use mathlib.Core.Bool.{Bool, true, false}
-use lib.ListN.{length, getD}
+use Prim.Native.Nat.{_-_, _/_, _≤_}
+use mathlib.Core.Path.{_≡_, sym, _∙_}
+use lib.ListN.{length}
 use denote.Ref.{now}
-use borrow.Author.Needs.{needs}
 use Rattle.refusals.specs.Verdicts.{scan}
-use Rattle.refusals.specs.declared.Verdict.the-variants.{Fine, Bad}
-use Rattle.refusals.specs.declared.Refusal.the-variants.{Count, Inst as InstWord, Stray}
+use Rattle.refusals.specs.declared.Verdict.the-variants.{Fine}
+use Rattle.refusals.specs.declared.Refusal.the-variants.{Stray}
 use Rattle.refusals.proofs.Laws.{scan-none, scan-miss, scan-hit, scan-end}
-use Rattle.words.specs.Rows.{rowCount, field}
 use Rattle.insts.proofs.CheckLaws.{address-is, mentions-length}
-use lib.Dec.{leb}
 use mathlib.Core.Bool.{not, _||_}
 use Rattle.carrying.specs.Insts.{instsOf, instAt, isSet}
 use Rattle.carrying.specs.Carried.{mentionsOf}

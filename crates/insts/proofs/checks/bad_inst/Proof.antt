@@ -1,13 +1,9 @@
 -- `insts::checks::bad_inst` meets its contract: an instruction in three parts.
 use native.Mathlib.Omega.{arith}
-use Prim.Native.Nat.{ℕ, suc, _+_, _-_, _*_, _/_, _%_, _≤_, _<_}
-use mathlib.Core.Path.{_≡_, refl, sym, ap, _∙_}
-use mathlib.Core.Bool.{Bool, true, false}
-use lib.ListN.{length, getD}
+use Prim.Native.Nat.{ℕ, _-_}
+use mathlib.Core.Path.{sym, ap, _∙_}
 use denote.Ref.{now}
-use borrow.Author.Needs.{needs}
 use Rattle.insts.proofs.CheckLaws.{by-points, by-fields, by-operands}
-use Rattle.words.specs.Rows.{rowCount, field}
 use Rattle.graph.specs.Line.{blocksOf}
 use Rattle.carrying.specs.Lists.{any}
 use Rattle.carrying.specs.Checks.{badOperand}

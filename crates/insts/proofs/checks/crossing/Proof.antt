@@ -1,17 +1,12 @@
 -- `insts::checks::crossing` meets its contract: rows of one number.
 use native.Mathlib.Omega.{arith}
-use Prim.Native.Nat.{ℕ, suc, _+_, _-_, _*_, _/_, _%_, _≤_, _<_}
-use mathlib.Core.Path.{_≡_, refl, sym, ap, _∙_}
-use mathlib.Core.Bool.{Bool, true, false}
-use lib.ListN.{length, getD}
+use Prim.Native.Nat.{ℕ, _+_, _-_}
+use mathlib.Core.Path.{ap, _∙_}
 use denote.Ref.{now}
-use borrow.Author.Needs.{needs}
 use Rattle.insts.proofs.CheckLaws.{crossing-is}
 use Rattle.words.specs.Rows.{rowCount, field}
 use Rattle.refusals.specs.Verdicts.{scan}
-use Rattle.refusals.specs.declared.Verdict.the-variants.{Fine, Bad}
-use Rattle.refusals.specs.declared.Refusal.the-variants.{Count, Inst as InstWord, Stray}
-use Rattle.refusals.proofs.Laws.{scan-none, scan-miss, scan-hit, scan-end}
+use Rattle.refusals.specs.declared.Refusal.the-variants.{Inst as InstWord}
 use lib.Dec.{leb}
 use Rattle.insts.proofs.checks.crossing.Statement.{statement}
 use Rattle.insts.proofs.checks.crossing.Tie as tie

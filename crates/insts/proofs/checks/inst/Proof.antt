@@ -1,16 +1,14 @@
 -- `insts::checks::inst` meets its contract: no instruction before i is refused.
 use native.Mathlib.Omega.{arith}
-use Prim.Native.Nat.{ℕ, suc, _+_, _-_, _*_, _/_, _%_, _≤_, _<_}
-use mathlib.Core.Path.{_≡_, refl, sym, ap, _∙_}
-use mathlib.Core.Bool.{Bool, true, false}
-use lib.ListN.{length, getD}
+use Prim.Native.Nat.{ℕ, _+_, _-_, _/_, _≤_}
+use mathlib.Core.Path.{_≡_, sym, ap, _∙_}
+use lib.ListN.{length}
 use denote.Ref.{now}
-use borrow.Author.Needs.{needs}
 use Rattle.refusals.specs.Verdicts.{scan}
-use Rattle.refusals.specs.declared.Verdict.the-variants.{Fine, Bad}
-use Rattle.refusals.specs.declared.Refusal.the-variants.{Count, Inst as InstWord, Stray}
+use Rattle.refusals.specs.declared.Verdict.the-variants.{Fine}
+use Rattle.refusals.specs.declared.Refusal.the-variants.{Inst as InstWord}
 use Rattle.refusals.proofs.Laws.{scan-none, scan-miss, scan-hit, scan-end}
-use Rattle.words.specs.Rows.{rowCount, field}
+use Rattle.words.specs.Rows.{field}
 use Rattle.graph.specs.Line.{blocksOf}
 use Rattle.graph.proofs.Sums.{sum-start, sum-next}
 use Rattle.carrying.specs.Insts.{instsOf, instAt}

@@ -1,16 +1,12 @@
 -- `insts::checks::outside` meets its contract: by the block that the search finds.
 use native.Mathlib.Omega.{arith}
-use Prim.Native.Nat.{ℕ, suc, _+_, _-_, _*_, _/_, _%_, _≤_, _<_}
-use mathlib.Core.Path.{_≡_, refl, sym, ap, _∙_}
-use mathlib.Core.Bool.{Bool, true, false}
-use lib.ListN.{length, getD}
+use Prim.Native.Nat.{ℕ, _-_, _*_}
+use mathlib.Core.Path.{_≡_, sym, ap, _∙_}
+use lib.ListN.{getD}
 use denote.Ref.{now}
-use borrow.Author.Needs.{needs}
 use Rattle.insts.proofs.CheckLaws.{search-found, not-in, found-in}
-use Rattle.words.specs.Rows.{rowCount, field}
-use lib.Dec.{leb, ltb}
+use Rattle.words.specs.Rows.{field}
 use borrow.Author.Tests.{leb-true}
-use Rattle.graph.specs.Line.{blocksOf, blockAt}
 use Rattle.graph.proofs.Line.{number-is}
 use Rattle.insts.proofs.checks.outside.Statement.{statement}
 use Rattle.insts.proofs.checks.outside.Tie as tie

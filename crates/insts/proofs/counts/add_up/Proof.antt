@@ -1,13 +1,8 @@
 -- `insts::counts::add_up` meets its contract: the counts add up, or not.
-use native.Mathlib.Omega.{arith}
-use Prim.Native.Nat.{ℕ, suc, _+_, _-_, _*_, _/_, _%_, _≤_, _<_}
-use mathlib.Core.Path.{_≡_, refl, sym, ap, _∙_}
-use mathlib.Core.Bool.{Bool, true, false}
-use lib.ListN.{length, getD}
+use Prim.Native.Nat.{_-_}
+use mathlib.Core.Path.{sym, _∙_}
 use denote.Ref.{now}
-use borrow.Author.Needs.{needs}
 use Rattle.insts.proofs.CheckLaws.{sum-off, sum-fine}
-use Rattle.insts.specs.Counts.{offset}
 use Rattle.insts.proofs.counts.add_up.Statement.{statement}
 use Rattle.insts.proofs.counts.add_up.Tie as tie
 

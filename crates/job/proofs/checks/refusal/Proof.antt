@@ -1,5 +1,5 @@
 -- `refusal` meets its contract: the budget and whole rows, the records, then the space.
-use mathlib.Core.Path.{refl, sym, ap, subst, _∙_}
+use mathlib.Core.Path.{sym, subst, _∙_}
 use denote.Ref.{now}
 use borrow.Author.Needs.{needs}
 use Rattle.job_space.specs.Space.{Small}

@@ -1,7 +1,6 @@
 -- `slots` meets its contract: registers, places and moves, then the areas.
 use native.Mathlib.Omega.{arith}
 use denote.Ref.{now}
-use Rattle.graph.proofs.Line.{blocks-length}
 use Rattle.job_areas.proofs.SlotLaws.{slots-ready, slots-in}
 use Rattle.job_areas.proofs.slots.slots.Statement.{statement}
 use Rattle.job_areas.proofs.slots.slots.Tie as tie

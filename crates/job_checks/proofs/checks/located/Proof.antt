@@ -1,8 +1,6 @@
 -- `job_checks::checks::located` meets its contract: the checks in their order.
-use native.Mathlib.Omega.{arith}
-use Prim.Native.Nat.{ℕ, suc, _+_, _-_, _*_, _≤_, _<_}
-use mathlib.Core.Path.{_≡_, refl, sym, ap, _∙_}
-use lib.ListN.{length, take, drop, getD, set, length-set}
+use Prim.Native.Nat.{_-_}
+use mathlib.Core.Path.{sym, _∙_}
 use borrow.Author.Needs.{needs}
 use Rattle.job_checks.proofs.CheckLaws.{by-line, by-edge, some-sound}
 use Rattle.job_checks.proofs.checks.located.Statement.{statement}

@@ -1,8 +1,5 @@
 -- `job_checks::checks::stray` meets its contract: the checks in their order.
-use native.Mathlib.Omega.{arith}
-use Prim.Native.Nat.{ℕ, suc, _+_, _-_, _*_, _≤_, _<_}
-use mathlib.Core.Path.{_≡_, refl, sym, ap, _∙_}
-use lib.ListN.{length, take, drop, getD, set, length-set}
+use Prim.Native.Nat.{_-_}
 use borrow.Author.Needs.{needs}
 use Rattle.job_checks.proofs.checks.stray.Statement.{statement}
 use Rattle.job_checks.proofs.checks.stray.Tie as tie

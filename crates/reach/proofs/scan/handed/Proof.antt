@@ -1,10 +1,9 @@
 -- `reach::scan::handed` meets its contract: a law for each way out.
 use native.Mathlib.Omega.{arith}
-use Prim.Native.Nat.{ℕ, suc, _+_, _-_, _*_, _≤_, _<_}
-use mathlib.Core.Path.{_≡_, refl, sym, ap, _∙_}
-use lib.ListN.{length, take, drop, getD, set, length-set}
-use mathlib.Core.Bool.{not, _&&_}
-use Rattle.carrying.specs.Insts.{isSet, addressPosition, eachAddress}
+use Prim.Native.Nat.{_+_, _-_}
+use mathlib.Core.Path.{sym, _∙_}
+use mathlib.Core.Bool.{_&&_}
+use Rattle.carrying.specs.Insts.{addressPosition, eachAddress}
 use Rattle.insts.specs.Rows.{operandAt, operandsFrom}
 use Rattle.operands.specs.Numbers.{addressing}
 use Rattle.reach.proofs.LeafLaws.{test-def, test-physical, test-use, both-of, neither-of}

@@ -1,11 +1,9 @@
 -- `reach::scan::link` meets its contract: of the first p operands the keys were appended.
 use native.Mathlib.Omega.{arith}
-use Prim.Native.Nat.{ℕ, suc, _+_, _-_, _*_, _^_, _≤_, _<_}
-use mathlib.Core.Path.{_≡_, refl, sym, ap, _∙_}
-use lib.ListN.{length, take, drop, getD, set, length-set}
-use borrow.Author.Needs.{needs}
-use mathlib.Core.Bool.{not, _&&_}
-use Rattle.insts.specs.Rows.{operandAt, operandsFrom}
+use Prim.Native.Nat.{_+_, _-_, _*_, _^_, _<_}
+use mathlib.Core.Path.{refl, sym, _∙_}
+use lib.ListN.{length}
+use Rattle.insts.specs.Rows.{operandAt}
 use Rattle.reach.proofs.Bounds.{operand-at, key-fits, put-at, put-more}
 use Rattle.reach.proofs.UseLaws.{handing, handing-reads, reads-handing}
 use Rattle.reach.proofs.MarkLaws.{Linking, link-start, link-skip, link-put, link-done}

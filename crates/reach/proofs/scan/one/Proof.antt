@@ -1,15 +1,10 @@
 -- `reach::scan::one` meets its contract: the def, the registers that escape and the edges, one after another.
 use native.Mathlib.Omega.{arith}
-use Prim.Native.Nat.{ℕ, suc, _+_, _-_, _*_, _^_, _≤_, _<_}
-use mathlib.Core.Path.{_≡_, refl, sym, ap, _∙_}
-use lib.ListN.{length, take, drop, getD, set, length-set}
-use Rattle.words.specs.Rows.{field}
-use Rattle.insts.specs.Rows.{operandsFrom}
-use Rattle.carrying.specs.Insts.{defOf}
-use Rattle.reach.specs.Scan.{escapesIn, handsIn, rowOf, strayReader}
+use Prim.Native.Nat.{_-_, _*_, _^_, _<_}
+use mathlib.Core.Path.{refl, _∙_}
+use lib.ListN.{length, length-set}
 use Rattle.reach.proofs.Bounds.{count-at, def-at}
 use Rattle.reach.proofs.ScanLaws.{added}
-use Prim.Native.Nat.{_/_}
 use Rattle.reach.proofs.scan.one.Statement.{statement}
 use Rattle.reach.proofs.scan.one.Tie as tie
 

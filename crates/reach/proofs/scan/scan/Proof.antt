@@ -1,14 +1,10 @@
 -- `reach::scan::scan` meets its contract: what the first i instructions leave.
 use native.Mathlib.Omega.{arith}
-use Prim.Native.Nat.{ℕ, suc, _+_, _-_, _*_, _^_, _≤_, _<_}
-use mathlib.Core.Path.{_≡_, refl, sym, ap, _∙_}
-use lib.ListN.{length, take, drop, getD, set, length-set}
-use borrow.Author.Needs.{needs}
+use Prim.Native.Nat.{_-_, _*_, _^_, _≤_, _<_}
+use mathlib.Core.Path.{_≡_, refl}
+use lib.ListN.{length}
 use Rattle.words.specs.Rows.{field}
 use Rattle.graph.proofs.Sums.{sum-start, sum-next}
-use Rattle.insts.specs.Rows.{operandsFrom}
-use Rattle.carrying.specs.Insts.{defOf}
-use Rattle.reach.specs.Scan.{escapesIn, handsIn, rowOf, strayReader}
 use Rattle.reach.proofs.Bounds.{count-at}
 use Rattle.reach.proofs.ScanLaws.{scan-start, scan-more}
 use Rattle.carrying.specs.Insts.{instsOf}

@@ -1,8 +1,7 @@
 -- `reach::scan::strays` meets its contract: a law for each way out.
 use native.Mathlib.Omega.{arith}
-use Prim.Native.Nat.{ℕ, suc, _+_, _-_, _*_, _≤_, _<_}
-use mathlib.Core.Path.{_≡_, refl, sym, ap, _∙_}
-use lib.ListN.{length, take, drop, getD, set, length-set}
+use Prim.Native.Nat.{_-_}
+use mathlib.Core.Path.{ap}
 use mathlib.Core.Bool.{not, _&&_}
 use Rattle.carrying.specs.Insts.{isSet, addressPosition}
 use Rattle.operands.specs.Numbers.{addressing}

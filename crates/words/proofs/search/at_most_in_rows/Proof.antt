@@ -2,7 +2,6 @@
 use Rattle.words.proofs.SearchLaws.{Between, between-all, between-turn, between-none, between-last, taken-le, one-at-most, front-le}
 use Rattle.words.proofs.RowLaws.{field-within}
 use Rattle.words.specs.Rows.{field}
-use mathlib.Core.Path.{_≡_, refl}
 use lib.Dec.{leb}
 use native.Mathlib.Omega.{arith}
 use Prim.Native.Nat.{_+_, _-_, _*_, _/_, _<_}
