@@ -105,9 +105,6 @@ module _ (G : Graph) (ts : List Range) (f g : ℕ → Bool) where
 
 -- ---- the loop over the marked blocks
 
-pub under : {k a b : ℕ} → a ≡ b → k < a → k < b
-under e h = omega arith
-
 pub nearer : {k k′ a b : ℕ} → a ≡ b → k < a → k < k′ → a - k′ < a - k
 nearer e h l = omega arith
 

@@ -25,14 +25,10 @@ use Rattle.soundness.specs.Demand.{wantsOf, frameOf, jobPlan}
 use Rattle.soundness.proofs.Demand.{job-order, separate, uses, any-cells, demand-3}
 use Rattle.job_answers.specs.declared.Shared.the-variants.{Plan as Planned}
 use Rattle.job_answers.specs.Answers.{itemRows}
+use Rattle.wants.proofs.TallyLaws.{not-refused}
 use Rattle.job.specs.Entry.{lentVerdict, verdictOf, SharedAs}
 use Rattle.job.specs.Reads.{cellIn, sizeIn, ReadsAsPrivate}
 use Rattle.job.proofs.CheckLaws.{granted}
-
--- an answer is no refusal
-not-refused : (v : Verdict) (p : Plan) (t : Tally) → given t ≡ tallyOf (unless v p) → v ≡ Fine
-not-refused Fine p t e = refl
-not-refused (Bad r i) p t e = absurd (let z : _≡_ {A = ℕ} 0 1 = cc in omega arith)
 
 -- number 4·i of the item list is item i's cell
 listed-cell : (n : ℕ) (A : ℕ → Option (List Range)) (p : Plan) (old : List ℕ) (i : ℕ) → i < n → getD (itemRows n A p ++ old) (4 * i) 0 ≡ p .cell i

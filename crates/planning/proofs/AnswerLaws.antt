@@ -44,6 +44,7 @@ use Rattle.plan_text.specs.Printed.{printed, refusalText, printVerdict, written
 use Rattle.plan_text.proofs.LineLaws.{line-length}
 use Rattle.planning.specs.Program.{told, jobText, job, refusal, printedFor, numbersIn, programText}
 use Rattle.row_plans.specs.Groups.{points, registers, budget, numbersAt, Few, SharedFor}
+use Rattle.wants.proofs.TallyLaws.{not-refused}
 use Rattle.planning.specs.Answer.{Finished, Read, Stands, Answers, roomFor}
 use Rattle.planning.proofs.GroupLaws.{same-printed}
 use Rattle.planning.proofs.PrintLaws.{Printable, cells-long, items-long, plan-fine, text-before, text-short, printed-same}
@@ -144,10 +145,6 @@ told-refused (Bad r k) p n i e t =
     let b : i ≡ k = cc in
     rw (a, b) refl
 
-told-given : (v : Verdict) (p : Plan) (x : Tally) → given x ≡ tallyOf (unless v p) → v ≡ Fine
-told-given Fine p x e = refl
-told-given (Bad r k) p x e = absurd (let z : _≡_ {A = ℕ} 0 1 = cc in omega arith)
-
 take-front : (l more : List ℕ) (b : ℕ) → b ≡ length l → take (b - 0) (drop 0 (l ++ more)) ≡ l
 take-front l more b e = let f : b - 0 ≡ length l = omega arith in ap (λ (k : ℕ). take k (l ++ more)) f ∙ take-append-seam l more
 
@@ -201,7 +198,7 @@ module _ (rows counts : List ℕ) (long : length rows ≡ rowNumbers) (F : Few c
     -- a plan
     module _ (c p d : ℕ) (re : r ≡ Planned c p d) where
       none-refused : refusal group ≡ Fine
-      none-refused = told-given (refusal group) P (record { cells = c; probes = p; depth = d }) (ap answered (sym re) ∙ answer-is)
+      none-refused = not-refused (refusal group) P (record { cells = c; probes = p; depth = d }) (ap answered (sym re) ∙ answer-is)
 
       printable : Printable (itemCount J) (length (J .locals)) (itemArea J) P
       printable =
