@@ -37,7 +37,7 @@ spaceOf z =
     8 * (z .blocks + z .edges + z .insts + z .operands + z .crossings + z .locals + z .slots + z .addresses + z .ends + z .pieces + z .assigned + z .moves
     + z .blocks * rowWords (z .locals) + z .room + rowWords (z .v))
 
--- numbers of 32 bits: so large W is computed for
+-- each number fits 32 bits: W of any such numbers is computed
 pub record Counted (z : Sizes) : Type 0 where
   pub registers : z .v < 2 ^ 32
   pub blocks : z .blocks < 2 ^ 32
