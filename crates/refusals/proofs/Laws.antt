@@ -1,17 +1,14 @@
--- Laws of verdicts, one set for every group of records, and that the lowest number wins in document 01's order of checks.
+-- Laws of verdicts, one set for every group of records.
 use Prim.Native.Nat.{ℕ, zero, suc, _+_, _≤_, _<_}
 use native.Mathlib.Numerals.{add-one}
 use native.Mathlib.Omega.{arith}
 use native.Mathlib.Decide.{le-ind, ℕ-discrete}
-use lib.Dec.{lit≤}
 use mathlib.Core.Path.{_≡_, refl, sym, ap, _∙_}
-use mathlib.Core.Logic.{_⊎_, inl, inr}
 use mathlib.Core.Bool.{Bool, true, false, cond}
-use mathlib.Core.List.{List, [], _∷_, List·Memᴰ, List·Memᴰ·cases-cons, List·Memᴰ·not-nil}
-use Rattle.refusals.specs.Verdicts.{first, inOrder, scan, check, countedOn, rankOf}
+use mathlib.Core.List.{List, [], _∷_}
+use Rattle.refusals.specs.Verdicts.{first, inOrder, scan, check, countedOn}
 use native.Mathlib.Nat.{zero-add}
 use Rattle.refusals.specs.declared.Refusal.{Refusal}
-use Rattle.refusals.specs.declared.Refusal.the-variants.{Count, Line, Edge, Inst, Stray, Piece, Space, Inverted, List as ListFull, Want, Text}
 use Rattle.refusals.specs.declared.Verdict.{Verdict}
 use Rattle.refusals.specs.declared.Verdict.the-variants.{Fine, Bad}
 
@@ -124,60 +121,3 @@ module _ (r : Refusal) (t : ℕ → Bool) where
   scan-fine zero e i l = absurd (omega arith)
   scan-fine (suc n) e i l =
       elim (ℕ-discrete i n) [ yes q ↦ rw q (scan-last n e .1) | no q ↦ scan-fine n (scan-last n e .0) i (omega arith) ]
-
--- ---- the order of checks
-
--- a check that gives no other refusal than r
-abbrev pub Gives : Refusal → Verdict → Type 0
-Gives r Fine = Unit {0}
-Gives r (Bad s i) = s ≡ r
-
--- the refusals that the checks of a list give, one each
-abbrev pub Giving : List Refusal → List Verdict → Type 0
-Giving [] [] = Unit {0}
-Giving [] (v ∷ vs) = ⊥
-Giving (r ∷ rs) [] = ⊥
-Giving (r ∷ rs) (v ∷ vs) = Gives r v × Giving rs vs
-
--- refusals in an order of rising ranks
-abbrev pub From : ℕ → List Refusal → Type 0
-From n [] = Unit {0}
-From n (r ∷ rs) = (n ≤ rankOf r) × From (rankOf r) rs
-
--- document 01's order: 11 first, then by number
-abbrev pub base : List Refusal
-base = Text ∷ Count ∷ Line ∷ Edge ∷ Inst ∷ Stray ∷ Piece ∷ Space ∷ Inverted ∷ ListFull ∷ Want ∷ []
-
-pub base-rises : From 0 base
-base-rises = (lit≤ tt, (lit≤ tt, (lit≤ tt, (lit≤ tt, (lit≤ tt, (lit≤ tt, (lit≤ tt, (lit≤ tt, (lit≤ tt, (lit≤ tt, (lit≤ tt, tt)))))))))))
-
-no-more : (n : ℕ) (rs : List Refusal) (vs : List Verdict) → From n rs → Giving rs vs → (r : Refusal) (i : ℕ) → List·Memᴰ (Bad r i) vs → n ≤ rankOf r
-no-more n [] [] f g r i m = absurd (List·Memᴰ·not-nil m)
-no-more n (s ∷ rs) (v ∷ vs) f g r i m = go (List·Memᴰ·cases-cons m) (no-more (rankOf s) rs vs (f .1) (g .1) r i)
-  where
-    own : (w : Verdict) → Gives s w → Bad r i ≡ w → r ≡ s
-    own Fine h e = absurd (let z : _≡_ {A = ℕ} 0 1 = cc in omega arith)
-    own (Bad q j) h e = cc
-
-    go : (Bad r i ≡ v) ⊎ List·Memᴰ (Bad r i) vs → (List·Memᴰ (Bad r i) vs → rankOf s ≤ rankOf r) → n ≤ rankOf r
-    go (inl e) k = rw (own v (g .0) e) (f .0)
-    go (inr h) k = let l = k h in let o = f .0 in omega arith
-
--- what is given has the lowest rank of all that the checks found, whatever list of checks rises
-pub lowest-wins : (n : ℕ) (rs : List Refusal) (vs : List Verdict) → From n rs → Giving rs vs
-    → (r s : Refusal) (i j : ℕ) → inOrder vs ≡ Bad r i → List·Memᴰ (Bad s j) vs → rankOf r ≤ rankOf s
-unfolding inOrder first
-lowest-wins n [] [] f g r s i j e m = absurd (List·Memᴰ·not-nil m)
-lowest-wins n (q ∷ rs) (Fine ∷ vs) f g r s i j e m = go (List·Memᴰ·cases-cons m) (lowest-wins (rankOf q) rs vs (f .1) (g .1) r s i j e)
-  where
-    go : (Bad s j ≡ Fine) ⊎ List·Memᴰ (Bad s j) vs → (List·Memᴰ (Bad s j) vs → rankOf r ≤ rankOf s) → rankOf r ≤ rankOf s
-    go (inl h) k = absurd (let z : _≡_ {A = ℕ} 0 1 = cc in omega arith)
-    go (inr h) k = k h
-lowest-wins n (q ∷ rs) (Bad p l ∷ vs) f g r s i j e m = go (List·Memᴰ·cases-cons m) (no-more (rankOf q) rs vs (f .1) (g .1) s j)
-  where
-    same : r ≡ q
-    same = let h = g .0 in cc
-
-    go : (Bad s j ≡ Bad p l) ⊎ List·Memᴰ (Bad s j) vs → (List·Memᴰ (Bad s j) vs → rankOf q ≤ rankOf s) → rankOf r ≤ rankOf s
-    go (inl h) k = let z : s ≡ r = cc in rw z (omega arith)
-    go (inr h) k = rw same (k h)

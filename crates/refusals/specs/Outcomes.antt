@@ -16,6 +16,10 @@ abbrev pub unless : {A : Type 0} → Verdict → A → Outcome A
 unless Fine a = given a
 unless (Bad r i) a = refused (numberOf r) i
 
+-- a verdict by document 01's number and index: done, or the refusal
+abbrev pub numbered : Verdict → Outcome (Unit {0})
+numbered v = unless v tt
+
 -- an answer list afterwards: "a refusal changes no answer list", "list entries past the answer are unchanged"
 abbrev pub after : {A B : Type 0} → Outcome A → (A → List B) → List B → List B
 after (given a) new old = new a ++ drop (length (new a)) old
