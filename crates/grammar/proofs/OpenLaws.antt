@@ -13,7 +13,7 @@ use Rattle.words.proofs.Bools.{and-both}
 use Rattle.refusals.specs.declared.Verdict.the-variants.{Fine}
 use Rattle.refusals.specs.declared.Refusal.the-variants.{Text as TextRefused}
 use Rattle.refusals.proofs.Laws.{scan-fine}
-use Rattle.grammar.specs.Groups.{none, mayFollow, operandGroup}
+use Rattle.grammar.specs.Groups.{groupCount, mayFollow, operandGroup}
 use Rattle.grammar.specs.Lines.{lineGroup}
 use Rattle.grammar.specs.Text.{placeBefore, malformed, badLine}
 use Rattle.grammar.proofs.TableLaws.{open-place}
@@ -21,10 +21,10 @@ use Rattle.grammar.proofs.OperandLaws.{opens, open-inst, open-operand}
 use Rattle.grammar.proofs.OrderLaws.{soFar}
 
 -- a line that is not malformed has a group that may follow
-pub follows-of : (p : ℕ) (l : List ℕ) → malformed p l ≡ false → (lineGroup l < none) × (mayFollow p (lineGroup l) ≡ true)
+pub follows-of : (p : ℕ) (l : List ℕ) → malformed p l ≡ false → (lineGroup l < groupCount) × (mayFollow p (lineGroup l) ≡ true)
 follows-of p l e =
-    let r = and-both (ltb (lineGroup l) none) (mayFollow p (lineGroup l)) (not-false (ltb (lineGroup l) none && mayFollow p (lineGroup l)) e) in
-    (ltb-true (lineGroup l) none (r .0), r .1)
+    let r = and-both (ltb (lineGroup l) groupCount) (mayFollow p (lineGroup l)) (not-false (ltb (lineGroup l) groupCount && mayFollow p (lineGroup l)) e) in
+    (ltb-true (lineGroup l) groupCount (r .0), r .1)
 
 operand-place : (p : ℕ) → mayFollow p operandGroup ≡ true → p ≡ 4
 operand-place p e = let r = and-both (leb 4 p) (leb p 4) e in omega (arith, leb-true 4 p (r .0), leb-true p 4 (r .1))
@@ -37,7 +37,7 @@ opens-at : (ls : List (List ℕ)) → soFar ls ≡ Fine → (n : ℕ) → n ≤ 
 opens-at ls f zero h e = absurd (let z : _≡_ {A = ℕ} 0 4 = e in omega arith)
 opens-at ls f (suc n) h e = go (follows-of (placeBefore ls n) (getD ls n []) (bad-not ls f n h)) (opens-at ls f n (omega arith))
   where
-    go : (lineGroup (getD ls n []) < none) × (mayFollow (placeBefore ls n) (lineGroup (getD ls n [])) ≡ true) → (placeBefore ls n ≡ 4 → opens (take n ls) ≡ true) → opens (take (suc n) ls) ≡ true
+    go : (lineGroup (getD ls n []) < groupCount) × (mayFollow (placeBefore ls n) (lineGroup (getD ls n [])) ≡ true) → (placeBefore ls n ≡ 4 → opens (take n ls) ≡ true) → opens (take (suc n) ls) ≡ true
     go w r =
         ap opens (take-suc ls n [] h)
         ∙ ⊎-elim (λ q. open-inst (getD ls n []) q (take n ls))

@@ -13,7 +13,7 @@ use Rattle.refusals.specs.declared.Verdict.the-variants.{Fine, Bad}
 use Rattle.refusals.specs.declared.Refusal.the-variants.{Text as TextRefused}
 use Rattle.refusals.specs.Verdicts.{first, scan}
 use Rattle.refusals.proofs.Laws.{scan-miss, scan-hit}
-use Rattle.grammar.specs.Groups.{groupAt, none, mayFollow}
+use Rattle.grammar.specs.Groups.{groupAt, groupCount, mayFollow}
 use Rattle.grammar.specs.Lines.{lineGroup, wellFormed}
 use Rattle.grammar.specs.Text.{placeBefore, malformed, badLine, linesVerdict}
 
@@ -71,14 +71,14 @@ module _ (ls : List (List ℕ)) (l : List ℕ) where
   place-last =
       ap (placeBefore (ls ++ (l ∷ []))) (length-more ∙ add-one (length ls)) ∙ ap (λ (m : List ℕ). groupAt (lineGroup m) .place) (getD-append-seam ls l [] [])
 
-no-line : lineGroup [] ≡ none
+no-line : lineGroup [] ≡ groupCount
 unfolding lineGroup wellFormed
 no-line = refl
 
 -- the whole text's verdict: that of its lines, or a missing first line
 pub verdict-none : linesVerdict [] ≡ Bad TextRefused 0
 unfolding scan first badLine
-verdict-none = ap (λ (k : ℕ). cond (not (ltb k none && mayFollow 0 k)) (Bad TextRefused 0) Fine) no-line
+verdict-none = ap (λ (k : ℕ). cond (not (ltb k groupCount && mayFollow 0 k)) (Bad TextRefused 0) Fine) no-line
 
 pub verdict-some : (ls : List (List ℕ)) → 0 < length ls → linesVerdict ls ≡ soFar ls
 verdict-some ls h = ap (scan TextRefused (badLine ls)) (most (length ls) h)

@@ -11,26 +11,26 @@ use borrow.Author.Tests.{eq-eqb, ne-eqb, eqb-true}
 use Rattle.words.specs.Rows.{flat}
 use Rattle.words.proofs.Points.{same}
 use Rattle.words.proofs.Bools.{and-both, never}
-use Rattle.grammar.specs.Groups.{groupAt, none, instGroup, operandGroup}
+use Rattle.grammar.specs.Groups.{groupAt, groupCount, instGroup, operandGroup}
 use Rattle.grammar.specs.Lines.{meant, fits, groupOf, formed, wellFormed, body, ended, lineGroup, lineFields}
 use Rattle.grammar.specs.Text.{numbers, placed, rowWith, operandsAfter, rowsIn, countOf}
 use Rattle.grammar.proofs.TableLaws.{at}
 
 -- ---- a line that has a group is well formed, and its row has the group's width
 
-has-group : (l : List ℕ) → lineGroup l < none → (wellFormed l ≡ true) × (lineGroup l ≡ groupOf (body l))
+has-group : (l : List ℕ) → lineGroup l < groupCount → (wellFormed l ≡ true) × (lineGroup l ≡ groupOf (body l))
 unfolding lineGroup
 has-group l h = go (wellFormed l) refl h
   where
-    go : (t : Bool) → wellFormed l ≡ t → cond t (groupOf (body l)) none < none → (wellFormed l ≡ true) × (cond (wellFormed l) (groupOf (body l)) none ≡ groupOf (body l))
-    go true e g = (e, ap (λ (t : Bool). cond t (groupOf (body l)) none) e)
+    go : (t : Bool) → wellFormed l ≡ t → cond t (groupOf (body l)) groupCount < groupCount → (wellFormed l ≡ true) × (cond (wellFormed l) (groupOf (body l)) groupCount ≡ groupOf (body l))
+    go true e g = (e, ap (λ (t : Bool). cond t (groupOf (body l)) groupCount) e)
     go false e g = absurd (omega arith)
 
-pub group-fits : (l : List ℕ) → lineGroup l < none → fits (groupAt (lineGroup l) .dashes) (lineFields l) ≡ true
+pub group-fits : (l : List ℕ) → lineGroup l < groupCount → fits (groupAt (lineGroup l) .dashes) (lineFields l) ≡ true
 unfolding wellFormed formed
 group-fits l h =
     ap (λ (k : ℕ). fits (groupAt k .dashes) (lineFields l)) (has-group l h .1)
-    ∙ and-both (ltb (groupOf (body l)) none) _ (and-both (ended l) _ (and-both (leb (length l) 128) _ (has-group l h .0) .1) .1) .1
+    ∙ and-both (ltb (groupOf (body l)) groupCount) _ (and-both (ended l) _ (and-both (leb (length l) 128) _ (has-group l h .0) .1) .1) .1
 
 pub length-numbers : (ds fs : List ℕ) → fits ds fs ≡ true → (length (numbers ds fs) ≡ length ds) × (length fs ≡ length ds)
 unfolding fits numbers
@@ -43,10 +43,10 @@ length-numbers (d ∷ ds) (f ∷ fs) e =
 wide-entry : ℕ → Bool
 wide-entry k = eqb (groupAt k .width) (cond (eqb k instGroup) (suc (length (groupAt k .dashes) + 1)) (length (groupAt k .dashes)))
 
-pub length-row : (k : ℕ) (fs : List ℕ) (n : ℕ) → k < none → fits (groupAt k .dashes) fs ≡ true → length (rowWith k fs n) ≡ groupAt k .width
+pub length-row : (k : ℕ) (fs : List ℕ) (n : ℕ) → k < groupCount → fits (groupAt k .dashes) fs ≡ true → length (rowWith k fs n) ≡ groupAt k .width
 unfolding wide-entry
 length-row k fs n h e =
-    go (eqb k instGroup) (length-numbers (groupAt k .dashes) fs e .0) ∙ sym (eqb→eq (groupAt k .width) _ (at none wide-entry tt k h))
+    go (eqb k instGroup) (length-numbers (groupAt k .dashes) fs e .0) ∙ sym (eqb→eq (groupAt k .width) _ (at groupCount wide-entry tt k h))
   where
     go : (t : Bool) → length (numbers (groupAt k .dashes) fs) ≡ length (groupAt k .dashes)
         → length (cond t (placed fs ∷ (numbers (groupAt k .dashes) fs ++ (n ∷ []))) (numbers (groupAt k .dashes) fs))
@@ -54,7 +54,7 @@ length-row k fs n h e =
     go true q = ap suc (length-append (numbers (groupAt k .dashes) fs) (n ∷ []) ∙ ap (λ (m : ℕ). m + 1) q)
     go false q = q
 
-pub length-rows : (k : ℕ) → k < none → (ls : List (List ℕ)) → length (flat (rowsIn k ls)) ≡ groupAt k .width * countOf k ls
+pub length-rows : (k : ℕ) → k < groupCount → (ls : List (List ℕ)) → length (flat (rowsIn k ls)) ≡ groupAt k .width * countOf k ls
 unfolding rowsIn flat
 length-rows k h [] = sym (mul-zero (groupAt k .width))
 length-rows k h (l ∷ ls) = go (eqb (lineGroup l) k) refl (length-rows k h ls)

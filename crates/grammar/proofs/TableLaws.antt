@@ -12,7 +12,7 @@ use lib.ListN.{length, getD, drop, drop-of-length-le, List·getD-map}
 use lib.Seq.{drop-cons}
 use borrow.Author.Tests.{eq-eqb, ne-eqb, eqb-true, leb-true}
 use Rattle.grammar.specs.Numerals.{dash}
-use Rattle.grammar.specs.Groups.{Group, groups, groupAt, noGroup, none, rowNumbers, instGroup, operandGroup, indexOf}
+use Rattle.grammar.specs.Groups.{Group, groups, groupAt, noGroup, groupCount, rowNumbers, instGroup, operandGroup, indexOf}
 
 -- ---- a test that holds at each number below n, computed
 
@@ -56,11 +56,11 @@ getD-any [] i a b h = absurd (not-suc-le-zero h)
 getD-any (x ∷ l) zero a b h = refl
 getD-any (x ∷ l) (suc i) a b h = getD-any l i a b (le-of-suc-le-suc h)
 
-pub fields-most : (k : ℕ) → k < none → length (groupAt k .dashes) ≤ 7
+pub fields-most : (k : ℕ) → k < groupCount → length (groupAt k .dashes) ≤ 7
 unfolding narrow-entry
-fields-most k h = leb→le (length (groupAt k .dashes)) 7 (at none narrow-entry tt k h)
+fields-most k h = leb→le (length (groupAt k .dashes)) 7 (at groupCount narrow-entry tt k h)
 
-pub dash-is : (k j : ℕ) → k < none → j < length (groupAt k .dashes) → getD dashTable (7 * k + j) 0 ≡ getD (groupAt k .dashes) j 0
+pub dash-is : (k j : ℕ) → k < groupCount → j < length (groupAt k .dashes) → getD dashTable (7 * k + j) 0 ≡ getD (groupAt k .dashes) j 0
 unfolding dash-entry dashTable
 dash-is k j h l =
     let m : length (groupAt k .dashes) ≤ 7 = fields-most k h in
@@ -113,21 +113,21 @@ regionEnd k = groupAt k .base + groupAt k .width * groupAt k .room
 end-entry : ℕ → Bool
 end-entry k = leb (regionEnd k) rowNumbers
 
-pub end-within : (k : ℕ) → k < none → regionEnd k ≤ rowNumbers
+pub end-within : (k : ℕ) → k < groupCount → regionEnd k ≤ rowNumbers
 unfolding end-entry
-end-within k h = leb→le (regionEnd k) rowNumbers (at none end-entry tt k h)
+end-within k h = leb→le (regionEnd k) rowNumbers (at groupCount end-entry tt k h)
 
 apart-entry : ℕ → ℕ → Bool
 apart-entry j k = eqb j k || (leb (regionEnd j) (groupAt k .base) || leb (regionEnd k) (groupAt j .base))
 
 apart-row : ℕ → Bool
-apart-row j = every none (apart-entry j)
+apart-row j = every groupCount (apart-entry j)
 
 -- no two groups' regions have a number in common
-pub regions-apart : (j k : ℕ) → j < none → k < none → j ≢ k → (regionEnd j ≤ groupAt k .base) ⊎ (regionEnd k ≤ groupAt j .base)
+pub regions-apart : (j k : ℕ) → j < groupCount → k < groupCount → j ≢ k → (regionEnd j ≤ groupAt k .base) ⊎ (regionEnd k ≤ groupAt j .base)
 unfolding apart-entry apart-row
 regions-apart j k h l d =
-    go (eqb j k) (leb (regionEnd j) (groupAt k .base)) (leb (regionEnd k) (groupAt j .base)) refl refl refl (at none (apart-entry j) (at none apart-row tt j h) k l)
+    go (eqb j k) (leb (regionEnd j) (groupAt k .base)) (leb (regionEnd k) (groupAt j .base)) refl refl refl (at groupCount (apart-entry j) (at groupCount apart-row tt j h) k l)
   where
     go : (s t u : Bool) → eqb j k ≡ s → leb (regionEnd j) (groupAt k .base) ≡ t → leb (regionEnd k) (groupAt j .base) ≡ u → T (s || (t || u))
         → (regionEnd j ≤ groupAt k .base) ⊎ (regionEnd k ≤ groupAt j .base)
@@ -137,7 +137,7 @@ regions-apart j k h l d =
     go false false false p q r x = absurd x
 
 -- a row that there is room for
-pub row-within : (k n : ℕ) → k < none → n < groupAt k .room → groupAt k .base + groupAt k .width * n + groupAt k .width ≤ regionEnd k
+pub row-within : (k n : ℕ) → k < groupCount → n < groupAt k .room → groupAt k .base + groupAt k .width * n + groupAt k .width ≤ regionEnd k
 row-within k n h l =
     let e : groupAt k .width * n + groupAt k .width ≤ groupAt k .width * groupAt k .room = rw (← mul-suc (groupAt k .width) n) (mul-le-mul-left (groupAt k .width) l) in omega arith
 
@@ -145,9 +145,9 @@ open-entry : ℕ → Bool
 open-entry k = not (eqb (groupAt k .place) 4) || (eqb k instGroup || eqb k operandGroup)
 
 -- an instruction's place is an operand's too, and no other group's
-pub open-place : (k : ℕ) → k < none → groupAt k .place ≡ 4 → (k ≡ instGroup) ⊎ (k ≡ operandGroup)
+pub open-place : (k : ℕ) → k < groupCount → groupAt k .place ≡ 4 → (k ≡ instGroup) ⊎ (k ≡ operandGroup)
 unfolding open-entry
-open-place k h e = go (eqb k instGroup) (eqb k operandGroup) refl refl (rw (eq-eqb (groupAt k .place) 4 e) at (at none open-entry tt k h))
+open-place k h e = go (eqb k instGroup) (eqb k operandGroup) refl refl (rw (eq-eqb (groupAt k .place) 4 e) at (at groupCount open-entry tt k h))
   where
     go : (s t : Bool) → eqb k instGroup ≡ s → eqb k operandGroup ≡ t → T (s || t) → (k ≡ instGroup) ⊎ (k ≡ operandGroup)
     go true t p q x = inl (eqb-true k instGroup p)
@@ -157,6 +157,6 @@ open-place k h e = go (eqb k instGroup) (eqb k operandGroup) refl refl (rw (eq-e
 room-entry : ℕ → Bool
 room-entry k = leb (groupAt k .room) 64
 
-pub room-most : (k : ℕ) → k < none → groupAt k .room ≤ 64
+pub room-most : (k : ℕ) → k < groupCount → groupAt k .room ≤ 64
 unfolding room-entry
-room-most k h = leb→le (groupAt k .room) 64 (at none room-entry tt k h)
+room-most k h = leb→le (groupAt k .room) 64 (at groupCount room-entry tt k h)

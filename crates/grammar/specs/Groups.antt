@@ -60,10 +60,11 @@ groups =
 abbrev pub rowNumbers : ℕ
 rowNumbers = 2115
 
--- a group by its number; 13 is none
-abbrev pub none : ℕ
-none = 13
+-- how many groups there are; a line of no group has this for its group's number
+abbrev pub groupCount : ℕ
+groupCount = 13
 
+-- a group by its number
 abbrev pub groupAt : ℕ → Group
 groupAt k = getD groups k noGroup
 

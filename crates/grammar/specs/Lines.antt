@@ -5,7 +5,7 @@ use mathlib.Core.List.{List, [], _∷_, map}
 use lib.ListN.{length, getD, take, drop}
 use lib.Dec.{eqb, leb, ltb}
 use Rattle.grammar.specs.Numerals.{fieldOf, dash, limit}
-use Rattle.grammar.specs.Groups.{groupAt, letters, indexOf, none}
+use Rattle.grammar.specs.Groups.{groupAt, letters, indexOf, groupCount}
 
 abbrev pub newline : ℕ
 newline = 10
@@ -57,15 +57,15 @@ fits (d ∷ ds) (f ∷ fs) = ltb (meant d f) limit && fits ds fs
 
 -- what stands before the newline has a group's letter and its fields
 unfoldable pub formed : List ℕ → Bool
-formed b = ltb (groupOf b) none && fits (groupAt (groupOf b) .dashes) (fieldsOf b)
+formed b = ltb (groupOf b) groupCount && fits (groupAt (groupOf b) .dashes) (fieldsOf b)
 
 -- a line by itself: "lines of at most 128 bytes", the newline among them
 unfoldable pub wellFormed : List ℕ → Bool
 wellFormed l = leb (length l) 128 && (ended l && formed (body l))
 
--- the group of a line, or none where it is malformed, and its fields
+-- the group of a line, or `groupCount` where it is malformed, and its fields
 unfoldable pub lineGroup : List ℕ → ℕ
-lineGroup l = cond (wellFormed l) (groupOf (body l)) none
+lineGroup l = cond (wellFormed l) (groupOf (body l)) groupCount
 
 abbrev pub lineFields : List ℕ → List ℕ
 lineFields l = fieldsOf (body l)

@@ -8,7 +8,7 @@ use Rattle.refusals.specs.declared.Verdict.{Verdict}
 use Rattle.refusals.specs.declared.Refusal.the-variants.{Count, Text as TextRefused}
 use Rattle.refusals.specs.Verdicts.{first, scan, check}
 use Rattle.grammar.specs.Numerals.{dash}
-use Rattle.grammar.specs.Groups.{groupAt, mayFollow, none, instGroup, operandGroup}
+use Rattle.grammar.specs.Groups.{groupAt, mayFollow, groupCount, instGroup, operandGroup}
 use Rattle.grammar.specs.Lines.{linesOf, lineGroup, lineFields, meant}
 
 -- ---- number 11: the first malformed line
@@ -20,7 +20,7 @@ placeBefore ls (suc i) = groupAt (lineGroup (getD ls i [])) .place
 
 -- malformed by itself, or out of order
 abbrev pub malformed : ℕ → List ℕ → Bool
-malformed p l = not (ltb (lineGroup l) none && mayFollow p (lineGroup l))
+malformed p l = not (ltb (lineGroup l) groupCount && mayFollow p (lineGroup l))
 
 unfoldable pub badLine : List (List ℕ) → ℕ → Bool
 badLine ls i = malformed (placeBefore ls i) (getD ls i [])
@@ -77,7 +77,7 @@ crowded zero ls = false
 crowded (suc k) ls = crowded k ls || ltb (groupAt k .room) (countOf k ls)
 
 abbrev pub tooMany : List (List ℕ) → Bool
-tooMany ls = crowded none ls || ltb 64 (registers ls)
+tooMany ls = crowded groupCount ls || ltb 64 (registers ls)
 
 -- what the reader refuses: 11 comes before 1, so it is found only after every line was checked
 abbrev pub readVerdict : List ℕ → Verdict

@@ -2,7 +2,7 @@
 ghost use mathlib.Core.Path.{_≡_};
 ghost use Prim.Native.Nat.{_<_};
 ghost use lib.ListN.{length, getD};
-ghost use Rattle.grammar.specs.Groups.{none, groupAt, letters, indexOf};
+ghost use Rattle.grammar.specs.Groups.{groupCount, groupAt, letters, indexOf};
 ghost use Rattle.grammar.specs.Table.{Tabled};
 
 // A group's numbers: how many fields its lines have, its place in the order and the places that the line before may have, the width and the
@@ -50,7 +50,7 @@ const BASES: [usize; 13] = [
 
 // The table's entry of a group.
 pub fn entry_of(k: usize) -> Entry
-    requires { ⌜ k < none ⌝ }
+    requires { ⌜ k < groupCount ⌝ }
     ensures { λ r. ⌜ Tabled (groupAt k) r ⌝ }
 {
     Entry {
@@ -182,7 +182,7 @@ const DASHES: [u64; 91] = [
 
 // What `-` stands for in field `j` of a group's lines, or 4,294,967,296 where it has no place.
 pub fn dash_at(k: usize, j: usize) -> u64
-    requires { ⌜ (k < none) × (j < length (groupAt k .dashes)) ⌝ }
+    requires { ⌜ (k < groupCount) × (j < length (groupAt k .dashes)) ⌝ }
     ensures { λ r. ⌜ r ≡ getD (groupAt k .dashes) j 0 ⌝ }
 {
     DASHES[7 * k + j]

@@ -14,7 +14,7 @@ use Rattle.words.specs.Regions.{Region}
 use Rattle.words.proofs.Points.{cut, same, stored}
 use Rattle.words.proofs.Bools.{and-both, never}
 use Rattle.grammar.specs.Numerals.{dash, limit}
-use Rattle.grammar.specs.Groups.{groupAt, none, instGroup}
+use Rattle.grammar.specs.Groups.{groupAt, groupCount, instGroup}
 use Rattle.grammar.specs.Lines.{meant, fits, lineGroup, lineFields}
 use Rattle.grammar.specs.Text.{numbers, placed, rowWith}
 use Rattle.grammar.proofs.RowLaws.{group-fits, length-numbers}
@@ -45,7 +45,7 @@ plain-entry : ℕ → Bool
 plain-entry k = eqb k instGroup || eqb (length (groupAt k .dashes)) (groupAt k .width)
 
 -- a line's fields in front of a list
-module _ (l : List ℕ) (h : lineGroup l < none) (more : List ℕ) where
+module _ (l : List ℕ) (h : lineGroup l < groupCount) (more : List ℕ) where
   lengths : length (lineFields l) ≡ length (groupAt (lineGroup l) .dashes)
   lengths = length-numbers (groupAt (lineGroup l) .dashes) (lineFields l) (group-fits l h) .1
 
@@ -116,11 +116,11 @@ module _ (fs rows r : List ℕ) (at : ℕ) (enough : 7 ≤ length fs) (room : at
   }
 
 -- the row of any other group is its numbers
-pub plain-row : (k : ℕ) (fs : List ℕ) → k < none → (k ≡ instGroup → ⊥) → (rowWith k fs 0 ≡ numbers (groupAt k .dashes) fs) × (length (groupAt k .dashes) ≡ groupAt k .width)
+pub plain-row : (k : ℕ) (fs : List ℕ) → k < groupCount → (k ≡ instGroup → ⊥) → (rowWith k fs 0 ≡ numbers (groupAt k .dashes) fs) × (length (groupAt k .dashes) ≡ groupAt k .width)
 unfolding plain-entry
 plain-row k fs h d = (
   ap (λ (t : Bool). cond t (placed fs ∷ (numbers (groupAt k .dashes) fs ++ (0 ∷ []))) (numbers (groupAt k .dashes) fs)) (ne-eqb k instGroup d),
-  go (eqb k instGroup) (ne-eqb k instGroup d) (at none plain-entry tt k h),
+  go (eqb k instGroup) (ne-eqb k instGroup d) (at groupCount plain-entry tt k h),
 )
   where
     go : (t : Bool) → t ≡ false → T (t || eqb (length (groupAt k .dashes)) (groupAt k .width)) → length (groupAt k .dashes) ≡ groupAt k .width

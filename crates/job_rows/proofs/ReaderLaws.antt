@@ -10,7 +10,7 @@ use borrow.Author.Tests.{eq-eqb, leb-true, leb-false, not-true, ltb-true}
 use Rattle.words.proofs.Bools.{and-both, or-neither, never}
 use Rattle.refusals.specs.declared.Verdict.the-variants.{Fine, Bad}
 use Rattle.refusals.specs.declared.Refusal.the-variants.{Text as TextRefused}
-use Rattle.grammar.specs.Groups.{groupAt, none, mayFollow, operandGroup}
+use Rattle.grammar.specs.Groups.{groupAt, groupCount, mayFollow, operandGroup}
 use Rattle.grammar.specs.Lines.{lineGroup, lineFields}
 use Rattle.grammar.specs.Text.{placeBefore, malformed, rowWith, countOf}
 use Rattle.grammar.proofs.RowLaws.{count-more}
@@ -34,7 +34,7 @@ module _ {ls : List (List ℕ)} {r : Reader} {rows counts : List ℕ} (t : Taken
   refused-place : accepts r (lineGroup l) ≡ false → r .bad ≡ false → malformed (placeBefore ls (length ls)) l ≡ true
   refused-place e b =
       ap (λ (p : ℕ). malformed p l) (sym (t .order b))
-      ∙ ap not (sym (ap (λ (x : Bool). not x && (ltb (lineGroup l) none && mayFollow (r .place) (lineGroup l))) b) ∙ e)
+      ∙ ap not (sym (ap (λ (x : Bool). not x && (ltb (lineGroup l) groupCount && mayFollow (r .place) (lineGroup l))) b) ∙ e)
 
   pub taken-malformed : (q : Reader) → accepts r (lineGroup l) ≡ false → Refuses r q → Taken (ls ++ (l ∷ [])) q rows counts
   taken-malformed q e f = record {
@@ -61,14 +61,14 @@ module _ {ls : List (List ℕ)} {r : Reader} {rows counts : List ℕ} (t : Taken
     fine-so-far : r .bad ≡ false
     fine-so-far = not-true (r .bad) (and-both (not (r .bad)) _ ok .0)
 
-    right : (ltb (lineGroup l) none && mayFollow (r .place) (lineGroup l)) ≡ true
+    right : (ltb (lineGroup l) groupCount && mayFollow (r .place) (lineGroup l)) ≡ true
     right = and-both (not (r .bad)) _ ok .1
 
-    pub known : lineGroup l < none
-    known = ltb-true (lineGroup l) none (and-both (ltb (lineGroup l) none) _ right .0)
+    pub known : lineGroup l < groupCount
+    known = ltb-true (lineGroup l) groupCount (and-both (ltb (lineGroup l) groupCount) _ right .0)
 
     may-follow : mayFollow (placeBefore ls (length ls)) (lineGroup l) ≡ true
-    may-follow = ap (λ (p : ℕ). mayFollow p (lineGroup l)) (sym (t .order fine-so-far)) ∙ and-both (ltb (lineGroup l) none) _ right .1
+    may-follow = ap (λ (p : ℕ). mayFollow p (lineGroup l)) (sym (t .order fine-so-far)) ∙ and-both (ltb (lineGroup l) groupCount) _ right .1
 
     so-far : soFar ls ≡ Fine
     so-far = t .verdict ∙ ap (λ (x : Bool). cond x (Bad TextRefused (r .at)) Fine) fine-so-far
@@ -139,7 +139,7 @@ module _ {r : Reader} {rows counts : List ℕ} (b : Reads r rows counts) (l : Li
     accepted-is : accepts r (lineGroup l) ≡ true
     accepted-is = ap (accepts r) (sym ke) ∙ ok
 
-    pub line-known : k < none
+    pub line-known : k < groupCount
     line-known = rw ke (known (b .taken) l accepted-is)
 
     crowds-is : (t : Bool) (room : ℕ) → room ≡ groupAt k .room → crowds r room (getD counts k 0) ≡ t → crowds r (groupAt (lineGroup l) .room) (getD counts (lineGroup l) 0) ≡ t

@@ -8,24 +8,24 @@ use lib.ListN.{length, getD, set}
 use lib.Dec.{leb, ltb}
 use borrow.Author.Tests.{lt-ltb, le-ltb, le-leb, lt-leb}
 use Rattle.words.specs.Regions.{Region}
-use Rattle.grammar.specs.Groups.{groupAt, none, rowNumbers, mayFollow, operandGroup}
+use Rattle.grammar.specs.Groups.{groupAt, groupCount, rowNumbers, mayFollow, operandGroup}
 use Rattle.grammar.specs.Text.{rowWith}
 use Rattle.grammar.proofs.TableLaws.{row-within, end-within, room-most}
 use Rattle.job_rows.specs.Put.{Storable, Put, countAt}
 
 -- ---- whether a line may follow
 
-pub follow-none : (k p : ℕ) → none ≤ k → false ≡ (ltb k none && mayFollow p k)
-follow-none k p h = rw (le-ltb k none h)
+pub follow-none : (k p : ℕ) → groupCount ≤ k → false ≡ (ltb k groupCount && mayFollow p k)
+follow-none k p h = rw (le-ltb k groupCount h)
 
-module _ (k p least : ℕ) (h : k < none) (e : least ≡ groupAt k .least) where
-  pub follow-early : p < least → false ≡ (ltb k none && mayFollow p k)
-  follow-early l = sym (ap (λ (t : Bool). t && mayFollow p k) (lt-ltb k none h) ∙ ap (λ (t : Bool). t && leb p (groupAt k .most)) (lt-leb (groupAt k .least) p (omega arith)))
+module _ (k p least : ℕ) (h : k < groupCount) (e : least ≡ groupAt k .least) where
+  pub follow-early : p < least → false ≡ (ltb k groupCount && mayFollow p k)
+  follow-early l = sym (ap (λ (t : Bool). t && mayFollow p k) (lt-ltb k groupCount h) ∙ ap (λ (t : Bool). t && leb p (groupAt k .most)) (lt-leb (groupAt k .least) p (omega arith)))
 
-  pub follow-rest : (most : ℕ) → most ≡ groupAt k .most → least ≤ p → leb p most ≡ (ltb k none && mayFollow p k)
+  pub follow-rest : (most : ℕ) → most ≡ groupAt k .most → least ≤ p → leb p most ≡ (ltb k groupCount && mayFollow p k)
   follow-rest most q l =
       ap (leb p) q
-      ∙ sym (ap (λ (t : Bool). t && mayFollow p k) (lt-ltb k none h) ∙ ap (λ (t : Bool). t && leb p (groupAt k .most)) (le-leb (groupAt k .least) p (omega arith)))
+      ∙ sym (ap (λ (t : Bool). t && mayFollow p k) (lt-ltb k groupCount h) ∙ ap (λ (t : Bool). t && leb p (groupAt k .most)) (le-leb (groupAt k .least) p (omega arith)))
 
 -- ---- where the row stands
 

@@ -16,7 +16,7 @@ use Rattle.words.specs.Regions.{Region, Kept, part}
 use Rattle.words.proofs.Points.{cut, same, stored}
 use Rattle.words.proofs.RegionLaws.{kept-before, kept-after, kept-part, kept-part-list, kept-then, kept-store, region-part, length-part, getD-part, part-is}
 use Rattle.words.proofs.RowLaws.{tabulate-getD}
-use Rattle.grammar.specs.Groups.{groupAt, none, rowNumbers, instGroup, operandGroup}
+use Rattle.grammar.specs.Groups.{groupAt, groupCount, rowNumbers, instGroup, operandGroup}
 use Rattle.grammar.specs.Lines.{lineGroup, lineFields}
 use Rattle.grammar.specs.Text.{rowWith, rowsIn, countOf}
 use Rattle.grammar.proofs.TableLaws.{regionEnd, end-within, regions-apart, row-within}
@@ -68,10 +68,10 @@ part-raised rows b n v u front h e =
 
 -- ---- a line that is stored
 
-module _ {ls : List (List ℕ)} {rows counts : List ℕ} (s : Stored ls rows counts) (rl : length rows ≡ rowNumbers) (cl : length counts ≡ none)
-    (l : List ℕ) (h : lineGroup l < none) (room : countOf (lineGroup l) ls < groupAt (lineGroup l) .room) (may : lineGroup l ≡ operandGroup → opens ls ≡ true) where
+module _ {ls : List (List ℕ)} {rows counts : List ℕ} (s : Stored ls rows counts) (rl : length rows ≡ rowNumbers) (cl : length counts ≡ groupCount)
+    (l : List ℕ) (h : lineGroup l < groupCount) (room : countOf (lineGroup l) ls < groupAt (lineGroup l) .room) (may : lineGroup l ≡ operandGroup → opens ls ≡ true) where
   -- a group's part lies in its region
-  part-in : (k n : ℕ) → k < none → n ≤ groupAt k .room → groupAt k .base + groupAt k .width * n ≤ regionEnd k
+  part-in : (k n : ℕ) → k < groupCount → n ≤ groupAt k .room → groupAt k .base + groupAt k .width * n ≤ regionEnd k
   part-in k n kh nh = let m : groupAt k .width * n ≤ groupAt k .width * groupAt k .room = mul-le-mul-left (groupAt k .width) nh in omega arith
 
   insts-raised : lineGroup l ≡ operandGroup → Raised ls l
@@ -112,7 +112,7 @@ module _ {ls : List (List ℕ)} {rows counts : List ℕ} (s : Stored ls rows cou
     row-in : groupAt (lineGroup l) .base + groupAt (lineGroup l) .width * countOf (lineGroup l) ls + groupAt (lineGroup l) .width ≤ regionEnd (lineGroup l)
     row-in = row-within (lineGroup l) (countOf (lineGroup l) ls) h room
 
-    middle-kept : (k : ℕ) → k < none → k ≢ lineGroup l → Kept rows (p .middle) (groupAt k .base) (groupAt k .width * groupAt k .room)
+    middle-kept : (k : ℕ) → k < groupCount → k ≢ lineGroup l → Kept rows (p .middle) (groupAt k .base) (groupAt k .width * groupAt k .room)
     middle-kept k kh d =
         ⊎-elim (λ a. kept-before (p .row) (groupAt k .base) (groupAt k .width * groupAt k .room) (omega (arith, at-is)))
         (λ a. kept-after (p .row) (groupAt k .base) (groupAt k .width * groupAt k .room) (omega (arith, at-is, row-in)))
@@ -128,7 +128,7 @@ module _ {ls : List (List ℕ)} {rows counts : List ℕ} (s : Stored ls rows cou
     place-in : (e : lineGroup l ≡ operandGroup) → (groupAt instGroup .base ≤ countAt (countOf instGroup ls)) × (countAt (countOf instGroup ls) < regionEnd instGroup)
     place-in e = let a = last-number e .1 in let b = s .fitting instGroup (lit< tt) in (omega arith, omega arith)
 
-    all-kept : (k : ℕ) → k < none → k ≢ lineGroup l → (k ≡ instGroup → lineGroup l ≡ operandGroup → ⊥) → Kept rows rows′ (groupAt k .base) (groupAt k .width * groupAt k .room)
+    all-kept : (k : ℕ) → k < groupCount → k ≢ lineGroup l → (k ≡ instGroup → lineGroup l ≡ operandGroup → ⊥) → Kept rows rows′ (groupAt k .base) (groupAt k .width * groupAt k .room)
     all-kept k kh d n =
         same (lineGroup l) operandGroup
         (λ e. kept-then (middle-kept k kh d)
@@ -142,11 +142,11 @@ module _ {ls : List (List ℕ)} {rows counts : List ℕ} (s : Stored ls rows cou
     rows-length′ =
         same (lineGroup l) operandGroup (λ e. ap length (put-operand e) ∙ length-set (p .middle) (countAt (countOf instGroup ls)) _ ∙ middle-length) (λ e. ap length (p .plain e) ∙ middle-length)
 
-    counts-length′ : length counts′ ≡ none
+    counts-length′ : length counts′ ≡ groupCount
     counts-length′ = ap length (p .in-counts) ∙ length-set counts (lineGroup l) (getD counts (lineGroup l) 0 + 1) ∙ cl
 
     -- the parts of the groups that have no row more
-    part-kept : (k : ℕ) → k < none → k ≢ lineGroup l → (k ≡ instGroup → lineGroup l ≡ operandGroup → ⊥) → (n : ℕ) → n ≤ groupAt k .room
+    part-kept : (k : ℕ) → k < groupCount → k ≢ lineGroup l → (k ≡ instGroup → lineGroup l ≡ operandGroup → ⊥) → (n : ℕ) → n ≤ groupAt k .room
         → part (groupAt k .base) (groupAt k .width * n) rows′ ≡ part (groupAt k .base) (groupAt k .width * n) rows
     part-kept k kh d q n nh =
         let a = part-in k n kh nh in
@@ -160,7 +160,7 @@ module _ {ls : List (List ℕ)} {rows counts : List ℕ} (s : Stored ls rows cou
     count-next = count-more l (lineGroup l) ls ∙ ap (λ (t : Bool). countOf (lineGroup l) ls + cond t 1 0) (eq-eqb (lineGroup l) (lineGroup l) refl)
 
     -- a group with no row more
-    rows-same : (k : ℕ) → k < none → k ≢ lineGroup l → (k ≡ instGroup → lineGroup l ≡ operandGroup → ⊥)
+    rows-same : (k : ℕ) → k < groupCount → k ≢ lineGroup l → (k ≡ instGroup → lineGroup l ≡ operandGroup → ⊥)
         → part (groupAt k .base) (groupAt k .width * countOf k (ls ++ (l ∷ []))) rows′ ≡ flat (rowsIn k (ls ++ (l ∷ [])))
     rows-same k kh d q =
         ap (λ (n : ℕ). part (groupAt k .base) (groupAt k .width * n) rows′) (count-same k d) ∙ part-kept k kh d q (countOf k ls) (s .fitting k kh) ∙ s .rows-are k kh
@@ -232,5 +232,5 @@ module _ {ls : List (List ℕ)} {rows counts : List ℕ} (s : Stored ls rows cou
           (λ i. rows-same k kh d (λ q _. i q)));
     }
 
-    pub lengths-more : (length rows′ ≡ rowNumbers) × (length counts′ ≡ none)
+    pub lengths-more : (length rows′ ≡ rowNumbers) × (length counts′ ≡ groupCount)
     lengths-more = (rows-length′, counts-length′)

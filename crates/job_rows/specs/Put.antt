@@ -5,13 +5,13 @@ use mathlib.Core.List.{List}
 use lib.ListN.{length, getD, set}
 use Rattle.words.specs.Regions.{Region}
 use Rattle.grammar.specs.Numerals.{limit}
-use Rattle.grammar.specs.Groups.{groupAt, none, rowNumbers, instGroup, operandGroup}
+use Rattle.grammar.specs.Groups.{groupAt, groupCount, rowNumbers, instGroup, operandGroup}
 use Rattle.grammar.specs.Lines.{meant}
 use Rattle.grammar.specs.Text.{rowWith}
 
 -- the first fields of a list mean numbers in lines of group k
 pub record Meant (k : ℕ) (fields : List ℕ) : Type 0 where
-  pub group : k < none
+  pub group : k < groupCount
   pub enough : length (groupAt k .dashes) ≤ length fields
   pub number : (j : ℕ) → j < length (groupAt k .dashes) → meant (getD (groupAt k .dashes) j 0) (getD fields j 0) < limit
 
@@ -23,7 +23,7 @@ countAt i = 322 + 9 * i
 pub record Storable (k : ℕ) (fields rows counts : List ℕ) : Type 0 where
   pub meant : Meant k fields
   pub rows-length : length rows ≡ rowNumbers
-  pub counts-length : length counts ≡ none
+  pub counts-length : length counts ≡ groupCount
   pub room : getD counts k 0 < groupAt k .room
   pub last : k ≡ operandGroup → (getD counts instGroup 0 ≤ 64) × (getD rows (countAt (getD counts instGroup 0)) 0 ≤ 64)
 

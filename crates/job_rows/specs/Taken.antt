@@ -10,26 +10,26 @@ use Rattle.refusals.specs.declared.Refusal.the-variants.{Text as TextRefused}
 use Rattle.refusals.specs.Verdicts.{scan}
 use Rattle.words.specs.Rows.{flat}
 use Rattle.words.specs.Regions.{part}
-use Rattle.grammar.specs.Groups.{groupAt, none, rowNumbers, mayFollow}
+use Rattle.grammar.specs.Groups.{groupAt, groupCount, rowNumbers, mayFollow}
 use Rattle.grammar.specs.Text.{placeBefore, badLine, rowsIn, countOf}
 use Rattle.job_rows.specs.declared.Reader.{Reader}
 
 -- what the lists hold: how many lines of each group there are, which is no more than there are rows, and the rows of each group
 pub record Stored (ls : List (List ℕ)) (rows counts : List ℕ) : Type 0 where
-  pub fitting : (k : ℕ) → k < none → countOf k ls ≤ groupAt k .room
-  pub counted : (k : ℕ) → k < none → getD counts k 0 ≡ countOf k ls
-  pub rows-are : (k : ℕ) → k < none → part (groupAt k .base) (groupAt k .width * countOf k ls) rows ≡ flat (rowsIn k ls)
+  pub fitting : (k : ℕ) → k < groupCount → countOf k ls ≤ groupAt k .room
+  pub counted : (k : ℕ) → k < groupCount → getD counts k 0 ≡ countOf k ls
+  pub rows-are : (k : ℕ) → k < groupCount → part (groupAt k .base) (groupAt k .width * countOf k ls) rows ≡ flat (rowsIn k ls)
 
 -- some group has more lines than rows; from then on lines are checked and not stored
 pub record Over (ls : List (List ℕ)) : Type 0 where
   pub group : ℕ
-  pub known : group < none
+  pub known : group < groupCount
   pub over : groupAt group .room < countOf group ls
 
 -- what the reader knows of the lines that it has taken: how many, the first malformed one, the place of the last, and the records
 pub record Taken (ls : List (List ℕ)) (r : Reader) (rows counts : List ℕ) : Type 0 where
   pub rows-length : length rows ≡ rowNumbers
-  pub counts-length : length counts ≡ none
+  pub counts-length : length counts ≡ groupCount
   pub lines : r .lines ≡ length ls
   pub verdict : scan TextRefused (badLine ls) (length ls) ≡ cond (r .bad) (Bad TextRefused (r .at)) Fine
   pub order : r .bad ≡ false → r .place ≡ placeBefore ls (length ls)
@@ -55,7 +55,7 @@ pub record Refuses (r q : Reader) : Type 0 where
 
 -- whether the reader takes a line of group k for its next: none was malformed, and it may stand there
 abbrev pub accepts : Reader → ℕ → Bool
-accepts r k = not (r .bad) && (ltb k none && mayFollow (r .place) k)
+accepts r k = not (r .bad) && (ltb k groupCount && mayFollow (r .place) k)
 
 -- whether there is no room for a row behind n others
 abbrev pub crowds : Reader → ℕ → ℕ → Bool

@@ -6,7 +6,7 @@ ghost use lib.Dec.{ltb};
 ghost use lib.ListN.{length, getD, set};
 ghost use Rattle.words.specs.Regions.{Region};
 ghost use Rattle.grammar.specs.Numerals.{limit};
-ghost use Rattle.grammar.specs.Groups.{groupAt, none, mayFollow, rowNumbers};
+ghost use Rattle.grammar.specs.Groups.{groupAt, groupCount, mayFollow, rowNumbers};
 ghost use Rattle.grammar.specs.Lines.{meant};
 ghost use Rattle.grammar.specs.Text.{numbers, rowWith};
 ghost use Rattle.job_rows.specs.Put.{Meant, Storable, Put, countAt};
@@ -104,7 +104,7 @@ fn store(k: usize, fields: &[u64], rows: &mut [u32], counts: &mut [u32])
 
 // Whether a line of group `k` may stand behind one at `place`; 13 is no group.
 fn follows(k: usize, place: usize) -> bool
-    ensures { λ r. ⌜ r ≡ (ltb k none && mayFollow place k) ⌝ }
+    ensures { λ r. ⌜ r ≡ (ltb k groupCount && mayFollow place k) ⌝ }
 {
     if 13 <= k {
         return false;

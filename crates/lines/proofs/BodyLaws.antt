@@ -10,7 +10,7 @@ use lib.Dec.{eqb, ltb, leb, ltb→lt}
 use borrow.Author.Tests.{eq-eqb, ne-eqb, lt-ltb, le-leb, lt-leb}
 use Rattle.words.proofs.Points.{cut}
 use Rattle.grammar.specs.Numerals.{fieldOf}
-use Rattle.grammar.specs.Groups.{indexOf, groupAt, letters, none}
+use Rattle.grammar.specs.Groups.{indexOf, groupAt, letters, groupCount}
 use Rattle.grammar.specs.Lines.{comma, newline, parts, groupOf, fieldsOf, fits, formed, ended, body, wellFormed, lineGroup}
 use Rattle.grammar.proofs.PartLaws.{index-within, parts-split, parts-last, parts-more, fits-fewer}
 use Rattle.grammar.proofs.TableLaws.{at}
@@ -21,18 +21,18 @@ some-entry : ℕ → Bool
 some-entry k = ltb 0 (length (groupAt k .dashes))
 
 -- every group has a field
-some-fields : (k : ℕ) → k < none → 0 < length (groupAt k .dashes)
+some-fields : (k : ℕ) → k < groupCount → 0 < length (groupAt k .dashes)
 unfolding some-entry
-some-fields k h = ltb→lt 0 (length (groupAt k .dashes)) (at none some-entry tt k h)
+some-fields k h = ltb→lt 0 (length (groupAt k .dashes)) (at groupCount some-entry tt k h)
 
-no-letter : indexOf 0 letters ≡ none
+no-letter : indexOf 0 letters ≡ groupCount
 unfolding indexOf
 no-letter = refl
 
-pub group-within : (x k : ℕ) → k ≡ indexOf x letters → (k ≡ none → ⊥) → k < none
+pub group-within : (x k : ℕ) → k ≡ indexOf x letters → (k ≡ groupCount → ⊥) → k < groupCount
 group-within x k e d = cut-off (index-within x letters)
   where
-    cut-off : indexOf x letters ≤ 13 → k < none
+    cut-off : indexOf x letters ≤ 13 → k < groupCount
     cut-off h = less k (omega arith) d
       where
         less : (n : ℕ) → n ≤ 13 → (n ≡ 13 → ⊥) → n < 13
@@ -42,7 +42,7 @@ module _ (b : List ℕ) where
   first-length : length (getD (parts comma b) 0 []) ≡ indexOf comma b
   first-length = ap (λ (l : List (List ℕ)). length (getD l 0 [])) (parts-split comma b) ∙ length-take-le (indexOf comma b) b (index-within comma b)
 
-  pub group-not : (indexOf comma b ≡ 1 → ⊥) → groupOf b ≡ none
+  pub group-not : (indexOf comma b ≡ 1 → ⊥) → groupOf b ≡ groupCount
   unfolding groupOf
   group-not d =
       ap (λ (t : Bool). indexOf (cond t (getD (getD (parts comma b) 0 []) 0 0) 0) letters)
@@ -66,39 +66,39 @@ module _ (b : List ℕ) where
     unfolding fieldsOf
     fields-are h = ap (λ (l : List (List ℕ)). map fieldOf (drop 1 l)) (parts-more comma b (omega arith)) ∙ ap (λ (n : ℕ). fieldsIn (drop (suc n) b)) one
 
-  formed-not : groupOf b ≡ none → formed b ≡ false
+  formed-not : groupOf b ≡ groupCount → formed b ≡ false
   unfolding formed
-  formed-not e = ap (λ (k : ℕ). ltb k none && fits (groupAt k .dashes) (fieldsOf b)) e
+  formed-not e = ap (λ (k : ℕ). ltb k groupCount && fits (groupAt k .dashes) (fieldsOf b)) e
 
-  formed-is : groupOf b < none → formed b ≡ fits (groupAt (groupOf b) .dashes) (fieldsOf b)
+  formed-is : groupOf b < groupCount → formed b ≡ fits (groupAt (groupOf b) .dashes) (fieldsOf b)
   unfolding formed
-  formed-is h = rw (lt-ltb (groupOf b) none h)
+  formed-is h = rw (lt-ltb (groupOf b) groupCount h)
 
   module _ (out out′ : List ℕ) (kept : length out′ ≡ length out) where
-    no-body : formed b ≡ false → BodyRead b out none out′
-    no-body e = record { answer = sym (ap (λ (t : Bool). cond t (groupOf b) none) e); kept = kept; fields = λ h. absurd (omega arith) }
+    no-body : formed b ≡ false → BodyRead b out groupCount out′
+    no-body e = record { answer = sym (ap (λ (t : Bool). cond t (groupOf b) groupCount) e); kept = kept; fields = λ h. absurd (omega arith) }
 
-    pub body-without : groupOf b ≡ none → BodyRead b out none out′
+    pub body-without : groupOf b ≡ groupCount → BodyRead b out groupCount out′
     body-without e = no-body (formed-not e)
 
-    pub body-alone : (k : ℕ) → k ≡ groupOf b → k < none → fieldsOf b ≡ [] → BodyRead b out none out′
+    pub body-alone : (k : ℕ) → k ≡ groupOf b → k < groupCount → fieldsOf b ≡ [] → BodyRead b out groupCount out′
     body-alone k ke h e =
         no-body
         (formed-is (rw ke at h) ∙ ap (fits (groupAt (groupOf b) .dashes)) e ∙ fits-fewer (groupAt (groupOf b) .dashes) (some-fields (groupOf b) (rw ke at h)))
 
     -- the fields behind the letter, lent as t
-    module _ (k : ℕ) (ke : k ≡ groupOf b) (h : k < none) (t : List ℕ) (r : Bool) (fe : fieldsOf b ≡ fieldsIn t) (f : FieldsRead k t out r out′) where
+    module _ (k : ℕ) (ke : k ≡ groupOf b) (h : k < groupCount) (t : List ℕ) (r : Bool) (fe : fieldsOf b ≡ fieldsIn t) (f : FieldsRead k t out r out′) where
       formed-r : formed b ≡ r
       formed-r =
           formed-is (rw ke at h) ∙ ap (λ (n : ℕ). fits (groupAt n .dashes) (fieldsOf b)) (sym ke)
           ∙ ap (fits (groupAt k .dashes)) fe ∙ sym (f .answer)
 
-      pub body-refused : r ≡ false → BodyRead b out none out′
+      pub body-refused : r ≡ false → BodyRead b out groupCount out′
       body-refused e = no-body (formed-r ∙ e)
 
       pub body-read : r ≡ true → BodyRead b out k out′
       body-read e = record {
-        answer = ke ∙ sym (ap (λ (x : Bool). cond x (groupOf b) none) (formed-r ∙ e));
+        answer = ke ∙ sym (ap (λ (x : Bool). cond x (groupOf b) groupCount) (formed-r ∙ e));
         kept = kept;
         fields = λ _. f .fields e ∙ ap (λ (l : List ℕ). onFront l out) (sym fe);
       }
@@ -106,20 +106,20 @@ module _ (b : List ℕ) where
 -- ---- a line with its newline
 
 module _ (l out : List ℕ) where
-  no-line : wellFormed l ≡ false → LineRead l out none out
+  no-line : wellFormed l ≡ false → LineRead l out groupCount out
   unfolding lineGroup
-  no-line e = record { answer = sym (ap (λ (t : Bool). cond t (groupOf (body l)) none) e); kept = refl; fields = λ h. absurd (omega arith) }
+  no-line e = record { answer = sym (ap (λ (t : Bool). cond t (groupOf (body l)) groupCount) e); kept = refl; fields = λ h. absurd (omega arith) }
 
-  pub line-long : 128 < length l → LineRead l out none out
+  pub line-long : 128 < length l → LineRead l out groupCount out
   unfolding wellFormed
   line-long h = no-line (rw (lt-leb (length l) 128 h))
 
   -- no line, or one without its newline
-  pub line-open : (getD l (length l - 1) 0 ≡ newline → ⊥) → LineRead l out none out
+  pub line-open : (getD l (length l - 1) 0 ≡ newline → ⊥) → LineRead l out groupCount out
   unfolding wellFormed
   line-open d = no-line (and-not (leb (length l) 128) (ended l && formed (body l)) (rw (ne-eqb (getD l (length l - 1) 0) newline d)))
 
-  pub line-empty : length l ≡ 0 → LineRead l out none out
+  pub line-empty : length l ≡ 0 → LineRead l out groupCount out
   line-empty e = line-open (λ q. absurd (nothing l e q))
     where
       nothing : (m : List ℕ) → length m ≡ 0 → getD m (length m - 1) 0 ≡ newline → ⊥
@@ -133,8 +133,8 @@ module _ (l out : List ℕ) where
   pub line-read : (b : List ℕ) (k : ℕ) (out′ : List ℕ) → length l ≤ 128 → getD l (length l - 1) 0 ≡ newline → b ≡ body l → BodyRead b out k out′ → LineRead l out k out′
   unfolding wellFormed lineGroup
   line-read b k out′ h e q r = record {
-    answer = r .answer ∙ ap (λ (x : List ℕ). cond (formed x) (groupOf x) none) q
-        ∙ ap (λ (t : Bool). cond t (groupOf (body l)) none) (sym (well h e));
+    answer = r .answer ∙ ap (λ (x : List ℕ). cond (formed x) (groupOf x) groupCount) q
+        ∙ ap (λ (t : Bool). cond t (groupOf (body l)) groupCount) (sym (well h e));
     kept = r .kept;
     fields = λ n. r .fields n ∙ ap (λ (x : List ℕ). onFront (fieldsOf x) out) q;
   }

@@ -5,7 +5,7 @@ use mathlib.Core.Bool.{Bool, true, cond}
 use mathlib.Core.List.{List, _++_, map}
 use lib.ListN.{length, drop}
 use Rattle.grammar.specs.Numerals.{fieldOf}
-use Rattle.grammar.specs.Groups.{groupAt, none}
+use Rattle.grammar.specs.Groups.{groupAt, groupCount}
 use Rattle.grammar.specs.Lines.{comma, parts, fits, groupOf, fieldsOf, formed, lineGroup, lineFields}
 
 -- fields as the first numbers of a list
@@ -23,12 +23,12 @@ pub record FieldsRead (k : ℕ) (s out : List ℕ) (r : Bool) (out′ : List ℕ
 
 -- what stands before the newline
 pub record BodyRead (b out : List ℕ) (r : ℕ) (out′ : List ℕ) : Type 0 where
-  pub answer : r ≡ cond (formed b) (groupOf b) none
+  pub answer : r ≡ cond (formed b) (groupOf b) groupCount
   pub kept : length out′ ≡ length out
-  pub fields : r < none → out′ ≡ onFront (fieldsOf b) out
+  pub fields : r < groupCount → out′ ≡ onFront (fieldsOf b) out
 
 -- a line with its newline; where it is malformed the list holds what the reader left
 pub record LineRead (l out : List ℕ) (r : ℕ) (out′ : List ℕ) : Type 0 where
   pub answer : r ≡ lineGroup l
   pub kept : length out′ ≡ length out
-  pub fields : r < none → out′ ≡ onFront (lineFields l) out
+  pub fields : r < groupCount → out′ ≡ onFront (lineFields l) out

@@ -4,7 +4,7 @@ ghost use Prim.Native.Nat.{_≤_, _<_};
 ghost use lib.ListN.{length};
 ghost use lib.Dec.{ltb};
 ghost use Rattle.grammar.specs.Numerals.{fieldOf, numberFrom, limit};
-ghost use Rattle.grammar.specs.Groups.{none};
+ghost use Rattle.grammar.specs.Groups.{groupCount};
 ghost use Rattle.grammar.specs.Lines.{meant};
 ghost use Rattle.lines.specs.Read.{FieldsRead, BodyRead, LineRead};
 use grammar::dash_at;
@@ -79,7 +79,7 @@ fn allowed(f: u64, d: u64) -> bool
 
 // The fields of a group's line, which stand behind the letter and its comma.
 fn fields(s: &[u8], k: usize, out: &mut [u64]) -> bool
-    requires { ⌜ (k < none) × (7 ≤ length (now out)) ⌝ }
+    requires { ⌜ (k < groupCount) × (7 ≤ length (now out)) ⌝ }
     ensures { λ r. ⌜ FieldsRead k (now (s .entry)) (now (out .entry)) r (now (out .exit)) ⌝ }
 {
     let n = entry_of(k).fields;

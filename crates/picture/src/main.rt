@@ -3,7 +3,7 @@
 ghost use mathlib.Core.Path.{_≡_};
 ghost use Prim.Native.Nat.{_*_, _≤_};
 ghost use lib.ListN.{length};
-ghost use Rattle.grammar.specs.Groups.{none, rowNumbers};
+ghost use Rattle.grammar.specs.Groups.{groupCount, rowNumbers};
 ghost use Rattle.row_plans.specs.Groups.{Few};
 use drawing::Axis;
 use drawing::axis_of;
@@ -55,7 +55,7 @@ fn show(blocks: &[u32], cells: &[u32], items: &[u32], areas: &[u32], locals: u32
 
 // The plan of the records that were read, or its refusal.
 fn plan(rows: &[u32], counts: &[u32])
-    requires { ⌜ (length (now rows) ≡ rowNumbers) × (length (now counts) ≡ none) × Few (now counts) ⌝ }
+    requires { ⌜ (length (now rows) ≡ rowNumbers) × (length (now counts) ≡ groupCount) × Few (now counts) ⌝ }
 {
     let mut cells = [0u32; 256];
     let mut items = [0u32; 512];

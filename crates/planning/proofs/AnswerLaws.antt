@@ -31,7 +31,7 @@ use Rattle.job_answers.specs.declared.Shared.{Shared}
 use Rattle.job_answers.specs.declared.Shared.the-variants.{Plan as Planned, Refused}
 use Rattle.job_answers.specs.Answers.{answered, itemRows}
 use Rattle.job.specs.Entry.{lentVerdict, verdictOf}
-use Rattle.grammar.specs.Groups.{groupAt, none, rowNumbers}
+use Rattle.grammar.specs.Groups.{groupAt, groupCount, rowNumbers}
 use Rattle.grammar.specs.Lines.{linesOf}
 use Rattle.grammar.specs.Text.{countOf, crowded, tooMany, linesVerdict, readVerdict, registers as registersIn}
 use Rattle.grammar.proofs.TableLaws.{room-most}
@@ -103,11 +103,11 @@ few-of text rows counts e F =
     let R = F .records e in
     let v = sym (F .verdict) ∙ e in
     let t = check-told Count (tooMany (linesOf text)) (first-right (linesVerdict (linesOf text)) _ v) in
-    let c = or-neither (crowded none (linesOf text)) (ltb 64 (registersIn (linesOf text))) t .0 in
+    let c = or-neither (crowded groupCount (linesOf text)) (ltb 64 (registersIn (linesOf text))) t .0 in
     record {
       head = rw (R .counted 0 (lit< tt)) (head-counted (linesOf text) (first-left (linesVerdict (linesOf text)) _ v));
       few = λ k h.
-          let a = not-crowded (linesOf text) none k c h in
+          let a = not-crowded (linesOf text) groupCount k c h in
           let b = room-most k h in
           let d = R .counted k h in
           omega arith;
@@ -116,7 +116,7 @@ few-of text rows counts e F =
 -- ---- what stands is what the program prints
 
 module _ (text rows counts : List ℕ) where
-  same-numbers : Records text rows counts → (k : ℕ) → k < none → numbersAt rows counts k ≡ numbersIn text k
+  same-numbers : Records text rows counts → (k : ℕ) → k < groupCount → numbersAt rows counts k ≡ numbersIn text k
   same-numbers R k h = ap (λ (n : ℕ). part (groupAt k .base) (groupAt k .width * n) rows) (R .counted k h) ∙ R .rows-are k h
 
   pub accepted : {v : Verdict} → v ≡ Fine → Finished text v rows counts → printedFor (numbersAt rows counts) Fine ≡ programText text

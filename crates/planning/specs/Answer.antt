@@ -5,7 +5,7 @@ use mathlib.Core.List.{List, _++_}
 use lib.ListN.{length, drop}
 use Rattle.refusals.specs.declared.Verdict.{Verdict}
 use Rattle.refusals.specs.declared.Verdict.the-variants.{Fine}
-use Rattle.grammar.specs.Groups.{none, rowNumbers}
+use Rattle.grammar.specs.Groups.{groupCount, rowNumbers}
 use Rattle.grammar.specs.Text.{readVerdict}
 use Rattle.text.specs.Read.{Records}
 use Rattle.planning.specs.Program.{programText}
@@ -20,7 +20,7 @@ pub record Read (v : Verdict) (rows counts : List ℕ) : Type 0 where
   pub text : List ℕ
   pub finished : Finished text v rows counts
   pub rows-length : length rows ≡ rowNumbers
-  pub counts-length : length counts ≡ none
+  pub counts-length : length counts ≡ groupCount
 
 -- room for any text that the program prints
 abbrev pub roomFor : ℕ

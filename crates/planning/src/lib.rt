@@ -5,7 +5,7 @@ ghost use lib.ListN.{length};
 ghost use Rattle.refusals.specs.declared.Verdict.the-variants.{Fine};
 ghost use Rattle.refusals.specs.Verdicts.{numberOf};
 ghost use Rattle.refusals.specs.Outcomes.{given};
-ghost use Rattle.grammar.specs.Groups.{rowNumbers, none};
+ghost use Rattle.grammar.specs.Groups.{rowNumbers, groupCount};
 ghost use Rattle.query_checks.specs.Checks.{sharedVerdict};
 ghost use Rattle.plan_text.specs.Printed.{printed, refusalText, writtenOf};
 ghost use Rattle.planning.specs.Program.{printedFor};
@@ -57,7 +57,7 @@ fn print(
 
 // The text of the records' plan, or of their refusal.
 fn plan(rows: &[u32], counts: &[u32], out: &mut [u8]) -> usize
-    requires { ⌜ (length (now rows) ≡ rowNumbers) × (length (now counts) ≡ none) × Few (now counts) × (roomFor ≤ length (now out)) ⌝ }
+    requires { ⌜ (length (now rows) ≡ rowNumbers) × (length (now counts) ≡ groupCount) × Few (now counts) × (roomFor ≤ length (now out)) ⌝ }
     ensures { λ n. ⌜ Stands (printedFor (numbersAt (now (rows .entry)) (now (counts .entry))) Fine) (now (out .entry)) n (now (out .exit)) ⌝ }
 {
     let mut cells = [0u32; 256];

@@ -1,7 +1,7 @@
 // What every program that takes a job's text does first: reads it from standard input.
 ghost use mathlib.Core.Path.{_≡_};
 ghost use lib.ListN.{length};
-ghost use Rattle.grammar.specs.Groups.{none, rowNumbers};
+ghost use Rattle.grammar.specs.Groups.{groupCount, rowNumbers};
 ghost use Rattle.planning.specs.Answer.{Read};
 use refusals::Verdict;
 use text::feed;
@@ -10,7 +10,7 @@ use text::start;
 
 // Reads all of standard input, a piece at a time.
 pub fn input(rows: &mut [u32], counts: &mut [u32]) -> Verdict
-    requires { ⌜ (length (now rows) ≡ rowNumbers) × (length (now counts) ≡ none) ⌝ }
+    requires { ⌜ (length (now rows) ≡ rowNumbers) × (length (now counts) ≡ groupCount) ⌝ }
     ensures { λ v. ⌜ Read v (now (rows .exit)) (now (counts .exit)) ⌝ }
 {
     let mut line = [0; 128];

@@ -3,7 +3,7 @@ use Prim.Native.Nat.{ℕ, _*_, _≤_, _<_}
 use mathlib.Core.List.{List}
 use lib.ListN.{getD}
 use Rattle.words.specs.Regions.{part}
-use Rattle.grammar.specs.Groups.{groupAt, none}
+use Rattle.grammar.specs.Groups.{groupAt, groupCount}
 use Rattle.job_answers.specs.declared.Shared.{Shared}
 use Rattle.job.specs.Entry.{SharedAs}
 
@@ -26,7 +26,7 @@ numbersAt rows counts k = part (groupAt k .base) (groupAt k .width * getD counts
 -- there is a head, and of each group no more than the program allows
 pub record Few (counts : List ℕ) : Type 0 where
   pub head : 0 < getD counts 0 0
-  pub few : (k : ℕ) → k < none → getD counts k 0 ≤ 64
+  pub few : (k : ℕ) → k < groupCount → getD counts k 0 ≤ 64
 
 -- what the whole job answers for the records of each group
 abbrev pub SharedFor : (ℕ → List ℕ) → List ℕ → List ℕ → List ℕ → List ℕ → Shared → List ℕ → List ℕ → List ℕ → List ℕ → Type 0

@@ -2,13 +2,13 @@
 ghost use mathlib.Core.Path.{_≡_};
 ghost use Prim.Native.Nat.{_+_, _*_, _≤_, _<_};
 ghost use lib.ListN.{length, getD};
-ghost use Rattle.grammar.specs.Groups.{rowNumbers, none};
+ghost use Rattle.grammar.specs.Groups.{rowNumbers, groupCount};
 ghost use Rattle.row_plans.specs.Groups.{numbersAt, Few, SharedFor};
 use job::Shared;
 
 // How many records of a group stand in the reader's list.
 pub fn held(counts: &[u32], group: usize) -> usize
-    requires { ⌜ (length (now counts) ≡ none) × Few (now counts) × (group < none) ⌝ }
+    requires { ⌜ (length (now counts) ≡ groupCount) × Few (now counts) × (group < groupCount) ⌝ }
     ensures { λ r. ⌜ (r ≡ getD (now (counts .entry)) group 0) × (r ≤ 64) ⌝ }
 {
     counts[group] as usize
@@ -16,7 +16,7 @@ pub fn held(counts: &[u32], group: usize) -> usize
 
 // Where a group's records end in the reader's list: they stand from `base` on, `width` numbers each.
 fn past(counts: &[u32], group: usize, base: usize, width: usize) -> usize
-    requires { ⌜ (length (now counts) ≡ none) × Few (now counts) × (group < none) × (base + 64 * width ≤ rowNumbers) ⌝ }
+    requires { ⌜ (length (now counts) ≡ groupCount) × Few (now counts) × (group < groupCount) × (base + 64 * width ≤ rowNumbers) ⌝ }
     ensures { λ r. ⌜ (r ≡ base + width * getD (now (counts .entry)) group 0) × (base ≤ r) × (r ≤ rowNumbers) ⌝ }
 {
     base + width * held(counts, group)
@@ -31,7 +31,7 @@ pub fn planned(
     areas: &mut [u32],
     work: &mut [u64],
 ) -> Shared
-    requires { ⌜ (length (now rows) ≡ rowNumbers) × (length (now counts) ≡ none) × Few (now counts) ⌝ }
+    requires { ⌜ (length (now rows) ≡ rowNumbers) × (length (now counts) ≡ groupCount) × Few (now counts) ⌝ }
     ensures { λ r. ⌜ SharedFor (numbersAt (now (rows .entry)) (now (counts .entry))) (now (cells .entry)) (now (items .entry)) (now (areas .entry)) (now (work .entry)) r
         (now (cells .exit)) (now (items .exit)) (now (areas .exit)) (now (work .exit)) ⌝ }
 {

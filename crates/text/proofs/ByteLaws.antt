@@ -16,7 +16,7 @@ use Rattle.refusals.specs.Verdicts.{scan}
 use Rattle.words.specs.Rows.{flat}
 use Rattle.words.specs.Regions.{part}
 use Rattle.words.proofs.Bools.{never}
-use Rattle.grammar.specs.Groups.{groupAt, none, rowNumbers}
+use Rattle.grammar.specs.Groups.{groupAt, groupCount, rowNumbers}
 use Rattle.grammar.specs.Text.{rowsIn}
 use Rattle.grammar.specs.Lines.{newline, onto, linesOf, groupOf, ended, body, formed, wellFormed, lineGroup}
 use Rattle.job_rows.specs.declared.Reader.{Reader}
@@ -64,11 +64,11 @@ unfolding unbroken
 unbroken-none = refl
 
 -- a line of more than 128 bytes has no group
-long-line : (l : List ℕ) → 128 < length l → lineGroup l ≡ none
+long-line : (l : List ℕ) → 128 < length l → lineGroup l ≡ groupCount
 unfolding lineGroup wellFormed
-long-line l h = ap (λ (t : Bool). cond (t && (ended l && formed (body l))) (groupOf (body l)) none) (lt-leb (length l) 128 h)
+long-line l h = ap (λ (t : Bool). cond (t && (ended l && formed (body l))) (groupOf (body l)) groupCount) (lt-leb (length l) 128 h)
 
-none-accepted : (r : Reader) (k : ℕ) → k ≡ none → accepts r k ≡ false
+none-accepted : (r : Reader) (k : ℕ) → k ≡ groupCount → accepts r k ≡ false
 none-accepted r k e = ap (accepts r) e ∙ go (not (r .bad))
   where
     go : (t : Bool) → (t && false) ≡ false
@@ -170,7 +170,7 @@ module _ {text line rows counts : List ℕ} {r : Reader} {n : ℕ} (d : Reading 
 
 -- ---- nothing is read yet
 
-none-stored : (rows counts : List ℕ) → ((k : ℕ) → k < none → getD counts k 0 ≡ 0) → Stored [] rows counts
+none-stored : (rows counts : List ℕ) → ((k : ℕ) → k < groupCount → getD counts k 0 ≡ 0) → Stored [] rows counts
 unfolding rowsIn flat
 none-stored rows counts z = record {
   fitting = λ k h. omega arith;
@@ -178,7 +178,7 @@ none-stored rows counts z = record {
   rows-are = λ k h. ap (λ (n : ℕ). part (groupAt k .base) n rows) (mul-zero (groupAt k .width));
 }
 
-pub reading-none : {line rows counts : List ℕ} {r : Reader} → length line ≡ 128 → length rows ≡ rowNumbers → length counts ≡ none → ((k : ℕ) → k < none → getD counts k 0 ≡ 0)
+pub reading-none : {line rows counts : List ℕ} {r : Reader} → length line ≡ 128 → length rows ≡ rowNumbers → length counts ≡ groupCount → ((k : ℕ) → k < groupCount → getD counts k 0 ≡ 0)
     → r .lines ≡ 0 → r .place ≡ 0 → r .bad ≡ false → r .full ≡ false → Reading [] r 0 line rows counts
 unfolding scan
 reading-none {line} {rows} {counts} {r} ll rl cl z rn rp rb rf = record {

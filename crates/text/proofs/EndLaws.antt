@@ -21,7 +21,7 @@ use Rattle.words.specs.Regions.{part}
 use Rattle.words.proofs.RegionLaws.{getD-part}
 use Rattle.words.proofs.Points.{cut}
 use Rattle.words.proofs.Bools.{or-right, never}
-use Rattle.grammar.specs.Groups.{groupAt, none, mayFollow}
+use Rattle.grammar.specs.Groups.{groupAt, groupCount, mayFollow}
 use Rattle.grammar.specs.Lines.{newline, linesOf, groupOf, ended, body, formed, wellFormed, lineGroup, lineFields}
 use Rattle.grammar.specs.Text.{placeBefore, malformed, badLine, linesVerdict, rowsIn, rowWith, operandsAfter, countOf, registers, crowded, tooMany, readVerdict}
 use Rattle.grammar.proofs.RowLaws.{group-fits, length-row}
@@ -92,9 +92,9 @@ none-over ls (suc n) f =
 head-entry : ℕ → Bool
 head-entry k = eqb k 0 || leb 1 (groupAt k .least)
 
-head-only : (k : ℕ) → k < none → mayFollow 0 k ≡ true → k ≡ 0
+head-only : (k : ℕ) → k < groupCount → mayFollow 0 k ≡ true → k ≡ 0
 unfolding head-entry
-head-only k h e = go (eqb k 0) refl (groupAt k .least) refl (at none head-entry tt k h) e
+head-only k h e = go (eqb k 0) refl (groupAt k .least) refl (at groupCount head-entry tt k h) e
   where
     go : (t : Bool) → eqb k 0 ≡ t → (m : ℕ) → groupAt k .least ≡ m → T (t || leb 1 m) → (leb m 0 && leb 0 (groupAt k .most)) ≡ true → k ≡ 0
     go true p m q x y = eqb-true k 0 p
@@ -143,16 +143,16 @@ not-newline (b ∷ s) e (suc i) h q = go (eqb b newline) e (λ u. not-newline s 
     go true e r = never e
     go false e r = r e
 
-open-line : (l : List ℕ) → unbroken l ≡ true → 0 < length l → lineGroup l ≡ none
+open-line : (l : List ℕ) → unbroken l ≡ true → 0 < length l → lineGroup l ≡ groupCount
 unfolding lineGroup wellFormed
-open-line l e h = ap (λ (t : Bool). cond t (groupOf (body l)) none) (go (leb (length l) 128))
+open-line l e h = ap (λ (t : Bool). cond t (groupOf (body l)) groupCount) (go (leb (length l) 128))
   where
     go : (t : Bool) → (t && (ended l && formed (body l))) ≡ false
     go true = ap (λ (x : Bool). x && formed (body l)) (ne-eqb (getD l (length l - 1) 0) newline (not-newline l e (length l - 1) (omega arith)))
     go false = refl
 
-none-malformed : (p : ℕ) (l : List ℕ) → lineGroup l ≡ none → malformed p l ≡ true
-none-malformed p l e = ap (λ (k : ℕ). not (ltb k none && mayFollow p k)) e
+none-malformed : (p : ℕ) (l : List ℕ) → lineGroup l ≡ groupCount → malformed p l ≡ true
+none-malformed p l e = ap (λ (k : ℕ). not (ltb k groupCount && mayFollow p k)) e
 
 -- ---- the answer
 
@@ -236,7 +236,7 @@ module _ {text line rows counts : List ℕ} {r : Reader} {n : ℕ} (d : Reading 
     pub end-full : r .full ≡ true → Bad Count 0 ≡ readVerdict text
     end-full f =
         let o = d .held .taken .over b f in
-        sym (counts-verdict ∙ ap (λ (t : Bool). check Count (t || ltb 64 (registers (d .done)))) (over-found (d .done) (o .group) none (o .known) (o .over)))
+        sym (counts-verdict ∙ ap (λ (t : Bool). check Count (t || ltb 64 (registers (d .done)))) (over-found (d .done) (o .group) groupCount (o .known) (o .over)))
 
     module _ (f : r .full ≡ false) where
       held : Stored (d .done) rows counts
@@ -244,7 +244,7 @@ module _ {text line rows counts : List ℕ} {r : Reader} {n : ℕ} (d : Reading 
 
       registers-verdict : readVerdict text ≡ check Count (ltb 64 (getD rows 1 0))
       registers-verdict =
-          counts-verdict ∙ ap (λ (t : Bool). check Count (t || ltb 64 (registers (d .done)))) (none-over (d .done) none (held .fitting))
+          counts-verdict ∙ ap (λ (t : Bool). check Count (t || ltb 64 (registers (d .done)))) (none-over (d .done) groupCount (held .fitting))
           ∙ ap (λ (v : ℕ). check Count (ltb 64 v)) (sym (registers-at (d .done) rows counts done-some (so-far false b) held))
 
       pub end-registers : 64 < getD rows 1 0 → Bad Count 0 ≡ readVerdict text

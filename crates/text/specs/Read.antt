@@ -9,7 +9,7 @@ use Rattle.refusals.specs.declared.Verdict.{Verdict}
 use Rattle.refusals.specs.declared.Verdict.the-variants.{Fine}
 use Rattle.words.specs.Rows.{flat}
 use Rattle.words.specs.Regions.{part}
-use Rattle.grammar.specs.Groups.{groupAt, none}
+use Rattle.grammar.specs.Groups.{groupAt, groupCount}
 use Rattle.grammar.specs.Lines.{newline, linesOf}
 use Rattle.grammar.specs.Text.{readVerdict, rowsIn, countOf}
 use Rattle.job_rows.specs.declared.Reader.{Reader}
@@ -44,8 +44,8 @@ pub record Ready (r : Reader) (n : ℕ) (line rows counts : List ℕ) (more : �
 
 -- what the reader's lists hold of an accepted text: how many records each group has, and its rows from the group's place on
 pub record Records (text rows counts : List ℕ) : Type 0 where
-  pub counted : (k : ℕ) → k < none → getD counts k 0 ≡ countOf k (linesOf text)
-  pub rows-are : (k : ℕ) → k < none → part (groupAt k .base) (groupAt k .width * countOf k (linesOf text)) rows ≡ flat (rowsIn k (linesOf text))
+  pub counted : (k : ℕ) → k < groupCount → getD counts k 0 ≡ countOf k (linesOf text)
+  pub rows-are : (k : ℕ) → k < groupCount → part (groupAt k .base) (groupAt k .width * countOf k (linesOf text)) rows ≡ flat (rowsIn k (linesOf text))
 
 -- a byte more is read, or a piece, whatever was read before
 pub record Feeds (piece : List ℕ) (r : Reader) (n : ℕ) (line fields rows counts : List ℕ) (r′ : Reader) (n′ : ℕ) (line′ fields′ rows′ counts′ : List ℕ) : Type 0 where

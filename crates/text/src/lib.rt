@@ -3,7 +3,7 @@ ghost use mathlib.Core.Path.{_≡_};
 ghost use mathlib.Core.List.{_∷_, []};
 ghost use Prim.Native.Nat.{_+_, _≤_, _<_};
 ghost use lib.ListN.{length};
-ghost use Rattle.grammar.specs.Groups.{none, rowNumbers};
+ghost use Rattle.grammar.specs.Groups.{groupCount, rowNumbers};
 ghost use Rattle.text.specs.Read.{Reading, Ready, Feeds, Finishes, TextRead};
 use job_rows::Reader;
 use job_rows::malformed;
@@ -22,7 +22,7 @@ pub struct State {
 
 // Nothing is read yet.
 pub fn start(line: &mut [u8], rows: &mut [u32], counts: &mut [u32]) -> State
-    requires { ⌜ (length (now line) ≡ 128) × (length (now rows) ≡ rowNumbers) × (length (now counts) ≡ none) ⌝ }
+    requires { ⌜ (length (now line) ≡ 128) × (length (now rows) ≡ rowNumbers) × (length (now counts) ≡ groupCount) ⌝ }
     ensures { λ s. ⌜ Reading [] (s .reader) (s .len) (now (line .exit)) (now (rows .exit)) (now (counts .exit)) ⌝ }
 {
     let mut k = 0;
@@ -126,7 +126,7 @@ pub fn finish(s: State, rows: &[u32]) -> Verdict
 // Reads a whole text into rows and counts. Refuses the first malformed line (11), and more records than there are rows or more than 64
 // numbered registers (1).
 pub fn read_text(text: &[u8], rows: &mut [u32], counts: &mut [u32]) -> Verdict
-    requires { ⌜ (length (now rows) ≡ rowNumbers) × (length (now counts) ≡ none) ⌝ }
+    requires { ⌜ (length (now rows) ≡ rowNumbers) × (length (now counts) ≡ groupCount) ⌝ }
     ensures { λ v. ⌜ TextRead (now (text .entry)) v (now (rows .entry)) (now (counts .entry)) (now (rows .exit)) (now (counts .exit)) ⌝ }
 {
     let mut line = [0; 128];

@@ -3,7 +3,7 @@
 ghost use Prim.Native.Nat.{_≤_, _<_};
 ghost use mathlib.Core.Path.{_≡_};
 ghost use lib.ListN.{length};
-ghost use Rattle.grammar.specs.Groups.{none, rowNumbers};
+ghost use Rattle.grammar.specs.Groups.{groupCount, rowNumbers};
 use plan_text::Written;
 use refusals::Refusal;
 use refusals::Verdict;
@@ -143,7 +143,7 @@ fn piece_end(from: usize, len: usize) -> usize
 
 // A text, seven bytes at a time.
 fn pieces(text: &[u8], rows: &mut [u32], counts: &mut [u32]) -> Verdict
-    requires { ⌜ (length (now rows) ≡ rowNumbers) × (length (now counts) ≡ none) ⌝ }
+    requires { ⌜ (length (now rows) ≡ rowNumbers) × (length (now counts) ≡ groupCount) ⌝ }
 {
     let mut line = [0; 128];
     let mut fields = [0; 7];
