@@ -12,12 +12,12 @@ use Rattle.refusals.specs.declared.Verdict.{Verdict}
 use Rattle.refusals.specs.declared.Verdict.the-variants.{Fine, Bad}
 use Rattle.refusals.specs.declared.Refusal.{Refusal}
 use Rattle.refusals.specs.declared.Refusal.the-variants.{Count, Space, Want}
-use Rattle.refusals.specs.Verdicts.{first, scan, countedOn}
-use Rattle.refusals.proofs.Laws.{first-fine, first-bad, three-first, three-second, three-third}
+use Rattle.refusals.specs.Verdicts.{first, inOrder, scan, check, countedOn}
+use Rattle.refusals.proofs.Laws.{first-fine, first-bad, check-bad, check-fine, check-last, three-second, three-third}
 use Rattle.ranges.specs.declared.Range.{Range}
 use Rattle.ranges.specs.Points.{range}
 use Rattle.ranges.specs.Lent.{listVerdict}
-use Rattle.range_checks.specs.Verdicts.{uneven, badList, pairVerdict, entryVerdict}
+use Rattle.range_checks.specs.Verdicts.{uneven, badList, pairVerdict}
 
 -- a list that is no bad one has columns of one length
 pub even-list : (ss es : List ℕ) → badList ss es ≡ false → length ss ≡ length es
@@ -64,15 +64,16 @@ pair-new-fine rs s e f l = ap (countedOn (length rs)) (sym (single-fine s e l)) 
 
 -- ---- the entries
 
-module _ (c t : Bool) (v : Verdict) where
-  pub entry-count : c ≡ true → Bad Count 0 ≡ entryVerdict c t v
-  unfolding entryVerdict
-  entry-count e = three-first Count Space c t v e
+pub entry-count : (c : Bool) (vs : List Verdict) → c ≡ true → Bad Count 0 ≡ inOrder (check Count c ∷ vs)
+entry-count c vs e = sym (check-bad Count c vs e)
 
-  pub entry-space : c ≡ false → t ≡ true → Bad Space 0 ≡ entryVerdict c t v
-  unfolding entryVerdict
+module _ (c t : Bool) (v : Verdict) where
+  pub entry-space : c ≡ false → t ≡ true → Bad Space 0 ≡ inOrder (check Count c ∷ check Space t ∷ v ∷ [])
   entry-space e d = three-second Count Space c t v e d
 
-  pub entry-lists : c ≡ false → t ≡ false → v ≡ entryVerdict c t v
-  unfolding entryVerdict
+  pub entry-lists : c ≡ false → t ≡ false → v ≡ inOrder (check Count c ∷ check Space t ∷ v ∷ [])
   entry-lists e d = three-third Count Space c t v e d
+
+-- without an answer list
+pub test-lists : (c : Bool) (v : Verdict) → c ≡ false → v ≡ inOrder (check Count c ∷ v ∷ [])
+test-lists c v e = sym (check-fine Count c (v ∷ []) e ∙ check-last v)

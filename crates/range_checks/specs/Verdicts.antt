@@ -22,22 +22,30 @@ badList ss es = uneven (length ss) (length es) || ltb 65536 (length ss)
 unfoldable pub pairVerdict : Bool → List Range → List Range → Verdict
 pairVerdict ordered rs ss = first (listVerdict ordered rs) (countedOn (length rs) (listVerdict ordered ss))
 
--- numbers 1, 7 and 10, in this order
-unfoldable pub entryVerdict : Bool → Bool → Verdict → Verdict
-entryVerdict count space lists = inOrder (check Count count ∷ check Space space ∷ lists ∷ [])
-
--- of each entry, by the lent columns and the lengths of the answer's two columns: "a range answer under the ranges lent"
-abbrev pub mergedVerdict : List ℕ → List ℕ → ℕ → ℕ → Verdict
-mergedVerdict ss es n m = entryVerdict (badList ss es || uneven n m) (ltb n (length ss)) (listVerdict false (columns ss es))
+-- the checks of each entry, by the lent columns and the lengths of the answer's two columns: numbers 1, 7 ("a range answer under the ranges lent") and 10, in this order
+abbrev pub mergedChecks : List ℕ → List ℕ → ℕ → ℕ → List Verdict
+mergedChecks ss es n m = check Count (badList ss es || uneven n m) ∷ check Space (ltb n (length ss)) ∷ listVerdict false (columns ss es) ∷ []
 
 -- the list is counted first, then the new range
-abbrev pub joinedVerdict : List ℕ → List ℕ → Range → ℕ → ℕ → Verdict
-joinedVerdict ss es r n m = entryVerdict (badList ss es || uneven n m) (ltb n (length ss + 1)) (pairVerdict false (columns ss es) (r ∷ []))
+abbrev pub joinedChecks : List ℕ → List ℕ → Range → ℕ → ℕ → List Verdict
+joinedChecks ss es r n m = check Count (badList ss es || uneven n m) ∷ check Space (ltb n (length ss + 1)) ∷ pairVerdict false (columns ss es) (r ∷ []) ∷ []
 
-abbrev pub unionVerdict : List ℕ → List ℕ → List ℕ → List ℕ → ℕ → ℕ → Verdict
-unionVerdict ss es ts fs n m =
-    entryVerdict (badList ss es || (badList ts fs || uneven n m)) (ltb n (length ss + length ts)) (pairVerdict true (columns ss es) (columns ts fs))
+abbrev pub unionChecks : List ℕ → List ℕ → List ℕ → List ℕ → ℕ → ℕ → List Verdict
+unionChecks ss es ts fs n m =
+    check Count (badList ss es || (badList ts fs || uneven n m)) ∷ check Space (ltb n (length ss + length ts)) ∷ pairVerdict true (columns ss es) (columns ts fs) ∷ []
 
 -- it has no answer list
+abbrev pub clashesChecks : List ℕ → List ℕ → List ℕ → List ℕ → List Verdict
+clashesChecks ss es ts fs = check Count (badList ss es || badList ts fs) ∷ pairVerdict true (columns ss es) (columns ts fs) ∷ []
+
+abbrev pub mergedVerdict : List ℕ → List ℕ → ℕ → ℕ → Verdict
+mergedVerdict ss es n m = inOrder (mergedChecks ss es n m)
+
+abbrev pub joinedVerdict : List ℕ → List ℕ → Range → ℕ → ℕ → Verdict
+joinedVerdict ss es r n m = inOrder (joinedChecks ss es r n m)
+
+abbrev pub unionVerdict : List ℕ → List ℕ → List ℕ → List ℕ → ℕ → ℕ → Verdict
+unionVerdict ss es ts fs n m = inOrder (unionChecks ss es ts fs n m)
+
 abbrev pub clashesVerdict : List ℕ → List ℕ → List ℕ → List ℕ → Verdict
-clashesVerdict ss es ts fs = entryVerdict (badList ss es || badList ts fs) false (pairVerdict true (columns ss es) (columns ts fs))
+clashesVerdict ss es ts fs = inOrder (clashesChecks ss es ts fs)

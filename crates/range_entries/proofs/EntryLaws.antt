@@ -5,6 +5,7 @@ use mathlib.Core.List.{List, [], _∷_}
 use Prim.Native.Nat.{ℕ, _+_, _≤_}
 use native.Mathlib.Omega.{arith}
 use lib.ListN.{length}
+use lib.Dec.{ltb}
 use borrow.Author.Tests.{ltb-false, eqb-true, not-false}
 use Rattle.words.proofs.Bools.{or-neither}
 use Rattle.refusals.specs.declared.Verdict.{Verdict}
@@ -19,7 +20,8 @@ use Rattle.range_entries.specs.declared.Counted.the-variants.{Ranges, Re
 use Rattle.range_entries.specs.declared.Clash.the-variants.{Is, Refused as ClashRefused}
 use Rattle.ranges.specs.Points.{Apart}
 use Rattle.ranges.specs.Forms.{columns}
-use Rattle.range_checks.specs.Verdicts.{uneven, badList, pairVerdict, entryVerdict, mergedVerdict, joinedVerdict, unionVerdict, clashesVerdict}
+use Rattle.ranges.specs.Lent.{listVerdict}
+use Rattle.range_checks.specs.Verdicts.{uneven, badList, pairVerdict, mergedVerdict, joinedVerdict, unionVerdict, clashesVerdict}
 use Rattle.range_entries.specs.Entries.{clashing, Listed}
 use Rattle.ranges.specs.Inner.{Listing}
 use Rattle.ranges.proofs.LentLaws.{fine-apart}
@@ -29,22 +31,21 @@ use Rattle.columns.proofs.ColumnLaws.{starts-are, ends-are}
 
 -- ---- a fine verdict
 
-module _ (c t : Bool) (v : Verdict) (e : entryVerdict c t v ≡ Fine) where
-  rest : inOrder (check Space t ∷ v ∷ []) ≡ Fine
-  unfolding entryVerdict inOrder
-  rest = first-right _ _ e
+-- what each check says: with an answer list, and without
+record Told (c t : Bool) (v : Verdict) : Type 0 where
+  count : c ≡ false
+  space : t ≡ false
+  lists : v ≡ Fine
 
-  pub count-fine : c ≡ false
-  unfolding entryVerdict inOrder
-  count-fine = check-told Count c (first-left _ _ e)
+told : (c t : Bool) (v : Verdict) → inOrder (check Count c ∷ check Space t ∷ v ∷ []) ≡ Fine → Told c t v
+unfolding inOrder
+told c t v e =
+    let rest = first-right (check Count c) _ e in
+    record { count = check-told Count c (first-left _ _ e); space = check-told Space t (first-left _ _ rest); lists = first-left v _ (first-right (check Space t) _ rest) }
 
-  pub space-fine : t ≡ false
-  unfolding inOrder
-  space-fine = check-told Space t (first-left _ _ rest)
-
-  pub lists-fine : v ≡ Fine
-  unfolding inOrder
-  lists-fine = first-left _ _ (first-right _ _ rest)
+test-told : (c : Bool) (v : Verdict) → inOrder (check Count c ∷ v ∷ []) ≡ Fine → (c ≡ false) × (v ≡ Fine)
+unfolding inOrder
+test-told c v e = (check-told Count c (first-left _ _ e), first-left v _ (first-right (check Count c) _ e))
 
 counted-fine : (n : ℕ) (v : Verdict) → countedOn n v ≡ Fine → v ≡ Fine
 counted-fine n Fine e = refl
@@ -70,13 +71,15 @@ pub record Columns (ss es : List ℕ) (need : ℕ) (n m : ℕ) : Type 0 where
 
 pub merged-fine : (ss es : List ℕ) (n m : ℕ) → mergedVerdict ss es n m ≡ Fine → Columns ss es (length ss) n m
 merged-fine ss es n m e =
-    let c = or-neither (badList ss es) (uneven n m) (count-fine _ _ _ e) in
-    record { even = even-list ss es (c .0); small = small-list ss es (c .0); answer = even-fine n m (c .1); room = ltb-false n (length ss) (space-fine _ _ _ e) }
+    let t = told (badList ss es || uneven n m) (ltb n (length ss)) (listVerdict false (columns ss es)) e in
+    let c = or-neither (badList ss es) (uneven n m) (t .count) in
+    record { even = even-list ss es (c .0); small = small-list ss es (c .0); answer = even-fine n m (c .1); room = ltb-false n (length ss) (t .space) }
 
 pub joined-fine : (ss es : List ℕ) (r : Range) (n m : ℕ) → joinedVerdict ss es r n m ≡ Fine → Columns ss es (length ss + 1) n m
 joined-fine ss es r n m e =
-    let c = or-neither (badList ss es) (uneven n m) (count-fine _ _ _ e) in
-    record { even = even-list ss es (c .0); small = small-list ss es (c .0); answer = even-fine n m (c .1); room = ltb-false n (length ss + 1) (space-fine _ _ _ e) }
+    let t = told (badList ss es || uneven n m) (ltb n (length ss + 1)) (pairVerdict false (columns ss es) (r ∷ [])) e in
+    let c = or-neither (badList ss es) (uneven n m) (t .count) in
+    record { even = even-list ss es (c .0); small = small-list ss es (c .0); answer = even-fine n m (c .1); room = ltb-false n (length ss + 1) (t .space) }
 
 pub record Pair (ss es ts fs : List ℕ) : Type 0 where
   pub even : length ss ≡ length es
@@ -84,18 +87,24 @@ pub record Pair (ss es ts fs : List ℕ) : Type 0 where
   pub one : Apart (columns ss es)
   pub two : Apart (columns ts fs)
 
+pair-fine : (ss es ts fs : List ℕ) → badList ss es ≡ false → badList ts fs ≡ false → pairVerdict true (columns ss es) (columns ts fs) ≡ Fine → Pair ss es ts fs
+pair-fine ss es ts fs a b e =
+    record { even = even-list ss es a; even-two = even-list ts fs b; one = pair-apart-one (columns ss es) (columns ts fs) e; two = pair-apart-two (columns ss es) (columns ts fs) e }
+
 pub union-fine : (ss es ts fs : List ℕ) (n m : ℕ) → unionVerdict ss es ts fs n m ≡ Fine → Columns ss es (length ss + length ts) n m × Pair ss es ts fs
 union-fine ss es ts fs n m e =
-    let c = or-neither (badList ss es) (badList ts fs || uneven n m) (count-fine _ _ _ e) in
+    let t = told (badList ss es || (badList ts fs || uneven n m)) (ltb n (length ss + length ts)) (pairVerdict true (columns ss es) (columns ts fs)) e in
+    let c = or-neither (badList ss es) (badList ts fs || uneven n m) (t .count) in
     let d = or-neither (badList ts fs) (uneven n m) (c .1) in (
-      record { even = even-list ss es (c .0); small = small-list ss es (c .0); answer = even-fine n m (d .1); room = ltb-false n (length ss + length ts) (space-fine _ _ _ e) },
-      record { even = even-list ss es (c .0); even-two = even-list ts fs (d .0); one = pair-apart-one _ _ (lists-fine _ _ _ e); two = pair-apart-two _ _ (lists-fine _ _ _ e) },
+      record { even = even-list ss es (c .0); small = small-list ss es (c .0); answer = even-fine n m (d .1); room = ltb-false n (length ss + length ts) (t .space) },
+      pair-fine ss es ts fs (c .0) (d .0) (t .lists),
     )
 
 pub clashes-fine : (ss es ts fs : List ℕ) → clashesVerdict ss es ts fs ≡ Fine → Pair ss es ts fs
 clashes-fine ss es ts fs e =
-    let c = or-neither (badList ss es) (badList ts fs) (count-fine _ _ _ e) in
-    record { even = even-list ss es (c .0); even-two = even-list ts fs (c .1); one = pair-apart-one _ _ (lists-fine _ _ _ e); two = pair-apart-two _ _ (lists-fine _ _ _ e) }
+    let t = test-told (badList ss es || badList ts fs) (pairVerdict true (columns ss es) (columns ts fs)) e in
+    let c = or-neither (badList ss es) (badList ts fs) (t .0) in
+    pair-fine ss es ts fs (c .0) (c .1) (t .1)
 
 -- ---- what the answer lists hold
 

@@ -10,12 +10,14 @@ use borrow.Author.Tests.{lt-ltb, le-ltb, eq-eqb}
 use Rattle.words.proofs.Points.{stored, cut}
 use Rattle.words.proofs.Bools.{or-right, or-left}
 use Rattle.refusals.specs.declared.Verdict.{Verdict}
+use Rattle.refusals.specs.declared.Refusal.the-variants.{Count}
+use Rattle.refusals.specs.Verdicts.{inOrder, check}
 use Rattle.refusals.specs.Outcomes.{Outcome, refused, unless}
 use Rattle.ranges.specs.declared.Range.{Range}
 use Rattle.ranges.specs.Points.{rangeAt}
 use Rattle.ranges.specs.Forms.{starts, ends, columns}
 use Rattle.ranges.specs.Merged.{clashes}
-use Rattle.range_checks.specs.Verdicts.{badList, pairVerdict, entryVerdict}
+use Rattle.range_checks.specs.Verdicts.{badList, pairVerdict}
 use Rattle.range_checks.proofs.VerdictLaws.{entry-count}
 use Rattle.range_entries.specs.Entries.{clashesOf as columnsClash}
 use Rattle.range_forms.specs.Lent.{overLimit, clashesOf}
@@ -56,8 +58,8 @@ unfolding Filled
 column-is t rs c len l f = taken t rs c (omega arith) (λ i h. f i (subst (λ (k : ℕ). i < k) (sym (min-eq-left l)) h))
 
 -- a list over the limit
-counted-out : (c d : Bool) (v : Verdict) → c ≡ true → refused 1 0 ≡ unless (entryVerdict c false v) d
-counted-out c d v h = ap (λ (w : Verdict). unless w d) (entry-count c false v h)
+counted-out : (c d : Bool) (v : Verdict) → c ≡ true → refused 1 0 ≡ unless (inOrder (check Count c ∷ v ∷ [])) d
+counted-out c d v h = ap (λ (w : Verdict). unless w d) (entry-count c (v ∷ []) h)
 
 -- the columns of a list are the list
 columns-again : (rs : List Range) → columns (starts rs) (ends rs) ≡ rs
@@ -75,7 +77,7 @@ module _ (rs ss : List Range) where
   two = columns (starts ss) (ends ss)
 
   abbrev answer : Bool → Bool → List Range → List Range → Outcome Bool
-  answer x y r s = unless (entryVerdict (x || y) false (pairVerdict true r s)) (clashes r s)
+  answer x y r s = unless (inOrder (check Count (x || y) ∷ pairVerdict true r s ∷ [])) (clashes r s)
 
   by-columns : columnsClash (starts rs) (ends rs) (starts ss) (ends ss) ≡ clashesOf rs ss
   unfolding clashesOf

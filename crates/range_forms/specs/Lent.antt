@@ -4,12 +4,13 @@ use mathlib.Core.Bool.{Bool, true, false, _||_}
 use mathlib.Core.List.{List, [], _∷_}
 use lib.ListN.{length}
 use lib.Dec.{eqb, ltb}
-use Rattle.refusals.specs.Verdicts.{numberOf}
+use Rattle.refusals.specs.declared.Refusal.the-variants.{Count}
+use Rattle.refusals.specs.Verdicts.{numberOf, inOrder, check}
 use Rattle.refusals.specs.Outcomes.{Outcome, given, refused, unless}
 use Rattle.ranges.specs.declared.Range.{Range}
 use Rattle.ranges.specs.Points.{rangeAt}
 use Rattle.ranges.specs.Merged.{joined, clashes}
-use Rattle.range_checks.specs.Verdicts.{pairVerdict, entryVerdict}
+use Rattle.range_checks.specs.Verdicts.{pairVerdict}
 use Rattle.range_forms.specs.declared.TakenUp.{TakenUp}
 use Rattle.range_forms.specs.declared.TakenUp.the-variants.{Is, Refused}
 
@@ -43,4 +44,4 @@ overLimit rs = ltb 65536 (length rs)
 
 -- "a thin entry that reads two lent lists of ranges": `clashes` of the two lists, refused as over columns
 unfoldable pub clashesOf : List Range → List Range → Outcome Bool
-clashesOf rs ss = unless (entryVerdict (overLimit rs || overLimit ss) false (pairVerdict true rs ss)) (clashes rs ss)
+clashesOf rs ss = unless (inOrder (check Count (overLimit rs || overLimit ss) ∷ pairVerdict true rs ss ∷ [])) (clashes rs ss)

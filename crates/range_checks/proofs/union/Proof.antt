@@ -17,7 +17,7 @@ bad-list-requires c κs = tt
 returns : tie.Need-returns
 returns c =
     let a = (c .before .before .before .before .before .before .args) in
-    entry-count _ _ _ (or-left (badList (now (a .start)) (now (a .end))) (badList (now (a .other-start)) (now (a .other-end)) || uneven (a .n) (a .m)) (sym ((c .before .bad-list) .ensures) ∙ (c .if1) .taken))
+    entry-count _ _ (or-left (badList (now (a .start)) (now (a .end))) (badList (now (a .other-start)) (now (a .other-end)) || uneven (a .n) (a .m)) (sym ((c .before .bad-list) .ensures) ∙ (c .if1) .taken))
 
 bad-list-requires-2 : tie.Need-bad-list-requires-2
 bad-list-requires-2 c κs = tt
@@ -25,12 +25,12 @@ bad-list-requires-2 c κs = tt
 returns-2 : tie.Need-returns-2
 returns-2 c =
     let a = (c .before .before .before .before .before .before .before .before .args) in
-    entry-count _ _ _ (or-right (badList (now (a .start)) (now (a .end))) (badList (now (a .other-start)) (now (a .other-end)) || uneven (a .n) (a .m)) (or-left (badList (now (a .other-start)) (now (a .other-end))) (uneven (a .n) (a .m)) (sym ((c .before .bad-list2) .ensures) ∙ (c .if2) .taken)))
+    entry-count _ _ (or-right (badList (now (a .start)) (now (a .end))) (badList (now (a .other-start)) (now (a .other-end)) || uneven (a .n) (a .m)) (or-left (badList (now (a .other-start)) (now (a .other-end))) (uneven (a .n) (a .m)) (sym ((c .before .bad-list2) .ensures) ∙ (c .if2) .taken)))
 
 returns-3 : tie.Need-returns-3
 returns-3 c =
     let a = (c .before .before .before .before .before .before .before .before .before .args) in
-    entry-count _ _ _ (or-right (badList (now (a .start)) (now (a .end))) (badList (now (a .other-start)) (now (a .other-end)) || uneven (a .n) (a .m)) (or-right (badList (now (a .other-start)) (now (a .other-end))) (uneven (a .n) (a .m)) (uneven-true (a .n) (a .m) ((c .if3) .taken))))
+    entry-count _ _ (or-right (badList (now (a .start)) (now (a .end))) (badList (now (a .other-start)) (now (a .other-end)) || uneven (a .n) (a .m)) (or-right (badList (now (a .other-start)) (now (a .other-end))) (uneven (a .n) (a .m)) (uneven-true (a .n) (a .m) ((c .if3) .taken))))
 
 add-if4 : tie.Need-add-if4
 add-if4 c = omega arith
