@@ -1,17 +1,19 @@
 -- The entry `moved`: what a verdict without refusal says, and its two ways out.
-use Prim.Native.Nat.{ℕ, _+_, _-_, _*_, _/_, _≤_, _<_}
+use Prim.Native.Nat.{ℕ, _+_, _-_, _*_, _/_, _%_, _≤_}
 use native.Mathlib.Omega.{arith}
 use mathlib.Core.Path.{_≡_, refl, sym, ap, _∙_}
-use mathlib.Core.List.{List, [], _++_}
+use mathlib.Core.Bool.{not}
+use mathlib.Core.List.{List, [], _∷_, _++_}
 use lib.ListN.{length, drop, replicate, length-replicate}
-use borrow.Author.Tests.{lt-ltb, le-ltb}
+use lib.Dec.{eqb}
+use borrow.Author.Tests.{eq-eqb, ne-eqb}
 use Rattle.refusals.specs.declared.Verdict.{Verdict}
 use Rattle.refusals.specs.declared.Verdict.the-variants.{Fine, Bad}
 use Rattle.refusals.specs.declared.Refusal.{Refusal}
-use Rattle.refusals.specs.declared.Refusal.the-variants.{Space}
-use Rattle.refusals.specs.Verdicts.{first}
+use Rattle.refusals.specs.declared.Refusal.the-variants.{Count}
+use Rattle.refusals.specs.Verdicts.{first, inOrder, check}
 use Rattle.refusals.specs.Outcomes.{given}
-use Rattle.refusals.proofs.Laws.{first-fine, first-bad, first-left, first-right, bad-fine}
+use Rattle.refusals.proofs.Laws.{first-fine, first-bad, first-left, first-right, first-assoc, bad-fine, check-last}
 use Rattle.words.specs.Rows.{rowCount}
 use Rattle.words.specs.Regions.{cleared}
 use Rattle.words.proofs.Points.{cut}
@@ -25,6 +27,7 @@ use Rattle.carrying.specs.Checks.{instVerdict}
 use Rattle.insts.specs.Counts.{rowsVerdict, mostVerdict, blockCounts, instCounts}
 use Rattle.insts.specs.Rows.{AddsUp}
 use Rattle.insts.proofs.CheckLaws.{most-few, rows-few, blocks-few, blocks-some, insts-counted}
+use Rattle.rooms.proofs.RoomLaws.{room-answer, room-work}
 use Rattle.areas.specs.Slots.{movesOf, moved, moveVerdict}
 use Rattle.spill_checks.specs.declared.Answer.the-variants.{Given, Refused}
 use Rattle.moved_ranges.specs.Moved.{rowsOf, Wrote, movedCounts, movedSpace, movedRoom, movedVerdict, movedOf, MovedTo}
@@ -33,20 +36,19 @@ use Rattle.spill_checks.proofs.OperandLaws.{moves-whatever, moved-whatever}
 
 -- ---- the checks
 
-pub space-answer : (lent moves work words : ℕ) → lent < 4 * moves → Bad Space 0 ≡ movedRoom lent moves work words
-space-answer lent moves work words h = simp (lt-ltb lent (4 * moves) h)
+-- an answer list that is no whole rows
+module _ (lent : ℕ) where
+  pub odd-rows : (lent % 2 ≡ 0 → ⊥) → Bad Count 0 ≡ check Count (not (eqb (lent % 2) 0))
+  odd-rows d = simp (ne-eqb (lent % 2) 0 d)
 
-pub space-work : (lent moves work words : ℕ) → 4 * moves ≤ lent → work < words → Bad Space 0 ≡ movedRoom lent moves work words
-space-work lent moves work words h l = simp (le-ltb lent (4 * moves) h, lt-ltb work words l)
+  pub whole-rows : lent % 2 ≡ 0 → Fine ≡ check Count (not (eqb (lent % 2) 0))
+  whole-rows e = simp (eq-eqb (lent % 2) 0 e)
 
-pub space-fine : (lent moves work words : ℕ) → 4 * moves ≤ lent → words ≤ work → Fine ≡ movedRoom lent moves work words
-space-fine lent moves work words h l = simp (le-ltb lent (4 * moves) h, le-ltb work words l)
-
-module _ (v : ℕ) (blocks insts operands moves : List ℕ) where
-  pub counts-chain : {a b c d e f r : Verdict} → a ≡ mostVerdict 65535 v → b ≡ blockCounts blocks → c ≡ instCounts insts operands → d ≡ rowsVerdict 4 65536 (length moves)
-      → e ≡ first c d → f ≡ first b e → r ≡ first a f → r ≡ movedCounts v blocks insts operands moves
+module _ (v : ℕ) (blocks insts operands moves : List ℕ) (lent : ℕ) where
+  pub counts-chain : {a b c d e f g h r : Verdict} → a ≡ mostVerdict 65535 v → b ≡ blockCounts blocks → c ≡ instCounts insts operands → d ≡ rowsVerdict 4 65536 (length moves)
+      → e ≡ check Count (not (eqb (lent % 2) 0)) → f ≡ first d e → g ≡ first c f → h ≡ first b g → r ≡ first a h → r ≡ movedCounts v blocks insts operands moves lent
   unfolding movedCounts
-  counts-chain ea eb ec ed ee ef er = cc
+  counts-chain ea eb ec ed ee ef eg eh er = cc
 
   pub record Counted : Type 0 where
     pub registers : v ≤ 65535
@@ -57,7 +59,7 @@ module _ (v : ℕ) (blocks insts operands moves : List ℕ) where
     pub few-moves : length moves / 4 ≤ 65536
     pub adds : AddsUp insts operands
 
-  pub counted : movedCounts v blocks insts operands moves ≡ Fine → Counted
+  pub counted : movedCounts v blocks insts operands moves lent ≡ Fine → Counted
   unfolding movedCounts
   counted e =
       let a = first-left (mostVerdict 65535 v) _ e in
@@ -71,57 +73,64 @@ module _ (v : ℕ) (blocks insts operands moves : List ℕ) where
         few = blocks-few blocks c;
         few-insts = i .few;
         few-operands = i .few-operands;
-        few-moves = rows-few 4 65536 (length moves) (first-right (instCounts insts operands) _ d);
+        few-moves = rows-few 4 65536 (length moves) (first-left _ _ (first-right (instCounts insts operands) _ d));
         adds = i .adds;
       }
+
+-- the checks in the order in which the code joins them
+joined : (c l i m r : Verdict) → inOrder (c ∷ l ∷ i ∷ m ∷ r ∷ []) ≡ first c (first (first l i) (first m r))
+unfolding inOrder
+joined c l i m r = ap (first c) (ap (λ (x : Verdict). first l (first i (first m x))) (check-last r) ∙ sym (first-assoc l i (first m r)))
 
 module _ (points v : ℕ) (blocks insts operands moves : List ℕ) (lent work : ℕ) where
   abbrev Located : Verdict
   Located = first (lineVerdict (blocksOf blocks) points) (instVerdict (blocksOf blocks) v (instsOf insts operands))
 
-  pub by-counts : (r : Refusal) (i : ℕ) → movedCounts v blocks insts operands moves ≡ Bad r i → Bad r i ≡ movedVerdict points v blocks insts operands moves lent work
+  all-checks : movedVerdict points v blocks insts operands moves lent work
+      ≡ first (movedCounts v blocks insts operands moves lent) (first Located (first (moveVerdict (blocksOf blocks) (instsOf insts operands) (movesOf moves))
+      (movedRoom lent (rowCount 4 moves) work (movedSpace v blocks insts operands moves))))
   unfolding movedVerdict
-  by-counts r i e = sym (first-bad _ _ r i e)
+  all-checks = joined _ _ _ _ _
 
-  pub by-place : (r : Refusal) (i : ℕ) → movedCounts v blocks insts operands moves ≡ Fine → Located ≡ Bad r i → Bad r i ≡ movedVerdict points v blocks insts operands moves lent work
-  unfolding movedVerdict
-  by-place r i e f = sym (first-fine _ _ e ∙ first-bad _ _ r i f)
+  pub by-counts : (r : Refusal) (i : ℕ) → movedCounts v blocks insts operands moves lent ≡ Bad r i → Bad r i ≡ movedVerdict points v blocks insts operands moves lent work
+  by-counts r i e = sym (all-checks ∙ first-bad _ _ r i e)
 
-  pub by-moves : {a b r : Verdict} → movedCounts v blocks insts operands moves ≡ Fine → Located ≡ Fine
-      → a ≡ moveVerdict (blocksOf blocks) (instsOf insts []) (movesOf moves) → b ≡ movedRoom lent (rowCount 4 moves) work (movedSpace blocks insts operands moves)
+  pub by-place : (r : Refusal) (i : ℕ) → movedCounts v blocks insts operands moves lent ≡ Fine → Located ≡ Bad r i → Bad r i ≡ movedVerdict points v blocks insts operands moves lent work
+  by-place r i e f = sym (all-checks ∙ first-fine _ _ e ∙ first-bad _ _ r i f)
+
+  pub by-moves : {a b r : Verdict} → movedCounts v blocks insts operands moves lent ≡ Fine → Located ≡ Fine
+      → a ≡ moveVerdict (blocksOf blocks) (instsOf insts []) (movesOf moves) → b ≡ movedRoom lent (rowCount 4 moves) work (movedSpace v blocks insts operands moves)
       → r ≡ first a b → r ≡ movedVerdict points v blocks insts operands moves lent work
-  unfolding movedVerdict
   by-moves {a} {b} {r} e f p q z =
       z ∙ ap (λ (x : Verdict). first x b) (p ∙ moves-whatever (blocksOf blocks) insts operands moves)
       ∙ ap (first (moveVerdict (blocksOf blocks) (instsOf insts operands) (movesOf moves))) q
-      ∙ sym (first-fine _ _ e ∙ first-fine _ _ f)
+      ∙ sym (all-checks ∙ first-fine _ _ e ∙ first-fine _ _ f)
 
   -- what no refusal says
   pub record Fit : Type 0 where
-    pub counts : Counted v blocks insts operands moves
+    pub counts : Counted v blocks insts operands moves lent
     pub sound : Sound (blocksOf blocks)
     pub moves-fine : moveVerdict (blocksOf blocks) (instsOf insts []) (movesOf moves) ≡ Fine
     pub answer : 4 * rowCount 4 moves ≤ lent
-    pub space : movedSpace blocks insts operands moves ≤ work
+    pub space : movedSpace v blocks insts operands moves ≤ work
 
   pub fit : movedVerdict points v blocks insts operands moves lent work ≡ Fine → Fit
-  unfolding movedVerdict
   fit e =
-      let a = first-left (movedCounts v blocks insts operands moves) _ e in
-      let b = first-right (movedCounts v blocks insts operands moves) _ e in
+      let a = first-left (movedCounts v blocks insts operands moves lent) _ (sym all-checks ∙ e) in
+      let b = first-right (movedCounts v blocks insts operands moves lent) _ (sym all-checks ∙ e) in
       let c = first-left Located _ b in
       let d = first-right Located _ b in
-      let k = counted v blocks insts operands moves a in
+      let k = counted v blocks insts operands moves lent a in
       let m = first-left (moveVerdict (blocksOf blocks) (instsOf insts operands) (movesOf moves)) _ d in
-      let s = first-right (moveVerdict (blocksOf blocks) (instsOf insts operands) (movesOf moves)) (movedRoom lent (rowCount 4 moves) work (movedSpace blocks insts operands moves)) d in
-      let p = cut {A = 4 * rowCount 4 moves ≤ lent} (4 * rowCount 4 moves) lent (λ h. h) (λ h. absurd (bad-fine (space-answer lent (rowCount 4 moves) work (movedSpace blocks insts operands moves) h ∙ s))) in
+      let s = first-right (moveVerdict (blocksOf blocks) (instsOf insts operands) (movesOf moves)) (movedRoom lent (rowCount 4 moves) work (movedSpace v blocks insts operands moves)) d in
+      let p = cut {A = 4 * rowCount 4 moves ≤ lent} (4 * rowCount 4 moves) lent (λ h. h) (λ h. absurd (bad-fine (room-answer lent (4 * rowCount 4 moves) work (movedSpace v blocks insts operands moves) h ∙ s))) in
       record {
         counts = k;
         sound = line-sound (blocksOf blocks) points (let n = blocks-length blocks in let q = k .some in omega arith) (first-left _ _ c);
         moves-fine = moves-whatever (blocksOf blocks) insts operands moves ∙ m;
         answer = p;
-        space = cut (movedSpace blocks insts operands moves) work (λ h. h)
-            (λ h. absurd (bad-fine (space-work lent (rowCount 4 moves) work (movedSpace blocks insts operands moves) p h ∙ s)));
+        space = cut (movedSpace v blocks insts operands moves) work (λ h. h)
+            (λ h. absurd (bad-fine (room-work lent (4 * rowCount 4 moves) work (movedSpace v blocks insts operands moves) p h ∙ s)));
       }
 
 -- ---- the two ways out
@@ -137,7 +146,7 @@ module _ (points v : ℕ) (blocks insts operands moves : List ℕ) (slot : ℕ) 
 
   pub moved-given : {out work₁ work : List ℕ} {n : ℕ} → movedVerdict points v blocks insts operands moves (length out₀) (length work₀) ≡ Fine
       → Within 0 (0 + length (blocksOf blocks)) work₀ work₁ → Wrote out₀ out 0 n (moved points (blocksOf blocks) (instsOf insts []) (movesOf moves) slot)
-      → (words : ℕ) → words ≡ movedSpace blocks insts operands moves → work ≡ cleared words work₁ → MovedTo points v blocks insts operands moves slot out₀ work₀ (Given n) out work
+      → (words : ℕ) → words ≡ movedSpace v blocks insts operands moves → work ≡ cleared words work₁ → MovedTo points v blocks insts operands moves slot out₀ work₀ (Given n) out work
   moved-given {out} {work₁} {work} {n} e k w words d c =
       let same : moved points (blocksOf blocks) (instsOf insts []) (movesOf moves) slot ≡ movedOf points blocks insts operands moves slot
       = moved-whatever (blocksOf blocks) insts operands points slot (movesOf moves) in
@@ -148,9 +157,9 @@ module _ (points v : ℕ) (blocks insts operands moves : List ℕ) (slot : ℕ) 
         outcome = rw e (ap given f);
         list = rw e (w .list [] out₀ refl refl (rows-none out₀) ∙ ap (λ (rs : List Range). rowsOf rs ++ drop (2 * n) out₀) same
             ∙ ap (λ (x : ℕ). rowsOf (movedOf points blocks insts operands moves slot) ++ drop x out₀) g);
-        space = rw e (c ∙ ap (λ (x : ℕ). cleared x work₁) d ∙ ap (λ (t : List ℕ). replicate (movedSpace blocks insts operands moves) 0 ++ t) rest
-            ∙ ap (λ (x : ℕ). replicate (movedSpace blocks insts operands moves) 0 ++ drop x work₀) (sym (length-replicate (movedSpace blocks insts operands moves) 0)));
+        space = rw e (c ∙ ap (λ (x : ℕ). cleared x work₁) d ∙ ap (λ (t : List ℕ). replicate (movedSpace v blocks insts operands moves) 0 ++ t) rest
+            ∙ ap (λ (x : ℕ). replicate (movedSpace v blocks insts operands moves) 0 ++ drop x work₀) (sym (length-replicate (movedSpace v blocks insts operands moves) 0)));
       }
     where
-      rest : drop (movedSpace blocks insts operands moves) work₁ ≡ drop (movedSpace blocks insts operands moves) work₀
-      rest = drop-same (movedSpace blocks insts operands moves) work₀ work₁ (k .len) (λ i h. k .past i (let n = blocks-length blocks in omega arith))
+      rest : drop (movedSpace v blocks insts operands moves) work₁ ≡ drop (movedSpace v blocks insts operands moves) work₀
+      rest = drop-same (movedSpace v blocks insts operands moves) work₀ work₁ (k .len) (λ i h. k .past i (let n = blocks-length blocks in omega arith))

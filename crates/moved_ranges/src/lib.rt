@@ -1,14 +1,18 @@
 // What the moves of a slot cover: the point of each, and the points either side of it.
 ghost use mathlib.Core.Path.{_≡_};
+ghost use mathlib.Core.Bool.{not};
 ghost use mathlib.Core.List.{[]};
-ghost use Prim.Native.Nat.{_+_, _-_, _*_, _/_, _≤_, _<_};
+ghost use Prim.Native.Nat.{_+_, _-_, _*_, _/_, _%_, _≤_, _<_};
 ghost use lib.ListN.{length};
+ghost use lib.Dec.{eqb};
+ghost use Rattle.refusals.specs.declared.Refusal.the-variants.{Count};
+ghost use Rattle.refusals.specs.Verdicts.{check};
 ghost use Rattle.refusals.specs.declared.Verdict.the-variants.{Fine};
 ghost use Rattle.graph.specs.Line.{blocksOf, Sound};
 ghost use Rattle.graph.specs.Work.{Table};
 ghost use Rattle.carrying.specs.Insts.{instsOf};
 ghost use Rattle.areas.specs.Slots.{movesOf, moveVerdict, moved};
-ghost use Rattle.moved_ranges.specs.Moved.{Wrote, movedCounts, movedRoom, movedSpace, movedVerdict, MovedTo};
+ghost use Rattle.moved_ranges.specs.Moved.{Wrote, movedCounts, movedWords, movedSpace, movedVerdict, MovedTo};
 use refusals::Refusal;
 use refusals::Verdict;
 use spill_checks::Answer;
@@ -37,41 +41,57 @@ fn all(
     k
 }
 
+// Refusal 1 of an answer list of `lent` numbers: rows of two.
+fn whole(lent: usize) -> Verdict
+    ensures { λ r. ⌜ r ≡ check Count (not (eqb (lent % 2) 0)) ⌝ }
+{
+    if lent % 2 != 0 {
+        return Verdict::Bad(Refusal::Count, 0);
+    }
+    Verdict::Fine
+}
+
 // Refusal 1 of `moved`.
-fn counts(v: u32, blocks: &[u32], insts: &[u32], operands: &[u32], moves: &[u32]) -> Verdict
-    ensures { λ r. ⌜ r ≡ movedCounts v (now (blocks .entry)) (now (insts .entry)) (now (operands .entry)) (now (moves .entry)) ⌝ }
+fn counts(
+    v: u32,
+    blocks: &[u32],
+    insts: &[u32],
+    operands: &[u32],
+    moves: &[u32],
+    lent: usize,
+) -> Verdict
+    ensures { λ r. ⌜ r ≡ movedCounts v (now (blocks .entry)) (now (insts .entry)) (now (operands .entry)) (now (moves .entry)) lent ⌝ }
 {
     let a = insts::counts::most(v as usize, 65535);
     let b = insts::counts::blocks(blocks);
     let c = insts::counts::insts(insts, operands);
     let d = insts::counts::rows(moves.len(), 4, 65536);
-    let d = refusals::earlier(c, d);
-    let d = refusals::earlier(b, d);
-    refusals::earlier(a, d)
+    let e = whole(lent);
+    let e = refusals::earlier(d, e);
+    let e = refusals::earlier(c, e);
+    let e = refusals::earlier(b, e);
+    refusals::earlier(a, e)
 }
 
-// Refusal 7 of `moved`.
-fn space(lent: usize, moves: usize, work: usize, words: usize) -> Verdict
-    requires { ⌜ moves ≤ 65536 ⌝ }
-    ensures { λ r. ⌜ r ≡ movedRoom lent moves work words ⌝ }
+// W of `moved` by numbers of records, for any numbers: 8 words for each record lent, and for each 64 registers.
+pub fn words(v: u32, blocks: u32, insts: u32, operands: u32, moves: u32) -> u64
+    ensures { λ r. ⌜ r ≡ movedWords v blocks insts operands moves ⌝ }
 {
-    if lent < 4 * moves {
-        return Verdict::Bad(Refusal::Space, 0);
-    }
-    if work < words {
-        return Verdict::Bad(Refusal::Space, 0);
-    }
-    Verdict::Fine
+    let n = blocks as u64 + insts as u64;
+    let m = operands as u64 + moves as u64;
+    8 * (n + m + (v as u64 + 63) / 64)
 }
 
-// The work space that `moved` needs: 8 words for each record lent.
-pub fn needed(blocks: &[u32], insts: &[u32], operands: &[u32], moves: &[u32]) -> usize
+// The work space that `moved` needs.
+fn needed(v: u32, blocks: &[u32], insts: &[u32], operands: &[u32], moves: &[u32]) -> usize
     requires { ⌜ (length (now blocks) / 3 ≤ 4096) × (length (now insts) / 9 ≤ 65536) × (length (now operands) / 2 ≤ 262144) × (length (now moves) / 4 ≤ 65536) ⌝ }
-    ensures { λ r. ⌜ r ≡ movedSpace (now (blocks .entry)) (now (insts .entry)) (now (operands .entry)) (now (moves .entry)) ⌝ }
+    ensures { λ r. ⌜ r ≡ movedSpace v (now (blocks .entry)) (now (insts .entry)) (now (operands .entry)) (now (moves .entry)) ⌝ }
 {
-    let n = blocks.len() / 3 + insts.len() / 9;
-    let m = operands.len() / 2 + moves.len() / 4;
-    8 * (n + m)
+    let b = (blocks.len() / 3) as u32;
+    let i = (insts.len() / 9) as u32;
+    let o = (operands.len() / 2) as u32;
+    let m = (moves.len() / 4) as u32;
+    words(v, b, i, o, m) as usize
 }
 
 // Refusals 1, 2, 4, 5 and 7 of `moved`.
@@ -87,7 +107,7 @@ fn refusal(
 ) -> Verdict
     ensures { λ r. ⌜ r ≡ movedVerdict points v (now (blocks .entry)) (now (insts .entry)) (now (operands .entry)) (now (moves .entry)) lent work ⌝ }
 {
-    let number = counts(v, blocks, insts, operands, moves);
+    let number = counts(v, blocks, insts, operands, moves, lent);
     if let Verdict::Bad(r, i) = number {
         return Verdict::Bad(r, i);
     }
@@ -96,14 +116,14 @@ fn refusal(
         return Verdict::Bad(r, i);
     }
     let stray = spill_checks::moves(blocks, insts, moves);
-    let w = needed(blocks, insts, operands, moves);
-    let short = space(lent, moves.len() / 4, work, w);
+    let w = needed(v, blocks, insts, operands, moves);
+    let short = rooms::room(lent, 4 * (moves.len() / 4), work, w);
     refusals::earlier(stray, short)
 }
 
 // What the moves of a slot cover, in the moves' order, as rows of start and end: the point of a move and the points either side of it.
-// Refuses counts outside their limits (1), blocks out of line (2), a bad instruction (4), a stray move (5), an answer under two ranges for each move
-// or work space under 8 words for each record lent (7).
+// Refuses counts outside their limits and an answer list that is no whole rows (1), blocks out of line (2), a bad instruction (4), a stray move (5), an answer
+// under two ranges for each move or work space under 8 words for each record lent and for each 64 registers (7).
 pub fn moved(
     points: u32,
     v: u32,
@@ -132,7 +152,7 @@ pub fn moved(
     }
     edge_rows::table(blocks, work, 0);
     let n = all(points, blocks, insts, moves, slot, work, out);
-    let w = needed(blocks, insts, operands, moves);
+    let w = needed(v, blocks, insts, operands, moves);
     words::clear(work, w);
     Answer::Given(n)
 }

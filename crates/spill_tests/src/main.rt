@@ -1,7 +1,7 @@
 // Runs `spilled` and `moved` on the cases of standard input and prints what they answer and leave: held to the file `stdout`.
 // Answer lists and work space have 7s at first, so that what is written past an answer, or by a refusal, shows.
-// A case's name is that of its entry. The columns of `spilled`: V, slots, the length of the answer list; assignments. Of `moved`: points, V, the slot, the
-// lengths of the answer list and of the work space; blocks, instructions, operands, moves.
+// A case's name is that of its entry. The columns of `spilled`: V, slots, the lengths of the answer list and of the work space; assignments. Of `moved`: points, V,
+// the slot, the lengths of the answer list and of the work space; blocks, instructions, operands, moves.
 ghost use mathlib.Core.Path.{_≡_};
 ghost use lib.ListN.{length};
 ghost use Rattle.cases.specs.Cuts.{Ordered};
@@ -15,26 +15,30 @@ fn given(a: Answer) {
     }
 }
 
-fn spilled_into(n: &[u32], e: Cuts, answer: &mut [u32])
+fn spilled_into(n: &[u32], e: Cuts, answer: &mut [u32], work: &mut [u64])
     requires { ⌜ (length (now n) ≡ 1024) × Ordered e 1024 ⌝ }
 {
     let c0 = e.c0;
     let c1 = e.c1;
-    let a = spilled_registers::spilled(n[0], n[1] as usize, &n[c0..c1], answer);
+    let a = spilled_registers::spilled(n[0], n[1] as usize, &n[c0..c1], answer, work);
     given(a);
-    cases::show(answer);
-    cases::text(b"\n");
+    cases::left(answer, work);
 }
 
 fn spilled(n: &[u32], e: Cuts)
     requires { ⌜ (length (now n) ≡ 1024) × Ordered e 1024 ⌝ }
 {
     let mut answer = [7u32; 16];
+    let mut work = [7u64; 128];
     let most = n[2] as usize;
+    let words = n[3] as usize;
     if most > 16 {
         return;
     }
-    spilled_into(n, e, &mut answer[0..most]);
+    if words > 128 {
+        return;
+    }
+    spilled_into(n, e, &mut answer[0..most], &mut work[0..words]);
 }
 
 fn moved_into(n: &[u32], e: Cuts, answer: &mut [u32], work: &mut [u64])

@@ -2,27 +2,27 @@
 use Prim.Native.Nat.{ℕ, _+_, _≤_, _<_}
 use native.Mathlib.Omega.{arith}
 use mathlib.Core.Path.{_≡_, refl, sym, ap, _∙_}
-use mathlib.Core.List.{List, _++_}
-use lib.ListN.{length, getD, set, length-set, drop}
+use mathlib.Core.List.{List, [], _∷_, _++_}
+use lib.ListN.{length, getD, set, length-set, drop, replicate, length-replicate}
 use lib.Seq.{getD-set-same, getD-set-other}
-use borrow.Author.Tests.{lt-ltb, le-ltb}
 use Rattle.refusals.specs.declared.Verdict.{Verdict}
 use Rattle.refusals.specs.declared.Verdict.the-variants.{Fine, Bad}
 use Rattle.refusals.specs.declared.Refusal.{Refusal}
-use Rattle.refusals.specs.declared.Refusal.the-variants.{Space}
-use Rattle.refusals.specs.Verdicts.{first}
+use Rattle.refusals.specs.Verdicts.{first, inOrder}
 use Rattle.refusals.specs.Outcomes.{after}
-use Rattle.refusals.proofs.Laws.{first-right, bad-fine}
-use Rattle.words.specs.Rows.{tabulate}
-use Rattle.words.specs.Regions.{Region}
+use Rattle.refusals.proofs.Laws.{first-fine, first-bad, first-left, first-right, bad-fine, check-last}
+use Rattle.words.specs.Rows.{tabulate, rowCount}
+use Rattle.words.specs.Regions.{Region, cleared}
 use Rattle.words.proofs.RowLaws.{length-tabulate}
 use Rattle.words.proofs.Points.{cut, same}
 use Rattle.words.proofs.RegionLaws.{region-front}
 use Rattle.insts.specs.Counts.{rowsVerdict, mostVerdict}
+use Rattle.insts.proofs.CheckLaws.{rows-few}
+use Rattle.rooms.proofs.RoomLaws.{room-answer, room-work}
 use Rattle.areas.specs.Slots.{Assigned, assignedOf, spilled, assignedVerdict}
 use Rattle.spill_checks.specs.declared.Answer.the-variants.{Given, Refused}
 use Rattle.spill_checks.proofs.AssignedLaws.{next-same, next-other}
-use Rattle.spilled_registers.specs.Spilled.{spaceVerdict, spilledVerdict, registerOr, registers, SpilledTo}
+use Rattle.spilled_registers.specs.Spilled.{spilledCounts, spilledSpace, spilledRoom, spilledVerdict, registerOr, registers, SpilledTo}
 
 -- ---- one assignment more
 
@@ -61,41 +61,71 @@ module _ (g : ℕ → Assigned) where
       after = d .after;
     }
 
--- ---- number 7
+-- ---- the checks
 
-pub space-short : (lent needed : ℕ) → lent < needed → Bad Space 0 ≡ spaceVerdict lent needed
-space-short lent needed h = simp (lt-ltb lent needed h)
+pub counts-chain : (v slots : ℕ) (assigned : List ℕ) {a b c d r : Verdict} → a ≡ mostVerdict 65535 v → b ≡ mostVerdict 2048 slots → c ≡ rowsVerdict 2 65536 (length assigned)
+    → d ≡ first b c → r ≡ first a d → r ≡ spilledCounts v slots assigned
+unfolding spilledCounts
+counts-chain v slots assigned ea eb ec ed er = cc
 
-pub space-fine : (lent needed : ℕ) → needed ≤ lent → Fine ≡ spaceVerdict lent needed
-space-fine lent needed h = simp (le-ltb lent needed h)
+pub few-assigned : (v slots : ℕ) (assigned : List ℕ) → spilledCounts v slots assigned ≡ Fine → rowCount 2 assigned ≤ 65536
+unfolding spilledCounts
+few-assigned v slots assigned e =
+    rows-few 2 65536 (length assigned) (first-right (mostVerdict 2048 slots) _ (first-right (mostVerdict 65535 v) _ e))
 
-pub space-enough : (lent needed : ℕ) → spaceVerdict lent needed ≡ Fine → needed ≤ lent
-space-enough lent needed v = cut needed lent (λ e. e) (λ e. absurd (bad-fine (space-short lent needed e ∙ v)))
+-- the checks in the order in which the code joins them
+joined : (c p r : Verdict) → inOrder (c ∷ p ∷ r ∷ []) ≡ first c (first p r)
+unfolding inOrder
+joined c p r = ap (λ (x : Verdict). first c (first p x)) (check-last r)
 
--- ---- the entry
-
-module _ (v slots : ℕ) (assigned : List ℕ) (lent : ℕ) where
-  pub verdict-chain : {a b c d e f g h r : Verdict} → a ≡ mostVerdict 65535 v → b ≡ mostVerdict 2048 slots → c ≡ rowsVerdict 2 65536 (length assigned)
-      → d ≡ assignedVerdict v (assignedOf assigned) → e ≡ spaceVerdict lent slots
-      → f ≡ first d e → g ≡ first c f → h ≡ first b g → r ≡ first a h → r ≡ spilledVerdict v slots assigned lent
+module _ (v slots : ℕ) (assigned : List ℕ) (lent work : ℕ) where
+  all-checks : spilledVerdict v slots assigned lent work
+      ≡ first (spilledCounts v slots assigned) (first (assignedVerdict v (assignedOf assigned)) (spilledRoom lent slots work (spilledSpace v assigned)))
   unfolding spilledVerdict
-  verdict-chain ea eb ec ed ee ef eg eh er = cc
+  all-checks = joined _ _ _
 
-  pub room-enough : spilledVerdict v slots assigned lent ≡ Fine → slots ≤ lent
-  unfolding spilledVerdict
-  room-enough e =
-      let a = first-right (mostVerdict 65535 v) _ e in
-      let b = first-right (mostVerdict 2048 slots) _ a in
-      let c = first-right (rowsVerdict 2 65536 (length assigned)) _ b in
-      space-enough lent slots (first-right (assignedVerdict v (assignedOf assigned)) (spaceVerdict lent slots) c)
+  pub by-counts : (r : Refusal) (i : ℕ) → spilledCounts v slots assigned ≡ Bad r i → Bad r i ≡ spilledVerdict v slots assigned lent work
+  by-counts r i e = sym (all-checks ∙ first-bad _ _ r i e)
 
-module _ (v slots : ℕ) (assigned answer₀ : List ℕ) where
-  pub spilled-refused : (r : Refusal) (i : ℕ) → spilledVerdict v slots assigned (length answer₀) ≡ Bad r i → SpilledTo v slots assigned answer₀ (Refused r i) answer₀
-  spilled-refused r i e = record { outcome = rw e; list = rw e }
+  pub by-rest : {a b r : Verdict} → spilledCounts v slots assigned ≡ Fine → a ≡ assignedVerdict v (assignedOf assigned)
+      → b ≡ spilledRoom lent slots work (spilledSpace v assigned) → r ≡ first a b → r ≡ spilledVerdict v slots assigned lent work
+  by-rest {a} {b} {r} e p q z =
+      z ∙ ap (λ (x : Verdict). first x b) p ∙ ap (first (assignedVerdict v (assignedOf assigned))) q ∙ sym (all-checks ∙ first-fine _ _ e)
 
-  pub spilled-given : {filled answer : List ℕ} → spilledVerdict v slots assigned (length answer₀) ≡ Fine → Region answer₀ filled 0 slots (λ s. v)
-      → Region filled answer 0 slots (λ s. registerOr (getD filled s 0) (spilled (assignedOf assigned) s)) → SpilledTo v slots assigned answer₀ (Given slots) answer
-  spilled-given {filled} {answer} e p q = record { outcome = rw e; list = rw e (region-front whole (room-enough v slots assigned (length answer₀) e) ∙ tidy) }
+  -- what no refusal says
+  pub record Fit : Type 0 where
+    pub few : rowCount 2 assigned ≤ 65536
+    pub answer : slots ≤ lent
+    pub space : spilledSpace v assigned ≤ work
+
+  pub fit : spilledVerdict v slots assigned lent work ≡ Fine → Fit
+  fit e =
+      let k = first-left (spilledCounts v slots assigned) _ (sym all-checks ∙ e) in
+      let b = first-right (spilledCounts v slots assigned) _ (sym all-checks ∙ e) in
+      let s = first-right (assignedVerdict v (assignedOf assigned)) (spilledRoom lent slots work (spilledSpace v assigned)) b in
+      let p = cut {A = slots ≤ lent} slots lent (λ h. h) (λ h. absurd (bad-fine (room-answer lent slots work (spilledSpace v assigned) h ∙ s))) in
+      record {
+        few = few-assigned v slots assigned k;
+        answer = p;
+        space = cut (spilledSpace v assigned) work (λ h. h) (λ h. absurd (bad-fine (room-work lent slots work (spilledSpace v assigned) p h ∙ s)));
+      }
+
+-- ---- the two ways out
+
+module _ (v slots : ℕ) (assigned answer₀ work₀ : List ℕ) where
+  pub spilled-refused : (r : Refusal) (i : ℕ) → spilledVerdict v slots assigned (length answer₀) (length work₀) ≡ Bad r i
+      → SpilledTo v slots assigned answer₀ work₀ (Refused r i) answer₀ work₀
+  spilled-refused r i e = record { outcome = rw e; list = rw e; space = rw e }
+
+  pub spilled-given : {filled answer work : List ℕ} → spilledVerdict v slots assigned (length answer₀) (length work₀) ≡ Fine → Region answer₀ filled 0 slots (λ s. v)
+      → Region filled answer 0 slots (λ s. registerOr (getD filled s 0) (spilled (assignedOf assigned) s))
+      → (words : ℕ) → words ≡ spilledSpace v assigned → work ≡ cleared words work₀ → SpilledTo v slots assigned answer₀ work₀ (Given slots) answer work
+  spilled-given {filled} {answer} {work} e p q words d c = record {
+    outcome = rw e;
+    list = rw e (region-front whole (fit v slots assigned (length answer₀) (length work₀) e .answer) ∙ tidy);
+    space = rw e (c ∙ ap (λ (x : ℕ). cleared x work₀) d
+        ∙ ap (λ (x : ℕ). replicate (spilledSpace v assigned) 0 ++ drop x work₀) (sym (length-replicate (spilledSpace v assigned) 0)));
+  }
     where
       whole : Region answer₀ answer 0 slots (λ s. registerOr v (spilled (assignedOf assigned) s))
       whole = record {

@@ -18,6 +18,9 @@ insts-requires c κs = search needs
 rows-requires : tie.Need-rows-requires
 rows-requires c κs = search needs
 
+whole-requires : tie.Need-whole-requires
+whole-requires c κs = search needs
+
 earlier-requires : tie.Need-earlier-requires
 earlier-requires c κs = search needs
 
@@ -27,8 +30,11 @@ earlier-requires-2 c κs = search needs
 earlier-requires-3 : tie.Need-earlier-requires-3
 earlier-requires-3 c κs = search needs
 
+earlier-requires-4 : tie.Need-earlier-requires-4
+earlier-requires-4 c κs = search needs
+
 returns : tie.Need-returns
-returns c = counts-chain ((c .before .before .before .before .before .before .before .before .before .before .before .args) .v) (((c .before .before .before .before .before .before .before .before .before .before .before .args) .blocks .now)) (((c .before .before .before .before .before .before .before .before .before .before .before .args) .insts .now)) (((c .before .before .before .before .before .before .before .before .before .before .before .args) .operands .now)) (((c .before .before .before .before .before .before .before .before .before .before .before .args) .moves .now)) ((c .before .before .before .before .before .before .most) .ensures) ((c .before .before .before .before .before .blocks2) .ensures) ((c .before .before .before .before .insts) .ensures) ((c .before .before .before .rows) .ensures) ((c .before .before .earlier) .ensures) ((c .before .earlier2) .ensures) ((c .earlier3) .ensures)
+returns c = counts-chain ((c .before .before .before .before .before .before .before .before .before .before .before .before .before .args) .v) ((c .before .before .before .before .before .before .before .before .before .before .before .before .before .args) .blocks .now) ((c .before .before .before .before .before .before .before .before .before .before .before .before .before .args) .insts .now) ((c .before .before .before .before .before .before .before .before .before .before .before .before .before .args) .operands .now) ((c .before .before .before .before .before .before .before .before .before .before .before .before .before .args) .moves .now) ((c .before .before .before .before .before .before .before .before .before .before .before .before .before .args) .lent) ((c .before .before .before .before .before .before .before .before .most) .ensures) ((c .before .before .before .before .before .before .before .blocks2) .ensures) ((c .before .before .before .before .before .before .insts) .ensures) ((c .before .before .before .before .before .rows) .ensures) ((c .before .before .before .before .whole) .ensures) ((c .before .before .before .earlier) .ensures) ((c .before .before .earlier2) .ensures) ((c .before .earlier3) .ensures) ((c .earlier4) .ensures)
 
 pub counts-spec : {M : Type 1} → statement M
 counts-spec =
@@ -38,7 +44,9 @@ counts-spec =
     blocks-requires
     insts-requires
     rows-requires
+    whole-requires
     earlier-requires
     earlier-requires-2
     earlier-requires-3
+    earlier-requires-4
     returns)

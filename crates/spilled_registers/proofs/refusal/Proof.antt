@@ -1,22 +1,30 @@
--- `spilled_registers::refusal` meets its contract: each check, the first that refuses.
+-- `spilled_registers::refusal` meets its contract: the checks in their order.
 use Prim.Native.Nat.{_-_}
+use mathlib.Core.Path.{sym, ap, _∙_}
 use denote.Ref.{now}
 use borrow.Author.Needs.{needs}
-use Rattle.spilled_registers.proofs.SpilledLaws.{verdict-chain}
+use Rattle.spilled_registers.proofs.SpilledLaws.{few-assigned, by-counts, by-rest}
+use Rattle.spilled_registers.specs.Spilled.{spilledRoom}
 use Rattle.spilled_registers.proofs.refusal.Statement.{statement}
 use Rattle.spilled_registers.proofs.refusal.Tie as tie
 
-most-requires : tie.Need-most-requires
-most-requires c κs = search needs
+counts-requires : tie.Need-counts-requires
+counts-requires c κs = search needs
 
-most-requires-2 : tie.Need-most-requires-2
-most-requires-2 c κs = search needs
+enum-known-number : tie.Need-enum-known-number
+enum-known-number c = search needs
 
-rows-requires : tie.Need-rows-requires
-rows-requires c κs = search needs
+returns : tie.Need-returns
+returns c = by-counts ((c .before .before .before .before .before .args) .v) ((c .before .before .before .before .before .args) .slots) ((c .before .before .before .before .before .args) .assigned .now) ((c .before .before .before .before .before .args) .lent) ((c .before .before .before .before .before .args) .work) _ _ (sym ((c .before .before .before .counts) .ensures) ∙ (c .before .number) .given .1)
+
+enum-told : tie.Need-enum-told
+enum-told c = search needs
 
 assigned-requires : tie.Need-assigned-requires
 assigned-requires c κs = search needs
+
+needed-requires : tie.Need-needed-requires
+needed-requires c κs = few-assigned ((c .before .before .before .before .before .args) .v) ((c .before .before .before .before .before .args) .slots) ((c .before .before .before .before .before .args) .assigned .now) (sym ((c .before .before .before .counts) .ensures) ∙ (c .before .enum-told) .given .1)
 
 room-requires : tie.Need-room-requires
 room-requires c κs = search needs
@@ -24,29 +32,19 @@ room-requires c κs = search needs
 earlier-requires : tie.Need-earlier-requires
 earlier-requires c κs = search needs
 
-earlier-requires-2 : tie.Need-earlier-requires-2
-earlier-requires-2 c κs = search needs
-
-earlier-requires-3 : tie.Need-earlier-requires-3
-earlier-requires-3 c κs = search needs
-
-earlier-requires-4 : tie.Need-earlier-requires-4
-earlier-requires-4 c κs = search needs
-
-returns : tie.Need-returns
-returns c = verdict-chain ((c .before .before .before .before .before .before .before .before .before .before .args) .v) ((c .before .before .before .before .before .before .before .before .before .before .args) .slots) (((c .before .before .before .before .before .before .before .before .before .before .args) .assigned .now)) ((c .before .before .before .before .before .before .before .before .before .before .args) .lent) ((c .before .before .before .before .before .before .before .before .most) .ensures) ((c .before .before .before .before .before .before .before .most2) .ensures) ((c .before .before .before .before .before .before .rows) .ensures) ((c .before .before .before .before .before .assigned) .ensures) ((c .before .before .before .before .room) .ensures) ((c .before .before .before .earlier) .ensures) ((c .before .before .earlier2) .ensures) ((c .before .earlier3) .ensures) ((c .earlier4) .ensures)
+returns-2 : tie.Need-returns-2
+returns-2 c = by-rest ((c .before .before .before .before .before .before .before .before .args) .v) ((c .before .before .before .before .before .before .before .before .args) .slots) ((c .before .before .before .before .before .before .before .before .args) .assigned .now) ((c .before .before .before .before .before .before .before .before .args) .lent) ((c .before .before .before .before .before .before .before .before .args) .work) (sym ((c .before .before .before .before .before .before .counts) .ensures) ∙ (c .before .before .before .before .enum-told) .given .1) ((c .before .before .before .assigned) .ensures) ((c .before .room) .ensures ∙ ap (spilledRoom ((c .before .before .before .before .before .before .before .before .args) .lent) ((c .before .before .before .before .before .before .before .before .args) .slots) ((c .before .before .before .before .before .before .before .before .args) .work)) ((c .before .before .needed) .ensures)) ((c .earlier) .ensures)
 
 pub refusal-spec : {M : Type 1} → statement M
 refusal-spec =
     tie.close
     (tie.spec
-    most-requires
-    most-requires-2
-    rows-requires
+    counts-requires
+    enum-known-number
+    returns
+    enum-told
     assigned-requires
+    needed-requires
     room-requires
     earlier-requires
-    earlier-requires-2
-    earlier-requires-3
-    earlier-requires-4
-    returns)
+    returns-2)

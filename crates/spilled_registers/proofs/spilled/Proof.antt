@@ -1,11 +1,11 @@
--- `spilled_registers::spilled` meets its contract: the refusal, or the two passes.
+-- `spilled_registers::spilled` meets its contract: the refusal, or the two passes and the cleared words.
 use native.Mathlib.Omega.{arith}
 use Prim.Native.Nat.{_-_}
 use mathlib.Core.Path.{sym, _∙_}
 use lib.ListN.{length}
 use denote.Ref.{now}
 use borrow.Author.Needs.{needs}
-use Rattle.spilled_registers.proofs.SpilledLaws.{spilled-refused, spilled-given, room-enough}
+use Rattle.spilled_registers.proofs.SpilledLaws.{fit, spilled-refused, spilled-given}
 use Rattle.spilled_registers.proofs.spilled.Statement.{statement}
 use Rattle.spilled_registers.proofs.spilled.Tie as tie
 
@@ -16,22 +16,31 @@ enum-known-verdict : tie.Need-enum-known-verdict
 enum-known-verdict c = search needs
 
 returns : tie.Need-returns
-returns c = spilled-refused ((c .before .before .before .before .before .before .args) .v) ((c .before .before .before .before .before .before .args) .slots) (((c .before .before .before .before .before .before .args) .assigned .now)) (((c .before .before .before .before .before .before .args) .answer .now)) _ _ (sym ((c .before .before .before .refusal) .ensures) ∙ (c .before .verdict) .given .1)
+returns c = spilled-refused ((c .before .before .before .before .before .before .before .args) .v) ((c .before .before .before .before .before .before .before .args) .slots) ((c .before .before .before .before .before .before .before .args) .assigned .now) ((c .before .before .before .before .before .before .before .args) .answer .now) ((c .before .before .before .before .before .before .before .args) .work .now) _ _ (sym ((c .before .before .before .refusal) .ensures) ∙ (c .before .verdict) .given .1)
 
 enum-told : tie.Need-enum-told
 enum-told c = search needs
 
 without-requires : tie.Need-without-requires
-without-requires c κs = room-enough ((c .before .before .before .before .before .before .args) .v) ((c .before .before .before .before .before .before .args) .slots) (((c .before .before .before .before .before .before .args) .assigned .now)) (length (((c .before .before .before .before .before .before .args) .answer .now))) (sym ((c .before .before .before .refusal) .ensures) ∙ (c .before .enum-told) .given .1)
+without-requires c κs = fit ((c .before .before .before .before .before .before .before .args) .v) ((c .before .before .before .before .before .before .before .args) .slots) ((c .before .before .before .before .before .before .before .args) .assigned .now) (length ((c .before .before .before .before .before .before .before .args) .answer .now)) (length ((c .before .before .before .before .before .before .before .args) .work .now)) (sym ((c .before .before .before .refusal) .ensures) ∙ (c .before .enum-told) .given .1) .answer
 
 assign-requires : tie.Need-assign-requires
-assign-requires c κs = let l = (c .before .before .before .without) .ensures .len in let k = room-enough ((c .before .before .before .before .before .before .before .before .before .before .args) .v) ((c .before .before .before .before .before .before .before .before .before .before .args) .slots) (((c .before .before .before .before .before .before .before .before .before .before .args) .assigned .now)) (length (((c .before .before .before .before .before .before .before .before .before .before .args) .answer .now))) (sym ((c .before .before .before .before .before .before .before .refusal) .ensures) ∙ (c .before .before .before .before .before .enum-told) .given .1) in omega arith
+assign-requires c κs = let l = (c .before .before .before .without) .ensures .len in let k = fit ((c .before .before .before .before .before .before .before .before .before .before .before .args) .v) ((c .before .before .before .before .before .before .before .before .before .before .before .args) .slots) ((c .before .before .before .before .before .before .before .before .before .before .before .args) .assigned .now) (length ((c .before .before .before .before .before .before .before .before .before .before .before .args) .answer .now)) (length ((c .before .before .before .before .before .before .before .before .before .before .before .args) .work .now)) (sym ((c .before .before .before .before .before .before .before .refusal) .ensures) ∙ (c .before .before .before .before .before .enum-told) .given .1) .answer in omega arith
+
+needed-requires : tie.Need-needed-requires
+needed-requires c κs = fit ((c .before .before .before .before .before .before .before .before .before .before .before .before .before .before .args) .v) ((c .before .before .before .before .before .before .before .before .before .before .before .before .before .before .args) .slots) ((c .before .before .before .before .before .before .before .before .before .before .before .before .before .before .args) .assigned .now) (length ((c .before .before .before .before .before .before .before .before .before .before .before .before .before .before .args) .answer .now)) (length ((c .before .before .before .before .before .before .before .before .before .before .before .before .before .before .args) .work .now)) (sym ((c .before .before .before .before .before .before .before .before .before .before .refusal) .ensures) ∙ (c .before .before .before .before .before .before .before .before .enum-told) .given .1) .few
+
+clear-requires : tie.Need-clear-requires
+clear-requires c κs = let k = fit ((c .before .before .before .before .before .before .before .before .before .before .before .before .before .before .before .before .args) .v) ((c .before .before .before .before .before .before .before .before .before .before .before .before .before .before .before .before .args) .slots) ((c .before .before .before .before .before .before .before .before .before .before .before .before .before .before .before .before .args) .assigned .now) (length ((c .before .before .before .before .before .before .before .before .before .before .before .before .before .before .before .before .args) .answer .now)) (length ((c .before .before .before .before .before .before .before .before .before .before .before .before .before .before .before .before .args) .work .now)) (sym ((c .before .before .before .before .before .before .before .before .before .before .before .before .refusal) .ensures) ∙ (c .before .before .before .before .before .before .before .before .before .before .enum-told) .given .1) .space in let n = (c .before .needed) .ensures in omega arith
 
 same-length : tie.Need-same-length
 same-length c = search needs
 
+same-length-2 : tie.Need-same-length-2
+same-length-2 c = search needs
+
 returns-2 : tie.Need-returns-2
-returns-2 c = spilled-given ((c .before .before .before .before .before .before .before .before .before .before .before .before .before .args) .v) ((c .before .before .before .before .before .before .before .before .before .before .before .before .before .args) .slots) (((c .before .before .before .before .before .before .before .before .before .before .before .before .before .args) .assigned .now)) (((c .before .before .before .before .before .before .before .before .before .before .before .before .before .args) .answer .now)) (sym ((c .before .before .before .before .before .before .before .before .before .before .refusal) .ensures) ∙ (c .before .before .before .before .before .before .before .before .enum-told) .given .1) ((c .before .before .before .before .before .before .without) .ensures) ((c .before .before .assign) .ensures)
+returns-2 c = spilled-given ((c .before .before .before .before .before .before .before .before .before .before .before .before .before .before .before .before .before .before .before .args) .v) ((c .before .before .before .before .before .before .before .before .before .before .before .before .before .before .before .before .before .before .before .args) .slots) ((c .before .before .before .before .before .before .before .before .before .before .before .before .before .before .before .before .before .before .before .args) .assigned .now) ((c .before .before .before .before .before .before .before .before .before .before .before .before .before .before .before .before .before .before .before .args) .answer .now) ((c .before .before .before .before .before .before .before .before .before .before .before .before .before .before .before .before .before .before .before .args) .work .now) (sym ((c .before .before .before .before .before .before .before .before .before .before .before .before .before .before .before .refusal) .ensures) ∙ (c .before .before .before .before .before .before .before .before .before .before .before .before .before .enum-told) .given .1) ((c .before .before .before .before .before .before .before .before .before .before .before .without) .ensures) ((c .before .before .before .before .before .before .before .assign) .ensures) ((c .before .before .before .before .needed) .result) ((c .before .before .before .before .needed) .ensures) ((c .before .before .clear) .ensures)
 
 pub spilled-spec : {M : Type 1} → statement M
 spilled-spec =
@@ -43,5 +52,8 @@ spilled-spec =
     enum-told
     without-requires
     assign-requires
+    needed-requires
+    clear-requires
     same-length
+    same-length-2
     returns-2)
