@@ -1,19 +1,21 @@
 -- The checks of the entries: their order, and what no refusal says.
-use Prim.Native.Nat.{ℕ, _-_, _*_, _/_, _≤_, _<_}
+use Prim.Native.Nat.{ℕ, _-_, _*_, _/_, _^_, _≤_, _<_}
+use native.Mathlib.Nat.{mul-le-mul-left}
 use native.Mathlib.Omega.{arith}
 use mathlib.Core.Path.{_≡_, sym, ap, _∙_}
 use mathlib.Core.Bool.{false, not, _||_, true≢false}
-use mathlib.Core.List.{List, []}
+use mathlib.Core.List.{List, [], _∷_}
 use lib.ListN.{length, getD}
 use borrow.Author.Tests.{le-leb}
 use Rattle.refusals.specs.declared.Verdict.{Verdict}
 use Rattle.refusals.specs.declared.Verdict.the-variants.{Fine, Bad}
 use Rattle.refusals.specs.declared.Refusal.{Refusal}
 use Rattle.refusals.specs.declared.Refusal.the-variants.{Stray}
-use Rattle.refusals.specs.Verdicts.{first}
-use Rattle.refusals.proofs.Laws.{first-fine, first-bad, first-left, first-right, scan-fine, bad-fine}
+use Rattle.refusals.specs.Verdicts.{first, inOrder}
+use Rattle.refusals.proofs.Laws.{first-fine, first-bad, first-left, first-right, first-assoc, scan-fine, bad-fine, check-last}
 use Rattle.words.proofs.Points.{cut}
 use Rattle.words.proofs.Bools.{or-neither}
+use Rattle.job_space.specs.Space.{rowWords}
 use Rattle.carrying.specs.Insts.{instsOf, instAt, isSet}
 use Rattle.carrying.specs.Carried.{mentionsOf}
 use Rattle.carrying.specs.Checks.{crossingVerdict, addressVerdict, endVerdict, absent, mentionAt}
@@ -33,6 +35,13 @@ module _ (lent most work words : ℕ) where
   room-told e =
       let p = cut {A = most ≤ lent} most lent (λ h. h) (λ h. absurd (bad-fine (room-answer lent most work words h ∙ e))) in
       (p, cut words work (λ h. h) (λ h. absurd (bad-fine (room-work lent most work words p h ∙ e))))
+
+-- the rows of any 32-bit numbers of blocks and locals are far below 64 bits
+pub rows-fit : (b l : ℕ) → b < 2 ^ 32 → l < 2 ^ 32 → b * rowWords l < 2 ^ 59
+rows-fit b l h k =
+    let w : rowWords l ≤ 67108864 = omega arith in
+    let m = mul-le-mul-left b w in
+    omega arith
 
 -- ---- number 1
 
@@ -113,25 +122,35 @@ module _ (v : ℕ) (insts operands crossings addresses ends : List ℕ) where
 
 -- ---- in order
 
+-- the checks in the order in which the code joins them
+joined : (c l i x a k r : Verdict) → inOrder (c ∷ l ∷ i ∷ x ∷ a ∷ k ∷ r ∷ []) ≡ first c (first (first l i) (first (first x (first a k)) r))
+unfolding inOrder
+joined c l i x a k r =
+    ap (first c) (ap (λ (z : Verdict). first l (first i (first x (first a (first k z))))) (check-last r)
+    ∙ sym (first-assoc l i (first x (first a (first k r)))) ∙ ap (first (first l i)) (ap (first x) (sym (first-assoc a k r)) ∙ sym (first-assoc x (first a k) r)))
+
 module _ (points v : ℕ) (blocks insts operands crossings locals addresses ends : List ℕ) (lent most work : ℕ) where
+  all-checks : carryVerdict points v blocks insts operands crossings locals addresses ends lent most work
+      ≡ first (carryCounts v blocks insts operands crossings locals addresses ends) (first (placeVerdict points v blocks insts operands)
+      (first (strayVerdict v insts operands crossings addresses ends) (roomVerdict lent most work (carrySpace v blocks insts operands crossings locals addresses ends))))
+  unfolding carryVerdict
+  all-checks = joined _ _ _ _ _ _ _
+
   pub by-counts : (r : Refusal) (i : ℕ) → carryCounts v blocks insts operands crossings locals addresses ends ≡ Bad r i
       → Bad r i ≡ carryVerdict points v blocks insts operands crossings locals addresses ends lent most work
-  unfolding carryVerdict
-  by-counts r i e = sym (first-bad _ _ r i e)
+  by-counts r i e = sym (all-checks ∙ first-bad _ _ r i e)
 
   pub by-place : (r : Refusal) (i : ℕ) → carryCounts v blocks insts operands crossings locals addresses ends ≡ Fine → placeVerdict points v blocks insts operands ≡ Bad r i
       → Bad r i ≡ carryVerdict points v blocks insts operands crossings locals addresses ends lent most work
-  unfolding carryVerdict
-  by-place r i e f = sym (first-fine _ _ e ∙ first-bad _ _ r i f)
+  by-place r i e f = sym (all-checks ∙ first-fine _ _ e ∙ first-bad _ _ r i f)
 
   pub by-rest : {a b r : Verdict} → carryCounts v blocks insts operands crossings locals addresses ends ≡ Fine → placeVerdict points v blocks insts operands ≡ Fine
       → a ≡ strayVerdict v insts [] crossings addresses ends → b ≡ roomVerdict lent most work (carrySpace v blocks insts operands crossings locals addresses ends)
       → r ≡ first a b → r ≡ carryVerdict points v blocks insts operands crossings locals addresses ends lent most work
-  unfolding carryVerdict
   by-rest {a} {b} {r} e f p q z =
       z ∙ ap (λ (x : Verdict). first x b) (p ∙ stray-whatever v insts operands crossings addresses ends)
       ∙ ap (first (strayVerdict v insts operands crossings addresses ends)) q
-      ∙ sym (first-fine _ _ e ∙ first-fine _ _ f)
+      ∙ sym (all-checks ∙ first-fine _ _ e ∙ first-fine _ _ f)
 
   pub record Fit : Type 0 where
     pub counts : Counted v blocks insts operands crossings locals addresses ends
@@ -140,10 +159,9 @@ module _ (points v : ℕ) (blocks insts operands crossings locals addresses ends
     pub space : carrySpace v blocks insts operands crossings locals addresses ends ≤ work
 
   pub fit : carryVerdict points v blocks insts operands crossings locals addresses ends lent most work ≡ Fine → Fit
-  unfolding carryVerdict
   fit e =
-      let a = first-left (carryCounts v blocks insts operands crossings locals addresses ends) _ e in
-      let b = first-right (carryCounts v blocks insts operands crossings locals addresses ends) _ e in
+      let a = first-left (carryCounts v blocks insts operands crossings locals addresses ends) _ (sym all-checks ∙ e) in
+      let b = first-right (carryCounts v blocks insts operands crossings locals addresses ends) _ (sym all-checks ∙ e) in
       let d = first-right (placeVerdict points v blocks insts operands) _ b in
       let k = counted v blocks insts operands crossings locals addresses ends a in
       let s = first-left (strayVerdict v insts operands crossings addresses ends) _ d in

@@ -1,19 +1,19 @@
 -- What the entries of carrying refuse: numbers 1, 2, 4, 5 and 7, and W.
 use Prim.Native.Nat.{ℕ, _+_, _*_}
 use mathlib.Core.Bool.{_||_}
-use mathlib.Core.List.{List}
+use mathlib.Core.List.{List, [], _∷_}
 use lib.ListN.{length}
 use lib.Dec.{ltb}
 use Rattle.refusals.specs.declared.Verdict.{Verdict}
 use Rattle.refusals.specs.declared.Refusal.the-variants.{Space}
-use Rattle.refusals.specs.Verdicts.{first, check}
+use Rattle.refusals.specs.Verdicts.{first, inOrder, check}
 use Rattle.words.specs.Rows.{rowCount}
+use Rattle.job_space.specs.Space.{rowWords}
 use Rattle.graph.specs.Line.{blocksOf, lineVerdict}
 use Rattle.carrying.specs.Insts.{instsOf}
 use Rattle.carrying.specs.Carried.{mentionsOf}
 use Rattle.carrying.specs.Checks.{instVerdict, crossingVerdict, addressVerdict, endVerdict}
 use Rattle.insts.specs.Counts.{blockCounts, codeCounts}
-use Rattle.reach.specs.Prepared.{wordsOf}
 
 -- number 1
 unfoldable pub carryCounts : ℕ → List ℕ → List ℕ → List ℕ → List ℕ → List ℕ → List ℕ → List ℕ → Verdict
@@ -28,17 +28,30 @@ abbrev pub strayVerdict : ℕ → List ℕ → List ℕ → List ℕ → List �
 strayVerdict v insts operands crossings addresses ends =
     first (crossingVerdict v crossings) (first (addressVerdict (instsOf insts operands) (mentionsOf addresses)) (endVerdict (instsOf insts operands) (mentionsOf ends)))
 
--- W: 8 × (the records lent + ⌈V/64⌉)
+-- W = 8 × (the records lent + blocks × ⌈locals/64⌉ + ⌈V/64⌉): "other entries count what they are lent"
+abbrev pub carryWords : ℕ → ℕ → ℕ → ℕ → ℕ → ℕ → ℕ → ℕ → ℕ
+carryWords v blocks insts operands crossings locals addresses ends =
+    8 * (blocks + insts + operands + crossings + locals + addresses + ends + blocks * rowWords locals + rowWords v)
+
 abbrev pub carrySpace : ℕ → List ℕ → List ℕ → List ℕ → List ℕ → List ℕ → List ℕ → List ℕ → ℕ
 carrySpace v blocks insts operands crossings locals addresses ends =
-    8 * (rowCount 3 blocks + rowCount 9 insts + rowCount 2 operands + length crossings + rowCount 2 locals + rowCount 2 addresses + rowCount 2 ends + wordsOf v)
+    carryWords v (rowCount 3 blocks) (rowCount 9 insts) (rowCount 2 operands) (length crossings) (rowCount 2 locals) (rowCount 2 addresses) (rowCount 2 ends)
 
 -- number 7: an answer list under the most that the answer can be, or work space under W
 abbrev pub roomVerdict : ℕ → ℕ → ℕ → ℕ → Verdict
 roomVerdict lent most work space = check Space (ltb lent most || ltb work space)
 
+-- the checks of `reach` and `carried` in their order: numbers 1, 2, 4, 5 and 7
+abbrev pub carryChecks : ℕ → ℕ → List ℕ → List ℕ → List ℕ → List ℕ → List ℕ → List ℕ → List ℕ → ℕ → ℕ → ℕ → List Verdict
+carryChecks points v blocks insts operands crossings locals addresses ends lent most work =
+    carryCounts v blocks insts operands crossings locals addresses ends
+    ∷ lineVerdict (blocksOf blocks) points
+    ∷ instVerdict (blocksOf blocks) v (instsOf insts operands)
+    ∷ crossingVerdict v crossings
+    ∷ addressVerdict (instsOf insts operands) (mentionsOf addresses)
+    ∷ endVerdict (instsOf insts operands) (mentionsOf ends)
+    ∷ roomVerdict lent most work (carrySpace v blocks insts operands crossings locals addresses ends) ∷ []
+
 unfoldable pub carryVerdict : ℕ → ℕ → List ℕ → List ℕ → List ℕ → List ℕ → List ℕ → List ℕ → List ℕ → ℕ → ℕ → ℕ → Verdict
 carryVerdict points v blocks insts operands crossings locals addresses ends lent most work =
-    first (carryCounts v blocks insts operands crossings locals addresses ends)
-    (first (placeVerdict points v blocks insts operands)
-    (first (strayVerdict v insts operands crossings addresses ends) (roomVerdict lent most work (carrySpace v blocks insts operands crossings locals addresses ends))))
+    inOrder (carryChecks points v blocks insts operands crossings locals addresses ends lent most work)

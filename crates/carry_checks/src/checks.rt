@@ -3,14 +3,8 @@ ghost use mathlib.Core.Path.{_≡_};
 ghost use mathlib.Core.List.{[]};
 ghost use Prim.Native.Nat.{_+_, _*_, _/_, _≤_};
 ghost use lib.ListN.{length};
-ghost use Rattle.carry_checks.specs.Checks.{carryCounts, strayVerdict, carrySpace, carryVerdict};
+ghost use Rattle.carry_checks.specs.Checks.{carryCounts, strayVerdict, carryWords, carrySpace, carryVerdict};
 use refusals::Verdict;
-
-fn wide(x: u32) -> usize
-    ensures { λ r. ⌜ r ≡ x ⌝ }
-{
-    x as usize
-}
 
 // Refusal 1.
 pub fn counts(
@@ -41,7 +35,26 @@ pub fn stray(v: u32, insts: &[u32], crossings: &[u32], addresses: &[u32], ends: 
     refusals::earlier(a, refusals::earlier(b, c))
 }
 
-// The work space that the entries need: 8 words for each record lent and for each 64 registers.
+// W of `reach` and `carried` by numbers of records, for any numbers: 8 words for each record lent, for each 64 locals of each block, and for each 64 registers.
+pub fn words(
+    v: u32,
+    blocks: u32,
+    insts: u32,
+    operands: u32,
+    crossings: u32,
+    locals: u32,
+    addresses: u32,
+    ends: u32,
+) -> u64
+    ensures { λ r. ⌜ r ≡ carryWords v blocks insts operands crossings locals addresses ends ⌝ }
+{
+    let code = blocks as u64 + insts as u64 + operands as u64 + crossings as u64;
+    let named = locals as u64 + addresses as u64 + ends as u64;
+    let rows = blocks as u64 * ((locals as u64 + 63) / 64);
+    8 * (code + named + rows + (v as u64 + 63) / 64)
+}
+
+// The work space that the entries need.
 pub fn needed(
     v: u32,
     blocks: &[u32],
@@ -55,9 +68,14 @@ pub fn needed(
     requires { ⌜ (length (now blocks) / 3 ≤ 4096) × (length (now insts) / 9 ≤ 65536) × (length (now operands) / 2 ≤ 262144) × (length (now crossings) ≤ 65536) × (length (now locals) / 2 ≤ 2048) × (length (now addresses) / 2 ≤ 65536) × (length (now ends) / 2 ≤ 65536) ⌝ }
     ensures { λ r. ⌜ r ≡ carrySpace v (now (blocks .entry)) (now (insts .entry)) (now (operands .entry)) (now (crossings .entry)) (now (locals .entry)) (now (addresses .entry)) (now (ends .entry)) ⌝ }
 {
-    let a = blocks.len() / 3 + insts.len() / 9 + operands.len() / 2 + crossings.len();
-    let b = locals.len() / 2 + addresses.len() / 2 + ends.len() / 2 + (wide(v) + 63) / 64;
-    8 * (a + b)
+    let b = (blocks.len() / 3) as u32;
+    let i = (insts.len() / 9) as u32;
+    let o = (operands.len() / 2) as u32;
+    let x = crossings.len() as u32;
+    let l = (locals.len() / 2) as u32;
+    let a = (addresses.len() / 2) as u32;
+    let e = (ends.len() / 2) as u32;
+    words(v, b, i, o, x, l, a, e) as usize
 }
 
 // Refusals 1, 2, 4, 5 and 7, for an answer list of `lent` numbers where `most` may be needed, and `work` words of work space.

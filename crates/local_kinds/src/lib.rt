@@ -68,7 +68,7 @@ fn measure(
 
 // The kind of each local, 0 for unfollowed, 1 for plain and 2 for ending, at the front of the answer list.
 // Refuses counts outside their limits (1), blocks out of line (2), a bad instruction or crossing (4), a stray address or end (5), an answer list shorter than the
-// locals or work space under 8 words for each record lent and for each 64 registers (7).
+// locals or work space under 8 words for each record lent, for each 64 locals of each block, and for each 64 registers (7).
 // One pass over the code with a sort of its edges, then for each local time in its entries and in the registers and edges that it meets.
 pub fn reach(
     points: u32,
