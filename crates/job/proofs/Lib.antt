@@ -1,3 +1,4 @@
 pub mod CheckLaws
 pub mod EntryLaws
 pub mod Demand
+pub mod Paths

@@ -37,7 +37,7 @@ module _ {points v budget : ℕ} {blocks edges insts operands crossings locals s
   fine = no-refusal verdict plan (omega (arith, E .answer))
 
   -- the lists are those that `job::share` leaves with a plan
-  shared : (c p d : ℕ) → answered (Planned c p d) ≡ tallyOf (unless Fine plan)
+  pub shared : (c p d : ℕ) → answered (Planned c p d) ≡ tallyOf (unless Fine plan)
       → SharedAs points v budget blocks edges insts operands crossings locals slots addresses ends pieces assigned moves cells items areas work (Planned c p d) cells′ items′ areas′ work′
   shared c p d e = record {
     lists = record { answer = e ∙ ap (λ (x : Verdict). tallyOf (unless x plan)) (sym fine); in-cells = E .in-cells; in-items = E .in-items; in-areas = E .in-areas };

@@ -1,3 +1,4 @@
 pub mod CodeLaws
 pub mod AnswerLaws
 pub mod Demand
+pub mod Paths

@@ -1,0 +1,44 @@
+-- By paths, at the entry: what the rows that a call wrote tell of every item's area.
+use Prim.Native.Nat.{ℕ, _<_}
+use native.Mathlib.Omega.{arith}
+use mathlib.Core.Path.{_≡_, ap, _∙_}
+use mathlib.Core.List.{List, _∷_, _++_}
+use lib.ListN.{length, getD, drop}
+use Rattle.refusals.specs.declared.Verdict.{Verdict}
+use Rattle.refusals.specs.Outcomes.{unless, after}
+use Rattle.words.specs.Rows.{tabulate, field}
+use Rattle.areas.specs.Job.{Job, itemCount, itemArea, rangesOf}
+use Rattle.area_tables.specs.Tables.{areaRows}
+use Rattle.area_points.specs.Parts.{AreasTold}
+use Rattle.area_points.proofs.PartLaws.{row-tells, tells-same}
+use Rattle.item_lists.specs.Lists.{itemRow}
+use Rattle.fitting.specs.Plan.{Plan}
+use Rattle.job_checks.specs.Job.{jobOf}
+use Rattle.soundness.specs.Demand.{jobPlan}
+use Rattle.job_answers.specs.declared.Shared.the-variants.{Plan as Planned}
+use Rattle.job.specs.Entry.{SharedAs}
+use Rattle.job.proofs.Demand.{listed-field, none-refused, passed, items-written}
+
+module _ {points v budget : ℕ} {blocks edges insts operands crossings locals slots addresses ends pieces assigned moves cells items areas work cells′ items′ areas′ work′ : List ℕ} {c p d : ℕ}
+    (E : SharedAs points v budget blocks edges insts operands crossings locals slots addresses ends pieces assigned moves cells items areas work (Planned c p d) cells′ items′ areas′ work′) where
+  -- the job's records
+  abbrev J : Job
+  J = jobOf points v blocks edges insts operands crossings locals slots addresses ends pieces assigned moves
+
+  abbrev plan : Plan
+  plan = jobPlan J budget
+
+  areas-written : areas′ ≡ areaRows (itemCount J) (itemArea J) ++ drop (length (areaRows (itemCount J) (itemArea J))) areas
+  areas-written = E .lists .in-areas ∙ ap (λ (x : Verdict). after (unless x plan) (λ _. areaRows (itemCount J) (itemArea J)) areas) (none-refused E)
+
+  field-written : (i : ℕ) → i < itemCount J → (f : ℕ) → f < 4 → field 4 items′ i f ≡ getD (plan .cell i ∷ itemRow (rangesOf (tabulate i (itemArea J))) (itemArea J i)) f 0
+  field-written i h f q = ap (λ (l : List ℕ). field 4 l i f) (items-written E) ∙ listed-field (itemCount J) (itemArea J) plan _ i f h q
+
+  -- whenever the answer is a plan: a point is in the part of the area list that item i's row names exactly when document 01's definition has it, by paths of a local, by moves and
+  -- live pieces of a slot, and the row says absent exactly for an unfollowed local or a slot without area
+  pub shared-by-paths : AreasTold J 4 1 items′ areas′
+  shared-by-paths = record {
+    item = λ i h.
+        tells-same J i areas-written (field-written i h 1 (omega arith)) (field-written i h 2 (omega arith)) (field-written i h 3 (omega arith))
+        (row-tells J (passed E .checked) (passed E .sound .some-block) i h _);
+  }
