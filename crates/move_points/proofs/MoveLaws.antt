@@ -1,32 +1,52 @@
 -- Where a move stands, and what it covers.
-use Prim.Native.Nat.{ℕ, zero, suc, _+_, _≤_, _<_}
+use Prim.Native.Nat.{ℕ, _+_, _≤_, _<_}
 use native.Mathlib.Omega.{arith}
 use mathlib.Core.Path.{_≡_, refl, sym, ap, _∙_}
 use mathlib.Core.Logic.{_≢_}
 use mathlib.Core.Bool.{Bool, true, false, cond, not, _||_}
 use mathlib.Core.List.{List, [], _∷_, _++_}
-use lib.ListN.{length}
+use lib.ListN.{length, getD}
 use lib.Dec.{eqb}
 use borrow.Author.Tests.{eq-eqb, ne-eqb, leb-false}
 use Rattle.refusals.specs.declared.Verdict.the-variants.{Fine}
-use Rattle.refusals.specs.declared.Refusal.the-variants.{Stray}
+use Rattle.refusals.specs.declared.Refusal.the-variants.{Stray as StrayWord}
 use Rattle.refusals.proofs.Laws.{scan-fine}
 use Rattle.words.specs.Rows.{rowCount, field}
 use Rattle.words.proofs.Bools.{or-neither}
 use Rattle.ranges.specs.declared.Range.{Range}
-use Rattle.graph.specs.Line.{Stretch, blocksOf, blockAt, placeIn}
-use Rattle.graph.proofs.Line.{start-is, end-is}
+use Rattle.graph.specs.declared.Block.{Block}
+use Rattle.graph.specs.Line.{Stretch, blocksOf, blockAt, placeIn, Sound}
+use Rattle.graph.specs.Work.{Table}
+use Rattle.graph.proofs.Line.{blocks-length, place-lt, start-is, end-is}
 use Rattle.carrying.specs.Insts.{Inst, instsOf, instAt, isSet}
 use Rattle.carrying.specs.Checks.{absent}
 use Rattle.insts.proofs.DealtLaws.{insts-length, early-is, late-is}
 use Rattle.areas.specs.Slots.{Move, movesOf, around, position, covering, badMove, moveAt, moveVerdict}
 use Rattle.move_points.specs.declared.Spot.the-variants.{At, Nowhere}
 use Rattle.move_points.specs.Moves.{positionAt}
+use Rattle.spill_checks.specs.declared.Position.{Position}
+use Rattle.spill_checks.specs.declared.Position.the-variants.{Early, Late, Start, End, Stray}
+use Rattle.spill_checks.specs.Positions.{positionOf}
 use Rattle.spill_checks.proofs.CheckLaws.{kind-0, kind-1, kind-2, kind-3, move-at, moves-length}
+use Rattle.spill_checks.proofs.PositionLaws.{told, stray-told}
 
 -- ---- where a move stands
 
-module _ (bs : List Stretch) (insts : List ℕ) (k n : ℕ) (fine : badMove bs (instsOf insts []) k n ≡ false) where
+-- the place that the table has for a block that is there is that block's
+pub row-there : (blocks work : List ℕ) (table : ℕ) → Sound (blocksOf blocks) → Table (blocksOf blocks) table work → (b : Block) (p : ℕ) → b .0 < length (blocksOf blocks)
+    → p ≡ getD work (table + b .0) 0 → (p ≡ placeIn (blocksOf blocks) (b .0)) × (p < rowCount 3 blocks)
+row-there blocks work table s t b p h e =
+    let q : p ≡ placeIn (blocksOf blocks) (b .0) = e ∙ t .place (b .0) h in
+    (q, (let l = place-lt s (b .0) h in let n = blocks-length blocks in omega arith))
+
+-- a move that was accepted stands where `position` says
+pub spot-is : (bs : List Stretch) (is : List Inst) (k n : ℕ) → badMove bs is k n ≡ false → positionAt bs is k n ≡ At (position bs is k n)
+spot-is bs is k n e = rw e
+
+module _ (blocks insts : List ℕ) (k n : ℕ) where
+  abbrev Here : Position
+  Here = positionOf (blocksOf blocks) (instsOf insts []) k n
+
   there : (absent (instsOf insts []) n || not (isSet (instAt (instsOf insts []) n .placed))) ≡ false → n < rowCount 9 insts
   there e =
       let a = or-neither (absent (instsOf insts []) n) _ e .0 in
@@ -34,54 +54,51 @@ module _ (bs : List Stretch) (insts : List ℕ) (k n : ℕ) (fine : badMove bs (
       let q = insts-length insts [] in
       omega arith
 
-  pub inst-there-0 : k ≡ 0 → n < rowCount 9 insts
-  inst-there-0 e = there (sym (kind-0 bs (instsOf insts []) n k e) ∙ fine)
+  -- the instruction or block of a position is there, and its field is the point
+  pub at-early : (i : ℕ) → Here ≡ Early i → (i < rowCount 9 insts) × (At (field 9 insts i 2) ≡ positionAt (blocksOf blocks) (instsOf insts []) k n)
+  at-early i e =
+      let t = told (blocksOf blocks) (instsOf insts []) k n (Early i) e (λ q. let z : _≡_ {A = ℕ} 0 1 = cc in omega arith) in
+      let h = there (sym (kind-0 (blocksOf blocks) (instsOf insts []) n k (t .1)) ∙ t .0) in
+      (rw (t .2) at h, ap (λ (x : ℕ). At (field 9 insts x 2)) (sym (t .2)) ∙ ap At (sym (early-is insts [] n h)) ∙ ap (λ (x : ℕ). At (position (blocksOf blocks) (instsOf insts []) x n)) (sym (t .1)) ∙ sym (spot-is _ _ k n (t .0)))
 
-  pub inst-there-1 : k ≡ 1 → n < rowCount 9 insts
-  inst-there-1 e = there (sym (kind-1 bs (instsOf insts []) n k e) ∙ fine)
+  pub at-late : (i : ℕ) → Here ≡ Late i → (i < rowCount 9 insts) × (At (field 9 insts i 3) ≡ positionAt (blocksOf blocks) (instsOf insts []) k n)
+  at-late i e =
+      let t = told (blocksOf blocks) (instsOf insts []) k n (Late i) e (λ q. let z : _≡_ {A = ℕ} 0 1 = cc in omega arith) in
+      let h = there (sym (kind-1 (blocksOf blocks) (instsOf insts []) n k (t .1)) ∙ t .0) in
+      (rw (t .2) at h, ap (λ (x : ℕ). At (field 9 insts x 3)) (sym (t .2)) ∙ ap At (sym (late-is insts [] n h)) ∙ ap (λ (x : ℕ). At (position (blocksOf blocks) (instsOf insts []) x n)) (sym (t .1)) ∙ sym (spot-is _ _ k n (t .0)))
 
-  pub block-there-2 : k ≡ 2 → n < length bs
-  block-there-2 e = leb-false (length bs) n (sym (kind-2 bs (instsOf insts []) n k e) ∙ fine)
+  pub start-there : (b : Block) → Here ≡ Start b → b .0 < length (blocksOf blocks)
+  start-there b e =
+      let t = told (blocksOf blocks) (instsOf insts []) k n (Start b) e (λ q. let z : _≡_ {A = ℕ} 0 1 = cc in omega arith) in
+      let h = leb-false (length (blocksOf blocks)) n (sym (kind-2 (blocksOf blocks) (instsOf insts []) n k (t .1)) ∙ t .0) in
+      rw (t .2) at h
 
-  pub block-there-3 : k ≡ 3 → n < length bs
-  block-there-3 e = leb-false (length bs) n (sym (kind-3 bs (instsOf insts []) n k e) ∙ fine)
+  pub end-there : (b : Block) → Here ≡ End b → b .0 < length (blocksOf blocks)
+  end-there b e =
+      let t = told (blocksOf blocks) (instsOf insts []) k n (End b) e (λ q. let z : _≡_ {A = ℕ} 0 1 = cc in omega arith) in
+      let h = leb-false (length (blocksOf blocks)) n (sym (kind-3 (blocksOf blocks) (instsOf insts []) n k (t .1)) ∙ t .0) in
+      rw (t .2) at h
 
-module _ (blocks insts : List ℕ) (k n : ℕ) where
-  pub spot-0 : k ≡ 0 → n < rowCount 9 insts → At (field 9 insts n 2) ≡ positionAt (blocksOf blocks) (instsOf insts []) k n
-  spot-0 e h = rw e (ap At (sym (early-is insts [] n h)))
+  pub at-start : (b : Block) (p : ℕ) → Here ≡ Start b → p ≡ placeIn (blocksOf blocks) (b .0) → p < rowCount 3 blocks → At (field 3 blocks p 1) ≡ positionAt (blocksOf blocks) (instsOf insts []) k n
+  at-start b p e q h =
+      let t = told (blocksOf blocks) (instsOf insts []) k n (Start b) e (λ q. let z : _≡_ {A = ℕ} 0 1 = cc in omega arith) in
+      ap At (sym (start-is blocks p h) ∙ ap (λ (x : ℕ). blockAt (blocksOf blocks) x .start) (q ∙ ap (placeIn (blocksOf blocks)) (sym (t .2))))
+      ∙ ap (λ (x : ℕ). At (position (blocksOf blocks) (instsOf insts []) x n)) (sym (t .1)) ∙ sym (spot-is _ _ k n (t .0))
 
-  pub spot-1 : k ≡ 1 → n < rowCount 9 insts → At (field 9 insts n 3) ≡ positionAt (blocksOf blocks) (instsOf insts []) k n
-  spot-1 e h = rw e (ap At (sym (late-is insts [] n h)))
+  pub at-end : (b : Block) (p : ℕ) → Here ≡ End b → p ≡ placeIn (blocksOf blocks) (b .0) → p < rowCount 3 blocks → At (field 3 blocks p 2) ≡ positionAt (blocksOf blocks) (instsOf insts []) k n
+  at-end b p e q h =
+      let t = told (blocksOf blocks) (instsOf insts []) k n (End b) e (λ q. let z : _≡_ {A = ℕ} 0 1 = cc in omega arith) in
+      ap At (sym (end-is blocks p h) ∙ ap (λ (x : ℕ). blockAt (blocksOf blocks) x .end) (q ∙ ap (placeIn (blocksOf blocks)) (sym (t .2))))
+      ∙ ap (λ (x : ℕ). At (position (blocksOf blocks) (instsOf insts []) x n)) (sym (t .1)) ∙ sym (spot-is _ _ k n (t .0))
 
-  pub spot-2 : (p : ℕ) → k ≡ 2 → p ≡ placeIn (blocksOf blocks) n → p < rowCount 3 blocks → At (field 3 blocks p 1) ≡ positionAt (blocksOf blocks) (instsOf insts []) k n
-  spot-2 p e q h = rw e (ap At (sym (start-is blocks p h) ∙ ap (λ (x : ℕ). blockAt (blocksOf blocks) x .start) q))
-
-  pub spot-3 : (p : ℕ) → k ≡ 3 → p ≡ placeIn (blocksOf blocks) n → p < rowCount 3 blocks → At (field 3 blocks p 2) ≡ positionAt (blocksOf blocks) (instsOf insts []) k n
-  spot-3 p e q h = rw e (ap At (sym (end-is blocks p h) ∙ ap (λ (x : ℕ). blockAt (blocksOf blocks) x .end) q))
-
-  pub spot-over : 3 < k → Nowhere ≡ positionAt (blocksOf blocks) (instsOf insts []) k n
-  spot-over h = go k h
-    where
-      go : (j : ℕ) → 3 < j → Nowhere ≡ positionAt (blocksOf blocks) (instsOf insts []) j n
-      go zero l = absurd (omega arith)
-      go (suc zero) l = absurd (omega arith)
-      go (suc (suc zero)) l = absurd (omega arith)
-      go (suc (suc (suc zero))) l = absurd (omega arith)
-      go (suc (suc (suc (suc j)))) l = refl
-
--- a move that was accepted stands where `position` says
-pub spot-is : (bs : List Stretch) (is : List Inst) (k n : ℕ) → badMove bs is k n ≡ false → positionAt bs is k n ≡ At (position bs is k n)
-spot-is bs is zero n e = refl
-spot-is bs is (suc zero) n e = refl
-spot-is bs is (suc (suc zero)) n e = refl
-spot-is bs is (suc (suc (suc zero))) n e = refl
-spot-is bs is (suc (suc (suc (suc k)))) n e = absurd (let z : _≡_ {A = ℕ} 0 1 = cc in omega arith)
+  pub at-none : Here ≡ Stray → Nowhere ≡ positionAt (blocksOf blocks) (instsOf insts []) k n
+  at-none e = rw (stray-told (blocksOf blocks) (instsOf insts []) k n e)
 
 pub move-fine : (bs : List Stretch) (is : List Inst) (s : List ℕ) (i : ℕ) → moveVerdict bs is (movesOf s) ≡ Fine → i < rowCount 4 s
     → badMove bs is (field 4 s i 0) (field 4 s i 1) ≡ false
 move-fine bs is s i v h =
     ap (λ (m : Move). badMove bs is (m .kind) (m .number)) (sym (move-at s i h))
-    ∙ scan-fine Stray (λ n. badMove bs is (moveAt (movesOf s) n .kind) (moveAt (movesOf s) n .number)) (length (movesOf s)) v i (let q = moves-length s in omega arith)
+    ∙ scan-fine StrayWord (λ n. badMove bs is (moveAt (movesOf s) n .kind) (moveAt (movesOf s) n .number)) (length (movesOf s)) v i (let q = moves-length s in omega arith)
 
 -- ---- what a move covers
 

@@ -1,20 +1,17 @@
 -- Moves by their numbers in the lent rows, and where one stands.
-use Prim.Native.Nat.{ℕ, zero, suc}
+use Prim.Native.Nat.{ℕ}
+use mathlib.Core.Bool.{cond}
 use mathlib.Core.List.{List}
 use Rattle.words.specs.Rows.{field}
 use Rattle.graph.specs.Line.{Stretch}
 use Rattle.carrying.specs.Insts.{Inst}
-use Rattle.areas.specs.Slots.{Move, position}
+use Rattle.areas.specs.Slots.{Move, position, badMove}
 use Rattle.move_points.specs.declared.Spot.{Spot}
 use Rattle.move_points.specs.declared.Spot.the-variants.{At, Nowhere}
 
--- the point of a move whose kind is one of the four
+-- the point of a move, or nowhere for one that is refused
 abbrev pub positionAt : List Stretch → List Inst → ℕ → ℕ → Spot
-positionAt bs is zero n = At (position bs is 0 n)
-positionAt bs is (suc zero) n = At (position bs is 1 n)
-positionAt bs is (suc (suc zero)) n = At (position bs is 2 n)
-positionAt bs is (suc (suc (suc zero))) n = At (position bs is 3 n)
-positionAt bs is (suc (suc (suc (suc k)))) n = Nowhere
+positionAt bs is k n = cond (badMove bs is k n) Nowhere (At (position bs is k n))
 
 -- move i of the rows
 abbrev pub moveRow : List ℕ → ℕ → Move

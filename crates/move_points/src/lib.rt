@@ -1,23 +1,21 @@
 // Where a move stands, and the points either side of it.
 ghost use mathlib.Core.Path.{_≡_};
-ghost use mathlib.Core.Bool.{false};
 ghost use mathlib.Core.List.{[]};
 ghost use Prim.Native.Nat.{_+_, _-_, _*_, _/_, _≤_, _<_, min};
 ghost use lib.ListN.{length};
 ghost use Rattle.graph.specs.Line.{blocksOf, Sound};
 ghost use Rattle.graph.specs.Work.{Table};
 ghost use Rattle.carrying.specs.Insts.{instsOf};
-ghost use Rattle.areas.specs.Slots.{badMove};
 ghost use Rattle.move_points.specs.Moves.{positionAt};
-use graph::Block;
+use spill_checks::Position;
 
-// Where a move stands, or that its kind is none.
+// The point of a move, or that it stands nowhere.
 pub enum Spot {
     At(u32),
     Nowhere,
 }
 
-// The point of a move by its kind: early or late of an instruction, start or end of a block. The table of places stands from `table` on.
+// The point of a move by its kind. The table of places stands from `table` on.
 pub fn position(
     blocks: &[u32],
     insts: &[u32],
@@ -27,15 +25,14 @@ pub fn position(
     number: u32,
 ) -> Spot
     requires { ⌜ Sound (blocksOf (now blocks)) × Table (blocksOf (now blocks)) table (now work) × (table + length (now blocks) / 3 ≤ length (now work)) ⌝ }
-    requires { ⌜ badMove (blocksOf (now blocks)) (instsOf (now insts) []) kind number ≡ false ⌝ }
     ensures { λ r. ⌜ r ≡ positionAt (blocksOf (now (blocks .entry))) (instsOf (now (insts .entry)) []) kind number ⌝ }
 {
-    match kind {
-        0 => Spot::At(insts[9 * number as usize + 2]),
-        1 => Spot::At(insts[9 * number as usize + 3]),
-        2 => Spot::At(blocks[3 * edge_rows::place_of(work, table, Block(number)).0 + 1]),
-        3 => Spot::At(blocks[3 * edge_rows::place_of(work, table, Block(number)).0 + 2]),
-        _ => Spot::Nowhere,
+    match spill_checks::locate(blocks, insts, kind, number) {
+        Position::Early(i) => Spot::At(insts[9 * i as usize + 2]),
+        Position::Late(i) => Spot::At(insts[9 * i as usize + 3]),
+        Position::Start(b) => Spot::At(blocks[3 * edge_rows::place_of(work, table, b).0 + 1]),
+        Position::End(b) => Spot::At(blocks[3 * edge_rows::place_of(work, table, b).0 + 2]),
+        Position::Stray => Spot::Nowhere,
     }
 }
 

@@ -1,3 +1,4 @@
 pub mod CheckLaws
 pub mod OperandLaws
 pub mod AssignedLaws
+pub mod PositionLaws

@@ -1,13 +1,19 @@
 // Refusal 5 about moves and refusal 6 about live pieces and assignments, in linear time and without work space.
 ghost use mathlib.Core.Path.{_≡_};
+ghost use mathlib.Core.Bool.{cond, not, _||_};
 ghost use mathlib.Core.List.{[]};
 ghost use Prim.Native.Nat.{_+_, _*_, _/_, _≤_, _<_};
 ghost use lib.ListN.{length};
+ghost use lib.Dec.{leb};
+ghost use Rattle.words.specs.Rows.{field};
 ghost use Rattle.graph.specs.Line.{blocksOf};
-ghost use Rattle.carrying.specs.Insts.{instsOf};
+ghost use Rattle.carrying.specs.Insts.{instsOf, isSet};
 ghost use Rattle.carrying.specs.Carried.{piecesOf};
 ghost use Rattle.areas.specs.Slots.{assignedOf, movesOf, badMove, moveVerdict, badPiece, pieceVerdict, assignedVerdict};
 ghost use Rattle.spill_checks.specs.Rows.{pieceAt};
+ghost use Rattle.spill_checks.specs.Positions.{positionOf};
+ghost use Rattle.spill_checks.specs.declared.Position.the-variants.{Stray};
+use graph::Block;
 use refusals::Refusal;
 use refusals::Verdict;
 
@@ -17,22 +23,65 @@ pub enum Answer {
     Refused(Refusal, usize),
 }
 
+// Where a move stands: at the early or the late point of an instruction, at the start or the end of a block; stray for a move that is refused.
+pub enum Position {
+    Early(u32),
+    Late(u32),
+    Start(Block),
+    End(Block),
+    Stray,
+}
+
 fn wide(x: u32) -> usize
     ensures { λ r. ⌜ r ≡ x ⌝ }
 {
     x as usize
 }
 
-// Whether a move of this kind is at an absent or unplaced instruction or an absent block, or the kind is none.
+// `p`, which is at this instruction; stray where it is absent or unplaced.
+fn at_inst(insts: &[u32], number: u32, p: Position) -> Position
+    ensures { λ r. ⌜ r ≡ cond (leb (length (now (insts .entry)) / 9) number || not (isSet (field 9 (now (insts .entry)) number 0))) Stray p ⌝ }
+{
+    if insts::checks::unplaced(insts, number) {
+        return Position::Stray;
+    }
+    p
+}
+
+// `p`, which is at this block; stray where it is absent.
+fn at_block(blocks: &[u32], number: u32, p: Position) -> Position
+    ensures { λ r. ⌜ r ≡ cond (leb (length (now (blocks .entry)) / 3) number) Stray p ⌝ }
+{
+    if blocks.len() / 3 <= number as usize {
+        return Position::Stray;
+    }
+    p
+}
+
+// Where a move stands by its kind: before or after an instruction, at the start or the end of a block. Stray, which is refused, for an absent or unplaced
+// instruction, an absent block, and a kind over 3.
+pub fn locate(blocks: &[u32], insts: &[u32], kind: u32, number: u32) -> Position
+    ensures { λ r. ⌜ r ≡ positionOf (blocksOf (now (blocks .entry))) (instsOf (now (insts .entry)) []) kind number ⌝ }
+{
+    match kind {
+        0 => at_inst(insts, number, Position::Early(number)),
+        1 => at_inst(insts, number, Position::Late(number)),
+        2 => at_block(blocks, number, Position::Start(Block(number))),
+        3 => at_block(blocks, number, Position::End(Block(number))),
+        _ => Position::Stray,
+    }
+}
+
+// Whether a move of this kind is refused.
 fn bad_move(blocks: &[u32], insts: &[u32], kind: u32, number: u32) -> bool
     ensures { λ r. ⌜ r ≡ badMove (blocksOf (now (blocks .entry))) (instsOf (now (insts .entry)) []) kind number ⌝ }
 {
-    match kind {
-        0 => insts::checks::unplaced(insts, number),
-        1 => insts::checks::unplaced(insts, number),
-        2 => blocks.len() / 3 <= wide(number),
-        3 => blocks.len() / 3 <= wide(number),
-        _ => true,
+    match locate(blocks, insts, kind, number) {
+        Position::Early(_) => false,
+        Position::Late(_) => false,
+        Position::Start(_) => false,
+        Position::End(_) => false,
+        Position::Stray => true,
     }
 }
 

@@ -12,7 +12,6 @@ use mathlib.Core.List.{[], _∷_, _++_}
 use Rattle.ranges.specs.declared.Range.{Range}
 use Rattle.graph.specs.Line.{blocksOf}
 use Rattle.carrying.specs.Insts.{instsOf}
-use Rattle.areas.specs.Slots.{badMove}
 use Rattle.move_points.specs.Moves.{positionAt, moveRow}
 use Rattle.move_covers.proofs.covers.Statement.{statement}
 use Rattle.move_covers.proofs.covers.Tie as tie
@@ -39,7 +38,7 @@ shared-slice-read-position-2 : tie.Need-shared-slice-read-position-2
 shared-slice-read-position-2 c = omega arith
 
 position-requires : tie.Need-position-requires
-position-requires c κs = (((c .before .before .before .before .before .before .before .pre) .0 .0, (c .before .before .before .before .before .before .before .pre) .0 .1, omega (arith, (c .before .before .before .before .before .before .before .pre) .0 .2)), ap (λ (x : ℕ). badMove (blocksOf (((c .before .before .before .before .before .before .before .args) .blocks .now))) (instsOf (((c .before .before .before .before .before .before .before .args) .insts .now)) []) (getD (((c .before .before .before .before .before .before .before .args) .moves .now)) x 0) (getD (((c .before .before .before .before .before .before .before .args) .moves .now)) (4 * (c .before .before .before .before .before .before .before .args) .i + 1) 0)) (sym (add-zero (4 * (c .before .before .before .before .before .before .before .args) .i))) ∙ (move-fine (blocksOf (((c .before .before .before .before .before .before .before .args) .blocks .now))) (instsOf (((c .before .before .before .before .before .before .before .args) .insts .now)) []) (((c .before .before .before .before .before .before .before .args) .moves .now)) ((c .before .before .before .before .before .before .before .args) .i) ((c .before .before .before .before .before .before .before .pre) .1 .1) ((c .before .before .before .before .before .before .before .pre) .1 .0)))
+position-requires c κs = ((c .before .before .before .before .before .before .before .pre) .0 .0, (c .before .before .before .before .before .before .before .pre) .0 .1, omega (arith, (c .before .before .before .before .before .before .before .pre) .0 .2))
 
 enum-known-at : tie.Need-enum-known-at
 enum-known-at c = search needs

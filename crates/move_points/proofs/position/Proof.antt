@@ -1,105 +1,137 @@
--- `move_points::position` meets its contract: a law for each kind.
+-- `move_points::position` meets its contract: a law for each position.
 use native.Mathlib.Omega.{arith}
 use Prim.Native.Nat.{_-_}
-use mathlib.Core.Path.{_≡_, _∙_}
+use mathlib.Core.Path.{sym, _∙_}
 use denote.Ref.{now}
-use Rattle.move_points.proofs.MoveLaws.{inst-there-0, inst-there-1, block-there-2, block-there-3, spot-0, spot-1, spot-2, spot-3, spot-over}
-use Rattle.graph.specs.Line.{blocksOf, placeIn}
-use Rattle.graph.proofs.Line.{blocks-length, place-lt}
+use borrow.Author.Needs.{needs}
+use Rattle.graph.proofs.Line.{blocks-length}
+use Rattle.move_points.proofs.MoveLaws.{row-there, at-early, at-late, start-there, end-there, at-start, at-end, at-none}
 use Rattle.move_points.proofs.position.Statement.{statement}
 use Rattle.move_points.proofs.position.Tie as tie
 
-mul-t9 : tie.Need-mul-t9
-mul-t9 c = omega arith
+locate-requires : tie.Need-locate-requires
+locate-requires c κs = search needs
 
-add-t10 : tie.Need-add-t10
-add-t10 c = omega arith
+enum-known-i : tie.Need-enum-known-i
+enum-known-i c = search needs
 
-mul-t11 : tie.Need-mul-t11
-mul-t11 c = omega arith
+cast-t13 : tie.Need-cast-t13
+cast-t13 c = omega arith
 
-shared-slice-read-t13 : tie.Need-shared-slice-read-t13
-shared-slice-read-t13 c = let h = inst-there-0 (blocksOf (((c .before .before .before .before .before .args) .blocks .now))) (((c .before .before .before .before .before .args) .insts .now)) ((c .before .before .before .before .before .args) .kind) ((c .before .before .before .before .before .args) .number) ((c .before .before .before .before .before .pre) .1) (omega arith) in omega arith
+mul-t14 : tie.Need-mul-t14
+mul-t14 c = omega arith
 
-mul-t15 : tie.Need-mul-t15
-mul-t15 c = omega arith
+add-t15 : tie.Need-add-t15
+add-t15 c = omega arith
 
-add-t16 : tie.Need-add-t16
-add-t16 c = omega arith
+mul-t16 : tie.Need-mul-t16
+mul-t16 c = omega arith
 
-mul-t17 : tie.Need-mul-t17
-mul-t17 c = omega arith
+shared-slice-read-t18 : tie.Need-shared-slice-read-t18
+shared-slice-read-t18 c = let h = at-early ((c .before .before .before .before .before .before .before .before .args) .blocks .now) ((c .before .before .before .before .before .before .before .before .args) .insts .now) ((c .before .before .before .before .before .before .before .before .args) .kind) ((c .before .before .before .before .before .before .before .before .args) .number) _ (sym ((c .before .before .before .before .locate) .ensures) ∙ (c .before .before .i) .given .1) .0 in omega arith
 
-shared-slice-read-t19 : tie.Need-shared-slice-read-t19
-shared-slice-read-t19 c = let h = inst-there-1 (blocksOf (((c .before .before .before .before .before .args) .blocks .now))) (((c .before .before .before .before .before .args) .insts .now)) ((c .before .before .before .before .before .args) .kind) ((c .before .before .before .before .before .args) .number) ((c .before .before .before .before .before .pre) .1) (omega arith) in omega arith
+enum-known-i-2 : tie.Need-enum-known-i-2
+enum-known-i-2 c = search needs
 
-place-of-requires : tie.Need-place-of-requires
-place-of-requires c κs = let n = blocks-length (((c .before .before .before .before .args) .blocks .now)) in let h = block-there-2 (blocksOf (((c .before .before .before .before .args) .blocks .now))) (((c .before .before .before .before .args) .insts .now)) ((c .before .before .before .before .args) .kind) ((c .before .before .before .before .args) .number) ((c .before .before .before .before .pre) .1) (omega arith) in omega arith
+cast-t19 : tie.Need-cast-t19
+cast-t19 c = omega arith
+
+mul-t20 : tie.Need-mul-t20
+mul-t20 c = omega arith
+
+add-t21 : tie.Need-add-t21
+add-t21 c = omega arith
 
 mul-t22 : tie.Need-mul-t22
-mul-t22 c = let n = blocks-length (((c .before .before .before .before .before .before .args) .blocks .now)) in let h = block-there-2 (blocksOf (((c .before .before .before .before .before .before .args) .blocks .now))) (((c .before .before .before .before .before .before .args) .insts .now)) ((c .before .before .before .before .before .before .args) .kind) ((c .before .before .before .before .before .before .args) .number) ((c .before .before .before .before .before .before .pre) .1) (omega arith) in let p : (c .before .place-of) .result .0 ≡ placeIn (blocksOf (((c .before .before .before .before .before .before .args) .blocks .now))) ((c .before .before .before .before .before .before .args) .number) = (c .before .place-of) .ensures ∙ (c .before .before .before .before .before .before .pre) .0 .1 .place ((c .before .before .before .before .before .before .args) .number) h in let l = place-lt ((c .before .before .before .before .before .before .pre) .0 .0) ((c .before .before .before .before .before .before .args) .number) h in omega arith
+mul-t22 c = omega arith
 
-add-t23 : tie.Need-add-t23
-add-t23 c = let n = blocks-length (((c .before .before .before .before .before .before .args) .blocks .now)) in let h = block-there-2 (blocksOf (((c .before .before .before .before .before .before .args) .blocks .now))) (((c .before .before .before .before .before .before .args) .insts .now)) ((c .before .before .before .before .before .before .args) .kind) ((c .before .before .before .before .before .before .args) .number) ((c .before .before .before .before .before .before .pre) .1) (omega arith) in let p : (c .before .place-of) .result .0 ≡ placeIn (blocksOf (((c .before .before .before .before .before .before .args) .blocks .now))) ((c .before .before .before .before .before .before .args) .number) = (c .before .place-of) .ensures ∙ (c .before .before .before .before .before .before .pre) .0 .1 .place ((c .before .before .before .before .before .before .args) .number) h in let l = place-lt ((c .before .before .before .before .before .before .pre) .0 .0) ((c .before .before .before .before .before .before .args) .number) h in omega arith
+shared-slice-read-t24 : tie.Need-shared-slice-read-t24
+shared-slice-read-t24 c = let h = at-late ((c .before .before .before .before .before .before .before .before .args) .blocks .now) ((c .before .before .before .before .before .before .before .before .args) .insts .now) ((c .before .before .before .before .before .before .before .before .args) .kind) ((c .before .before .before .before .before .before .before .before .args) .number) _ (sym ((c .before .before .before .before .locate) .ensures) ∙ (c .before .before .i2) .given .1) .0 in omega arith
 
-mul-t24 : tie.Need-mul-t24
-mul-t24 c = let n = blocks-length (((c .before .before .before .before .before .before .args) .blocks .now)) in let h = block-there-2 (blocksOf (((c .before .before .before .before .before .before .args) .blocks .now))) (((c .before .before .before .before .before .before .args) .insts .now)) ((c .before .before .before .before .before .before .args) .kind) ((c .before .before .before .before .before .before .args) .number) ((c .before .before .before .before .before .before .pre) .1) (omega arith) in let p : (c .before .place-of) .result .0 ≡ placeIn (blocksOf (((c .before .before .before .before .before .before .args) .blocks .now))) ((c .before .before .before .before .before .before .args) .number) = (c .before .place-of) .ensures ∙ (c .before .before .before .before .before .before .pre) .0 .1 .place ((c .before .before .before .before .before .before .args) .number) h in let l = place-lt ((c .before .before .before .before .before .before .pre) .0 .0) ((c .before .before .before .before .before .before .args) .number) h in omega arith
+enum-known-b : tie.Need-enum-known-b
+enum-known-b c = search needs
 
-shared-slice-read-t26 : tie.Need-shared-slice-read-t26
-shared-slice-read-t26 c = let n = blocks-length (((c .before .before .before .before .before .before .before .args) .blocks .now)) in let h = block-there-2 (blocksOf (((c .before .before .before .before .before .before .before .args) .blocks .now))) (((c .before .before .before .before .before .before .before .args) .insts .now)) ((c .before .before .before .before .before .before .before .args) .kind) ((c .before .before .before .before .before .before .before .args) .number) ((c .before .before .before .before .before .before .before .pre) .1) (omega arith) in let p : (c .before .before .place-of) .result .0 ≡ placeIn (blocksOf (((c .before .before .before .before .before .before .before .args) .blocks .now))) ((c .before .before .before .before .before .before .before .args) .number) = (c .before .before .place-of) .ensures ∙ (c .before .before .before .before .before .before .before .pre) .0 .1 .place ((c .before .before .before .before .before .before .before .args) .number) h in let l = place-lt ((c .before .before .before .before .before .before .before .pre) .0 .0) ((c .before .before .before .before .before .before .before .args) .number) h in omega arith
+place-of-requires : tie.Need-place-of-requires
+place-of-requires c κs = let h = start-there ((c .before .before .before .before .before .before .before .args) .blocks .now) ((c .before .before .before .before .before .before .before .args) .insts .now) ((c .before .before .before .before .before .before .before .args) .kind) ((c .before .before .before .before .before .before .before .args) .number) _ (sym ((c .before .before .before .locate) .ensures) ∙ (c .before .b) .given .1) in let n = blocks-length ((c .before .before .before .before .before .before .before .args) .blocks .now) in omega arith
+
+mul-t26 : tie.Need-mul-t26
+mul-t26 c = let h = row-there ((c .before .before .before .before .before .before .before .before .before .args) .blocks .now) ((c .before .before .before .before .before .before .before .before .before .args) .work .now) ((c .before .before .before .before .before .before .before .before .before .args) .table) ((c .before .before .before .before .before .before .before .before .before .pre) .0) ((c .before .before .before .before .before .before .before .before .before .pre) .1) _ _ (start-there ((c .before .before .before .before .before .before .before .before .before .args) .blocks .now) ((c .before .before .before .before .before .before .before .before .before .args) .insts .now) ((c .before .before .before .before .before .before .before .before .before .args) .kind) ((c .before .before .before .before .before .before .before .before .before .args) .number) _ (sym ((c .before .before .before .before .before .locate) .ensures) ∙ (c .before .before .before .b) .given .1)) ((c .before .place-of) .ensures) .1 in omega arith
+
+add-t27 : tie.Need-add-t27
+add-t27 c = let h = row-there ((c .before .before .before .before .before .before .before .before .before .args) .blocks .now) ((c .before .before .before .before .before .before .before .before .before .args) .work .now) ((c .before .before .before .before .before .before .before .before .before .args) .table) ((c .before .before .before .before .before .before .before .before .before .pre) .0) ((c .before .before .before .before .before .before .before .before .before .pre) .1) _ _ (start-there ((c .before .before .before .before .before .before .before .before .before .args) .blocks .now) ((c .before .before .before .before .before .before .before .before .before .args) .insts .now) ((c .before .before .before .before .before .before .before .before .before .args) .kind) ((c .before .before .before .before .before .before .before .before .before .args) .number) _ (sym ((c .before .before .before .before .before .locate) .ensures) ∙ (c .before .before .before .b) .given .1)) ((c .before .place-of) .ensures) .1 in omega arith
+
+mul-t28 : tie.Need-mul-t28
+mul-t28 c = let h = row-there ((c .before .before .before .before .before .before .before .before .before .args) .blocks .now) ((c .before .before .before .before .before .before .before .before .before .args) .work .now) ((c .before .before .before .before .before .before .before .before .before .args) .table) ((c .before .before .before .before .before .before .before .before .before .pre) .0) ((c .before .before .before .before .before .before .before .before .before .pre) .1) _ _ (start-there ((c .before .before .before .before .before .before .before .before .before .args) .blocks .now) ((c .before .before .before .before .before .before .before .before .before .args) .insts .now) ((c .before .before .before .before .before .before .before .before .before .args) .kind) ((c .before .before .before .before .before .before .before .before .before .args) .number) _ (sym ((c .before .before .before .before .before .locate) .ensures) ∙ (c .before .before .before .b) .given .1)) ((c .before .place-of) .ensures) .1 in omega arith
+
+shared-slice-read-t30 : tie.Need-shared-slice-read-t30
+shared-slice-read-t30 c = let h = row-there ((c .before .before .before .before .before .before .before .before .before .before .args) .blocks .now) ((c .before .before .before .before .before .before .before .before .before .before .args) .work .now) ((c .before .before .before .before .before .before .before .before .before .before .args) .table) ((c .before .before .before .before .before .before .before .before .before .before .pre) .0) ((c .before .before .before .before .before .before .before .before .before .before .pre) .1) _ _ (start-there ((c .before .before .before .before .before .before .before .before .before .before .args) .blocks .now) ((c .before .before .before .before .before .before .before .before .before .before .args) .insts .now) ((c .before .before .before .before .before .before .before .before .before .before .args) .kind) ((c .before .before .before .before .before .before .before .before .before .before .args) .number) _ (sym ((c .before .before .before .before .before .before .locate) .ensures) ∙ (c .before .before .before .before .b) .given .1)) ((c .before .before .place-of) .ensures) .1 in omega arith
+
+enum-known-b-2 : tie.Need-enum-known-b-2
+enum-known-b-2 c = search needs
 
 place-of-requires-2 : tie.Need-place-of-requires-2
-place-of-requires-2 c κs = let n = blocks-length (((c .before .before .before .before .args) .blocks .now)) in let h = block-there-3 (blocksOf (((c .before .before .before .before .args) .blocks .now))) (((c .before .before .before .before .args) .insts .now)) ((c .before .before .before .before .args) .kind) ((c .before .before .before .before .args) .number) ((c .before .before .before .before .pre) .1) (omega arith) in omega arith
+place-of-requires-2 c κs = let h = end-there ((c .before .before .before .before .before .before .before .args) .blocks .now) ((c .before .before .before .before .before .before .before .args) .insts .now) ((c .before .before .before .before .before .before .before .args) .kind) ((c .before .before .before .before .before .before .before .args) .number) _ (sym ((c .before .before .before .locate) .ensures) ∙ (c .before .b2) .given .1) in let n = blocks-length ((c .before .before .before .before .before .before .before .args) .blocks .now) in omega arith
 
-mul-t29 : tie.Need-mul-t29
-mul-t29 c = let n = blocks-length (((c .before .before .before .before .before .before .args) .blocks .now)) in let h = block-there-3 (blocksOf (((c .before .before .before .before .before .before .args) .blocks .now))) (((c .before .before .before .before .before .before .args) .insts .now)) ((c .before .before .before .before .before .before .args) .kind) ((c .before .before .before .before .before .before .args) .number) ((c .before .before .before .before .before .before .pre) .1) (omega arith) in let p : (c .before .place-of2) .result .0 ≡ placeIn (blocksOf (((c .before .before .before .before .before .before .args) .blocks .now))) ((c .before .before .before .before .before .before .args) .number) = (c .before .place-of2) .ensures ∙ (c .before .before .before .before .before .before .pre) .0 .1 .place ((c .before .before .before .before .before .before .args) .number) h in let l = place-lt ((c .before .before .before .before .before .before .pre) .0 .0) ((c .before .before .before .before .before .before .args) .number) h in omega arith
+mul-t32 : tie.Need-mul-t32
+mul-t32 c = let h = row-there ((c .before .before .before .before .before .before .before .before .before .args) .blocks .now) ((c .before .before .before .before .before .before .before .before .before .args) .work .now) ((c .before .before .before .before .before .before .before .before .before .args) .table) ((c .before .before .before .before .before .before .before .before .before .pre) .0) ((c .before .before .before .before .before .before .before .before .before .pre) .1) _ _ (end-there ((c .before .before .before .before .before .before .before .before .before .args) .blocks .now) ((c .before .before .before .before .before .before .before .before .before .args) .insts .now) ((c .before .before .before .before .before .before .before .before .before .args) .kind) ((c .before .before .before .before .before .before .before .before .before .args) .number) _ (sym ((c .before .before .before .before .before .locate) .ensures) ∙ (c .before .before .before .b2) .given .1)) ((c .before .place-of2) .ensures) .1 in omega arith
 
-add-t30 : tie.Need-add-t30
-add-t30 c = let n = blocks-length (((c .before .before .before .before .before .before .args) .blocks .now)) in let h = block-there-3 (blocksOf (((c .before .before .before .before .before .before .args) .blocks .now))) (((c .before .before .before .before .before .before .args) .insts .now)) ((c .before .before .before .before .before .before .args) .kind) ((c .before .before .before .before .before .before .args) .number) ((c .before .before .before .before .before .before .pre) .1) (omega arith) in let p : (c .before .place-of2) .result .0 ≡ placeIn (blocksOf (((c .before .before .before .before .before .before .args) .blocks .now))) ((c .before .before .before .before .before .before .args) .number) = (c .before .place-of2) .ensures ∙ (c .before .before .before .before .before .before .pre) .0 .1 .place ((c .before .before .before .before .before .before .args) .number) h in let l = place-lt ((c .before .before .before .before .before .before .pre) .0 .0) ((c .before .before .before .before .before .before .args) .number) h in omega arith
+add-t33 : tie.Need-add-t33
+add-t33 c = let h = row-there ((c .before .before .before .before .before .before .before .before .before .args) .blocks .now) ((c .before .before .before .before .before .before .before .before .before .args) .work .now) ((c .before .before .before .before .before .before .before .before .before .args) .table) ((c .before .before .before .before .before .before .before .before .before .pre) .0) ((c .before .before .before .before .before .before .before .before .before .pre) .1) _ _ (end-there ((c .before .before .before .before .before .before .before .before .before .args) .blocks .now) ((c .before .before .before .before .before .before .before .before .before .args) .insts .now) ((c .before .before .before .before .before .before .before .before .before .args) .kind) ((c .before .before .before .before .before .before .before .before .before .args) .number) _ (sym ((c .before .before .before .before .before .locate) .ensures) ∙ (c .before .before .before .b2) .given .1)) ((c .before .place-of2) .ensures) .1 in omega arith
 
-mul-t31 : tie.Need-mul-t31
-mul-t31 c = let n = blocks-length (((c .before .before .before .before .before .before .args) .blocks .now)) in let h = block-there-3 (blocksOf (((c .before .before .before .before .before .before .args) .blocks .now))) (((c .before .before .before .before .before .before .args) .insts .now)) ((c .before .before .before .before .before .before .args) .kind) ((c .before .before .before .before .before .before .args) .number) ((c .before .before .before .before .before .before .pre) .1) (omega arith) in let p : (c .before .place-of2) .result .0 ≡ placeIn (blocksOf (((c .before .before .before .before .before .before .args) .blocks .now))) ((c .before .before .before .before .before .before .args) .number) = (c .before .place-of2) .ensures ∙ (c .before .before .before .before .before .before .pre) .0 .1 .place ((c .before .before .before .before .before .before .args) .number) h in let l = place-lt ((c .before .before .before .before .before .before .pre) .0 .0) ((c .before .before .before .before .before .before .args) .number) h in omega arith
+mul-t34 : tie.Need-mul-t34
+mul-t34 c = let h = row-there ((c .before .before .before .before .before .before .before .before .before .args) .blocks .now) ((c .before .before .before .before .before .before .before .before .before .args) .work .now) ((c .before .before .before .before .before .before .before .before .before .args) .table) ((c .before .before .before .before .before .before .before .before .before .pre) .0) ((c .before .before .before .before .before .before .before .before .before .pre) .1) _ _ (end-there ((c .before .before .before .before .before .before .before .before .before .args) .blocks .now) ((c .before .before .before .before .before .before .before .before .before .args) .insts .now) ((c .before .before .before .before .before .before .before .before .before .args) .kind) ((c .before .before .before .before .before .before .before .before .before .args) .number) _ (sym ((c .before .before .before .before .before .locate) .ensures) ∙ (c .before .before .before .b2) .given .1)) ((c .before .place-of2) .ensures) .1 in omega arith
 
-shared-slice-read-t33 : tie.Need-shared-slice-read-t33
-shared-slice-read-t33 c = let n = blocks-length (((c .before .before .before .before .before .before .before .args) .blocks .now)) in let h = block-there-3 (blocksOf (((c .before .before .before .before .before .before .before .args) .blocks .now))) (((c .before .before .before .before .before .before .before .args) .insts .now)) ((c .before .before .before .before .before .before .before .args) .kind) ((c .before .before .before .before .before .before .before .args) .number) ((c .before .before .before .before .before .before .before .pre) .1) (omega arith) in let p : (c .before .before .place-of2) .result .0 ≡ placeIn (blocksOf (((c .before .before .before .before .before .before .before .args) .blocks .now))) ((c .before .before .before .before .before .before .before .args) .number) = (c .before .before .place-of2) .ensures ∙ (c .before .before .before .before .before .before .before .pre) .0 .1 .place ((c .before .before .before .before .before .before .before .args) .number) h in let l = place-lt ((c .before .before .before .before .before .before .before .pre) .0 .0) ((c .before .before .before .before .before .before .before .args) .number) h in omega arith
+shared-slice-read-t36 : tie.Need-shared-slice-read-t36
+shared-slice-read-t36 c = let h = row-there ((c .before .before .before .before .before .before .before .before .before .before .args) .blocks .now) ((c .before .before .before .before .before .before .before .before .before .before .args) .work .now) ((c .before .before .before .before .before .before .before .before .before .before .args) .table) ((c .before .before .before .before .before .before .before .before .before .before .pre) .0) ((c .before .before .before .before .before .before .before .before .before .before .pre) .1) _ _ (end-there ((c .before .before .before .before .before .before .before .before .before .before .args) .blocks .now) ((c .before .before .before .before .before .before .before .before .before .before .args) .insts .now) ((c .before .before .before .before .before .before .before .before .before .before .args) .kind) ((c .before .before .before .before .before .before .before .before .before .before .args) .number) _ (sym ((c .before .before .before .before .before .before .locate) .ensures) ∙ (c .before .before .before .before .b2) .given .1)) ((c .before .before .place-of2) .ensures) .1 in omega arith
+
+enum-told : tie.Need-enum-told
+enum-told c = search needs
 
 returns : tie.Need-returns
-returns c = spot-0 (((c .before .before .before .before .before .args) .blocks .now)) (((c .before .before .before .before .before .args) .insts .now)) ((c .before .before .before .before .before .args) .kind) ((c .before .before .before .before .before .args) .number) (omega arith) (inst-there-0 (blocksOf (((c .before .before .before .before .before .args) .blocks .now))) (((c .before .before .before .before .before .args) .insts .now)) ((c .before .before .before .before .before .args) .kind) ((c .before .before .before .before .before .args) .number) ((c .before .before .before .before .before .pre) .1) (omega arith))
+returns c = at-early ((c .before .before .before .before .before .before .before .before .args) .blocks .now) ((c .before .before .before .before .before .before .before .before .args) .insts .now) ((c .before .before .before .before .before .before .before .before .args) .kind) ((c .before .before .before .before .before .before .before .before .args) .number) _ (sym ((c .before .before .before .before .locate) .ensures) ∙ (c .before .before .i) .given .1) .1
 
 returns-2 : tie.Need-returns-2
-returns-2 c = spot-1 (((c .before .before .before .before .before .args) .blocks .now)) (((c .before .before .before .before .before .args) .insts .now)) ((c .before .before .before .before .before .args) .kind) ((c .before .before .before .before .before .args) .number) (omega arith) (inst-there-1 (blocksOf (((c .before .before .before .before .before .args) .blocks .now))) (((c .before .before .before .before .before .args) .insts .now)) ((c .before .before .before .before .before .args) .kind) ((c .before .before .before .before .before .args) .number) ((c .before .before .before .before .before .pre) .1) (omega arith))
+returns-2 c = at-late ((c .before .before .before .before .before .before .before .before .args) .blocks .now) ((c .before .before .before .before .before .before .before .before .args) .insts .now) ((c .before .before .before .before .before .before .before .before .args) .kind) ((c .before .before .before .before .before .before .before .before .args) .number) _ (sym ((c .before .before .before .before .locate) .ensures) ∙ (c .before .before .i2) .given .1) .1
 
 returns-3 : tie.Need-returns-3
-returns-3 c = let n = blocks-length (((c .before .before .before .before .before .before .before .args) .blocks .now)) in let h = block-there-2 (blocksOf (((c .before .before .before .before .before .before .before .args) .blocks .now))) (((c .before .before .before .before .before .before .before .args) .insts .now)) ((c .before .before .before .before .before .before .before .args) .kind) ((c .before .before .before .before .before .before .before .args) .number) ((c .before .before .before .before .before .before .before .pre) .1) (omega arith) in let p : (c .before .before .place-of) .result .0 ≡ placeIn (blocksOf (((c .before .before .before .before .before .before .before .args) .blocks .now))) ((c .before .before .before .before .before .before .before .args) .number) = (c .before .before .place-of) .ensures ∙ (c .before .before .before .before .before .before .before .pre) .0 .1 .place ((c .before .before .before .before .before .before .before .args) .number) h in let l = place-lt ((c .before .before .before .before .before .before .before .pre) .0 .0) ((c .before .before .before .before .before .before .before .args) .number) h in spot-2 (((c .before .before .before .before .before .before .before .args) .blocks .now)) (((c .before .before .before .before .before .before .before .args) .insts .now)) ((c .before .before .before .before .before .before .before .args) .kind) ((c .before .before .before .before .before .before .before .args) .number) ((c .before .before .place-of) .result .0) (omega arith) p (omega arith)
+returns-3 c = let r = row-there ((c .before .before .before .before .before .before .before .before .before .before .args) .blocks .now) ((c .before .before .before .before .before .before .before .before .before .before .args) .work .now) ((c .before .before .before .before .before .before .before .before .before .before .args) .table) ((c .before .before .before .before .before .before .before .before .before .before .pre) .0) ((c .before .before .before .before .before .before .before .before .before .before .pre) .1) _ _ (start-there ((c .before .before .before .before .before .before .before .before .before .before .args) .blocks .now) ((c .before .before .before .before .before .before .before .before .before .before .args) .insts .now) ((c .before .before .before .before .before .before .before .before .before .before .args) .kind) ((c .before .before .before .before .before .before .before .before .before .before .args) .number) _ (sym ((c .before .before .before .before .before .before .locate) .ensures) ∙ (c .before .before .before .before .b) .given .1)) ((c .before .before .place-of) .ensures) in at-start ((c .before .before .before .before .before .before .before .before .before .before .args) .blocks .now) ((c .before .before .before .before .before .before .before .before .before .before .args) .insts .now) ((c .before .before .before .before .before .before .before .before .before .before .args) .kind) ((c .before .before .before .before .before .before .before .before .before .before .args) .number) _ _ (sym ((c .before .before .before .before .before .before .locate) .ensures) ∙ (c .before .before .before .before .b) .given .1) (r .0) (r .1)
 
 returns-4 : tie.Need-returns-4
-returns-4 c = let n = blocks-length (((c .before .before .before .before .before .before .before .args) .blocks .now)) in let h = block-there-3 (blocksOf (((c .before .before .before .before .before .before .before .args) .blocks .now))) (((c .before .before .before .before .before .before .before .args) .insts .now)) ((c .before .before .before .before .before .before .before .args) .kind) ((c .before .before .before .before .before .before .before .args) .number) ((c .before .before .before .before .before .before .before .pre) .1) (omega arith) in let p : (c .before .before .place-of2) .result .0 ≡ placeIn (blocksOf (((c .before .before .before .before .before .before .before .args) .blocks .now))) ((c .before .before .before .before .before .before .before .args) .number) = (c .before .before .place-of2) .ensures ∙ (c .before .before .before .before .before .before .before .pre) .0 .1 .place ((c .before .before .before .before .before .before .before .args) .number) h in let l = place-lt ((c .before .before .before .before .before .before .before .pre) .0 .0) ((c .before .before .before .before .before .before .before .args) .number) h in spot-3 (((c .before .before .before .before .before .before .before .args) .blocks .now)) (((c .before .before .before .before .before .before .before .args) .insts .now)) ((c .before .before .before .before .before .before .before .args) .kind) ((c .before .before .before .before .before .before .before .args) .number) ((c .before .before .place-of2) .result .0) (omega arith) p (omega arith)
+returns-4 c = let r = row-there ((c .before .before .before .before .before .before .before .before .before .before .args) .blocks .now) ((c .before .before .before .before .before .before .before .before .before .before .args) .work .now) ((c .before .before .before .before .before .before .before .before .before .before .args) .table) ((c .before .before .before .before .before .before .before .before .before .before .pre) .0) ((c .before .before .before .before .before .before .before .before .before .before .pre) .1) _ _ (end-there ((c .before .before .before .before .before .before .before .before .before .before .args) .blocks .now) ((c .before .before .before .before .before .before .before .before .before .before .args) .insts .now) ((c .before .before .before .before .before .before .before .before .before .before .args) .kind) ((c .before .before .before .before .before .before .before .before .before .before .args) .number) _ (sym ((c .before .before .before .before .before .before .locate) .ensures) ∙ (c .before .before .before .before .b2) .given .1)) ((c .before .before .place-of2) .ensures) in at-end ((c .before .before .before .before .before .before .before .before .before .before .args) .blocks .now) ((c .before .before .before .before .before .before .before .before .before .before .args) .insts .now) ((c .before .before .before .before .before .before .before .before .before .before .args) .kind) ((c .before .before .before .before .before .before .before .before .before .before .args) .number) _ _ (sym ((c .before .before .before .before .before .before .locate) .ensures) ∙ (c .before .before .before .before .b2) .given .1) (r .0) (r .1)
 
 returns-5 : tie.Need-returns-5
-returns-5 c = spot-over (((c .before .before .before .before .args) .blocks .now)) (((c .before .before .before .before .args) .insts .now)) ((c .before .before .before .before .args) .kind) ((c .before .before .before .before .args) .number) (omega arith)
+returns-5 c = at-none ((c .before .before .before .before .before .before .args) .blocks .now) ((c .before .before .before .before .before .before .args) .insts .now) ((c .before .before .before .before .before .before .args) .kind) ((c .before .before .before .before .before .before .args) .number) (sym ((c .before .before .locate) .ensures) ∙ (c .enum-told) .given .1)
 
 pub position-spec : {M : Type 1} → statement M
 position-spec =
     tie.close
     (tie.spec
-    mul-t9
-    add-t10
-    mul-t11
-    shared-slice-read-t13
-    mul-t15
-    add-t16
-    mul-t17
-    shared-slice-read-t19
-    place-of-requires
+    locate-requires
+    enum-known-i
+    cast-t13
+    mul-t14
+    add-t15
+    mul-t16
+    shared-slice-read-t18
+    enum-known-i-2
+    cast-t19
+    mul-t20
+    add-t21
     mul-t22
-    add-t23
-    mul-t24
-    shared-slice-read-t26
+    shared-slice-read-t24
+    enum-known-b
+    place-of-requires
+    mul-t26
+    add-t27
+    mul-t28
+    shared-slice-read-t30
+    enum-known-b-2
     place-of-requires-2
-    mul-t29
-    add-t30
-    mul-t31
-    shared-slice-read-t33
+    mul-t32
+    add-t33
+    mul-t34
+    shared-slice-read-t36
+    enum-told
     returns
     returns-2
     returns-3

@@ -7,7 +7,6 @@ use lib.ListN.{getD}
 use borrow.Author.Needs.{needs}
 use Rattle.graph.specs.Line.{blocksOf}
 use Rattle.carrying.specs.Insts.{instsOf}
-use Rattle.areas.specs.Slots.{badMove}
 use Rattle.move_points.specs.Moves.{positionAt, moveRow}
 use Rattle.move_points.proofs.MoveLaws.{move-fine, not-nowhere}
 use Rattle.slot_spots.proofs.MoveLaws.{cover-is}
@@ -36,7 +35,7 @@ shared-slice-read-position-2 : tie.Need-shared-slice-read-position-2
 shared-slice-read-position-2 c = search needs
 
 position-requires : tie.Need-position-requires
-position-requires c κs = ((c .before .before .before .before .before .before .pre) .0, ap (λ (x : ℕ). badMove (blocksOf ((c .before .before .before .before .before .before .args) .blocks .now)) (instsOf ((c .before .before .before .before .before .before .args) .insts .now) []) (getD ((c .before .before .before .before .before .before .args) .moves .now) x 0) (getD ((c .before .before .before .before .before .before .args) .moves .now) (4 * (c .before .before .before .before .before .before .args) .i + 1) 0)) (sym (add-zero (4 * (c .before .before .before .before .before .before .args) .i))) ∙ (move-fine (blocksOf ((c .before .before .before .before .before .before .args) .blocks .now)) (instsOf ((c .before .before .before .before .before .before .args) .insts .now) []) ((c .before .before .before .before .before .before .args) .moves .now) ((c .before .before .before .before .before .before .args) .i) ((c .before .before .before .before .before .before .pre) .1 .1) ((c .before .before .before .before .before .before .pre) .1 .0)))
+position-requires c κs = (c .before .before .before .before .before .before .pre) .0
 
 enum-known-at : tie.Need-enum-known-at
 enum-known-at c = search needs
