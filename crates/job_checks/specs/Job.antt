@@ -1,10 +1,12 @@
 -- Document 01: a job as its rows are lent, and numbers 1 to 6 of it in their order.
 use Prim.Native.Nat.{ℕ, _*_, _<_}
 use mathlib.Core.Path.{_≡_}
-use mathlib.Core.List.{List, []}
+use mathlib.Core.List.{List, [], _∷_}
 use lib.ListN.{length, getD}
 use Rattle.refusals.specs.declared.Verdict.{Verdict}
 use Rattle.refusals.specs.declared.Verdict.the-variants.{Fine}
+use Rattle.refusals.specs.declared.Refusal.{Refusal}
+use Rattle.refusals.specs.declared.Refusal.the-variants.{Count, Line, Edge, Inst, Stray, Piece}
 use Rattle.refusals.specs.Verdicts.{first, inOrder}
 use Rattle.words.specs.Rows.{rowCount}
 use Rattle.graph.specs.Line.{blocksOf, jumpsOf, edgeVerdict, Sound}
@@ -51,6 +53,15 @@ unfoldable pub recordsVerdict : ℕ → ℕ → List ℕ → List ℕ → List �
 recordsVerdict points v blocks edges insts operands crossings locals slots addresses ends pieces assigned moves areas =
     first (countVerdict v blocks edges insts operands crossings locals slots addresses ends pieces assigned moves areas)
     (inOrder (checks (jobOf points v blocks edges insts operands crossings locals slots addresses ends pieces assigned moves)))
+
+-- the same as a list of checks, and the refusal that each of them gives
+abbrev pub recordsChecks : ℕ → ℕ → List ℕ → List ℕ → List ℕ → List ℕ → List ℕ → List ℕ → List ℕ → List ℕ → List ℕ → List ℕ → List ℕ → List ℕ → ℕ → List Verdict
+recordsChecks points v blocks edges insts operands crossings locals slots addresses ends pieces assigned moves areas =
+    countVerdict v blocks edges insts operands crossings locals slots addresses ends pieces assigned moves areas
+    ∷ checks (jobOf points v blocks edges insts operands crossings locals slots addresses ends pieces assigned moves)
+
+abbrev pub recordsGive : List Refusal
+recordsGive = Count ∷ Line ∷ Edge ∷ Inst ∷ Inst ∷ Stray ∷ Stray ∷ Stray ∷ Piece ∷ Piece ∷ []
 
 -- what no refusal says of the rows
 pub record Passed (points v : ℕ) (blocks edges insts operands crossings locals slots addresses ends pieces assigned moves : List ℕ) (areas : ℕ) : Type 0 where

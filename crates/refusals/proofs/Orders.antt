@@ -13,7 +13,7 @@ use Rattle.refusals.specs.declared.Refusal.{Refusal}
 use Rattle.refusals.specs.declared.Refusal.the-variants.{Count, Line, Edge, Inst, Stray, Piece, Space, Inverted, List as ListFull, Want, Text}
 use Rattle.refusals.specs.declared.Verdict.{Verdict}
 use Rattle.refusals.specs.declared.Verdict.the-variants.{Fine, Bad}
-use Rattle.refusals.proofs.Laws.{first-assoc}
+use Rattle.refusals.proofs.Laws.{first-assoc, check-last}
 
 -- ---- which refusal a check gives
 
@@ -40,6 +40,14 @@ scan-gives r t zero = tt
 scan-gives r t (suc n) = first-gives r (scan r t n) (cond (t n) (Bad r n) Fine) (scan-gives r t n) (at-gives r (t n) n)
 
 -- ---- checks behind checks
+
+pub order-two : (v w : Verdict) → first v w ≡ inOrder (v ∷ w ∷ [])
+unfolding inOrder
+order-two v w = ap (first v) (sym (check-last w))
+
+pub order-more : (v : Verdict) {w : Verdict} (vs : List Verdict) → w ≡ inOrder vs → first v w ≡ inOrder (v ∷ vs)
+unfolding inOrder
+order-more v vs e = ap (first v) e
 
 pub order-append : (vs ws : List Verdict) → inOrder (vs ++ ws) ≡ first (inOrder vs) (inOrder ws)
 unfolding inOrder first

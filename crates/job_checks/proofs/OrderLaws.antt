@@ -1,0 +1,81 @@
+-- The checks of a job's records in their order: which refusal each gives. "Lowest number wins."
+use Prim.Native.Nat.{ℕ}
+use mathlib.Core.Path.{_≡_, refl}
+use mathlib.Core.Bool.{not}
+use mathlib.Core.List.{List}
+use lib.ListN.{length}
+use lib.Dec.{eqb, ltb}
+use Rattle.refusals.specs.declared.Refusal.the-variants.{Count, Line, Edge, Inst, Stray, Piece}
+use Rattle.refusals.specs.Verdicts.{numberOf, inOrder}
+use Rattle.refusals.specs.Orders.{Gives, Giving, Ordered}
+use Rattle.refusals.proofs.Orders.{check-gives, first-gives, scan-gives}
+use Rattle.words.specs.Rows.{rowCount}
+use Rattle.insts.specs.Counts.{badRows, rowsVerdict, mostVerdict, offset, instCounts, codeCounts}
+use Rattle.carry_checks.specs.Checks.{carryCounts}
+use Rattle.job_checks.specs.Job.{otherCounts, countVerdict, recordsVerdict, recordsChecks, recordsGive}
+
+pub rows-give : (width limit n : ℕ) → Gives Count (rowsVerdict width limit n)
+rows-give width limit n = check-gives Count (badRows width limit n)
+
+pub most-gives : (limit n : ℕ) → Gives Count (mostVerdict limit n)
+most-gives limit n = check-gives Count (ltb limit n)
+
+inst-counts-give : (insts operands : List ℕ) → Gives Count (instCounts insts operands)
+unfolding instCounts
+inst-counts-give insts operands =
+    first-gives Count _ _ (rows-give 9 65536 (length insts))
+    (first-gives Count _ _ (rows-give 2 262144 (length operands)) (check-gives Count (not (eqb (offset insts (rowCount 9 insts)) (rowCount 2 operands)))))
+
+code-counts-give : (v : ℕ) (insts operands crossings locals addresses ends : List ℕ) → Gives Count (codeCounts v insts operands crossings locals addresses ends)
+unfolding codeCounts
+code-counts-give v insts operands crossings locals addresses ends =
+    first-gives Count _ _ (most-gives 65535 v)
+    (first-gives Count _ _ (inst-counts-give insts operands)
+    (first-gives Count _ _ (most-gives 65536 (length crossings))
+    (first-gives Count _ _ (rows-give 2 2048 (length locals))
+    (first-gives Count _ _ (rows-give 2 65536 (length addresses)) (rows-give 2 65536 (length ends))))))
+
+carry-counts-give : (v : ℕ) (blocks insts operands crossings locals addresses ends : List ℕ) → Gives Count (carryCounts v blocks insts operands crossings locals addresses ends)
+unfolding carryCounts
+carry-counts-give v blocks insts operands crossings locals addresses ends =
+    first-gives Count _ _ (first-gives Count _ _ (rows-give 3 4096 (length blocks)) (check-gives Count (ltb (rowCount 3 blocks) 1)))
+    (code-counts-give v insts operands crossings locals addresses ends)
+
+others-give : (edges slots pieces assigned moves areas : ℕ) → Gives Count (otherCounts edges slots pieces assigned moves areas)
+unfolding otherCounts
+others-give edges slots pieces assigned moves areas =
+    first-gives Count _ _ (rows-give 2 16384 edges)
+    (first-gives Count _ _ (most-gives 2048 slots)
+    (first-gives Count _ _ (rows-give 3 65536 pieces)
+    (first-gives Count _ _ (rows-give 2 65536 assigned)
+    (first-gives Count _ _ (rows-give 4 65536 moves) (rows-give 2 65536 areas)))))
+
+module _ (points v : ℕ) (blocks edges insts operands crossings locals slots addresses ends pieces assigned moves : List ℕ) (areas : ℕ) where
+  counts-give : Gives Count (countVerdict v blocks edges insts operands crossings locals slots addresses ends pieces assigned moves areas)
+  unfolding countVerdict
+  counts-give = first-gives Count _ _ (carry-counts-give v blocks insts operands crossings locals addresses ends) (others-give (length edges) (length slots) (length pieces) (length assigned) (length moves) areas)
+
+  pub records-order : recordsVerdict points v blocks edges insts operands crossings locals slots addresses ends pieces assigned moves areas ≡ inOrder (recordsChecks points v blocks edges insts operands crossings locals slots addresses ends pieces assigned moves areas)
+  unfolding recordsVerdict inOrder
+  records-order = refl
+
+  pub records-give : Giving recordsGive (recordsChecks points v blocks edges insts operands crossings locals slots addresses ends pieces assigned moves areas)
+  records-give = (
+    counts-give,
+    (
+      scan-gives Line _ _,
+      (
+        scan-gives Edge _ _,
+        (
+          scan-gives Inst _ _,
+          (
+            scan-gives Inst _ _,
+            (scan-gives Stray _ _, (scan-gives Stray _ _, (scan-gives Stray _ _, (scan-gives Piece _ _, (scan-gives Piece _ _, tt))))),
+          ),
+        ),
+      ),
+    ),
+  )
+
+  pub records-ordered : Ordered numberOf recordsGive (recordsChecks points v blocks edges insts operands crossings locals slots addresses ends pieces assigned moves areas)
+  records-ordered = record { gives = records-give; rises = refl }
