@@ -8,6 +8,7 @@ use lib.ListN.{length, drop, replicate, length-replicate}
 use Rattle.refusals.specs.declared.Verdict.{Verdict}
 use Rattle.refusals.specs.declared.Verdict.the-variants.{Fine, Bad}
 use Rattle.refusals.specs.declared.Refusal.{Refusal}
+use Rattle.refusals.specs.Verdicts.{first, inOrder}
 use Rattle.refusals.proofs.Laws.{first-fine, first-bad}
 use Rattle.words.specs.Regions.{cleared}
 use Rattle.graph.specs.Work.{Within}
@@ -24,7 +25,8 @@ use Rattle.job_checks.specs.Job.{jobOf}
 use Rattle.job_areas.specs.Areas.{Lent, Solved}
 use Rattle.item_lists.specs.declared.Answer.{Answer}
 use Rattle.item_lists.specs.declared.Answer.the-variants.{Refused}
-use Rattle.item_areas.specs.Entry.{lentVerdict, ItemAreas}
+use Rattle.item_areas.specs.Entry.{lentVerdict, itemChecks, ItemAreas}
+use Rattle.item_areas.proofs.OrderLaws.{item-verdict}
 use Rattle.item_lists.specs.Lists.{AnsweredBy}
 use Rattle.item_lists.specs.Inner.{Held}
 
@@ -35,9 +37,13 @@ module _ (points v : ℕ) (blocks edges insts operands crossings locals slots ad
   abbrev space : ℕ
   space = spaceOf (sizesOf v blocks edges insts operands crossings locals slots addresses ends pieces assigned moves (length areas))
 
+  by-parts : inOrder (itemChecks points v blocks edges insts operands crossings locals slots addresses ends pieces assigned moves (length areas) (length items) (length work))
+      ≡ first lentV (listVerdict (jobOf points v blocks edges insts operands crossings locals slots addresses ends pieces assigned moves) (length areas / 2))
+  by-parts = item-verdict points v blocks edges insts operands crossings locals slots addresses ends pieces assigned moves (length areas) (length items) (length work)
+
   pub refused-entry : (r : Refusal) (i : ℕ) → lentV ≡ Bad r i → ItemAreas points v blocks edges insts operands crossings locals slots addresses ends pieces assigned moves areas items work (Refused r i) areas items work
   refused-entry r i e = record {
-    lists = rw (first-bad lentV (listVerdict (jobOf points v blocks edges insts operands crossings locals slots addresses ends pieces assigned moves) (length areas / 2)) r i e) (record { answer = refl; in-areas = refl; in-items = refl });
+    lists = rw (by-parts ∙ first-bad lentV (listVerdict (jobOf points v blocks edges insts operands crossings locals slots addresses ends pieces assigned moves) (length areas / 2)) r i e) (record { answer = refl; in-areas = refl; in-items = refl });
     in-work = rw e refl;
   }
 
@@ -49,7 +55,7 @@ module _ (points v : ℕ) (blocks edges insts operands crossings locals slots ad
       → AnsweredBy (listVerdict (jobOf points v blocks edges insts operands crossings locals slots addresses ends pieces assigned moves) (length areas / 2)) (itemCount (jobOf points v blocks edges insts operands crossings locals slots addresses ends pieces assigned moves)) (itemArea (jobOf points v blocks edges insts operands crossings locals slots addresses ends pieces assigned moves)) areas items r areas′ items′
       → Within 0 space work w → {n : ℕ} → n ≡ space → work′ ≡ cleared n w → ItemAreas points v blocks edges insts operands crossings locals slots addresses ends pieces assigned moves areas items work r areas′ items′ work′
   answered-entry e {r} {areas′} {items′} {w} {work′} B K {n} en Z = record {
-    lists = rw (first-fine lentV (listVerdict (jobOf points v blocks edges insts operands crossings locals slots addresses ends pieces assigned moves) (length areas / 2)) e) B;
+    lists = rw (by-parts ∙ first-fine lentV (listVerdict (jobOf points v blocks edges insts operands crossings locals slots addresses ends pieces assigned moves) (length areas / 2)) e) B;
     in-work = rw e (Z ∙ ap (λ (k : ℕ). cleared k w) en ∙ cleared-same space work w K
         ∙ ap (λ (k : ℕ). replicate space 0 ++ drop k work) (sym (length-replicate space 0)));
   }

@@ -1,3 +1,4 @@
 pub mod CheckLaws
+pub mod OrderLaws
 pub mod EntryLaws
 pub mod Paths

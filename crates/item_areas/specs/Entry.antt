@@ -2,19 +2,20 @@
 use Prim.Native.Nat.{ℕ, _+_, _/_}
 use mathlib.Core.Path.{_≡_}
 use mathlib.Core.Bool.{_||_}
-use mathlib.Core.List.{List}
+use mathlib.Core.List.{List, [], _∷_, _++_}
 use lib.ListN.{length, replicate}
 use lib.Dec.{ltb}
 use Rattle.refusals.specs.declared.Verdict.{Verdict}
-use Rattle.refusals.specs.declared.Refusal.the-variants.{Space}
-use Rattle.refusals.specs.Verdicts.{first, check}
+use Rattle.refusals.specs.declared.Refusal.{Refusal}
+use Rattle.refusals.specs.declared.Refusal.the-variants.{Count, Space, List as ListWord}
+use Rattle.refusals.specs.Verdicts.{first, inOrder, check}
 use Rattle.refusals.specs.Outcomes.{unless, after}
 use Rattle.words.specs.Rows.{tabulate}
 use Rattle.insts.specs.Counts.{rowsVerdict}
 use Rattle.areas.specs.Job.{Job, itemCount, itemArea, rangesOf, listVerdict}
 use Rattle.job_space.specs.declared.Sizes.{Sizes}
 use Rattle.job_space.specs.Space.{sizesOf, spaceOf}
-use Rattle.job_checks.specs.Job.{jobOf, recordsVerdict}
+use Rattle.job_checks.specs.Job.{jobOf, recordsVerdict, recordsChecks, recordsGive}
 use Rattle.item_lists.specs.declared.Answer.{Answer}
 use Rattle.item_lists.specs.Lists.{AnsweredBy}
 
@@ -28,6 +29,16 @@ lentVerdict points v blocks edges insts operands crossings locals slots addresse
     first (rowsVerdict 3 items items) (first (recordsVerdict points v blocks edges insts operands crossings locals slots addresses ends pieces assigned moves areas)
     (spaceVerdict (sizesOf v blocks edges insts operands crossings locals slots addresses ends pieces assigned moves areas) items work))
 
+-- the checks in the entry's order, "lowest number wins": 1 of the item list, 1 to 6 of the records, 7, then 9 of what is found; and the refusal that each gives
+abbrev pub itemChecks : ℕ → ℕ → List ℕ → List ℕ → List ℕ → List ℕ → List ℕ → List ℕ → List ℕ → List ℕ → List ℕ → List ℕ → List ℕ → List ℕ → ℕ → ℕ → ℕ → List Verdict
+itemChecks points v blocks edges insts operands crossings locals slots addresses ends pieces assigned moves areas items work =
+    (rowsVerdict 3 items items ∷ recordsChecks points v blocks edges insts operands crossings locals slots addresses ends pieces assigned moves areas)
+    ++ (spaceVerdict (sizesOf v blocks edges insts operands crossings locals slots addresses ends pieces assigned moves areas) items work
+    ∷ listVerdict (jobOf points v blocks edges insts operands crossings locals slots addresses ends pieces assigned moves) (areas / 2) ∷ [])
+
+abbrev pub itemGive : List Refusal
+itemGive = (Count ∷ recordsGive) ++ (Space ∷ ListWord ∷ [])
+
 -- how many ranges all areas have
 abbrev pub total : Job → ℕ
 total J = rangesOf (tabulate (itemCount J) (itemArea J))
@@ -35,7 +46,7 @@ total J = rangesOf (tabulate (itemCount J) (itemArea J))
 -- the areas of all items: number 9 comes last, and the work space is unchanged after a refusal that comes before measuring, else its first W words are zero
 pub record ItemAreas (points v : ℕ) (blocks edges insts operands crossings locals slots addresses ends pieces assigned moves areas items work : List ℕ) (r : Answer) (areas′ items′ work′ : List ℕ) : Type 0 where
   pub lists : AnsweredBy
-      (first (lentVerdict points v blocks edges insts operands crossings locals slots addresses ends pieces assigned moves (length areas) (length items) (length work)) (listVerdict (jobOf points v blocks edges insts operands crossings locals slots addresses ends pieces assigned moves) (length areas / 2)))
+      (inOrder (itemChecks points v blocks edges insts operands crossings locals slots addresses ends pieces assigned moves (length areas) (length items) (length work)))
       (itemCount (jobOf points v blocks edges insts operands crossings locals slots addresses ends pieces assigned moves)) (itemArea (jobOf points v blocks edges insts operands crossings locals slots addresses ends pieces assigned moves)) areas items r areas′ items′
   pub in-work : work′ ≡ after (unless (lentVerdict points v blocks edges insts operands crossings locals slots addresses ends pieces assigned moves (length areas) (length items) (length work))
       (spaceOf (sizesOf v blocks edges insts operands crossings locals slots addresses ends pieces assigned moves (length areas)))) (λ n. replicate n 0) work
