@@ -1,31 +1,33 @@
 -- What each way out of the checks comes to, and what is left where none refuses.
-use Prim.Native.Nat.{ℕ, _*_, _/_, _%_, _≤_, _<_}
+use Prim.Native.Nat.{ℕ, _+_, _*_, _/_, _%_, _≤_, _<_}
 use native.Mathlib.Omega.{arith}
-use mathlib.Core.Path.{_≡_, sym, _∙_}
+use mathlib.Core.Path.{_≡_, sym, ap, _∙_}
 use mathlib.Core.Bool.{not, _||_}
 use mathlib.Core.List.{List}
-use lib.ListN.{length}
-use lib.Dec.{eqb, ltb}
+use lib.ListN.{length, getD}
+use lib.Dec.{eqb, leb, ltb}
 use borrow.Author.Tests.{lt-ltb, le-ltb, ltb-false}
 use Rattle.words.proofs.Bools.{or-neither}
 use Rattle.refusals.specs.declared.Verdict.{Verdict}
 use Rattle.refusals.specs.declared.Verdict.the-variants.{Fine, Bad}
 use Rattle.refusals.specs.declared.Refusal.{Refusal}
-use Rattle.refusals.specs.declared.Refusal.the-variants.{Count, Space}
-use Rattle.refusals.specs.Verdicts.{first}
+use Rattle.refusals.specs.declared.Refusal.the-variants.{Count, Inst, Space}
+use Rattle.refusals.specs.Verdicts.{first, scan}
 use Rattle.refusals.proofs.Laws.{first-fine, first-bad, first-left, first-right, check-told}
+use Rattle.words.specs.Rows.{rowCount, field}
 use Rattle.graph.specs.Checks.{graphVerdict}
 use Rattle.line_checks.proofs.Refusals.{passed}
 use Rattle.insts.specs.Counts.{badRows, rowsVerdict, mostVerdict}
+use Rattle.insts.proofs.DealtLaws.{scan-same}
 use Rattle.area_layout.specs.declared.Sizes.{Sizes}
 use Rattle.area_layout.specs.Layout.{spaceFor, Small}
-use Rattle.area_checks.specs.Checks.{rowCounts, sizesOf, spaceVerdict, lentVerdict, Lent}
+use Rattle.area_checks.specs.Checks.{rowCounts, sizesOf, kindsVerdict, spaceVerdict, lentVerdict, Lent}
 
 rows-told : (width limit n : ℕ) → rowsVerdict width limit n ≡ Fine → n / width ≤ limit
 rows-told width limit n e = ltb-false limit (n / width) (or-neither (not (eqb (n % width) 0)) _ (check-told Count (badRows width limit n) e) .1)
 
 module _ (kinds touches ends areas items : ℕ) where
-  pub counts-chain : {a b c d e r₁ r₂ r₃ r : Verdict} → a ≡ mostVerdict 2048 kinds → b ≡ rowsVerdict 3 65536 touches → c ≡ rowsVerdict 2 65536 ends → d ≡ rowsVerdict 2 65536 areas → e ≡ rowsVerdict 2 items items
+  pub counts-chain : {a b c d e r₁ r₂ r₃ r : Verdict} → a ≡ mostVerdict 2048 kinds → b ≡ rowsVerdict 3 65536 touches → c ≡ rowsVerdict 2 65536 ends → d ≡ rowsVerdict 2 65536 areas → e ≡ rowsVerdict 3 items items
       → r₁ ≡ first d e → r₂ ≡ first c r₁ → r₃ ≡ first b r₂ → r ≡ first a r₃ → r ≡ rowCounts kinds touches ends areas items
   unfolding rowCounts
   counts-chain ea eb ec ed ee e₁ e₂ e₃ e₄ = cc
@@ -49,24 +51,33 @@ module _ (kinds touches ends areas items : ℕ) where
         few-ranges = rows-told 2 65536 areas (first-left (rowsVerdict 2 65536 areas) _ d);
       }
 
+-- ---- number 4
+
+pub kinds-are : (kinds : List ℕ) → scan Inst (λ n. leb 3 (field 1 kinds n 0)) (rowCount 1 kinds) ≡ kindsVerdict kinds
+kinds-are kinds =
+    let e : rowCount 1 kinds ≡ length kinds = omega arith in
+    ap (scan Inst (λ n. leb 3 (field 1 kinds n 0))) e
+    ∙ scan-same Inst (λ n. leb 3 (field 1 kinds n 0)) (λ l. ltb 2 (getD kinds l 0)) (length kinds)
+    (λ i h. let z : 1 * i + 0 ≡ i = omega arith in ap (λ (k : ℕ). leb 3 (getD kinds k 0)) z)
+
 -- ---- number 7
 
 module _ (z : Sizes) (items work : ℕ) where
   pub short-work : work < spaceFor z → Bad Space 0 ≡ spaceVerdict z items work
   short-work h = simp (lt-ltb work (spaceFor z) h)
 
-  pub short-items : spaceFor z ≤ work → items / 2 < z .locals → Bad Space 0 ≡ spaceVerdict z items work
-  short-items h m = simp (le-ltb work (spaceFor z) h, lt-ltb (items / 2) (z .locals) m)
+  pub short-items : spaceFor z ≤ work → items / 3 < z .locals → Bad Space 0 ≡ spaceVerdict z items work
+  short-items h m = simp (le-ltb work (spaceFor z) h, lt-ltb (items / 3) (z .locals) m)
 
-  pub enough : spaceFor z ≤ work → z .locals ≤ items / 2 → Fine ≡ spaceVerdict z items work
-  enough h m = simp (le-ltb work (spaceFor z) h, le-ltb (items / 2) (z .locals) m)
+  pub enough : spaceFor z ≤ work → z .locals ≤ items / 3 → Fine ≡ spaceVerdict z items work
+  enough h m = simp (le-ltb work (spaceFor z) h, le-ltb (items / 3) (z .locals) m)
 
 -- ---- all of them
 
-module _ (blocks edges : List ℕ) (points kinds touches ends areas items work : ℕ) where
-  pub small : rowCounts kinds touches ends areas items ≡ Fine → graphVerdict blocks edges points ≡ Fine → Small (sizesOf blocks edges kinds touches ends areas)
+module _ (blocks edges : List ℕ) (points : ℕ) (kinds : List ℕ) (touches ends areas items work : ℕ) where
+  pub small : rowCounts (length kinds) touches ends areas items ≡ Fine → graphVerdict blocks edges points ≡ Fine → Small (sizesOf blocks edges (length kinds) touches ends areas)
   small e f =
-      let c = counted kinds touches ends areas items e in
+      let c = counted (length kinds) touches ends areas items e in
       let k = passed blocks edges points f .counts in
       record {
         some-block = omega (arith, k .some);
@@ -78,36 +89,40 @@ module _ (blocks edges : List ℕ) (points kinds touches ends areas items work :
         few-ranges = c .few-ranges;
       }
 
-  pub by-counts : (r : Refusal) (i : ℕ) → rowCounts kinds touches ends areas items ≡ Bad r i → Bad r i ≡ lentVerdict blocks edges points kinds touches ends areas items work
+  pub by-counts : (r : Refusal) (i : ℕ) → rowCounts (length kinds) touches ends areas items ≡ Bad r i → Bad r i ≡ lentVerdict blocks edges points kinds touches ends areas items work
   unfolding lentVerdict
   by-counts r i e = sym (first-bad _ _ r i e)
 
-  pub by-graph : (r : Refusal) (i : ℕ) → rowCounts kinds touches ends areas items ≡ Fine → graphVerdict blocks edges points ≡ Bad r i → Bad r i ≡ lentVerdict blocks edges points kinds touches ends areas items work
-  unfolding lentVerdict
-  by-graph r i e f = sym (first-fine (rowCounts kinds touches ends areas items) _ e ∙ first-bad _ _ r i f)
+  module _ (e : rowCounts (length kinds) touches ends areas items ≡ Fine) where
+    pub by-graph : (r : Refusal) (i : ℕ) → graphVerdict blocks edges points ≡ Bad r i → Bad r i ≡ lentVerdict blocks edges points kinds touches ends areas items work
+    unfolding lentVerdict
+    by-graph r i f = sym (first-fine (rowCounts (length kinds) touches ends areas items) _ e ∙ first-bad _ _ r i f)
 
-  pub by-space : (v : Verdict) → rowCounts kinds touches ends areas items ≡ Fine → graphVerdict blocks edges points ≡ Fine → v ≡ spaceVerdict (sizesOf blocks edges kinds touches ends areas) items work
-      → v ≡ lentVerdict blocks edges points kinds touches ends areas items work
-  unfolding lentVerdict
-  by-space v e f h = h ∙ sym (first-fine (rowCounts kinds touches ends areas items) _ e ∙ first-fine (graphVerdict blocks edges points) _ f)
+    pub by-rest : graphVerdict blocks edges points ≡ Fine → {v k s : Verdict} → k ≡ kindsVerdict kinds → s ≡ spaceVerdict (sizesOf blocks edges (length kinds) touches ends areas) items work → v ≡ first k s
+        → v ≡ lentVerdict blocks edges points kinds touches ends areas items work
+    unfolding lentVerdict
+    by-rest f {v} {k} {s} g h q =
+        q ∙ ap (λ (x : Verdict). first x s) g ∙ ap (first (kindsVerdict kinds)) h
+        ∙ sym (first-fine (rowCounts (length kinds) touches ends areas items) _ e ∙ first-fine (graphVerdict blocks edges points) _ f)
 
 -- where nothing is refused
 module _ (blocks edges : List ℕ) (points : ℕ) (kinds touches ends : List ℕ) (areas items : ℕ) (w : List ℕ) where
-  pub lent : lentVerdict blocks edges points (length kinds) (length touches) (length ends) areas items (length w) ≡ Fine
-      → Lent blocks edges kinds touches ends areas w × (2 * length kinds ≤ items)
+  pub lent : lentVerdict blocks edges points kinds (length touches) (length ends) areas items (length w) ≡ Fine
+      → Lent blocks edges kinds touches ends areas w × (3 * length kinds ≤ items)
   unfolding lentVerdict
   lent e =
       let c = first-left (rowCounts (length kinds) (length touches) (length ends) areas items) _ e in
       let f = first-right (rowCounts (length kinds) (length touches) (length ends) areas items) _ e in
       let g = first-left (graphVerdict blocks edges points) _ f in
+      let k = first-right (graphVerdict blocks edges points) _ f in
       let p = passed blocks edges points g in
       let z = sizesOf blocks edges (length kinds) (length touches) (length ends) areas in
-      let (a, b) = or-neither (ltb (length w) (spaceFor z)) _ (check-told Space (ltb (length w) (spaceFor z) || ltb (items / 2) (length kinds)) (first-right (graphVerdict blocks edges points) _ f)) in (
+      let (a, b) = or-neither (ltb (length w) (spaceFor z)) _ (check-told Space (ltb (length w) (spaceFor z) || ltb (items / 3) (length kinds)) (first-right (kindsVerdict kinds) _ k)) in (
         record {
-          small = small blocks edges points (length kinds) (length touches) (length ends) areas items (length w) c g;
+          small = small blocks edges points kinds (length touches) (length ends) areas items (length w) c g;
           sound = p .sound;
           edges-fine = p .edges-fine;
           space = ltb-false (length w) (spaceFor z) a;
         },
-        omega (arith, ltb-false (items / 2) (length kinds) b),
+        omega (arith, ltb-false (items / 3) (length kinds) b),
       )

@@ -1,39 +1,55 @@
--- Areas of touches and ends lent by themselves: what is refused before anything is measured (numbers 1, 2, 3 and 7), and W.
+-- Areas of touches and ends lent by themselves: what is refused before anything is measured (numbers 1, 2, 3, 4 and 7), and W.
 use Prim.Native.Nat.{ℕ, _/_, _-_, _≤_}
 use mathlib.Core.Path.{_≡_}
 use mathlib.Core.Bool.{_||_}
-use mathlib.Core.List.{List}
-use lib.ListN.{length}
+use mathlib.Core.List.{List, [], _∷_}
+use lib.ListN.{length, getD}
 use lib.Dec.{ltb}
 use Rattle.refusals.specs.declared.Verdict.{Verdict}
-use Rattle.refusals.specs.declared.Refusal.the-variants.{Space}
-use Rattle.refusals.specs.Verdicts.{first, check}
+use Rattle.refusals.specs.declared.Refusal.{Refusal}
+use Rattle.refusals.specs.declared.Refusal.the-variants.{Count, Line, Edge, Inst, Space}
+use Rattle.refusals.specs.Verdicts.{first, check, scan}
 use Rattle.words.specs.Rows.{rowCount}
-use Rattle.graph.specs.Checks.{graphVerdict}
+use Rattle.graph.specs.Checks.{countVerdict, graphVerdict}
 use Rattle.insts.specs.Counts.{rowsVerdict, mostVerdict}
 use Rattle.area_layout.specs.declared.Sizes.{Sizes}
 use Rattle.area_layout.specs.Layout.{spaceFor, Small}
 use Rattle.refusals.specs.declared.Verdict.the-variants.{Fine}
-use Rattle.graph.specs.Line.{blocksOf, jumpsOf, edgeVerdict, Sound}
+use Rattle.graph.specs.Line.{blocksOf, jumpsOf, lineVerdict, edgeVerdict, Sound}
 
 -- number 1: "locals 2,048; ends and the area list 65,536", and as many touches; an answer list that is no whole rows
 unfoldable pub rowCounts : ℕ → ℕ → ℕ → ℕ → ℕ → Verdict
 rowCounts kinds touches ends areas items =
-    first (mostVerdict 2048 kinds) (first (rowsVerdict 3 65536 touches) (first (rowsVerdict 2 65536 ends) (first (rowsVerdict 2 65536 areas) (rowsVerdict 2 items items))))
+    first (mostVerdict 2048 kinds) (first (rowsVerdict 3 65536 touches) (first (rowsVerdict 2 65536 ends) (first (rowsVerdict 2 65536 areas) (rowsVerdict 3 items items))))
 
 -- how many records are lent, and how many ranges the area list holds; the other lists are given by their lengths
 abbrev pub sizesOf : List ℕ → List ℕ → ℕ → ℕ → ℕ → ℕ → Sizes
 sizesOf blocks edges kinds touches ends areas =
     record { blocks = rowCount 3 blocks; edges = rowCount 2 edges; locals = kinds; touches = touches / 3; ends = ends / 2; room = areas / 2 }
 
+-- number 4, "a flag out of range": a kind over 2, at that local
+abbrev pub kindsVerdict : List ℕ → Verdict
+kindsVerdict kinds = scan Inst (λ l. ltb 2 (getD kinds l 0)) (length kinds)
+
 -- number 7: work space under W, item list under the item count
 abbrev pub spaceVerdict : Sizes → ℕ → ℕ → Verdict
-spaceVerdict z items work = check Space (ltb work (spaceFor z) || ltb (items / 2) (z .locals))
+spaceVerdict z items work = check Space (ltb work (spaceFor z) || ltb (items / 3) (z .locals))
 
--- numbers 1, 2, 3 and 7: what is refused before anything is measured
-unfoldable pub lentVerdict : List ℕ → List ℕ → ℕ → ℕ → ℕ → ℕ → ℕ → ℕ → ℕ → Verdict
+-- numbers 1, 2, 3, 4 and 7: what is refused before anything is measured
+unfoldable pub lentVerdict : List ℕ → List ℕ → ℕ → List ℕ → ℕ → ℕ → ℕ → ℕ → ℕ → Verdict
 lentVerdict blocks edges points kinds touches ends areas items work =
-    first (rowCounts kinds touches ends areas items) (first (graphVerdict blocks edges points) (spaceVerdict (sizesOf blocks edges kinds touches ends areas) items work))
+    first (rowCounts (length kinds) touches ends areas items)
+    (first (graphVerdict blocks edges points) (first (kindsVerdict kinds) (spaceVerdict (sizesOf blocks edges (length kinds) touches ends areas) items work)))
+
+-- the same as a list of checks, and the refusal that each of them gives
+abbrev pub lentChecks : List ℕ → List ℕ → ℕ → List ℕ → ℕ → ℕ → ℕ → ℕ → ℕ → List Verdict
+lentChecks blocks edges points kinds touches ends areas items work =
+    mostVerdict 2048 (length kinds) ∷ rowsVerdict 3 65536 touches ∷ rowsVerdict 2 65536 ends ∷ rowsVerdict 2 65536 areas ∷ rowsVerdict 3 items items
+    ∷ countVerdict blocks edges ∷ lineVerdict (blocksOf blocks) points ∷ edgeVerdict (blocksOf blocks) (jumpsOf edges) ∷ kindsVerdict kinds
+    ∷ spaceVerdict (sizesOf blocks edges (length kinds) touches ends areas) items work ∷ []
+
+abbrev pub lentGive : List Refusal
+lentGive = Count ∷ Count ∷ Count ∷ Count ∷ Count ∷ Count ∷ Line ∷ Edge ∷ Inst ∷ Space ∷ []
 
 -- what no refusal before measuring says of the lists, the area list by its length
 pub record Lent (blocks edges kinds touches ends : List ℕ) (areas : ℕ) (w : List ℕ) : Type 0 where

@@ -1,7 +1,7 @@
-// The refusals that come before the areas are measured: numbers 1, 2, 3 and 7, in linear time and without work space.
+// The refusals that come before the areas are measured: numbers 1, 2, 3, 4 and 7, in linear time and without work space.
 ghost use mathlib.Core.Path.{_≡_};
 ghost use Rattle.area_layout.specs.Layout.{spaceFor, Small};
-ghost use Rattle.area_checks.specs.Checks.{rowCounts, spaceVerdict, lentVerdict};
+ghost use Rattle.area_checks.specs.Checks.{rowCounts, kindsVerdict, spaceVerdict, lentVerdict};
 use area_layout::Sizes;
 use refusals::Refusal;
 use refusals::Verdict;
@@ -14,11 +14,18 @@ fn counts(kinds: usize, touches: usize, ends: usize, areas: usize, items: usize)
     let b = insts::counts::rows(touches, 3, 65536);
     let c = insts::counts::rows(ends, 2, 65536);
     let d = insts::counts::rows(areas, 2, 65536);
-    let e = insts::counts::rows(items, 2, items);
+    let e = insts::counts::rows(items, 3, items);
     refusals::earlier(
         a,
         refusals::earlier(b, refusals::earlier(c, refusals::earlier(d, e))),
     )
+}
+
+// Refusal 4: the first kind over 2.
+fn known(kinds: &[u32]) -> Verdict
+    ensures { λ r. ⌜ r ≡ kindsVerdict (now (kinds .entry)) ⌝ }
+{
+    insts::checks::below(kinds, 1, 0, 3, Refusal::Inst)
 }
 
 // W, the words of work space that are needed.
@@ -38,27 +45,27 @@ fn short(z: Sizes, items: usize, work: usize) -> Verdict
     if work < needed(z) {
         return Verdict::Bad(Refusal::Space, 0);
     }
-    if items / 2 < z.locals {
+    if items / 3 < z.locals {
         return Verdict::Bad(Refusal::Space, 0);
     }
     Verdict::Fine
 }
 
-// Of the entry, by the lent blocks and edges and the lengths of the other lists.
+// Of the entry, by the lent blocks, edges and kinds and the lengths of the other lists.
 pub fn refusal(
     blocks: &[u32],
     edges: &[u32],
     points: u32,
-    kinds: usize,
+    kinds: &[u32],
     touches: usize,
     ends: usize,
     areas: usize,
     items: usize,
     work: usize,
 ) -> Verdict
-    ensures { λ r. ⌜ r ≡ lentVerdict (now (blocks .entry)) (now (edges .entry)) points kinds touches ends areas items work ⌝ }
+    ensures { λ r. ⌜ r ≡ lentVerdict (now (blocks .entry)) (now (edges .entry)) points (now (kinds .entry)) touches ends areas items work ⌝ }
 {
-    let v = counts(kinds, touches, ends, areas, items);
+    let v = counts(kinds.len(), touches, ends, areas, items);
     if let Verdict::Bad(r, i) = v {
         return Verdict::Bad(r, i);
     }
@@ -66,16 +73,15 @@ pub fn refusal(
     if let Verdict::Bad(r, i) = v {
         return Verdict::Bad(r, i);
     }
-    short(
-        Sizes {
-            blocks: blocks.len() / 3,
-            edges: edges.len() / 2,
-            locals: kinds,
-            touches: touches / 3,
-            ends: ends / 2,
-            room: areas / 2,
-        },
-        items,
-        work,
-    )
+    let z = Sizes {
+        blocks: blocks.len() / 3,
+        edges: edges.len() / 2,
+        locals: kinds.len(),
+        touches: touches / 3,
+        ends: ends / 2,
+        room: areas / 2,
+    };
+    let kind = known(kinds);
+    let space = short(z, items, work);
+    refusals::earlier(kind, space)
 }

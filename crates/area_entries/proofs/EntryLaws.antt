@@ -15,19 +15,20 @@ use Rattle.words.specs.Regions.{cleared}
 use Rattle.ranges.specs.declared.Range.{Range}
 use Rattle.graph.specs.Work.{Within}
 use Rattle.components.proofs.Entries.{cleared-same}
-use Rattle.area_measure.specs.Locals.{areaFor, Listed}
-use Rattle.local_lists.specs.declared.Answer.{Answer}
-use Rattle.local_lists.specs.declared.Answer.the-variants.{Refused}
+use Rattle.area_measure.specs.Locals.{areaFor, wordOf, ListedBy}
+use Rattle.item_lists.specs.declared.Answer.{Answer}
+use Rattle.item_lists.specs.declared.Answer.the-variants.{Refused}
 use Rattle.lent_areas.specs.declared.Found.{Found}
 use Rattle.lent_areas.specs.declared.Found.the-variants.{Inverted, Ranges}
 use Rattle.area_layout.specs.Layout.{spaceFor}
 use Rattle.area_tables.specs.Tables.{listVerdict}
-use Rattle.local_lists.specs.Lists.{AnsweredBy}
-use Rattle.local_lists.specs.Inner.{HeldList}
-use Rattle.area_entries.specs.Entry.{areaVerdict, LocalAreas}
+use Rattle.item_lists.specs.Lists.{AnsweredBy}
+use Rattle.item_lists.specs.Inner.{Held as HeldList}
+use Rattle.area_entries.specs.Entry.{areaVerdict, verdictOf, LocalAreas}
 use Rattle.lent_areas.specs.Areas.{graphFor, listing, FoundAs}
 use Rattle.area_checks.specs.Checks.{sizesOf, lentVerdict}
 use Rattle.area_entries.specs.Inner.{Held}
+use Rattle.area_entries.proofs.OrderLaws.{local-verdict}
 
 module _ (locals room : ℕ) (areas items w : List ℕ) (f : Found) where
   pub tell-inverted : f ≡ Inverted → (bad : Bool) (A : ℕ → Option (List Range)) → FoundAs bad A locals room w f
@@ -41,7 +42,7 @@ module _ (locals room : ℕ) (areas items w : List ℕ) (f : Found) where
     held-list H = record { area = H .area; found = subst (λ (x : Found). FoundAs (H .bad) (H .area) locals room w x) e (H .found) .1 }
 
     pub tell-ranges : {r : Answer} {areas′ items′ : List ℕ}
-        → ((A : ℕ → Option (List Range)) → Listed (listing room) A locals n w → AnsweredBy (listVerdict locals A room) locals A areas items r areas′ items′)
+        → ((A : ℕ → Option (List Range)) → ListedBy wordOf (listing room) A locals n w → AnsweredBy (listVerdict locals A room) locals A areas items r areas′ items′)
         → (bad : Bool) (A : ℕ → Option (List Range)) → FoundAs bad A locals room w f → AnsweredBy (first (check InvertedWord bad) (listVerdict locals A room)) locals A areas items r areas′ items′
     tell-ranges B bad A F =
         let b = subst (λ (x : Found). FoundAs bad A locals room w x) e F in
@@ -51,22 +52,25 @@ module _ (locals room : ℕ) (areas items w : List ℕ) (f : Found) where
 
 module _ (blocks edges : List ℕ) (points : ℕ) (kinds touches ends areas items work : List ℕ) where
   abbrev lentV : Verdict
-  lentV = lentVerdict blocks edges points (length kinds) (length touches) (length ends) (length areas) (length items) (length work)
+  lentV = lentVerdict blocks edges points kinds (length touches) (length ends) (length areas) (length items) (length work)
 
   abbrev space : ℕ
   space = spaceFor (sizesOf blocks edges (length kinds) (length touches) (length ends) (length areas))
 
+  by-parts : verdictOf blocks edges points kinds touches ends (length areas) (length items) (length work) ≡ first lentV (areaVerdict (graphFor blocks edges) kinds touches (areaFor (graphFor blocks edges) kinds touches ends) (length areas / 2))
+  by-parts = local-verdict blocks edges points kinds touches ends (length areas) (length items) (length work)
+
   pub refused-entry : (r : Refusal) (i : ℕ) → lentV ≡ Bad r i → LocalAreas blocks edges points kinds touches ends areas items work (Refused r i) areas items work
   refused-entry r i e = record {
-    lists = rw (first-bad lentV (areaVerdict (graphFor blocks edges) touches (length kinds) (areaFor (graphFor blocks edges) kinds touches ends) (length areas / 2)) r i e) (record { answer = refl; in-areas = refl; in-items = refl });
+    lists = rw (by-parts ∙ first-bad lentV (areaVerdict (graphFor blocks edges) kinds touches (areaFor (graphFor blocks edges) kinds touches ends) (length areas / 2)) r i e) (record { answer = refl; in-areas = refl; in-items = refl });
     in-work = rw e refl;
   }
 
   pub answered-entry : lentV ≡ Fine → {r : Answer} {areas′ items′ w work′ : List ℕ}
-      → AnsweredBy (areaVerdict (graphFor blocks edges) touches (length kinds) (areaFor (graphFor blocks edges) kinds touches ends) (length areas / 2)) (length kinds) (areaFor (graphFor blocks edges) kinds touches ends) areas items r areas′ items′
+      → AnsweredBy (areaVerdict (graphFor blocks edges) kinds touches (areaFor (graphFor blocks edges) kinds touches ends) (length areas / 2)) (length kinds) (areaFor (graphFor blocks edges) kinds touches ends) areas items r areas′ items′
       → Within 0 space work w → {n : ℕ} → n ≡ space → work′ ≡ cleared n w → LocalAreas blocks edges points kinds touches ends areas items work r areas′ items′ work′
   answered-entry e {r} {areas′} {items′} {w} {work′} B K {n} en Z = record {
-    lists = rw (first-fine lentV (areaVerdict (graphFor blocks edges) touches (length kinds) (areaFor (graphFor blocks edges) kinds touches ends) (length areas / 2)) e) B;
+    lists = rw (by-parts ∙ first-fine lentV (areaVerdict (graphFor blocks edges) kinds touches (areaFor (graphFor blocks edges) kinds touches ends) (length areas / 2)) e) B;
     in-work = rw e (Z ∙ ap (λ (k : ℕ). cleared k w) en ∙ cleared-same space work w K
         ∙ ap (λ (k : ℕ). replicate space 0 ++ drop k work) (sym (length-replicate space 0)));
   }

@@ -1,1 +1,3 @@
+pub mod OrderLaws
 pub mod EntryLaws
+pub mod ReachLaws

@@ -2,36 +2,44 @@
 use Prim.Native.Nat.{ℕ, _/_}
 use mathlib.Core.Path.{_≡_}
 use mathlib.Core.Option.{Option}
-use mathlib.Core.List.{List}
+use mathlib.Core.List.{List, [], _∷_, _++_}
 use lib.ListN.{length, replicate}
 use Rattle.refusals.specs.declared.Verdict.{Verdict}
-use Rattle.refusals.specs.declared.Refusal.the-variants.{Inverted}
-use Rattle.refusals.specs.Verdicts.{first, check}
+use Rattle.refusals.specs.declared.Refusal.{Refusal}
+use Rattle.refusals.specs.declared.Refusal.the-variants.{Inverted, List as ListWord}
+use Rattle.refusals.specs.Verdicts.{first, inOrder, check}
 use Rattle.refusals.specs.Outcomes.{unless, after}
 use Rattle.ranges.specs.declared.Range.{Range}
 use Rattle.areas.specs.Blocks.{Graph}
 use Rattle.local_marks.specs.Marks.{someInverted}
 use Rattle.area_measure.specs.Locals.{areaFor}
-use Rattle.local_lists.specs.declared.Answer.{Answer}
-use Rattle.local_lists.specs.Lists.{AnsweredBy}
+use Rattle.item_lists.specs.declared.Answer.{Answer}
+use Rattle.item_lists.specs.Lists.{AnsweredBy}
 use Rattle.area_layout.specs.Layout.{spaceFor}
-use Rattle.area_checks.specs.Checks.{sizesOf, lentVerdict}
+use Rattle.area_checks.specs.Checks.{sizesOf, lentVerdict, lentChecks, lentGive}
 use Rattle.lent_areas.specs.Areas.{graphFor}
 use Rattle.area_tables.specs.Tables.{listVerdict}
 
 -- numbers 8 and 9: 8 of any local before 9
-abbrev pub areaVerdict : Graph → List ℕ → ℕ → (ℕ → Option (List Range)) → ℕ → Verdict
-areaVerdict G touches locals A room = first (check Inverted (someInverted G touches locals)) (listVerdict locals A room)
+abbrev pub areaVerdict : Graph → List ℕ → List ℕ → (ℕ → Option (List Range)) → ℕ → Verdict
+areaVerdict G kinds touches A room = first (check Inverted (someInverted G kinds touches (length kinds))) (listVerdict (length kinds) A room)
 
--- all refusals, lowest number first
+-- the checks in the entry's order, "lowest number wins": 1, 2, 3, 4 and 7 of what is lent, then 8 and 9 of what is found; and the refusal that each gives
+abbrev pub localChecks : List ℕ → List ℕ → ℕ → List ℕ → List ℕ → List ℕ → ℕ → ℕ → ℕ → List Verdict
+localChecks blocks edges points kinds touches ends areas items work =
+    lentChecks blocks edges points kinds (length touches) (length ends) areas items work
+    ++ (check Inverted (someInverted (graphFor blocks edges) kinds touches (length kinds))
+    ∷ listVerdict (length kinds) (areaFor (graphFor blocks edges) kinds touches ends) (areas / 2) ∷ [])
+
+abbrev pub localGive : List Refusal
+localGive = lentGive ++ (Inverted ∷ ListWord ∷ [])
+
 abbrev pub verdictOf : List ℕ → List ℕ → ℕ → List ℕ → List ℕ → List ℕ → ℕ → ℕ → ℕ → Verdict
-verdictOf blocks edges points kinds touches ends areas items work =
-    first (lentVerdict blocks edges points (length kinds) (length touches) (length ends) areas items work)
-    (areaVerdict (graphFor blocks edges) touches (length kinds) (areaFor (graphFor blocks edges) kinds touches ends) (areas / 2))
+verdictOf blocks edges points kinds touches ends areas items work = inOrder (localChecks blocks edges points kinds touches ends areas items work)
 
 -- the areas of locals: the work space is unchanged after a refusal that comes before measuring, else its first W words are zero
 pub record LocalAreas (blocks edges : List ℕ) (points : ℕ) (kinds touches ends areas items work : List ℕ) (r : Answer) (areas′ items′ work′ : List ℕ) : Type 0 where
   pub lists : AnsweredBy (verdictOf blocks edges points kinds touches ends (length areas) (length items) (length work)) (length kinds)
       (areaFor (graphFor blocks edges) kinds touches ends) areas items r areas′ items′
-  pub in-work : work′ ≡ after (unless (lentVerdict blocks edges points (length kinds) (length touches) (length ends) (length areas) (length items) (length work))
+  pub in-work : work′ ≡ after (unless (lentVerdict blocks edges points kinds (length touches) (length ends) (length areas) (length items) (length work))
       (spaceFor (sizesOf blocks edges (length kinds) (length touches) (length ends) (length areas)))) (λ n. replicate n 0) work

@@ -8,31 +8,32 @@ ghost use Rattle.refusals.specs.Verdicts.{first, check};
 ghost use Rattle.refusals.specs.declared.Refusal.the-variants.{Inverted};
 ghost use Rattle.ranges.specs.declared.Range.{Range};
 ghost use Rattle.area_tables.specs.Tables.{listVerdict};
-ghost use Rattle.local_lists.specs.Lists.{AnsweredBy};
+ghost use Rattle.item_lists.specs.Lists.{AnsweredBy};
 ghost use Rattle.area_entries.specs.Entry.{LocalAreas};
 ghost use Rattle.lent_areas.specs.Areas.{FoundAs};
 ghost use Rattle.area_entries.specs.Inner.{Held};
+pub use item_lists::Answer;
 use lent_areas::Found;
-pub use local_lists::Answer;
 use refusals::Refusal;
 use refusals::Verdict;
 
 // Writes the areas and the items, or number 8, or 9.
 fn tell(f: Found, areas: &mut [u32], items: &mut [u32], work: &[u64], locals: usize) -> Answer
-    requires { ⌜ Held locals (length (now areas) / 2) (now work) f × (2 * locals ≤ length (now items)) × (length (now areas) / 2 ≤ 65536) × (length (now areas) / 2 + locals ≤ length (now work)) ⌝ }
+    requires { ⌜ Held locals (length (now areas) / 2) (now work) f × (3 * locals ≤ length (now items)) × (length (now areas) / 2 ≤ 65536) × (length (now areas) / 2 + locals ≤ length (now work)) ⌝ }
     ensures { λ r. ⌜ ((bad : Bool) (A : ℕ → Option (List Range)) → FoundAs bad A locals (length (now (areas .entry)) / 2) (now (work .entry)) f
         → AnsweredBy (first (check Inverted bad) (listVerdict locals A (length (now (areas .entry)) / 2))) locals A (now (areas .entry)) (now (items .entry)) r (now (areas .exit)) (now (items .exit))) ⌝ }
 {
     match f {
         Found::Inverted => Answer::Refused(Refusal::Inverted, 0),
-        Found::Ranges(n) => local_lists::list(n, areas, items, work, locals),
+        Found::Ranges(n) => item_lists::list(n, areas, items, work, locals),
     }
 }
 
-// The area of each local, from its touches (rows local, start, end) and, for a kind other than 0, its ends (rows local, point); rows whose local is past
-// the end count for nobody. Areas come back as rows of start and end, items as rows of first and count, one a local; the answer is the number of ranges.
-// Refuses lengths that are no whole rows or over their limits (1), blocks out of line (2), an edge naming no block (3), an item list under the locals or a work
-// space under W = 8 × (blocks + edges + locals + touches + ends + blocks × ⌈locals/64⌉ + ranges of the area list) (7), a touch that ends before it starts
+// The area of each local by its kind (0 unfollowed, 1 plain, 2 ending, as `reach` answers them): from its touches (rows local, start, end) and, of an ending one,
+// its ends (rows local, point). An unfollowed local has no area. Its rows, and those whose local is past the end, count for nobody. Areas come back as rows of start
+// and end, items as rows of present, first and count, one a local; the answer is the number of ranges.
+// Refuses lengths that are no whole rows or over their limits (1), blocks out of line (2), an edge naming no block (3), a kind over 2 (4), an item list under the
+// locals or a work space under W = 8 × (blocks + edges + locals + touches + ends + blocks × ⌈locals/64⌉ + ranges of the area list) (7), a touch that ends before it starts
 // where it is clipped to its first or last block (8), and more ranges than the area list holds (9).
 pub fn local_areas(
     blocks: &[u32],
@@ -52,7 +53,7 @@ pub fn local_areas(
         blocks,
         edges,
         points,
-        kinds.len(),
+        kinds,
         touches.len(),
         ends.len(),
         areas.len(),

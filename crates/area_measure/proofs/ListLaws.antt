@@ -18,7 +18,7 @@ use Rattle.areas.specs.Job.{rangesIn, rangesOf}
 use Rattle.area_pieces.proofs.AreaLaws.{unpacked-both}
 use Rattle.area_pieces.proofs.HullLaws.{gather-append, gather-one}
 use Rattle.area_measure.specs.declared.Listing.{Listing}
-use Rattle.area_measure.specs.Locals.{listed, presentWord, ListedBy, Listed}
+use Rattle.area_measure.specs.Locals.{listed, ListedBy}
 
 pub ranges-append : (l m : List (Option (List Range))) → rangesOf (l ++ m) ≡ rangesOf l + rangesOf m
 unfolding rangesOf
@@ -74,6 +74,3 @@ module _ (f : ℕ → Option (List Range) → ℕ) (o : Listing) (A : ℕ → Op
       areas = areas-more;
       items = items-more;
     }
-
-pub listed-start : (o : Listing) (A : ℕ → Option (List Range)) (w : List ℕ) → Listed o A 0 0 w
-listed-start o A w = listed-none presentWord o A w

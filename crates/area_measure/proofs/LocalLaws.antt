@@ -1,17 +1,20 @@
 -- Local after local: what is fetched and measured leaves the rows of the others, and puts one area more.
-use Prim.Native.Nat.{ℕ, _+_, _*_, _/_, _%_, _≤_, _<_}
+use Prim.Native.Nat.{ℕ, zero, suc, _+_, _-_, _*_, _/_, _%_, _≤_, _<_}
 use native.Mathlib.Omega.{arith}
 use mathlib.Core.Path.{_≡_, refl, sym, ap, _∙_}
 use mathlib.Core.Logic.{inl, inr}
 use mathlib.Core.Bool.{Bool, false, _&&_}
-use mathlib.Core.Option.{Option, some}
+use mathlib.Core.Option.{Option, some, none}
 use mathlib.Core.List.{List}
-use lib.ListN.{length, getD}
+use lib.ListN.{length, getD, set, length-set}
 use Rattle.words.specs.Sort.{sortOf}
 use Rattle.words.specs.Rows.{rowCount}
+use Rattle.words.specs.Regions.{part}
+use Rattle.words.proofs.Points.{stored}
 use Rattle.words.proofs.RegionLaws.{row-before}
 use Rattle.bits.specs.Bits.{bit, bitOf}
 use Rattle.ranges.specs.declared.Range.{Range}
+use Rattle.ranges.specs.Forms.{unpacked}
 use Rattle.graph.specs.Paths.{Edge}
 use Rattle.graph.proofs.Line.{blocks-length}
 use Rattle.carrying.specs.Lists.{any}
@@ -22,21 +25,29 @@ use Rattle.areas.specs.Job.{areaBy, rangesIn}
 use Rattle.spots.specs.declared.Spots.{Spots}
 use Rattle.spots.specs.Spots.{lineOf, touchesAt, endsAt}
 use Rattle.area_pieces.specs.Local.{blockCount}
+use Rattle.area_pieces.proofs.PushLaws.{set-other}
 use Rattle.area_flow.specs.declared.Grid.{Grid}
 use Rattle.area_flow.specs.Grid.{rowBit, blockBit}
 use Rattle.local_spots.specs.declared.Places.{Places}
-use Rattle.local_spots.specs.Locals.{kindBy, touchesFor, endsFor, Laid, Chains, Fetched}
+use Rattle.kind_numbers.specs.Numbers.{kindBy}
+use Rattle.local_spots.specs.Locals.{touchesFor, endsFor, Laid, Chains, Fetched}
 use Rattle.local_spots.proofs.OrderLaws.{arrives-sorted, ending-sorted}
 use Rattle.area_measure.specs.declared.Listing.{Listing}
 use Rattle.area_measure.specs.Measure.{itemWord, RowsFor, Measurable, Listable, Measured}
-use Rattle.area_measure.specs.Locals.{listed, presentWord, localAt, mostIn, Fits, Ready, RowsOf, areaFor, Spared, Next, ListedFor, MeasuredAll}
-use Rattle.area_measure.proofs.ListLaws.{listed-start, listed-more}
+use Rattle.area_measure.specs.Locals.{listed, wordOf, localAt, mostIn, Fits, Ready, RowsOf, areaFor, Spared, Next, ListedFor, MeasuredAll}
+use Rattle.area_measure.proofs.ListLaws.{listed-none, listed-more}
 
 -- the order of its ends does not matter
 area-sorted : (G : Graph) (K : Kind) (ts : List Range) (es : List ℕ) → areaBy G K ts (sortOf es) ≡ areaBy G K ts es
 area-sorted G Unfollowed ts es = refl
 area-sorted G Plain ts es = refl
 area-sorted G Ending ts es = ap (λ (l : List Range). some l) (ending-sorted G es ts)
+
+-- a plain or ending local has an area
+present : (G : Graph) (ts : List Range) (es : List ℕ) (n : ℕ) → 0 < n → (rs : List Range) × (areaBy G (kindBy n) ts es ≡ some rs)
+present G ts es zero h = absurd (omega arith)
+present G ts es (suc zero) h = (_, refl)
+present G ts es (suc (suc n)) h = (_, refl)
 
 -- the chains, where their words stay
 pub chains-kept : (touches ends : List ℕ) (p : Places) {w₀ w : List ℕ} → Laid p (rowCount 3 touches) (rowCount 2 ends) w₀ → ((i : ℕ) → p .heads ≤ i → i < p .at → getD w i 0 ≡ getD w₀ i 0) → Chains p touches ends w₀ → Chains p touches ends w
@@ -116,9 +127,54 @@ module _ (blocks kinds touches ends : List ℕ) (p : Places) (g : Grid) (mark : 
           upright = D .upright;
         }
 
-  -- ---- one local
+  -- ---- an unfollowed local
 
-  module _ (l total : ℕ) {w₀ w₁ : List ℕ} {t : Spots} (D : Ready blocks kinds touches ends p g mark o w₀) (h : l < length kinds) (few : total ≤ l * mostIn blocks touches) (C : Fetched p touches ends l w₀ w₁ t) where
+  module _ (l total : ℕ) {w₀ : List ℕ} (D : Ready blocks kinds touches ends p g mark o w₀) (h : l < length kinds) (u : getD kinds l 0 ≡ 0) where
+    abbrev at : ℕ
+    at = o .items + l
+
+    before-heads : at < p .heads
+    before-heads = omega (arith, D .laid .items-fit)
+
+    heads-before : p .heads ≤ mark
+    heads-before =
+        let F = D .laid in
+        let L = F .spots in
+        omega (arith, L .heads-fit, L .nexts-fit, L .at-fits, F .spots-fit, F .written-fits, F .read-fits, F .to-fits)
+
+    pub item-in : at < length w₀
+    item-in = omega (arith, before-heads, heads-before, D .laid .fits)
+
+    stays : (i : ℕ) → (i ≡ at → ⊥) → getD (set w₀ at 0) i 0 ≡ getD w₀ i 0
+    stays i d = set-other w₀ at 0 i item-in d
+
+    no-area : (G : Graph) → areaFor G kinds touches ends l ≡ none
+    no-area G = ap (λ (n : ℕ). areaBy G (kindBy n) (touchesFor touches l) (endsFor ends l)) u
+
+    pub next-none : Next blocks kinds touches ends p g mark o l total w₀ (set w₀ at 0) total
+    next-none =
+        let F = D .laid in
+        let L = F .spots in
+        let empty : total - total ≡ 0 = omega arith in
+        record {
+          spared = record {
+            len = length-set w₀ at 0;
+            chains = λ i a b. stays i (λ e. absurd (omega (arith, before-heads)));
+            rows = λ i a b. stays i (λ e. absurd (omega (arith, before-heads, L .heads-fit, L .nexts-fit, L .at-fits)));
+            past = λ i a. stays i (λ e. absurd (omega (arith, before-heads, heads-before)));
+          };
+          unmarked = λ c m. ap (λ (y : ℕ). bitOf y (c % 64)) (stays (mark + c / 64) (λ e. absurd (omega (arith, before-heads, heads-before)))) ∙ D .unmarked c m;
+          least = omega arith;
+          most = omega arith;
+          word = λ es R. stored (λ y. y ≡ wordOf total (areaFor (lineOf blocks es) kinds touches ends l)) w₀ at 0 at item-in (λ _. sym (ap (wordOf total) (no-area (lineOf blocks es)))) (λ d. absurd (d refl));
+          same = λ i a d b. stays i d;
+          count = λ es R. omega (arith, ap rangesIn (no-area (lineOf blocks es)));
+          put = λ es R q. ap listed (no-area (lineOf blocks es)) ∙ sym (ap (λ (k : ℕ). unpacked (part (o .areas + total) k (set w₀ at 0))) empty);
+        }
+
+  -- ---- a plain or ending one
+
+  module _ (l total : ℕ) {w₀ w₁ : List ℕ} {t : Spots} (D : Ready blocks kinds touches ends p g mark o w₀) (h : l < length kinds) (fo : 0 < getD kinds l 0) (few : total ≤ l * mostIn blocks touches) (C : Fetched p touches ends l w₀ w₁ t) where
     fetch-spares : Spared blocks touches ends p g mark w₀ w₁
     fetch-spares =
         let F = D .laid in
@@ -146,6 +202,7 @@ module _ (blocks kinds touches ends : List ℕ) (p : Places) (g : Grid) (mark : 
         let F = E .laid in
         let r = row-before l (length kinds) (g .width) h in
         record {
+          followed = fo;
           laid = record {
             free = record {
               wide = F .wide;
@@ -163,7 +220,7 @@ module _ (blocks kinds touches ends : List ℕ) (p : Places) (g : Grid) (mark : 
           unmarked = record { none = λ c m. E .unmarked c m };
           bounded = record { past = λ c a b. E .rest l c h a b };
           both = λ e. record { bits = λ k m. E .both l k h e m; bounded = record { past = λ c a b. E .rest l c h a b } };
-          upright = λ es. ap (λ (ts : List Range). any (inverted (lineOf blocks es)) ts) (C .touches-are) ∙ E .upright l h es;
+          upright = λ es. ap (λ (ts : List Range). any (inverted (lineOf blocks es)) ts) (C .touches-are) ∙ E .upright l h fo es;
         }
 
     pub next-listable : Listable blocks t (localAt g n mark l) o total
@@ -207,10 +264,13 @@ module _ (blocks kinds touches ends : List ℕ) (p : Places) (g : Grid) (mark : 
             unmarked = λ c m. M .unmarked .none c m;
             least = M .least;
             most = omega (arith, M .most, count-in);
-            word = M .word;
+            word = λ es R.
+                let (rs, is) = present (lineOf blocks es) (touchesFor touches l) (endsFor ends l) (getD kinds l 0) fo in
+                let counted : r ≡ total + length rs = M .count es (as-fetched es R) ∙ ap (λ (a : Option (List Range)). total + rangesIn a) (is-fetched es ∙ is) in
+                M .word ∙ ap (itemWord total) (omega (arith, counted)) ∙ sym (ap (wordOf total) is);
             same = λ i a d b. M .same i a d (inl (omega (arith, L .heads-fit, L .nexts-fit, L .at-fits, F .spots-fit, F .written-fits, F .read-fits, F .to-fits))) ∙ C .kept .below i (omega (arith, L .heads-fit, L .nexts-fit));
             count = λ es R. M .count es (as-fetched es R) ∙ ap (λ (a : Option (List Range)). total + rangesIn a) (is-fetched es);
-            put = λ es R q. sym (is-fetched es) ∙ M .put es (as-fetched es R) q;
+            put = λ es R q. ap listed (sym (is-fetched es) ∙ M .put es (as-fetched es R) q);
           }
 
   -- ---- all of them
@@ -231,7 +291,7 @@ module _ (blocks kinds touches ends : List ℕ) (p : Places) (g : Grid) (mark : 
     spared = record { len = refl; chains = λ i a b. refl; rows = λ i a b. refl; past = λ i a. refl };
     unmarked = D .unmarked;
     most = omega arith;
-    listed = record { is = λ es R. listed-start o (areaFor (lineOf blocks es) kinds touches ends) w };
+    listed = record { is = λ es R. listed-none wordOf o (areaFor (lineOf blocks es) kinds touches ends) w };
   }
 
   module _ {w₀ w : List ℕ} {l total : ℕ} (G : Going w₀ w l total) where
@@ -256,10 +316,10 @@ module _ (blocks kinds touches ends : List ℕ) (p : Places) (g : Grid) (mark : 
           listed = record {
             is = λ es R.
                 let row = rows-kept (G .begun .laid) (G .spared) es l h (R l h) in
-                listed-more presentWord o (areaFor (lineOf blocks es) kinds touches ends) w′ r (G .listed .is es R) (N .spared .len) (F .areas-fit) (omega (arith, F .items-fit, L .heads-fit, L .nexts-fit, L .at-fits, L .ends-fit)) (N .least)
+                listed-more wordOf o (areaFor (lineOf blocks es) kinds touches ends) w′ r (G .listed .is es R) (N .spared .len) (F .areas-fit) (omega (arith, F .items-fit, L .heads-fit, L .nexts-fit, L .at-fits, L .ends-fit)) (N .least)
                 (λ i b c. N .same i (inl b) (λ e. absurd (omega arith)) (omega (arith, F .items-fit)))
                 (λ i b. N .same (o .items + i) (inr (omega (arith, F .areas-fit))) (λ e. absurd (omega arith)) (omega (arith, F .items-fit)))
-                (N .word ∙ ap (itemWord total) (omega (arith, N .count es row))) (N .count es row) (λ q. ap listed (N .put es row q));
+                (N .word es row) (N .count es row) (λ q. N .put es row q);
           };
         }
 

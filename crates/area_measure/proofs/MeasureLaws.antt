@@ -3,11 +3,9 @@ use Prim.Native.Nat.{ℕ, _+_, _-_, _/_, _%_, _≤_, _<_}
 use native.Mathlib.Omega.{arith}
 use mathlib.Core.Path.{_≡_, refl, sym, ap, _∙_}
 use mathlib.Core.Logic.{_⊎_, inl, inr, ⊎-elim}
-use mathlib.Core.Bool.{Bool, cond}
 use mathlib.Core.Option.{some}
 use mathlib.Core.List.{List}
 use lib.ListN.{length, getD, set, length-set}
-use borrow.Author.Tests.{eq-eqb, ne-eqb}
 use Rattle.words.specs.Regions.{part}
 use Rattle.words.proofs.Points.{cut, stored}
 use Rattle.words.proofs.RegionLaws.{kept-store, kept-part-list, length-part}
@@ -18,7 +16,6 @@ use Rattle.ranges.proofs.FormLaws.{unpacked-length}
 use Rattle.packed.specs.Work.{Clear}
 use Rattle.graph.proofs.Within.{within-wider}
 use Rattle.carrying.specs.declared.Kind.{Kind}
-use Rattle.carrying.specs.declared.Kind.the-variants.{Plain, Ending}
 use Rattle.areas.specs.Job.{areaBy, rangesIn}
 use Rattle.spots.specs.declared.Spots.{Spots}
 use Rattle.spots.specs.Spots.{lineOf, touchesAt, endsAt}
@@ -26,18 +23,12 @@ use Rattle.area_pieces.specs.declared.Local.{Local}
 use Rattle.area_pieces.specs.Local.{Appended, PlainIn}
 use Rattle.area_pieces.proofs.PushLaws.{set-other}
 use Rattle.area_ends.specs.Ending.{EndingIn}
-use Rattle.local_spots.specs.Locals.{kindBy}
+use Rattle.kind_numbers.proofs.KindLaws.{plain-kind, ending-kind}
 use Rattle.area_measure.specs.declared.Listing.{Listing}
 use Rattle.area_measure.specs.Measure.{mostOf, itemWord, Measurable, AreaIn, Listable, Measured}
 
-pub plain-kind : (k : ℕ) → k ≡ 0 → kindBy k ≡ Plain
-plain-kind k e = ap (λ (b : Bool). cond b Plain Ending) (eq-eqb k 0 e)
-
-pub ending-kind : (k : ℕ) → 0 < k → kindBy k ≡ Ending
-ending-kind k h = ap (λ (b : Bool). cond b Plain Ending) (ne-eqb k 0 (λ e. absurd (omega arith)))
-
 module _ (blocks : List ℕ) (kind : ℕ) (t : Spots) (s : Local) {w₀ w : List ℕ} {r : ℕ} where
-  pub area-plain : kind ≡ 0 → PlainIn blocks t s w₀ w r → AreaIn blocks kind t s w₀ w r
+  pub area-plain : kind ≡ 1 → PlainIn blocks t s w₀ w r → AreaIn blocks kind t s w₀ w r
   area-plain e P = record {
     kept = within-wider (s .mark) (s .to + mostOf blocks t) (omega arith) (omega arith) (P .kept);
     unmarked = P .unmarked;
@@ -45,7 +36,7 @@ module _ (blocks : List ℕ) (kind : ℕ) (t : Spots) (s : Local) {w₀ w : List
     is = λ es R. ap (λ (k : Kind). areaBy (lineOf blocks es) k (touchesAt t w₀) (endsAt t w₀)) (plain-kind kind e) ∙ ap (λ (l : List Range). some l) (sym (P .is es (R .plain e)));
   }
 
-  pub area-ending : 0 < kind → EndingIn blocks t s w₀ w r → AreaIn blocks kind t s w₀ w r
+  pub area-ending : 1 < kind → EndingIn blocks t s w₀ w r → AreaIn blocks kind t s w₀ w r
   area-ending h E = record {
     kept = E .kept;
     unmarked = E .unmarked;

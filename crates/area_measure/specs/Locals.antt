@@ -55,17 +55,10 @@ pub record ListedBy (word : ℕ → Option (List Range) → ℕ) (o : Listing) (
   pub areas : total ≤ o .room → unpacked (part (o .areas) total w) ≡ gather listed (tabulate l A)
   pub items : (i : ℕ) → i < l → getD w (o .items + i) 0 ≡ word (rangesOf (tabulate i A)) (A i)
 
--- items that all have an area
-abbrev pub presentWord : ℕ → Option (List Range) → ℕ
-presentWord first a = itemWord first (rangesIn a)
-
--- an item's word in a job: 0 without an area, else the first of its ranges and one more than how many they are
+-- an item's word: 0 without an area, else the first of its ranges and one more than how many they are
 abbrev pub wordOf : ℕ → Option (List Range) → ℕ
 wordOf first none = 0
 wordOf first (some rs) = itemWord first (length rs)
-
-abbrev pub Listed : Listing → (ℕ → Option (List Range)) → ℕ → ℕ → List ℕ → Type 0
-Listed o A l total w = ListedBy presentWord o A l total w
 
 -- where it all stands, each part behind the one before
 pub record Fits (blocks kinds touches ends : List ℕ) (p : Places) (g : Grid) (mark : ℕ) (o : Listing) (w : List ℕ) : Type 0 where
@@ -84,16 +77,16 @@ pub record Fits (blocks kinds touches ends : List ℕ) (p : Places) (g : Grid) (
   pub long : length kinds ≤ g .words * 64
   pub few : length kinds * mostIn blocks touches < 2 ^ 32
 
--- the rows of every local stand, number 8 was ruled out, and no block is marked
+-- the rows of every local stand, number 8 was ruled out of each followed one, and no block is marked
 pub record Ready (blocks kinds touches ends : List ℕ) (p : Places) (g : Grid) (mark : ℕ) (o : Listing) (w : List ℕ) : Type 0 where
   pub laid : Fits blocks kinds touches ends p g mark o w
   pub chains : Chains p touches ends w
   pub unmarked : (c : ℕ) → c < g .width * 64 → bit w mark c ≡ false
   pub rest : (l b : ℕ) → l < length kinds → blockCount blocks ≤ b → b < g .width * 64 → blockBit g w l b ≡ false
-  pub both : (l k : ℕ) → l < length kinds → getD kinds l 0 ≡ 0 → k < blockCount blocks → blockBit g w l k ≡ (rowBit g (g .written) w k l && rowBit g (g .read) w k l)
-  pub upright : (l : ℕ) → l < length kinds → Upright blocks (touchesFor touches l)
+  pub both : (l k : ℕ) → l < length kinds → getD kinds l 0 ≡ 1 → k < blockCount blocks → blockBit g w l k ≡ (rowBit g (g .written) w k l && rowBit g (g .read) w k l)
+  pub upright : (l : ℕ) → l < length kinds → 0 < getD kinds l 0 → Upright blocks (touchesFor touches l)
 
--- the area of local l
+-- the area of local l, none of an unfollowed one
 abbrev pub areaFor : Graph → List ℕ → List ℕ → List ℕ → ℕ → Option (List Range)
 areaFor G kinds touches ends l = areaBy G (kindFor kinds l) (touchesFor touches l) (endsFor ends l)
 
@@ -115,16 +108,17 @@ pub record Next (blocks kinds touches ends : List ℕ) (p : Places) (g : Grid) (
   pub unmarked : (c : ℕ) → c < g .width * 64 → bit w mark c ≡ false
   pub least : total ≤ r
   pub most : r ≤ total + mostIn blocks touches
-  pub word : getD w (o .items + l) 0 ≡ itemWord total (r - total)
+  pub word : (es : List Edge) → RowsOf blocks kinds touches ends g mark w₀ es l
+      → getD w (o .items + l) 0 ≡ wordOf total (areaFor (lineOf blocks es) kinds touches ends l)
   pub same : (i : ℕ) → (i < o .areas + total) ⊎ (o .areas + o .room ≤ i) → (i ≡ o .items + l → ⊥) → i < p .heads → getD w i 0 ≡ getD w₀ i 0
   pub count : (es : List Edge) → RowsOf blocks kinds touches ends g mark w₀ es l
       → r ≡ total + rangesIn (areaFor (lineOf blocks es) kinds touches ends l)
   pub put : (es : List Edge) → RowsOf blocks kinds touches ends g mark w₀ es l → r ≤ o .room
-      → areaFor (lineOf blocks es) kinds touches ends l ≡ some (unpacked (part (o .areas + total) (r - total) w))
+      → listed (areaFor (lineOf blocks es) kinds touches ends l) ≡ unpacked (part (o .areas + total) (r - total) w)
 
 -- the areas of the first l locals, once their rows are those of their kinds
 pub record ListedFor (blocks kinds touches ends : List ℕ) (g : Grid) (mark : ℕ) (o : Listing) (l : ℕ) (w₀ w : List ℕ) (r : ℕ) : Type 0 where
-  pub is : (es : List Edge) → ((i : ℕ) → i < length kinds → RowsOf blocks kinds touches ends g mark w₀ es i) → Listed o (areaFor (lineOf blocks es) kinds touches ends) l r w
+  pub is : (es : List Edge) → ((i : ℕ) → i < length kinds → RowsOf blocks kinds touches ends g mark w₀ es i) → ListedBy wordOf o (areaFor (lineOf blocks es) kinds touches ends) l r w
 
 -- the areas of all locals
 pub record MeasuredAll (blocks kinds touches ends : List ℕ) (p : Places) (g : Grid) (mark : ℕ) (o : Listing) (w₀ w : List ℕ) (r : ℕ) : Type 0 where

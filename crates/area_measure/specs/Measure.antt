@@ -17,7 +17,7 @@ use Rattle.spots.specs.Spots.{lineOf, touchesAt, endsAt, Stand}
 use Rattle.area_pieces.specs.declared.Local.{Local}
 use Rattle.area_pieces.specs.Local.{blockCount, Laid, Flowing, Unmarked, Bounded, Both, Upright, PlainRows}
 use Rattle.area_ends.specs.Ending.{EndRow}
-use Rattle.local_spots.specs.Locals.{kindBy}
+use Rattle.kind_numbers.specs.Numbers.{kindBy}
 use Rattle.area_measure.specs.declared.Listing.{Listing}
 
 -- the most ranges that a local's area is made of
@@ -26,17 +26,18 @@ mostOf blocks t = 3 * t .count + blockCount blocks
 
 -- the rows of a local are those of its kind
 pub record RowsFor (G : Graph) (kind : ℕ) (s : Local) (ts : List Range) (es : List ℕ) (w : List ℕ) : Type 0 where
-  pub plain : kind ≡ 0 → PlainRows G s ts w
-  pub ending : 0 < kind → EndRow G s ts es w
+  pub plain : kind ≡ 1 → PlainRows G s ts w
+  pub ending : 1 < kind → EndRow G s ts es w
 
--- a local whose touches, ends and rows stand in the work space, and whose number 8 was ruled out
+-- a plain or ending local, by its kind's number, whose touches, ends and rows stand in the work space, and whose number 8 was ruled out
 pub record Measurable (blocks : List ℕ) (kind : ℕ) (t : Spots) (s : Local) (w : List ℕ) : Type 0 where
+  pub followed : 0 < kind
   pub laid : Laid t s (blockCount blocks) (mostOf blocks t) w
   pub flowing : Flowing s (blockCount blocks)
   pub stand : Stand t w
   pub unmarked : Unmarked s w
   pub bounded : Bounded s (blockCount blocks) w
-  pub both : kind ≡ 0 → Both s (blockCount blocks) w
+  pub both : kind ≡ 1 → Both s (blockCount blocks) w
   pub upright : Upright blocks (touchesAt t w)
 
 -- its area stands from `to` on

@@ -10,19 +10,19 @@ pub mod locals; // locals.rt: all locals of touches lent by themselves
 const HALF: u64 = 0x1_0000_0000;
 
 // Where the areas stand in the work space, with room for `room` ranges, and from `items` on a word a local: the first of its ranges and one more than
-// how many they are.
+// how many they are, or 0 without an area.
 pub struct Listing {
     pub areas: usize,
     pub room: usize,
     pub items: usize,
 }
 
-// The area of a local by the number of its kind, from `to` on; how many ranges it has.
+// The area of a plain or ending local by the number of its kind, from `to` on; how many ranges it has.
 fn area(blocks: &[u32], work: &mut [u64], kind: u32, t: Spots, s: Local) -> usize
     requires { ⌜ Sound (blocksOf (now blocks)) × Measurable (now blocks) kind t s (now work) ⌝ }
     ensures { λ r. ⌜ AreaIn (now (blocks .entry)) kind t s (now (work .entry)) (now (work .exit)) r ⌝ }
 {
-    if kind == 0 {
+    if kind == 1 {
         return area_pieces::plain(blocks, work, t, s);
     }
     area_ends::ending(blocks, work, t, s)

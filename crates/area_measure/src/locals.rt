@@ -8,7 +8,7 @@ use area_flow::Grid;
 use area_pieces::Local;
 use local_spots::Places;
 
-// Fetches local l's touches and ends and puts its area behind the `total` ranges so far.
+// Fetches local l's touches and ends and puts its area behind the `total` ranges so far; an unfollowed local has none.
 fn measure_next(
     blocks: &[u32],
     kinds: &[u32],
@@ -27,6 +27,10 @@ fn measure_next(
     ensures { λ r. ⌜ Next (now (blocks .entry)) (now (kinds .entry)) (now (touches .entry)) (now (ends .entry)) p g mark o l total (now (work .entry)) (now (work .exit)) r ⌝ }
 {
     let kind = kinds[l];
+    if kind == 0 {
+        work[o.items + l] = 0;
+        return total;
+    }
     let row = g.to + l * g.width;
     let span = mark + g.width;
     let to = span + blocks.len() / 3;

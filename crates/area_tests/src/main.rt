@@ -44,7 +44,7 @@ fn run(n: &[u32], e: Cuts)
     requires { ⌜ (length (now n) ≡ 1024) × Ordered e 1024 ⌝ }
 {
     let mut areas = [7u32; 80];
-    let mut items = [7u32; 160];
+    let mut items = [7u32; 240];
     let mut work = [7u64; 2048];
     let a = n[1] as usize;
     let i = n[2] as usize;
@@ -52,7 +52,7 @@ fn run(n: &[u32], e: Cuts)
     if a > 80 {
         return;
     }
-    if i > 160 {
+    if i > 240 {
         return;
     }
     if w > 2048 {

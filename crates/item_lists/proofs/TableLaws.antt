@@ -4,23 +4,26 @@ use native.Mathlib.Omega.{arith}
 use mathlib.Core.Path.{_≡_, refl, sym, ap, _∙_}
 use mathlib.Core.Bool.{false}
 use mathlib.Core.Option.{Option, some, none}
-use mathlib.Core.List.{List, _++_}
+use mathlib.Core.List.{List, [], _∷_, _++_, map}
 use lib.ListN.{length, getD, drop}
 use lib.Dec.{eqb}
 use borrow.Author.Tests.{lt-ltb, le-ltb, ne-eqb}
+use Rattle.refusals.specs.declared.Verdict.{Verdict}
 use Rattle.refusals.specs.declared.Verdict.the-variants.{Fine, Bad}
 use Rattle.refusals.specs.declared.Refusal.the-variants.{List as ListWord}
 use Rattle.refusals.specs.Verdicts.{check}
-use Rattle.refusals.specs.Outcomes.{given}
+use Rattle.refusals.specs.Outcomes.{given, unless, after}
 use Rattle.words.specs.Rows.{tabulate, flat}
 use Rattle.words.proofs.RowLaws.{tabulate-eq}
 use Rattle.words.proofs.FlatLaws.{flat-length}
 use Rattle.ranges.specs.declared.Range.{Range}
+use Rattle.carrying.specs.Lists.{gather}
 use Rattle.areas.specs.Job.{rangesIn, rangesOf}
-use Rattle.area_measure.specs.Locals.{wordOf, ListedBy}
+use Rattle.area_measure.specs.Locals.{listed, wordOf, ListedBy}
 use Rattle.answer_rows.specs.Rows.{rowsIn}
 use Rattle.area_tables.specs.Tables.{listVerdict, areaRows, listing}
 use Rattle.area_tables.proofs.RowLaws.{ranges-below, rows-areas, rows-long}
+use Rattle.item_lists.specs.declared.Answer.{Answer}
 use Rattle.item_lists.specs.declared.Answer.the-variants.{Given, Refused}
 use Rattle.item_lists.specs.Lists.{itemRow, itemRows, AnsweredBy}
 use Rattle.answer_rows.specs.Tables.{rowOf, rowsOf}
@@ -69,3 +72,23 @@ module _ (A : ℕ → Option (List Range)) (count room n : ℕ) (w : List ℕ) (
       in-areas = a ∙ ap (λ (l : List ℕ). l ++ drop (2 * n) areas) areas-are ∙ ap (λ (k : ℕ). areaRows count A ++ drop k areas) (sym areas-long);
       in-items = b ∙ ap (λ (l : List ℕ). l ++ drop (3 * count) items) items-are ∙ ap (λ (k : ℕ). itemRows count A ++ drop k items) (sym items-long);
     })
+
+-- ---- areas that are the same
+
+module _ (n : ℕ) (A B : ℕ → Option (List Range)) (same : (i : ℕ) → i < n → A i ≡ B i) where
+  ranges-same : rangesOf (tabulate n A) ≡ rangesOf (tabulate n B)
+  ranges-same = ap rangesOf (tabulate-eq n A B same)
+
+  areas-same : areaRows n A ≡ areaRows n B
+  areas-same = ap (λ (l : List (Option (List Range))). flat (map (λ (r : Range). r .start ∷ r .end ∷ []) (gather listed l))) (tabulate-eq n A B same)
+
+  items-same : itemRows n A ≡ itemRows n B
+  items-same = ap flat (tabulate-eq n (λ i. itemRow (rangesOf (tabulate i A)) (A i)) (λ i. itemRow (rangesOf (tabulate i B)) (B i))
+      (λ i h. ap (λ (k : ℕ). itemRow k (A i)) (ap rangesOf (tabulate-eq i A B (λ j q. same j (omega arith)))) ∙ ap (itemRow (rangesOf (tabulate i B))) (same i h)))
+
+  pub answered-same : {v : Verdict} {areas items : List ℕ} {r : Answer} {areas′ items′ : List ℕ} → AnsweredBy v n A areas items r areas′ items′ → AnsweredBy v n B areas items r areas′ items′
+  answered-same {v} {areas} {items} D = record {
+    answer = D .answer ∙ ap (unless v) ranges-same;
+    in-areas = D .in-areas ∙ ap (λ (k : ℕ). after (unless v k) (λ _. areaRows n A) areas) ranges-same ∙ ap (λ (l : List ℕ). after (unless v (rangesOf (tabulate n B))) (λ _. l) areas) areas-same;
+    in-items = D .in-items ∙ ap (λ (k : ℕ). after (unless v k) (λ _. itemRows n A) items) ranges-same ∙ ap (λ (l : List ℕ). after (unless v (rangesOf (tabulate n B))) (λ _. l) items) items-same;
+  }

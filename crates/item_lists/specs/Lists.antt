@@ -1,4 +1,4 @@
--- Document 01, "Areas of items": what the answer lists of a job's areas hold, given a verdict.
+-- Document 01, "Areas of items": what the answer lists of areas hold, of a job's items and of locals lent by themselves, given a verdict.
 use Prim.Native.Nat.{ℕ}
 use mathlib.Core.Path.{_≡_}
 use mathlib.Core.Option.{Option, some, none}

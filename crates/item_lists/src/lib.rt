@@ -1,4 +1,4 @@
-// The answer lists of a job's areas, from the work space.
+// The answer lists of areas, of a job's items and of locals lent by themselves, from the work space.
 ghost use mathlib.Core.Option.{Option};
 ghost use mathlib.Core.List.{List};
 ghost use Prim.Native.Nat.{ℕ, _+_, _*_, _/_, _≤_};

@@ -30,7 +30,8 @@ use Rattle.reach.specs.declared.Lay.{Lay}
 use Rattle.reach.specs.Prepared.{codeOf, Prepared}
 use Rattle.follow.specs.declared.Sizes.{Sizes}
 use Rattle.spots.specs.Spots.{lineOf, touchesAt, endsAt}
-use Rattle.local_spots.specs.Locals.{kindBy}
+use Rattle.kind_numbers.specs.Numbers.{kindNumber, kindBy}
+use Rattle.kind_numbers.proofs.KindLaws.{kind-told, plain-number, ending-number}
 use Rattle.local_spots.proofs.OrderLaws.{arrives-sorted, ending-sorted}
 use Rattle.area_pieces.specs.Local.{blockCount}
 use Rattle.area_pieces.proofs.PushLaws.{set-other}
@@ -44,7 +45,7 @@ use Rattle.job_spots.specs.declared.Places.{Places}
 use Rattle.job_spots.specs.declared.JobLocal.{JobLocal}
 use Rattle.job_spots.specs.Fetch.{isUnfollowed, FetchedTo, FetchedAny}
 use Rattle.job_spots.proofs.FetchLaws.{prepared-stays, ready-stays, is-unfollowed}
-use Rattle.job_measure.specs.Measure.{numberFor, mostIn, Fits, RowsOf, Ready, Spared, areaIn, Next}
+use Rattle.job_measure.specs.Measure.{mostIn, Fits, RowsOf, Ready, Spared, areaIn, Next}
 
 -- ---- kinds
 
@@ -53,20 +54,10 @@ followed Unfollowed e = λ _. true≢false e
 followed Plain e = λ q. true≢false (sym (ap isUnfollowed q))
 followed Ending e = λ q. true≢false (sym (ap isUnfollowed q))
 
-kind-number : (k : Kind) → isUnfollowed k ≡ false → kindBy (numberFor k) ≡ k
-kind-number Unfollowed e = absurd (true≢false e)
-kind-number Plain e = refl
-kind-number Ending e = refl
-
-plain-number : (k : Kind) → numberFor k ≡ 0 → k ≡ Plain
-plain-number Unfollowed e = absurd (omega arith)
-plain-number Plain e = refl
-plain-number Ending e = absurd (omega arith)
-
-ending-number : (k : Kind) → isUnfollowed k ≡ false → 0 < numberFor k → k ≡ Ending
-ending-number Unfollowed u h = absurd (true≢false u)
-ending-number Plain u h = absurd (omega arith)
-ending-number Ending u h = refl
+number-some : (k : Kind) → isUnfollowed k ≡ false → 0 < kindNumber k
+number-some Unfollowed e = absurd (true≢false e)
+number-some Plain e = omega arith
+number-some Ending e = omega arith
 
 -- ---- the order of touches and ends does not matter
 
@@ -263,7 +254,7 @@ module _ (blocks insts addresses ends pieces : List ℕ) (lay : Lay) (p : Places
 
     module _ (u : isUnfollowed (f .kind) ≡ false) where
       abbrev kind : ℕ
-      kind = numberFor (f .kind)
+      kind = kindNumber (f .kind)
 
       abbrev C₀ : Code
       C₀ = code (R .operands) (R .crossings)
@@ -279,6 +270,7 @@ module _ (blocks insts addresses ends pieces : List ℕ) (lay : Lay) (p : Places
           let q = order in
           let r = row-before l (z .locals) (g .width) h in
           record {
+            followed = number-some (f .kind) u;
             laid = record {
               free = record {
                 wide = F .wide;
@@ -343,13 +335,13 @@ module _ (blocks insts addresses ends pieces : List ℕ) (lay : Lay) (p : Places
                 read = λ j m. rows₂ .read k j m ∙ ap (λ (b : ℕ → Bool). b j) (sym (after-same G ts us stops turned));
               };
           ending = λ e.
-              let k = sym (tells .kind) ∙ ending-number (f .kind) u e in
+              let k = sym (tells .kind) ∙ ending-number (f .kind) e in
               record { arriving = λ j m. rows₂ .arrives k j m ∙ ap (λ (b : ℕ → Bool). b j) (sym (ap (arrivesRow G ts) ended ∙ arrives-same G ts us stops turned)) };
         }
 
         pub area-is : areaBy G (kindBy kind) ts (endsAt (f .spots) w₁) ≡ areaIn G (code operands crossings) ps l
         area-is =
-            ap (λ (k : Kind). areaBy G k ts (endsAt (f .spots) w₁)) (kind-number (f .kind) u ∙ tells .kind)
+            ap (λ (k : Kind). areaBy G k ts (endsAt (f .spots) w₁)) (kind-told (f .kind) ∙ tells .kind)
             ∙ ap (areaBy G (kindOf (code operands crossings) l) ts) ended
             ∙ area-same G ts us stops turned (kindOf (code operands crossings) l)
 

@@ -10,8 +10,6 @@ use Rattle.bits.specs.Bits.{bit}
 use Rattle.ranges.specs.declared.Range.{Range}
 use Rattle.graph.specs.Paths.{Edge}
 use Rattle.graph.specs.Line.{blocksOf, Sound}
-use Rattle.carrying.specs.declared.Kind.{Kind}
-use Rattle.carrying.specs.declared.Kind.the-variants.{Unfollowed, Plain, Ending}
 use Rattle.carrying.specs.Carried.{Code, Piece, piecesOf, kindOf, touchesOf, endsOf}
 use Rattle.areas.specs.Blocks.{Graph}
 use Rattle.areas.specs.Job.{areaBy}
@@ -26,12 +24,6 @@ use Rattle.area_measure.specs.Locals.{wordOf, ListedBy}
 use Rattle.local_marks.specs.Rows.{RowsBy}
 use Rattle.job_spots.specs.declared.Places.{Places}
 use Rattle.job_spots.specs.Fetch as fetching
-
--- the number of a kind that has an area: 0 plain, 1 ending
-abbrev pub numberFor : Kind → ℕ
-numberFor Unfollowed = 1
-numberFor Plain = 0
-numberFor Ending = 1
 
 -- the most ranges that one local's area is made of
 abbrev pub mostIn : List ℕ → List ℕ → List ℕ → ℕ

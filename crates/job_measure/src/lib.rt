@@ -1,25 +1,12 @@
 // The areas of all locals of a job, one behind another in item order, and the table of their items.
-ghost use mathlib.Core.Path.{_≡_};
 ghost use Prim.Native.Nat.{_+_, _*_, _≤_, _<_};
-ghost use Rattle.job_measure.specs.Measure.{numberFor, mostIn, Ready, Next, MeasuredLocals};
+ghost use Rattle.job_measure.specs.Measure.{mostIn, Ready, Next, MeasuredLocals};
 use area_flow::Grid;
 use area_measure::Listing;
 use area_pieces::Local;
-use carrying::Kind;
 use follow::Sizes;
 use job_spots::Places;
 use reach::Lay;
-
-// The number of a kind that has an area.
-fn number(k: Kind) -> u32
-    ensures { λ r. ⌜ r ≡ numberFor k ⌝ }
-{
-    match k {
-        Kind::Unfollowed => 1,
-        Kind::Plain => 0,
-        Kind::Ending => 1,
-    }
-}
 
 // Follows local l, fetches its touches and ends and puts its area behind the `total` ranges so far; an unfollowed local has none.
 fn measure_next(
@@ -54,7 +41,7 @@ fn measure_next(
     area_measure::measure_one(
         blocks,
         work,
-        number(k),
+        kind_numbers::number(k),
         f.spots,
         Local {
             row: row,

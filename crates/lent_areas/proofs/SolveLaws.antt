@@ -23,12 +23,13 @@ use Rattle.area_flow.specs.declared.Grid.{Grid}
 use Rattle.area_flow.specs.Grid.{Laid as GridLaid}
 use Rattle.local_spots.specs.declared.Places.{Places}
 use Rattle.local_spots.specs.Locals.{kindFor, touchesFor, endsFor, Laid, Chained}
-use Rattle.local_marks.specs.Marks.{someInverted, MarkedAll, Ready as MarkReady}
+use Rattle.local_marks.specs.Marks.{invertedIn, someInverted, MarkedAll, Ready as MarkReady}
 use Rattle.local_marks.specs.Rows.{RowsBy}
 use Rattle.local_marks.proofs.RowLaws.{rows-by}
-use Rattle.area_measure.specs.Locals.{areaFor, Fits, Ready, RowsOf, MeasuredAll}
-use Rattle.area_measure.proofs.MeasureLaws.{plain-kind, ending-kind}
-use Rattle.area_measure.proofs.ListLaws.{listed-start}
+use Rattle.local_marks.proofs.BitLaws.{inverted-followed}
+use Rattle.kind_numbers.proofs.KindLaws.{plain-kind, ending-kind}
+use Rattle.area_measure.specs.Locals.{areaFor, wordOf, Fits, Ready, RowsOf, MeasuredAll}
+use Rattle.area_measure.proofs.ListLaws.{listed-none}
 use Rattle.area_measure.proofs.LocalLaws.{chains-kept}
 use Rattle.area_layout.specs.declared.Sizes.{Sizes}
 use Rattle.lent_areas.specs.declared.Found.the-variants.{Inverted, Ranges}
@@ -220,9 +221,10 @@ module _ (blocks edges kinds touches ends : List ℕ) (areas : ℕ) (p : Places)
       }
 
     -- number 8 was ruled out
-    upright : (l : ℕ) → l < length kinds → (e : List Edge) → any (inverted (lineOf blocks e)) (touchesFor touches l) ≡ false
-    upright l h e =
-        any-false (λ (m : ℕ). any (inverted (lineOf blocks e)) (touchesFor touches m)) (tabulate (p .locals) (λ m. m)) (sym (M .answer e) ∙ fine) l (mem-tabulate (p .locals) (λ m. m) l (omega (arith, P .locals-are)))
+    upright : (l : ℕ) → l < length kinds → 0 < getD kinds l 0 → (e : List Edge) → any (inverted (lineOf blocks e)) (touchesFor touches l) ≡ false
+    upright l h u e =
+        sym (inverted-followed (lineOf blocks e) (getD kinds l 0) (touchesFor touches l) u)
+        ∙ any-false (λ (m : ℕ). invertedIn (lineOf blocks e) (kindFor kinds m) (touchesFor touches m)) (tabulate (p .locals) (λ m. m)) (sym (M .answer e) ∙ fine) l (mem-tabulate (p .locals) (λ m. m) l (omega (arith, P .locals-are)))
 
     chained : (i : ℕ) → p .heads ≤ i → i < p .at → getD w₂ i 0 ≡ getD w₁ i 0
     chained i a b =
@@ -256,7 +258,7 @@ module _ (blocks edges kinds touches ends : List ℕ) (areas : ℕ) (p : Places)
                 ∙ R .area .kept .same i (inr (omega (arith, fit, G .touched-at, o .touched-by, o .leaves-by, o .passes-by, o .rows-by, o .read-by, o .wait-by))) (inr (omega (arith, fit)))
                 ∙ M .kept .past i (omega (arith, fit, o .passes-by, o .rows-by, o .read-by, o .wait-by));
           };
-          found = (ap (λ (k : ℕ). someInverted (graphFor blocks edges) touches k) (sym (P .locals-are)) ∙ sym (M .answer es) ∙ fine, D .listed .is es rows-are);
+          found = (ap (λ (k : ℕ). someInverted (graphFor blocks edges) kinds touches k) (sym (P .locals-are)) ∙ sym (M .answer es) ∙ fine, D .listed .is es rows-are);
         }
 
   pub inverted-found : {w : List ℕ} {r : Bool} → Marking p g blocks kinds touches ends w₀ w r → r ≡ true → Solved blocks edges kinds touches ends areas w₀ w Inverted
@@ -268,16 +270,16 @@ module _ (blocks edges kinds touches ends : List ℕ) (areas : ℕ) (p : Places)
           below = λ i h. absurd (omega arith);
           past = λ i h. M .kept .past i (omega (arith, fit, o .passes-by, o .rows-by, o .read-by, o .wait-by));
         };
-        found = ap (λ (k : ℕ). someInverted (graphFor blocks edges) touches k) (sym (P .locals-are)) ∙ sym (M .answer es) ∙ e;
+        found = ap (λ (k : ℕ). someInverted (graphFor blocks edges) kinds touches k) (sym (P .locals-are)) ∙ sym (M .answer es) ∙ e;
       }
 
 -- without locals
-none-inverted : (G : Graph) (touches : List ℕ) → someInverted G touches 0 ≡ false
+none-inverted : (G : Graph) (kinds touches : List ℕ) → someInverted G kinds touches 0 ≡ false
 unfolding any tabulate
-none-inverted G touches = refl
+none-inverted G kinds touches = refl
 
 pub solved-none : (blocks edges kinds touches ends : List ℕ) (areas : ℕ) (w : List ℕ) → length kinds ≡ 0 → Solved blocks edges kinds touches ends areas w w (Ranges 0)
 solved-none blocks edges kinds touches ends areas w e = record {
   kept = record { len = refl; below = λ i h. refl; past = λ i h. refl };
-  found = (ap (λ (k : ℕ). someInverted (graphFor blocks edges) touches k) e ∙ none-inverted (graphFor blocks edges) touches, rw e (listed-start (listing (areas / 2)) (areaFor (graphFor blocks edges) kinds touches ends) w));
+  found = (ap (λ (k : ℕ). someInverted (graphFor blocks edges) kinds touches k) e ∙ none-inverted (graphFor blocks edges) kinds touches, rw e (listed-none wordOf (listing (areas / 2)) (areaFor (graphFor blocks edges) kinds touches ends) w));
 }

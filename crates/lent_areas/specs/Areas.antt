@@ -9,7 +9,7 @@ use Rattle.components.specs.Entry.{edgesIn}
 use Rattle.areas.specs.Blocks.{Graph}
 use Rattle.spots.specs.Spots.{lineOf}
 use Rattle.local_marks.specs.Marks.{someInverted, Marks}
-use Rattle.area_measure.specs.Locals.{areaFor, Listed}
+use Rattle.area_measure.specs.Locals.{areaFor, wordOf, ListedBy}
 use Rattle.area_layout.specs.Layout.{spaceFor}
 use Rattle.area_checks.specs.Checks.{sizesOf}
 use mathlib.Core.Bool.{Bool, true, false}
@@ -37,7 +37,7 @@ listing room = record { areas = 0; room = room; items = room }
 -- what was found: a touch that is inverted, or the areas, of so many ranges
 abbrev pub FoundAs : Bool → (ℕ → Option (List Range)) → ℕ → ℕ → List ℕ → Found → Type 0
 FoundAs bad A locals room w Inverted = bad ≡ true
-FoundAs bad A locals room w (Ranges n) = (bad ≡ false) × Listed (listing room) A locals n w
+FoundAs bad A locals room w (Ranges n) = (bad ≡ false) × ListedBy wordOf (listing room) A locals n w
 
 -- where the marks go
 pub record Markable (p : Places) (g : Grid) (blocks kinds touches ends w : List ℕ) : Type 0 where
@@ -55,7 +55,7 @@ pub record Markable (p : Places) (g : Grid) (blocks kinds touches ends w : List 
 pub record Marking (p : Places) (g : Grid) (blocks kinds touches ends w₀ w : List ℕ) (r : Bool) : Type 0 where
   pub kept : Within (p .heads) (g .passes + rowCount 3 blocks * g .words) w₀ w
   pub chains : Chains p touches ends w
-  pub answer : (es : List Edge) → r ≡ someInverted (lineOf blocks es) touches (p .locals)
+  pub answer : (es : List Edge) → r ≡ someInverted (lineOf blocks es) kinds touches (p .locals)
   pub marks : (es : List Edge) → r ≡ false → Marks (lineOf blocks es) (kindFor kinds) (touchesFor touches) (endsFor ends) g (rowCount 3 blocks) w
 
 -- the rows stand, and behind them no block is marked
@@ -67,4 +67,4 @@ pub record Rowed (es : List Edge) (g : Grid) (n from : ℕ) (w₀ w : List ℕ) 
 -- all of it: nothing past W has changed
 pub record Solved (blocks edges kinds touches ends : List ℕ) (areas : ℕ) (w₀ w : List ℕ) (r : Found) : Type 0 where
   pub kept : Within 0 (spaceFor (sizesOf blocks edges (length kinds) (length touches) (length ends) areas)) w₀ w
-  pub found : FoundAs (someInverted (graphFor blocks edges) touches (length kinds)) (areaFor (graphFor blocks edges) kinds touches ends) (length kinds) (areas / 2) w r
+  pub found : FoundAs (someInverted (graphFor blocks edges) kinds touches (length kinds)) (areaFor (graphFor blocks edges) kinds touches ends) (length kinds) (areas / 2) w r

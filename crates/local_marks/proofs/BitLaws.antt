@@ -1,11 +1,13 @@
 -- Laws of one local's marks: what each call leaves of the rows, by the local's touches and its ends as they are lent.
-use Prim.Native.Nat.{ℕ, _+_, _*_, _/_, _%_, _≤_, _<_}
+use Prim.Native.Nat.{ℕ, zero, suc, _+_, _*_, _/_, _%_, _≤_, _<_}
 use native.Mathlib.Omega.{arith}
 use mathlib.Core.Path.{_≡_, refl, sym, ap, _∙_, subst}
 use mathlib.Core.Logic.{_⊎_, inl, inr, ⊎-elim}
 use mathlib.Core.Bool.{Bool, true, false, not, _&&_, _||_}
 use mathlib.Core.List.{List, []}
 use lib.ListN.{length}
+use lib.Dec.{eqb}
+use borrow.Author.Tests.{eq-eqb, ne-eqb}
 use Rattle.words.specs.Rows.{rowCount}
 use Rattle.words.specs.Sort.{sortOf}
 use Rattle.words.specs.Regions.{Kept}
@@ -14,8 +16,9 @@ use Rattle.bits.specs.Bits.{bitOf}
 use Rattle.ranges.specs.declared.Range.{Range}
 use Rattle.graph.specs.Paths.{Edge}
 use Rattle.graph.specs.Work.{Within}
-use Rattle.graph.proofs.Within.{within-trans, within-wider}
+use Rattle.graph.proofs.Within.{within-refl, within-trans, within-wider}
 use Rattle.carrying.specs.Lists.{any}
+use Rattle.kind_numbers.specs.Numbers.{kindBy}
 use Rattle.areas.specs.Blocks.{Graph, inverted, touched, leaves, passes}
 use Rattle.spots.specs.declared.Spots.{Spots}
 use Rattle.spots.specs.Spots.{lineOf, touchesAt, endsAt}
@@ -26,7 +29,7 @@ use Rattle.area_flow.specs.Grid.{rowBit}
 use Rattle.local_spots.specs.declared.Places.{Places}
 use Rattle.local_spots.specs.Locals.{touchesFor, endsFor, Fetched}
 use Rattle.local_spots.proofs.OrderLaws.{passes-sorted, leaves-sorted}
-use Rattle.local_marks.specs.Marks.{Ready}
+use Rattle.local_marks.specs.Marks.{isPlain, isEnding, invertedIn, Ready}
 use Rattle.local_marks.specs.Marking.{Bits, Marking, Standing}
 use Rattle.local_marks.specs.Inner.{MarkedOne}
 
@@ -163,6 +166,27 @@ module _ (blocks : List ℕ) (s : Spots) (g : Grid) (l : ℕ) {w₀ : List ℕ} 
             within-trans (within-wider (g .leaves) (g .passes + rowCount 3 blocks * g .words) (omega arith) (omega arith) (Lv [] .kept))
             (within-wider (g .leaves) (g .passes + rowCount 3 blocks * g .words) (omega arith) (omega arith) (P [] .kept))
 
+-- ---- one local by the number of its kind
+
+pub inverted-followed : (G : Graph) (n : ℕ) (ts : List Range) → 0 < n → invertedIn G (kindBy n) ts ≡ any (inverted G) ts
+inverted-followed G zero ts h = absurd (omega arith)
+inverted-followed G (suc zero) ts h = refl
+inverted-followed G (suc (suc n)) ts h = refl
+
+-- marked as plain where the number is 1, else as ending
+by-kind : (kind : ℕ) → 0 < kind → {g : Grid} {n l : ℕ} {t v q : ℕ → Bool} {w₀ w : List ℕ} → Marking g n l (eqb kind 1) (not (eqb kind 1)) t v q w₀ w
+    → Marking g n l (isPlain (kindBy kind)) (isEnding (kindBy kind)) t v q w₀ w
+by-kind zero u M = absurd (omega arith)
+by-kind (suc zero) u {g} {n} {l} {t} {v} {q} {w₀} {w} M = subst (λ (b : Bool). Marking g n l b (not b) t v q w₀ w) (eq-eqb 1 1 refl) M
+by-kind (suc (suc k)) u {g} {n} {l} {t} {v} {q} {w₀} {w} M = subst (λ (b : Bool). Marking g n l b (not b) t v q w₀ w) (ne-eqb (suc (suc k)) 1 (λ e. absurd (omega arith))) M
+
+-- an unfollowed local is not marked
+pub none-one : {p : Places} {g : Grid} {blocks touches ends : List ℕ} {l : ℕ} {w : List ℕ} → Ready p g blocks touches ends w → l < p .locals → (kind : ℕ) → kind ≡ 0
+    → (es : List Edge) → MarkedOne (lineOf blocks es) kind touches ends g (rowCount 3 blocks) l w w false
+none-one {w = w} R h kind e es =
+    let a = R .touched-fits in let b = R .leaves-fit in let c = R .long in let d = R .counted in
+    rw e (record { answer = refl; marks = λ _. marking-none (within-refl 0 0 w) (omega arith) (omega arith) (omega arith) (omega arith) })
+
 -- ---- one local, fetched
 
 module _ {p : Places} {g : Grid} {blocks touches ends : List ℕ} {l : ℕ} {w₀ w₁ : List ℕ} {s : Spots} (R : Ready p g blocks touches ends w₀) (h : l < p .locals) (F : Fetched p touches ends l w₀ w₁ s) where
@@ -170,8 +194,8 @@ module _ {p : Places} {g : Grid} {blocks touches ends : List ℕ} {l : ℕ} {w�
   fetched-answer : (es : List Edge) (r : Bool) → r ≡ any (inverted (lineOf blocks es)) (touchesAt s w₁) → r ≡ any (inverted (lineOf blocks es)) (touchesFor touches l)
   fetched-answer es r e = e ∙ ap (any (inverted (lineOf blocks es))) (F .touches-are)
 
-  pub inverted-one : (plain r : Bool) → r ≡ true → ((es : List Edge) → r ≡ any (inverted (lineOf blocks es)) (touchesAt s w₁)) → (es : List Edge) → MarkedOne (lineOf blocks es) plain touches ends g (rowCount 3 blocks) l w₀ w₁ true
-  inverted-one plain r t e es = record { answer = sym t ∙ fetched-answer es r (e es); marks = λ f. absurd (let z : _≡_ {A = ℕ} 0 1 = cc in omega arith) }
+  pub inverted-one : (kind : ℕ) → 0 < kind → (r : Bool) → r ≡ true → ((es : List Edge) → r ≡ any (inverted (lineOf blocks es)) (touchesAt s w₁)) → (es : List Edge) → MarkedOne (lineOf blocks es) kind touches ends g (rowCount 3 blocks) l w₀ w₁ true
+  inverted-one kind u r t e es = record { answer = sym t ∙ fetched-answer es r (e es) ∙ sym (inverted-followed (lineOf blocks es) kind (touchesFor touches l) u); marks = λ f. absurd (let z : _≡_ {A = ℕ} 0 1 = cc in omega arith) }
 
   pub standing : (r : Bool) → r ≡ false → ((es : List Edge) → r ≡ any (inverted (lineOf blocks es)) (touchesAt s w₁)) → Standing blocks s g l w₁
   standing r f e =
@@ -196,22 +220,22 @@ module _ {p : Places} {g : Grid} {blocks touches ends : List ℕ} {l : ℕ} {w�
     pub one-kept : Within (p .at) (g .passes + rowCount 3 blocks * g .words) w₀ w
     one-kept = let a = R .apart in let z = R .laid .at-fits in within-trans fetched-kept (within-wider (p .at) (g .passes + rowCount 3 blocks * g .words) (omega arith) (omega arith) K)
 
-    pub marked-one : (plain r : Bool) → r ≡ false → ((es : List Edge) → r ≡ any (inverted (lineOf blocks es)) (touchesAt s w₁))
-        → ((es : List Edge) → Marking g (rowCount 3 blocks) l plain (not plain) (touched (lineOf blocks es) (touchesAt s w₁)) (leaves (lineOf blocks es) (touchesAt s w₁) (endsAt s w₁)) (passes (lineOf blocks es) (endsAt s w₁)) w₁ w)
-        → (es : List Edge) → MarkedOne (lineOf blocks es) plain touches ends g (rowCount 3 blocks) l w₀ w false
-    marked-one plain r f e M es = record { answer = sym f ∙ fetched-answer es r (e es); marks = λ _. since }
+    pub marked-one : (kind : ℕ) → 0 < kind → (r : Bool) → r ≡ false → ((es : List Edge) → r ≡ any (inverted (lineOf blocks es)) (touchesAt s w₁))
+        → ((es : List Edge) → Marking g (rowCount 3 blocks) l (eqb kind 1) (not (eqb kind 1)) (touched (lineOf blocks es) (touchesAt s w₁)) (leaves (lineOf blocks es) (touchesAt s w₁) (endsAt s w₁)) (passes (lineOf blocks es) (endsAt s w₁)) w₁ w)
+        → (es : List Edge) → MarkedOne (lineOf blocks es) kind touches ends g (rowCount 3 blocks) l w₀ w false
+    marked-one kind u r f e M es = record { answer = sym f ∙ fetched-answer es r (e es) ∙ sym (inverted-followed G kind (touchesFor touches l) u); marks = λ _. by-kind kind u since }
       where
         G : Graph
         G = lineOf blocks es
 
         -- by the touches and the ends as they are lent
-        lent : Marking g (rowCount 3 blocks) l plain (not plain) (touched G (touchesFor touches l)) (leaves G (touchesFor touches l) (endsFor ends l)) (passes G (endsFor ends l)) w₁ w
+        lent : Marking g (rowCount 3 blocks) l (eqb kind 1) (not (eqb kind 1)) (touched G (touchesFor touches l)) (leaves G (touchesFor touches l) (endsFor ends l)) (passes G (endsFor ends l)) w₁ w
         lent =
             marking-sorted G (touchesFor touches l) (endsFor ends l)
-            (subst (λ (es : List ℕ). Marking g (rowCount 3 blocks) l plain (not plain) (touched G (touchesFor touches l)) (leaves G (touchesFor touches l) es) (passes G es) w₁ w) (F .ends-are)
-            (subst (λ (ts : List Range). Marking g (rowCount 3 blocks) l plain (not plain) (touched G ts) (leaves G ts (endsAt s w₁)) (passes G (endsAt s w₁)) w₁ w) (F .touches-are) (M es)))
+            (subst (λ (es : List ℕ). Marking g (rowCount 3 blocks) l (eqb kind 1) (not (eqb kind 1)) (touched G (touchesFor touches l)) (leaves G (touchesFor touches l) es) (passes G es) w₁ w) (F .ends-are)
+            (subst (λ (ts : List Range). Marking g (rowCount 3 blocks) l (eqb kind 1) (not (eqb kind 1)) (touched G ts) (leaves G ts (endsAt s w₁)) (passes G (endsAt s w₁)) w₁ w) (F .touches-are) (M es)))
 
-        since : Marking g (rowCount 3 blocks) l plain (not plain) (touched G (touchesFor touches l)) (leaves G (touchesFor touches l) (endsFor ends l)) (passes G (endsFor ends l)) w₀ w
+        since : Marking g (rowCount 3 blocks) l (eqb kind 1) (not (eqb kind 1)) (touched G (touchesFor touches l)) (leaves G (touchesFor touches l) (endsFor ends l)) (passes G (endsFor ends l)) w₀ w
         since =
             let a = R .touched-fits in let b = R .leaves-fit in let c = R .long in let d = R .counted in
             marking-since (F .kept) (R .apart) (omega arith) (omega arith) (omega arith) lent

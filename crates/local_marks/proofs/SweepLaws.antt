@@ -2,10 +2,9 @@
 use Prim.Native.Nat.{ℕ, _+_, _*_, _≤_, _<_}
 use native.Mathlib.Omega.{arith}
 use mathlib.Core.Path.{_≡_, sym, ap, _∙_, subst}
-use mathlib.Core.Bool.{Bool, true, false, cond, not, _&&_, _||_, or-false, and-true}
+use mathlib.Core.Bool.{Bool, true, false, not, _&&_, _||_, or-false, and-true}
 use mathlib.Core.List.{List}
 use lib.ListN.{getD}
-use lib.Dec.{eqb}
 use Rattle.words.specs.Rows.{tabulate, rowCount}
 use Rattle.words.proofs.RowLaws.{mem-tabulate, mem-of-tabulate}
 use Rattle.words.proofs.Points.{same}
@@ -15,10 +14,8 @@ use Rattle.graph.specs.Paths.{Edge}
 use Rattle.graph.specs.Work.{Within}
 use Rattle.graph.proofs.Within.{within-refl, within-trans, within-wider}
 use Rattle.carrying.specs.declared.Kind.{Kind}
-use Rattle.carrying.specs.declared.Kind.the-variants.{Plain, Ending}
-use Rattle.carrying.specs.Lists.{any}
 use Rattle.carrying.proofs.ListLaws.{any-true, false-any}
-use Rattle.areas.specs.Blocks.{Graph, inverted, touched, leaves, passes}
+use Rattle.areas.specs.Blocks.{Graph, touched, leaves, passes}
 use Rattle.spots.specs.Spots.{lineOf}
 use Rattle.area_rows.proofs.ColumnLaws.{Columns}
 use Rattle.area_flow.specs.declared.Grid.{Grid}
@@ -26,7 +23,7 @@ use Rattle.area_flow.specs.Grid.{Unmarked}
 use Rattle.local_spots.specs.declared.Places.{Places}
 use Rattle.local_spots.specs.Locals.{kindFor, touchesFor, endsFor}
 use Rattle.local_spots.proofs.ChainLaws.{chains-kept}
-use Rattle.local_marks.specs.Marks.{isPlain, isEnding, Ready, Marks, MarkedAll}
+use Rattle.local_marks.specs.Marks.{isPlain, isEnding, invertedIn, Ready, Marks, MarkedAll}
 use Rattle.local_marks.specs.Marking.{Bits, Marking}
 use Rattle.local_marks.specs.Inner.{MarkedOne}
 
@@ -90,16 +87,11 @@ module _ {G : Graph} {K : ℕ → Kind} {T : ℕ → List Range} {E : ℕ → Li
 
 -- ---- of touches lent by themselves
 
-lent-marking : (b : Bool) {g : Grid} {n l : ℕ} {t v q : ℕ → Bool} {w w' : List ℕ} → Marking g n l b (not b) t v q w w'
-    → Marking g n l (isPlain (cond b Plain Ending)) (isEnding (cond b Plain Ending)) t v q w w'
-lent-marking true M = M
-lent-marking false M = M
-
 pub record Sweep (p : Places) (g : Grid) (blocks kinds touches ends w₀ w : List ℕ) (l : ℕ) : Type 0 where
   pub ready : Ready p g blocks touches ends w
   pub kept : Within (p .at) (g .passes + rowCount 3 blocks * g .words) w₀ w
   pub l-le : l ≤ p .locals
-  pub none : (es : List Edge) (m : ℕ) → m < l → any (inverted (lineOf blocks es)) (touchesFor touches m) ≡ false
+  pub none : (es : List Edge) (m : ℕ) → m < l → invertedIn (lineOf blocks es) (kindFor kinds m) (touchesFor touches m) ≡ false
   pub so-far : (es : List Edge) → MarkedTo (lineOf blocks es) (kindFor kinds) (touchesFor touches) (endsFor ends) g (rowCount 3 blocks) l w
 
 pub cleared-kept : {p : Places} {g : Grid} {blocks touches ends w₀ w : List ℕ} → Ready p g blocks touches ends w₀ → Unmarked g (rowCount 3 blocks) w₀ w → Within (p .at) (g .passes + rowCount 3 blocks * g .words) w₀ w
@@ -115,30 +107,30 @@ sweep-start p g blocks kinds touches ends {w₀} {w} R U = record {
 }
 
 module _ {p : Places} {g : Grid} {blocks kinds touches ends w₀ w : List ℕ} {l : ℕ} (d : Sweep p g blocks kinds touches ends w₀ w l) (h : l < p .locals) {w' : List ℕ} {r : Bool}
-    (K : Within (p .at) (g .passes + rowCount 3 blocks * g .words) w w') (O : (es : List Edge) → MarkedOne (lineOf blocks es) (eqb (getD kinds l 0) 0) touches ends g (rowCount 3 blocks) l w w' r) where
+    (K : Within (p .at) (g .passes + rowCount 3 blocks * g .words) w w') (O : (es : List Edge) → MarkedOne (lineOf blocks es) (getD kinds l 0) touches ends g (rowCount 3 blocks) l w w' r) where
   pub sweep-more : r ≡ false → Sweep p g blocks kinds touches ends w₀ w' (l + 1)
   sweep-more f = record {
     ready = ready-kept (d .ready) K;
     kept = within-trans (d .kept) K;
     l-le = omega arith;
     none = λ es m a. same m l (λ z. rw z (sym (O es .answer) ∙ f)) (λ z. d .none es m (omega arith));
-    so-far = λ es. marked-next (d .so-far es) (let a = d .ready .long in let b = d .ready .counted in omega arith) (lent-marking (eqb (getD kinds l 0) 0) (O es .marks f));
+    so-far = λ es. marked-next (d .so-far es) (let a = d .ready .long in let b = d .ready .counted in omega arith) (O es .marks f);
   }
 
   pub sweep-found : {v : List ℕ} → Within (p .at) (g .passes + rowCount 3 blocks * g .words) v w₀ → r ≡ true → (es : List Edge) → MarkedAll (lineOf blocks es) kinds touches ends p g (rowCount 3 blocks) v w' true
   sweep-found C f es = record {
     kept = within-trans C (within-trans (d .kept) K);
-    answer = sym (any-true (λ m. any (inverted (lineOf blocks es)) (touchesFor touches m)) (tabulate (p .locals) (λ m. m)) l (mem-tabulate (p .locals) (λ m. m) l h) (sym (O es .answer) ∙ f));
+    answer = sym (any-true (λ m. invertedIn (lineOf blocks es) (kindFor kinds m) (touchesFor touches m)) (tabulate (p .locals) (λ m. m)) l (mem-tabulate (p .locals) (λ m. m) l h) (sym (O es .answer) ∙ f));
     marks = λ e. absurd (let z : _≡_ {A = ℕ} 0 1 = cc in omega arith);
   }
 
 pub sweep-done : {p : Places} {g : Grid} {blocks kinds touches ends v w₀ w : List ℕ} {l : ℕ} → Sweep p g blocks kinds touches ends w₀ w l → p .locals ≤ l → Within (p .at) (g .passes + rowCount 3 blocks * g .words) v w₀
     → (es : List Edge) → MarkedAll (lineOf blocks es) kinds touches ends p g (rowCount 3 blocks) v w false
-sweep-done {p} {g} {blocks} {touches = touches} d h C es =
+sweep-done {p} {g} {blocks} {kinds} {touches} d h C es =
     let b = d .ready .counted in let c = d .l-le in
     record {
       kept = within-trans C (d .kept);
-      answer = sym (false-any (λ m. any (inverted (lineOf blocks es)) (touchesFor touches m)) (tabulate (p .locals) (λ m. m))
+      answer = sym (false-any (λ m. invertedIn (lineOf blocks es) (kindFor kinds m) (touchesFor touches m)) (tabulate (p .locals) (λ m. m))
           (λ m q. let (i, z, e) = mem-of-tabulate (p .locals) (λ m. m) q in d .none es m (omega arith)));
       marks = λ _. marked-done (d .so-far es) (omega arith) (d .ready .long);
     }

@@ -28,9 +28,15 @@ isEnding Unfollowed = false
 isEnding Plain = false
 isEnding Ending = true
 
--- number 8: some touch of one of the locals is inverted
-abbrev pub someInverted : Graph → List ℕ → ℕ → Bool
-someInverted G touches locals = any (λ l. any (inverted G) (touchesFor touches l)) (tabulate locals (λ l. l))
+-- some touch of a local is inverted; those of an unfollowed local count for nobody
+abbrev pub invertedIn : Graph → Kind → List Range → Bool
+invertedIn G Unfollowed ts = false
+invertedIn G Plain ts = any (inverted G) ts
+invertedIn G Ending ts = any (inverted G) ts
+
+-- number 8: of one of the locals
+abbrev pub someInverted : Graph → List ℕ → List ℕ → ℕ → Bool
+someInverted G kinds touches locals = any (λ l. invertedIn G (kindFor kinds l) (touchesFor touches l)) (tabulate locals (λ l. l))
 
 -- the regions of the locals' rows, and behind them the rows of the places
 pub record Ready (p : Places) (g : Grid) (blocks touches ends w : List ℕ) : Type 0 where
@@ -54,5 +60,5 @@ pub record Marks (G : Graph) (K : ℕ → Kind) (T : ℕ → List Range) (E : �
 -- r is number 8, and where it is not the case, all locals are marked; nothing has changed but the regions of one local, what follows them, and the rows
 pub record MarkedAll (G : Graph) (kinds touches ends : List ℕ) (p : Places) (g : Grid) (n : ℕ) (w₀ w : List ℕ) (r : Bool) : Type 0 where
   pub kept : Within (p .at) (g .passes + n * g .words) w₀ w
-  pub answer : r ≡ someInverted G touches (p .locals)
+  pub answer : r ≡ someInverted G kinds touches (p .locals)
   pub marks : r ≡ false → Marks G (kindFor kinds) (touchesFor touches) (endsFor ends) g n w

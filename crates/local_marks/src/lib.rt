@@ -60,7 +60,8 @@ pub fn mark_spots(blocks: &[u32], work: &mut [u64], s: Spots, g: Grid, l: usize,
     );
 }
 
-// One local: fetched, tested, and marked if no touch is inverted; whether one is.
+// One local by the number of its kind: fetched, tested, and marked if no touch is inverted; whether one is. An unfollowed one has no marks, and its touches
+// are not tested.
 fn mark_one(
     blocks: &[u32],
     touches: &[u32],
@@ -69,17 +70,20 @@ fn mark_one(
     p: Places,
     g: Grid,
     l: usize,
-    plain: bool,
+    kind: u32,
 ) -> bool
     requires { ⌜ Ready p g (now blocks) (now touches) (now ends) (now work) × (l < p .locals) ⌝ }
     ensures { λ _. ⌜ Within (p .at) (g .passes + length (now (blocks .entry)) / 3 * g .words) (now (work .entry)) (now (work .exit)) ⌝ }
-    ensures { λ r. ⌜ ((es : List Edge) → MarkedOne (lineOf (now (blocks .entry)) es) plain (now (touches .entry)) (now (ends .entry)) g (length (now (blocks .entry)) / 3) l (now (work .entry)) (now (work .exit)) r) ⌝ }
+    ensures { λ r. ⌜ ((es : List Edge) → MarkedOne (lineOf (now (blocks .entry)) es) kind (now (touches .entry)) (now (ends .entry)) g (length (now (blocks .entry)) / 3) l (now (work .entry)) (now (work .exit)) r) ⌝ }
 {
+    if kind == 0 {
+        return false;
+    }
     let s = local_spots::fetch(touches, ends, work, p, l);
     if spots::any_inverted(blocks, work, s.at, s.count) {
         return true;
     }
-    mark_spots(blocks, work, s, g, l, plain);
+    mark_spots(blocks, work, s, g, l, kind == 1);
     false
 }
 
@@ -99,8 +103,8 @@ pub fn mark_all(
     area_flow::clear_marks(work, g, blocks.len() / 3);
     let mut l = 0;
     while l < p.locals {
-        let plain = kinds[l] == 0;
-        if mark_one(blocks, touches, ends, work, p, g, l, plain) {
+        let kind = kinds[l];
+        if mark_one(blocks, touches, ends, work, p, g, l, kind) {
             return true;
         }
         l += 1;

@@ -11,17 +11,14 @@ use Rattle.ranges.specs.declared.Range.{Range}
 use Rattle.ranges.specs.Points.{range}
 use Rattle.graph.specs.Work.{Within}
 use Rattle.carrying.specs.declared.Kind.{Kind}
-use Rattle.carrying.specs.declared.Kind.the-variants.{Plain, Ending}
 use Rattle.carrying.specs.Lists.{gather}
+use Rattle.kind_numbers.specs.Numbers.{kindBy}
 use Rattle.chains.specs.Chains.{Chain}
 use Rattle.spots.specs.declared.Spots.{Spots}
 use Rattle.spots.specs.Spots.{touchesAt, endsAt, Stand}
 use Rattle.local_spots.specs.declared.Places.{Places}
 
--- a local's kind by the number lent: 0 plain, any other ending
-abbrev pub kindBy : ℕ → Kind
-kindBy k = cond (eqb k 0) Plain Ending
-
+-- a local's kind, by the number lent
 abbrev pub kindFor : List ℕ → ℕ → Kind
 kindFor kinds l = kindBy (getD kinds l 0)
 

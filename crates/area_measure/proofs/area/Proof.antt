@@ -24,7 +24,7 @@ same-length-2 : tie.Need-same-length-2
 same-length-2 c = search needs
 
 returns-2 : tie.Need-returns-2
-returns-2 c = area-ending (now ((c .before .before .before .before .before .before .before .args) .blocks)) ((c .before .before .before .before .before .before .before .args) .kind) ((c .before .before .before .before .before .before .before .args) .t) ((c .before .before .before .before .before .before .before .args) .s) (omega arith) ((c .before .before .ending) .ensures)
+returns-2 c = area-ending (now ((c .before .before .before .before .before .before .before .args) .blocks)) ((c .before .before .before .before .before .before .before .args) .kind) ((c .before .before .before .before .before .before .before .args) .t) ((c .before .before .before .before .before .before .before .args) .s) (omega (arith, (c .before .before .before .before .before .before .before .pre) .1 .followed)) ((c .before .before .ending) .ensures)
 
 pub area-spec : {M : Type 1} → statement M
 area-spec = tie.close (tie.spec plain-requires same-length returns ending-requires same-length-2 returns-2)

@@ -17,11 +17,11 @@ clear-marks-requires c κs = ((c .before .before .before .before .before .before
 loop-holds : tie.Need-loop-holds Inv-loop μ-loop
 loop-holds c = sweep-start ((c .before .before .before .before .before .before .before .before .before .args) .p) ((c .before .before .before .before .before .before .before .before .before .args) .g) ((c .before .before .before .before .before .before .before .before .before .args) .blocks .now) ((c .before .before .before .before .before .before .before .before .before .args) .kinds .now) ((c .before .before .before .before .before .before .before .before .before .args) .touches .now) ((c .before .before .before .before .before .before .before .before .before .args) .ends .now) ((c .before .before .before .before .before .before .before .before .before .pre) .0) ((c .before .before .clear-marks) .ensures)
 
-mul-plain : tie.Need-mul-plain Inv-loop μ-loop
-mul-plain c = omega arith
+mul-kind : tie.Need-mul-kind Inv-loop μ-loop
+mul-kind c = omega arith
 
-shared-slice-read-plain : tie.Need-shared-slice-read-plain Inv-loop μ-loop
-shared-slice-read-plain c = omega arith
+shared-slice-read-kind : tie.Need-shared-slice-read-kind Inv-loop μ-loop
+shared-slice-read-kind c = omega arith
 
 mark-one-requires : tie.Need-mark-one-requires Inv-loop μ-loop
 mark-one-requires c κs = ((c .before .before .before .before .loop) .inv .ready, omega arith)
@@ -55,8 +55,8 @@ mark-all-spec =
     μ-loop
     clear-marks-requires
     loop-holds
-    mul-plain
-    shared-slice-read-plain
+    mul-kind
+    shared-slice-read-kind
     mark-one-requires
     same-length
     returns

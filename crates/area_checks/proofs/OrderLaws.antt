@@ -1,0 +1,79 @@
+-- What is refused before anything is measured, as one list of checks: which refusal each gives.
+use Prim.Native.Nat.{ℕ, _/_}
+use mathlib.Core.Path.{_≡_, refl, sym, ap, _∙_}
+use mathlib.Core.Bool.{_||_}
+use mathlib.Core.List.{List, [], _∷_, _++_}
+use lib.ListN.{length}
+use lib.Dec.{ltb}
+use Rattle.refusals.specs.declared.Verdict.{Verdict}
+use Rattle.refusals.specs.declared.Refusal.the-variants.{Count, Line, Edge, Inst, Space}
+use Rattle.refusals.specs.Verdicts.{numberOf, first, inOrder}
+use Rattle.refusals.specs.Orders.{Giving, Ordered}
+use Rattle.refusals.proofs.Orders.{check-gives, scan-gives, order-two, order-more, order-append}
+use Rattle.graph.specs.Line.{blocksOf, jumpsOf, lineVerdict, edgeVerdict}
+use Rattle.graph.specs.Checks.{badCount, countVerdict, graphVerdict}
+use Rattle.insts.specs.Counts.{badRows, rowsVerdict, mostVerdict}
+use Rattle.area_layout.specs.Layout.{spaceFor}
+use Rattle.area_checks.specs.Checks.{rowCounts, sizesOf, kindsVerdict, spaceVerdict, lentVerdict, lentChecks, lentGive}
+
+module _ (blocks edges : List ℕ) (points : ℕ) (kinds : List ℕ) (touches ends areas items work : ℕ) where
+  abbrev counts : List Verdict
+  counts = mostVerdict 2048 (length kinds) ∷ rowsVerdict 3 65536 touches ∷ rowsVerdict 2 65536 ends ∷ rowsVerdict 2 65536 areas ∷ rowsVerdict 3 items items ∷ []
+
+  abbrev graph : List Verdict
+  graph = countVerdict blocks edges ∷ lineVerdict (blocksOf blocks) points ∷ edgeVerdict (blocksOf blocks) (jumpsOf edges) ∷ []
+
+  abbrev rest : List Verdict
+  rest = kindsVerdict kinds ∷ spaceVerdict (sizesOf blocks edges (length kinds) touches ends areas) items work ∷ []
+
+  counts-order : rowCounts (length kinds) touches ends areas items ≡ inOrder counts
+  unfolding rowCounts
+  counts-order =
+      order-more _ (rowsVerdict 3 65536 touches ∷ rowsVerdict 2 65536 ends ∷ rowsVerdict 2 65536 areas ∷ rowsVerdict 3 items items ∷ [])
+      (order-more _ (rowsVerdict 2 65536 ends ∷ rowsVerdict 2 65536 areas ∷ rowsVerdict 3 items items ∷ [])
+      (order-more _ (rowsVerdict 2 65536 areas ∷ rowsVerdict 3 items items ∷ []) (order-two _ _)))
+
+  graph-order : graphVerdict blocks edges points ≡ inOrder graph
+  unfolding graphVerdict
+  graph-order = order-more _ (lineVerdict (blocksOf blocks) points ∷ edgeVerdict (blocksOf blocks) (jumpsOf edges) ∷ []) (order-two _ _)
+
+  pub lent-order : lentVerdict blocks edges points kinds touches ends areas items work ≡ inOrder (lentChecks blocks edges points kinds touches ends areas items work)
+  unfolding lentVerdict
+  lent-order =
+      ap (λ (v : Verdict). first v (first (graphVerdict blocks edges points) (first (kindsVerdict kinds) (spaceVerdict (sizesOf blocks edges (length kinds) touches ends areas) items work)))) counts-order
+      ∙ ap (λ (v : Verdict). first (inOrder counts) (first v (first (kindsVerdict kinds) (spaceVerdict (sizesOf blocks edges (length kinds) touches ends areas) items work)))) graph-order
+      ∙ ap (λ (v : Verdict). first (inOrder counts) (first (inOrder graph) v)) (order-two _ _)
+      ∙ ap (first (inOrder counts)) (sym (order-append graph rest)) ∙ sym (order-append counts (graph ++ rest))
+
+  pub lent-give : Giving lentGive (lentChecks blocks edges points kinds touches ends areas items work)
+  lent-give = (
+    check-gives Count (ltb 2048 (length kinds)),
+    (
+      check-gives Count (badRows 3 65536 touches),
+      (
+        check-gives Count (badRows 2 65536 ends),
+        (
+          check-gives Count (badRows 2 65536 areas),
+          (
+            check-gives Count (badRows 3 items items),
+            (
+              check-gives Count (badCount blocks edges),
+              (
+                scan-gives Line _ _,
+                (
+                  scan-gives Edge _ _,
+                  (
+                    scan-gives Inst _ _,
+                    (check-gives Space (ltb work (spaceFor (sizesOf blocks edges (length kinds) touches ends areas)) || ltb (items / 3) (length kinds)), tt),
+                  ),
+                ),
+              ),
+            ),
+          ),
+        ),
+      ),
+    ),
+  )
+
+  pub lent-ordered : Ordered numberOf lentGive (lentChecks blocks edges points kinds touches ends areas items work)
+  lent-ordered = record { gives = lent-give; rises = refl }
