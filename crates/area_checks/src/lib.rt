@@ -1,6 +1,6 @@
 // The refusals that come before the areas are measured: numbers 1, 2, 3, 4 and 7, in linear time and without work space.
 ghost use mathlib.Core.Path.{_≡_};
-ghost use Rattle.area_layout.specs.Layout.{spaceFor, Small};
+ghost use Rattle.area_layout.specs.Layout.{spaceFor, Counted, Small};
 ghost use Rattle.area_checks.specs.Checks.{rowCounts, kindsVerdict, spaceVerdict, lentVerdict};
 use area_layout::Sizes;
 use refusals::Refusal;
@@ -28,13 +28,27 @@ fn known(kinds: &[u32]) -> Verdict
     insts::checks::below(kinds, 1, 0, 3, Refusal::Inst)
 }
 
-// W, the words of work space that are needed.
+// W, the words of work space that are needed. No sum is too large for numbers of 32 bits.
 pub fn needed(z: Sizes) -> usize
-    requires { ⌜ Small z ⌝ }
+    requires { ⌜ Counted z ⌝ }
     ensures { λ r. ⌜ r ≡ spaceFor z ⌝ }
 {
     let rows = z.blocks * ((z.locals + 63) / 64);
     8 * (z.blocks + z.edges + z.locals + z.touches + z.ends + rows + z.room)
+}
+
+// W by numbers of records, for any numbers.
+pub fn words(blocks: u32, edges: u32, locals: u32, touches: u32, ends: u32, ranges: u32) -> u64
+    ensures { λ r. ⌜ r ≡ spaceFor (record { blocks = blocks; edges = edges; locals = locals; touches = touches; ends = ends; room = ranges }) ⌝ }
+{
+    needed(Sizes {
+        blocks: blocks as usize,
+        edges: edges as usize,
+        locals: locals as usize,
+        touches: touches as usize,
+        ends: ends as usize,
+        room: ranges as usize,
+    }) as u64
 }
 
 // Refusal 7: work space under W, or an item list under the locals.

@@ -1,5 +1,5 @@
 -- The regions fit the work space: W words are enough for every count within the limits.
-use Prim.Native.Nat.{ℕ, _+_, _-_, _*_, _/_, _≤_, _<_}
+use Prim.Native.Nat.{ℕ, _+_, _-_, _*_, _/_, _^_, _≤_, _<_}
 use native.Mathlib.Nat.{mul-le-mul-left, mul-le-mul-right, mul-comm, mul-assoc}
 use native.Mathlib.Omega.{arith}
 use mathlib.Core.Path.{_≡_, ap, _∙_}
@@ -7,7 +7,7 @@ use Rattle.words.proofs.Points.{cut}
 use Rattle.area_flow.specs.declared.Grid.{Grid}
 use Rattle.local_spots.specs.declared.Places.{Places}
 use Rattle.area_layout.specs.declared.Sizes.{Sizes}
-use Rattle.area_layout.specs.Layout.{wordsFor, spaceFor, Small, Placed, Gridded, markOf}
+use Rattle.area_layout.specs.Layout.{wordsFor, spaceFor, Counted, Small, Placed, Gridded, markOf}
 
 -- the rows of the places are short
 pub rows-small : {z : Sizes} → Small z → z .blocks * wordsFor (z .locals) ≤ 131072
@@ -15,6 +15,23 @@ rows-small {z} S =
     let l : wordsFor (z .locals) ≤ 32 = omega (arith, S .few-locals) in
     let a = mul-le-mul-left (z .blocks) l in
     omega (arith, S .few-blocks)
+
+-- W of any 32-bit numbers is far below 64 bits
+pub space-fits : {z : Sizes} → Counted z → spaceFor z < 2 ^ 62
+space-fits {z} C =
+    let w : wordsFor (z .locals) ≤ 67108864 = omega (arith, C .locals) in
+    let a = mul-le-mul-left (z .blocks) w in
+    omega (arith, C .blocks, C .edges, C .locals, C .touches, C .ends, C .ranges)
+
+pub small-counted : {z : Sizes} → Small z → Counted z
+small-counted S = record {
+  blocks = omega (arith, S .few-blocks);
+  edges = omega (arith, S .few-edges);
+  locals = omega (arith, S .few-locals);
+  touches = omega (arith, S .few-touches);
+  ends = omega (arith, S .few-ends);
+  ranges = omega (arith, S .few-ranges);
+}
 
 row-sum : (x w b : ℕ) → x ≤ w * (b + 63) → x ≤ b * w + 63 * w
 row-sum x w b h = omega (arith, mul-comm w b)

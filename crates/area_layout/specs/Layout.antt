@@ -1,5 +1,5 @@
 -- The work space of the areas of locals: how many words there are, and where the regions stand, one behind another.
-use Prim.Native.Nat.{ℕ, _+_, _*_, _/_, _≤_, _<_}
+use Prim.Native.Nat.{ℕ, _+_, _*_, _/_, _^_, _≤_, _<_}
 use mathlib.Core.Path.{_≡_}
 use Rattle.area_flow.specs.declared.Grid.{Grid}
 use Rattle.local_spots.specs.declared.Places.{Places}
@@ -12,6 +12,15 @@ wordsFor n = (n + 63) / 64
 -- W = 8 × (the records lent + B × ⌈locals/64⌉ + the length of the area list)
 abbrev pub spaceFor : Sizes → ℕ
 spaceFor z = 8 * (z .blocks + z .edges + z .locals + z .touches + z .ends + z .blocks * wordsFor (z .locals) + z .room)
+
+-- each number fits 32 bits: W of any such numbers is computed
+pub record Counted (z : Sizes) : Type 0 where
+  pub blocks : z .blocks < 2 ^ 32
+  pub edges : z .edges < 2 ^ 32
+  pub locals : z .locals < 2 ^ 32
+  pub touches : z .touches < 2 ^ 32
+  pub ends : z .ends < 2 ^ 32
+  pub ranges : z .room < 2 ^ 32
 
 -- within the limits
 pub record Small (z : Sizes) : Type 0 where

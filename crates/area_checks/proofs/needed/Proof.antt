@@ -1,37 +1,36 @@
--- `needed` meets its contract: W, which is small.
+-- `needed` meets its contract: no sum is too large.
 use native.Mathlib.Omega.{arith}
-use Prim.Native.Nat.{_-_}
 use mathlib.Core.Path.{refl}
-use Rattle.area_layout.proofs.FitLaws.{rows-small}
+use Rattle.area_layout.proofs.FitLaws.{space-fits}
 use Rattle.area_checks.proofs.needed.Statement.{statement}
 use Rattle.area_checks.proofs.needed.Tie as tie
 
 add-rows : tie.Need-add-rows
-add-rows c = omega (arith, (c .before .pre) .few-blocks, (c .before .pre) .few-edges, (c .before .pre) .few-locals, (c .before .pre) .few-touches, (c .before .pre) .few-ends, (c .before .pre) .few-ranges, rows-small (c .before .pre))
+add-rows c = omega (arith, space-fits (c .before .pre))
 
 mul-rows : tie.Need-mul-rows
-mul-rows c = omega (arith, (c .before .before .pre) .few-blocks, (c .before .before .pre) .few-edges, (c .before .before .pre) .few-locals, (c .before .before .pre) .few-touches, (c .before .before .pre) .few-ends, (c .before .before .pre) .few-ranges, rows-small (c .before .before .pre))
+mul-rows c = omega (arith, space-fits (c .before .before .pre))
 
 add-result : tie.Need-add-result
-add-result c = omega (arith, (c .before .before .before .pre) .few-blocks, (c .before .before .before .pre) .few-edges, (c .before .before .before .pre) .few-locals, (c .before .before .before .pre) .few-touches, (c .before .before .before .pre) .few-ends, (c .before .before .before .pre) .few-ranges, rows-small (c .before .before .before .pre))
+add-result c = omega (arith, space-fits (c .before .before .before .pre))
 
 add-result-2 : tie.Need-add-result-2
-add-result-2 c = omega (arith, (c .before .before .before .before .pre) .few-blocks, (c .before .before .before .before .pre) .few-edges, (c .before .before .before .before .pre) .few-locals, (c .before .before .before .before .pre) .few-touches, (c .before .before .before .before .pre) .few-ends, (c .before .before .before .before .pre) .few-ranges, rows-small (c .before .before .before .before .pre))
+add-result-2 c = omega (arith, space-fits (c .before .before .before .before .pre))
 
 add-result-3 : tie.Need-add-result-3
-add-result-3 c = omega (arith, (c .before .before .before .before .before .pre) .few-blocks, (c .before .before .before .before .before .pre) .few-edges, (c .before .before .before .before .before .pre) .few-locals, (c .before .before .before .before .before .pre) .few-touches, (c .before .before .before .before .before .pre) .few-ends, (c .before .before .before .before .before .pre) .few-ranges, rows-small (c .before .before .before .before .before .pre))
+add-result-3 c = omega (arith, space-fits (c .before .before .before .before .before .pre))
 
 add-result-4 : tie.Need-add-result-4
-add-result-4 c = omega (arith, (c .before .before .before .before .before .before .pre) .few-blocks, (c .before .before .before .before .before .before .pre) .few-edges, (c .before .before .before .before .before .before .pre) .few-locals, (c .before .before .before .before .before .before .pre) .few-touches, (c .before .before .before .before .before .before .pre) .few-ends, (c .before .before .before .before .before .before .pre) .few-ranges, rows-small (c .before .before .before .before .before .before .pre))
+add-result-4 c = omega (arith, space-fits (c .before .before .before .before .before .before .pre))
 
 add-result-5 : tie.Need-add-result-5
-add-result-5 c = omega (arith, (c .before .before .before .before .before .before .pre) .few-blocks, (c .before .before .before .before .before .before .pre) .few-edges, (c .before .before .before .before .before .before .pre) .few-locals, (c .before .before .before .before .before .before .pre) .few-touches, (c .before .before .before .before .before .before .pre) .few-ends, (c .before .before .before .before .before .before .pre) .few-ranges, rows-small (c .before .before .before .before .before .before .pre))
+add-result-5 c = omega (arith, space-fits (c .before .before .before .before .before .before .pre))
 
 add-result-6 : tie.Need-add-result-6
-add-result-6 c = omega (arith, (c .before .before .before .before .before .before .before .pre) .few-blocks, (c .before .before .before .before .before .before .before .pre) .few-edges, (c .before .before .before .before .before .before .before .pre) .few-locals, (c .before .before .before .before .before .before .before .pre) .few-touches, (c .before .before .before .before .before .before .before .pre) .few-ends, (c .before .before .before .before .before .before .before .pre) .few-ranges, rows-small (c .before .before .before .before .before .before .before .pre))
+add-result-6 c = omega (arith, space-fits (c .before .before .before .before .before .before .before .pre))
 
 mul-result : tie.Need-mul-result
-mul-result c = omega (arith, (c .before .before .before .before .before .before .before .pre) .few-blocks, (c .before .before .before .before .before .before .before .pre) .few-edges, (c .before .before .before .before .before .before .before .pre) .few-locals, (c .before .before .before .before .before .before .before .pre) .few-touches, (c .before .before .before .before .before .before .before .pre) .few-ends, (c .before .before .before .before .before .before .before .pre) .few-ranges, rows-small (c .before .before .before .before .before .before .before .pre))
+mul-result c = omega (arith, space-fits (c .before .before .before .before .before .before .before .pre))
 
 returns : tie.Need-returns
 returns c = refl
