@@ -1,39 +1,59 @@
 -- Laws of the entry: each way out.
 use Prim.Native.Nat.{ℕ, _+_, _*_, _/_, _≤_, _<_}
 use mathlib.Core.Path.{_≡_, refl, sym, ap, _∙_, subst}
-use mathlib.Core.List.{List, _++_}
+use mathlib.Core.Bool.{_||_}
+use mathlib.Core.List.{List, [], _∷_, _++_}
 use native.Mathlib.Omega.{arith}
+use lib.Dec.{ltb}
 use lib.ListN.{length, getD, drop, replicate, length-drop}
 use lib.Seq.{ext-getD, getD-drop}
 use Rattle.refusals.specs.declared.Refusal.{Refusal}
 use Rattle.refusals.specs.declared.Verdict.{Verdict}
 use Rattle.refusals.specs.declared.Verdict.the-variants.{Fine, Bad}
-use Rattle.refusals.proofs.Laws.{first-fine, first-bad, first-left, first-right, bad-fine}
+use Rattle.refusals.specs.declared.Refusal.the-variants.{Count, Line, Edge as EdgeWord, Space}
+use Rattle.refusals.specs.Verdicts.{numberOf, first, inOrder}
+use Rattle.refusals.specs.Orders.{Ordered}
+use Rattle.refusals.proofs.Laws.{first-fine, first-bad, first-left, first-right, bad-fine, check-last}
+use Rattle.refusals.proofs.Orders.{check-gives, order-append, giving-append}
 use Rattle.words.specs.Regions.{cleared}
 use Rattle.words.specs.Rows.{rowCount}
 use Rattle.words.specs.Regions.{Region}
 use Rattle.graph.specs.Line.{blocksOf, jumpsOf}
-use Rattle.graph.specs.Checks.{graphVerdict, spaceOf, spaceVerdict}
+use Rattle.graph.specs.Checks.{graphChecks, graphVerdict, spaceOf, spaceVerdict}
 use Rattle.graph.specs.Paths.{Between}
 use Rattle.graph.specs.Work.{Within, EdgeRows, Neighbours}
+use Rattle.graph.proofs.CheckLaws.{graph-gives}
 use Rattle.graph.proofs.Within.{within-trans, within-wider}
 use Rattle.graph.proofs.Line.{blocks-length, edges-between}
 use Rattle.line_checks.proofs.Refusals.{Passed, passed, space-told}
 use Rattle.tarjan.specs.Components.{Components, Walkable, Found}
 use Rattle.components.specs.declared.Answer.the-variants.{Given, Refused}
-use Rattle.components.specs.Entry.{verdictOf, edgesIn, Turned, Answered, Solved}
+use Rattle.components.specs.Entry.{componentsChecks, verdictOf, edgesIn, Turned, Answered, Solved}
 
 -- ---- the refusals
 
 module _ (blocks edges : List ℕ) (points answer work : ℕ) where
+  -- "lowest number wins": 1, 2, 3, then 7
+  pub components-ordered : Ordered numberOf (Count ∷ Line ∷ EdgeWord ∷ Space ∷ []) (componentsChecks blocks edges points answer work)
+  components-ordered = record {
+    gives = giving-append (Count ∷ Line ∷ EdgeWord ∷ []) (Space ∷ []) (graphChecks blocks edges points) (spaceVerdict answer (rowCount 3 blocks) work (spaceOf (rowCount 3 blocks) (rowCount 2 edges) 0) ∷ [])
+        (graph-gives blocks edges points) (check-gives Space (ltb answer (rowCount 3 blocks) || ltb work (spaceOf (rowCount 3 blocks) (rowCount 2 edges) 0)), tt);
+    rises = refl;
+  }
+
+  -- the graph's checks, then the space
+  verdict-as : verdictOf blocks edges points answer work ≡ first (graphVerdict blocks edges points) (spaceVerdict answer (rowCount 3 blocks) work (spaceOf (rowCount 3 blocks) (rowCount 2 edges) 0))
+  unfolding verdictOf graphVerdict
+  verdict-as =
+      order-append (graphChecks blocks edges points) (spaceVerdict answer (rowCount 3 blocks) work (spaceOf (rowCount 3 blocks) (rowCount 2 edges) 0) ∷ [])
+      ∙ ap (first (inOrder (graphChecks blocks edges points))) (check-last (spaceVerdict answer (rowCount 3 blocks) work (spaceOf (rowCount 3 blocks) (rowCount 2 edges) 0)))
+
   pub graph-bad : (r : Refusal) (i : ℕ) → graphVerdict blocks edges points ≡ Bad r i → Bad r i ≡ verdictOf blocks edges points answer work
-  unfolding verdictOf
-  graph-bad r i e = sym (first-bad _ _ r i e)
+  graph-bad r i e = sym (verdict-as ∙ first-bad _ _ r i e)
 
   pub space-last : (v : Verdict) → graphVerdict blocks edges points ≡ Fine → v ≡ spaceVerdict answer (rowCount 3 blocks) work (spaceOf (rowCount 3 blocks) (rowCount 2 edges) 0)
       → v ≡ verdictOf blocks edges points answer work
-  unfolding verdictOf
-  space-last v f e = e ∙ sym (first-fine _ _ f)
+  space-last v f e = e ∙ sym (verdict-as ∙ first-fine _ _ f)
 
   -- what is known of an input that is not refused
   pub record Known : Type 0 where
@@ -42,10 +62,10 @@ module _ (blocks edges : List ℕ) (points answer work : ℕ) where
     pub work-fits : spaceOf (rowCount 3 blocks) (rowCount 2 edges) 0 ≤ work
 
   pub known : verdictOf blocks edges points answer work ≡ Fine → Known
-  unfolding verdictOf
   known e =
-      let s = space-told answer (rowCount 3 blocks) work (rowCount 3 blocks) (rowCount 2 edges) 0 (first-right (graphVerdict blocks edges points) _ e) in
-      record { graph = passed blocks edges points (first-left (graphVerdict blocks edges points) _ e); answer-fits = s .0; work-fits = s .1 }
+      let f = sym verdict-as ∙ e in
+      let s = space-told answer (rowCount 3 blocks) work (rowCount 3 blocks) (rowCount 2 edges) 0 (first-right (graphVerdict blocks edges points) _ f) in
+      record { graph = passed blocks edges points (first-left (graphVerdict blocks edges points) _ f); answer-fits = s .0; work-fits = s .1 }
 
 pub refused-is : (blocks edges : List ℕ) (points : ℕ) (which work : List ℕ) (r : Refusal) (i : ℕ) → verdictOf blocks edges points (length which) (length work) ≡ Bad r i
     → Answered blocks edges points which work (Refused r i) which work

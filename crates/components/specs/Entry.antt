@@ -1,18 +1,18 @@
 -- The entry `components`: what it answers, refuses and leaves, for every input.
 use Prim.Native.Nat.{ℕ, _+_, _≤_}
 use mathlib.Core.Path.{_≡_}
-use mathlib.Core.List.{List}
+use mathlib.Core.List.{List, [], _∷_, _++_}
 use lib.ListN.{length, getD}
 use Rattle.refusals.specs.declared.Refusal.{Refusal}
 use Rattle.refusals.specs.declared.Verdict.{Verdict}
 use Rattle.refusals.specs.declared.Verdict.the-variants.{Fine, Bad}
-use Rattle.refusals.specs.Verdicts.{numberOf, first}
+use Rattle.refusals.specs.Verdicts.{numberOf, inOrder}
 use Rattle.refusals.specs.Outcomes.{Outcome, given, refused}
 use Rattle.words.specs.Regions.{cleared}
 use Rattle.words.specs.Rows.{rowCount}
 use Rattle.graph.specs.Paths.{Edge}
 use Rattle.graph.specs.Line.{blocksOf, jumpsOf, edgesOf}
-use Rattle.graph.specs.Checks.{graphVerdict, spaceOf, spaceVerdict}
+use Rattle.graph.specs.Checks.{graphChecks, spaceOf, spaceVerdict}
 use Rattle.graph.specs.Work.{Within}
 use Rattle.tarjan.specs.Components.{Components}
 use Rattle.components.specs.declared.Answer.{Answer}
@@ -23,10 +23,13 @@ abbrev pub outcomeOf : Answer → Outcome ℕ
 outcomeOf (Given count) = given count
 outcomeOf (Refused r i) = refused (numberOf r) i
 
--- refusals 1, 2, 3 and 7; W is 8 × the records lent
+-- the checks of `components`, and of `settling`, which is lent the same: numbers 1, 2, 3 and 7, in this order; W is 8 × the records lent
+abbrev pub componentsChecks : List ℕ → List ℕ → ℕ → ℕ → ℕ → List Verdict
+componentsChecks blocks edges points answer work =
+    graphChecks blocks edges points ++ (spaceVerdict answer (rowCount 3 blocks) work (spaceOf (rowCount 3 blocks) (rowCount 2 edges) 0) ∷ [])
+
 unfoldable pub verdictOf : List ℕ → List ℕ → ℕ → ℕ → ℕ → Verdict
-verdictOf blocks edges points answer work =
-    first (graphVerdict blocks edges points) (spaceVerdict answer (rowCount 3 blocks) work (spaceOf (rowCount 3 blocks) (rowCount 2 edges) 0))
+verdictOf blocks edges points answer work = inOrder (componentsChecks blocks edges points answer work)
 
 abbrev pub edgesIn : List ℕ → List ℕ → List Edge
 edgesIn blocks edges = edgesOf (blocksOf blocks) (jumpsOf edges)

@@ -1,23 +1,33 @@
 -- Laws of the entry: each way out.
 use Prim.Native.Nat.{ℕ, _+_, _*_, _/_, _%_, _^_, _≤_, _<_}
 use mathlib.Core.Path.{_≡_, refl, sym, ap, _∙_, subst}
-use mathlib.Core.Logic.{inl}
-use mathlib.Core.List.{List}
+use mathlib.Core.Logic.{inl, _↔_}
+use mathlib.Core.Bool.{true, not, _||_}
+use mathlib.Core.List.{List, [], _∷_, _++_}
 use mir.Syntax.{w64}
 use mir.Val.{Fits}
 use native.Mathlib.Omega.{arith}
+use lib.Dec.{eqb, ltb}
 use lib.ListN.{length, getD, length-append, length-replicate, length-drop}
 use Rattle.refusals.specs.declared.Refusal.{Refusal}
 use Rattle.refusals.specs.declared.Verdict.{Verdict}
 use Rattle.refusals.specs.declared.Verdict.the-variants.{Fine, Bad}
-use Rattle.refusals.proofs.Laws.{first-fine, first-bad, first-left, first-right, bad-fine}
+use Rattle.refusals.specs.declared.Refusal.the-variants.{Count, Line, Edge as EdgeWord, Space}
+use Rattle.refusals.specs.Verdicts.{numberOf, first, inOrder}
+use Rattle.refusals.specs.Orders.{Ordered}
+use Rattle.refusals.proofs.Laws.{first-fine, first-bad, first-left, first-right, bad-fine, check-last}
+use Rattle.refusals.proofs.Orders.{check-gives, order-append, giving-append}
 use Rattle.words.specs.Rows.{rowCount}
 use Rattle.words.specs.Regions.{Region, cleared}
 use Rattle.words.proofs.RegionLaws.{row-before}
 use Rattle.bits.specs.Bits.{bit, bitOf}
-use Rattle.graph.specs.Paths.{Edge}
-use Rattle.graph.specs.Checks.{graphVerdict, rowsVerdict, spaceOf, spaceVerdict}
+use Rattle.bits.proofs.WordLaws.{rows-by-bits}
+use Rattle.graph.specs.Paths.{Edge, Between}
+use Rattle.graph.specs.Line.{blocksOf, jumpsOf}
+use Rattle.graph.specs.Checks.{graphChecks, graphVerdict, rowsVerdict, spaceOf, spaceVerdict}
 use Rattle.graph.specs.Work.{EdgeRows, Neighbours}
+use Rattle.graph.proofs.CheckLaws.{graph-gives}
+use Rattle.graph.proofs.Line.{blocks-length, edges-between}
 use Rattle.graph.proofs.Within.{within-trans, within-wider, region-within, rows-moved}
 use Rattle.line_checks.proofs.Refusals.{Passed, passed, rows-told, space-told}
 use Rattle.tarjan.specs.Components.{InOrder, Walkable, Found}
@@ -27,27 +37,45 @@ use Rattle.flow_rows.specs.declared.Flow.{Flow}
 use Rattle.flow.specs.declared.Over.{Over}
 use Rattle.flow.specs.declared.Answer.the-variants.{Given, Refused}
 use Rattle.flow_rows.specs.Flowed.{which, order, touchedBit, Laid, Flowed}
-use Rattle.flow.specs.Entry.{wayOf, verdictOf, rowBit, Turned, Answered, baseOf, Solved}
+use Rattle.flow.specs.Entry.{FlowsTo, wayOf, flowedChecks, verdictOf, rowBit, Turned, Answered, baseOf, Solved}
 use Rattle.flow_rows.proofs.Moved.{components-as, order-as, reaching-as}
-use Rattle.flow.proofs.Ways.{flows-as}
+use Rattle.flow.proofs.Ways.{flows-as, rows-as}
 
 -- ---- the refusals
 
 module _ (blocks edges : List ℕ) (points lent words answer work : ℕ) where
+  abbrev space : Verdict
+  space = spaceVerdict answer (rowCount 3 blocks * words) work (spaceOf (rowCount 3 blocks) (rowCount 2 edges) (rowCount 3 blocks * words))
+
+  -- "lowest number wins": 1, 2, 3, then 7
+  pub flowed-ordered : Ordered numberOf (Count ∷ Count ∷ Line ∷ EdgeWord ∷ Space ∷ []) (flowedChecks blocks edges points lent words answer work)
+  flowed-ordered = record {
+    gives = (
+      check-gives Count (not (eqb lent (rowCount 3 blocks * words))),
+      giving-append (Count ∷ Line ∷ EdgeWord ∷ []) (Space ∷ []) (graphChecks blocks edges points) (space ∷ [])
+          (graph-gives blocks edges points) (check-gives Space (ltb answer (rowCount 3 blocks * words) || ltb work (spaceOf (rowCount 3 blocks) (rowCount 2 edges) (rowCount 3 blocks * words))), tt),
+    );
+    rises = refl;
+  }
+
+  -- the rows' check, the graph's, then the space
+  verdict-as : verdictOf blocks edges points lent words answer work ≡ first (rowsVerdict lent (rowCount 3 blocks) words) (first (graphVerdict blocks edges points) space)
+  unfolding verdictOf graphVerdict inOrder
+  verdict-as =
+      ap (first (rowsVerdict lent (rowCount 3 blocks) words))
+      (order-append (graphChecks blocks edges points) (space ∷ []) ∙ ap (first (inOrder (graphChecks blocks edges points))) (check-last space))
+
   pub rows-refused : (r : Refusal) (i : ℕ) → rowsVerdict lent (rowCount 3 blocks) words ≡ Bad r i → Bad r i ≡ verdictOf blocks edges points lent words answer work
-  unfolding verdictOf
-  rows-refused r i e = sym (first-bad _ _ r i e)
+  rows-refused r i e = sym (verdict-as ∙ first-bad _ _ r i e)
 
   pub graph-refused : (r : Refusal) (i : ℕ) → rowsVerdict lent (rowCount 3 blocks) words ≡ Fine → graphVerdict blocks edges points ≡ Bad r i → Bad r i ≡ verdictOf blocks edges points lent words answer work
-  unfolding verdictOf
-  graph-refused r i f e = sym (first-fine _ _ f ∙ first-bad _ _ r i e)
+  graph-refused r i f e = sym (verdict-as ∙ first-fine _ _ f ∙ first-bad _ _ r i e)
 
   pub space-last : (v : Verdict) → rowsVerdict lent (rowCount 3 blocks) words ≡ Fine → graphVerdict blocks edges points ≡ Fine
       → v ≡ spaceVerdict answer lent work (spaceOf (rowCount 3 blocks) (rowCount 2 edges) lent) → v ≡ verdictOf blocks edges points lent words answer work
-  unfolding verdictOf
   space-last v f g e = e
       ∙ ap (λ (y : ℕ). spaceVerdict answer y work (spaceOf (rowCount 3 blocks) (rowCount 2 edges) y)) (rows-told lent (rowCount 3 blocks) words f)
-      ∙ sym (first-fine _ _ f ∙ first-fine _ _ g)
+      ∙ sym (verdict-as ∙ first-fine _ _ f ∙ first-fine _ _ g)
 
   -- what is known of an input that is not refused
   pub record Known : Type 0 where
@@ -57,10 +85,10 @@ module _ (blocks edges : List ℕ) (points lent words answer work : ℕ) where
     pub work-fits : spaceOf (rowCount 3 blocks) (rowCount 2 edges) lent ≤ work
 
   pub known : verdictOf blocks edges points lent words answer work ≡ Fine → Known
-  unfolding verdictOf
   known e =
-      let a = rows-told lent (rowCount 3 blocks) words (first-left (rowsVerdict lent (rowCount 3 blocks) words) _ e) in
-      let b = first-right (rowsVerdict lent (rowCount 3 blocks) words) _ e in
+      let f = sym verdict-as ∙ e in
+      let a = rows-told lent (rowCount 3 blocks) words (first-left (rowsVerdict lent (rowCount 3 blocks) words) _ f) in
+      let b = first-right (rowsVerdict lent (rowCount 3 blocks) words) _ f in
       let s = space-told answer (rowCount 3 blocks * words) work (rowCount 3 blocks) (rowCount 2 edges) (rowCount 3 blocks * words) (first-right (graphVerdict blocks edges points) _ b) in
       record { rows = a; graph = passed blocks edges points (first-left (graphVerdict blocks edges points) _ b); answer-fits = omega (arith, s .0); work-fits = omega (arith, s .1) }
 
@@ -182,15 +210,16 @@ module _ (over : Over) (blocks edges touched : List ℕ) (words : ℕ) (w₀ w�
 
 module _ (over : Over) (blocks edges : List ℕ) (points : ℕ) (touched : List ℕ) (words : ℕ) (out₀ out work₀ work₁ work₂ : List ℕ)
     (e : verdictOf blocks edges points (length touched) words (length out₀) (length work₀) ≡ Fine) {at : ℕ} (S : Solved over blocks edges touched words at work₀ work₁) where
-  pub given-is : Region out₀ out 0 (length touched) (λ i. getD work₁ (at + i) 0)
+  pub given-is : ((i : ℕ) → getD out i 0 < 2 ^ 64) → Region out₀ out 0 (length touched) (λ i. getD work₁ (at + i) 0)
       → work₂ ≡ cleared (8 * (length blocks / 3 + length edges / 2 + length touched)) work₁
       → Answered over blocks edges points touched words out₀ work₀ Given out work₂
-  given-is R C = record {
+  given-is fits R C = record {
     answered = λ _. record {
       outcome = refl;
-      bits = λ v b h l. let r = S .bits v b h l in ((λ o. r .0 (sym (out-is v b h l) ∙ o)), (λ o. out-is v b h l ∙ r .1 o));
-      length-kept = R .len;
-      past = λ i h. R .after i (omega (arith, K .rows));
+      in-out = rows-by-bits (length blocks / 3) words _ out₀ out (R .len) (omega (arith, K .rows, K .answer-fits)) fits
+          (λ v b h l. rows-as over (edgesIn blocks edges) (length blocks / 3) between (λ k. rowBit touched words k b) v (rowBit out words v b) (paths v b h l))
+          (λ i h. R .after i (omega (arith, K .rows)));
+      bits = paths;
       work-cleared = C ∙ cleared-same (8 * (length blocks / 3 + length edges / 2 + length touched)) work₀ work₁ (S .kept) ∙ ap (λ (y : ℕ). cleared (8 * (length blocks / 3 + length edges / 2 + y)) work₀) (K .rows);
     };
     turned-back = λ k i f. bad-fine (sym f ∙ e);
@@ -199,11 +228,17 @@ module _ (over : Over) (blocks edges : List ℕ) (points : ℕ) (touched : List 
       K : Known blocks edges points (length touched) words (length out₀) (length work₀)
       K = known blocks edges points (length touched) words (length out₀) (length work₀) e
 
+      between : Between (length blocks / 3) (edgesIn blocks edges)
+      between = subst (λ (y : ℕ). Between y (edgesIn blocks edges)) (blocks-length blocks) (edges-between (blocksOf blocks) (jumpsOf edges) (K .graph .sound) (K .graph .edges-fine))
+
       out-is : (v b : ℕ) → v < length blocks / 3 → b < words * 64 → rowBit out words v b ≡ bit work₁ (at + v * words) b
       out-is v b h l =
           let r = row-before v (length blocks / 3) words h in
           let z : at + (v * words + b / 64) ≡ at + v * words + b / 64 = omega arith in
           ap (λ (y : ℕ). bitOf y (b % 64)) (R .inside (v * words + b / 64) (v * words + b / 64) (omega arith) (omega (arith, K .rows)) ∙ ap (λ (y : ℕ). getD work₁ y 0) z)
+
+      paths : (v b : ℕ) → v < length blocks / 3 → b < words * 64 → (rowBit out words v b ≡ true) ↔ FlowsTo over (edgesIn blocks edges) (λ k. rowBit touched words k b) v
+      paths v b h l = let r = S .bits v b h l in ((λ o. r .0 (sym (out-is v b h l) ∙ o)), (λ o. out-is v b h l ∙ r .1 o))
 
 -- ---- what the entry does behind `solve`
 

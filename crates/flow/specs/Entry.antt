@@ -3,19 +3,21 @@ use Prim.Native.Nat.{ℕ, _+_, _*_, _/_, _≤_, _<_}
 use mathlib.Core.Path.{_≡_}
 use mathlib.Core.Logic.{_↔_}
 use mathlib.Core.Bool.{Bool, true}
-use mathlib.Core.List.{List}
-use lib.ListN.{length, getD}
+use mathlib.Core.List.{List, [], _∷_, _++_}
+use lib.ListN.{length}
 use Rattle.refusals.specs.declared.Refusal.{Refusal}
 use Rattle.refusals.specs.declared.Verdict.{Verdict}
 use Rattle.refusals.specs.declared.Verdict.the-variants.{Fine, Bad}
-use Rattle.refusals.specs.Verdicts.{numberOf, first}
-use Rattle.refusals.specs.Outcomes.{Outcome, given, refused}
+use Rattle.refusals.specs.Verdicts.{numberOf, inOrder}
+use Rattle.refusals.specs.Outcomes.{Outcome, given, refused, after}
 use Rattle.words.specs.Rows.{rowCount}
 use Rattle.words.specs.Regions.{cleared}
 use Rattle.bits.specs.Bits.{bit}
+use Rattle.bits.specs.Words.{rowsOf}
 use Rattle.graph.specs.Paths.{Edge, turned}
 use Rattle.graph.specs.Flow.{Reached, Reaching}
-use Rattle.graph.specs.Checks.{graphVerdict, rowsVerdict, spaceOf, spaceVerdict}
+use Rattle.graph.specs.Rounds.{reachedRow, reachingRow}
+use Rattle.graph.specs.Checks.{graphChecks, rowsVerdict, spaceOf, spaceVerdict}
 use Rattle.graph.specs.Work.{Within}
 use Rattle.components.specs.Entry.{edgesIn}
 use Rattle.flow.specs.declared.Over.{Over}
@@ -28,6 +30,11 @@ abbrev pub FlowsTo : Over → List Edge → (ℕ → Bool) → ℕ → Type 0
 FlowsTo Predecessors es touched k = Reached es touched k
 FlowsTo Successors es touched k = Reaching es touched k
 
+-- the same by rounds, of n places
+abbrev pub flowsRow : Over → ℕ → List Edge → (ℕ → Bool) → ℕ → Bool
+flowsRow Predecessors n es touched = reachedRow n es touched
+flowsRow Successors n es touched = reachingRow n es touched
+
 -- the edges that are followed
 abbrev pub wayOf : Over → List Edge → List Edge
 wayOf Predecessors es = turned es
@@ -38,22 +45,29 @@ abbrev pub outcomeOf : Answer → Outcome (Unit {0})
 outcomeOf Given = given tt
 outcomeOf (Refused r i) = refused (numberOf r) i
 
--- refusals 1, 2, 3 and 7; W is 8 × (the records lent + blocks × row words)
+-- the checks of `flowed`: numbers 1 (of the rows lent, then of the records), 2, 3 and 7, in this order; W is 8 × (the records lent + blocks × row words)
+abbrev pub flowedChecks : List ℕ → List ℕ → ℕ → ℕ → ℕ → ℕ → ℕ → List Verdict
+flowedChecks blocks edges points lent words answer work =
+    rowsVerdict lent (rowCount 3 blocks) words ∷ graphChecks blocks edges points
+    ++ (spaceVerdict answer (rowCount 3 blocks * words) work (spaceOf (rowCount 3 blocks) (rowCount 2 edges) (rowCount 3 blocks * words)) ∷ [])
+
 unfoldable pub verdictOf : List ℕ → List ℕ → ℕ → ℕ → ℕ → ℕ → ℕ → Verdict
-verdictOf blocks edges points lent words answer work =
-    first (rowsVerdict lent (rowCount 3 blocks) words)
-    (first (graphVerdict blocks edges points)
-    (spaceVerdict answer (rowCount 3 blocks * words) work (spaceOf (rowCount 3 blocks) (rowCount 2 edges) (rowCount 3 blocks * words))))
+verdictOf blocks edges points lent words answer work = inOrder (flowedChecks blocks edges points lent words answer work)
 
 -- bit b of row v of rows of bits
 abbrev pub rowBit : List ℕ → ℕ → ℕ → ℕ → Bool
 rowBit rows words v b = bit rows (v * words) b
 
+-- the answer: a row to a block, whose bits are by rounds
+abbrev pub flowedRows : Over → List ℕ → List ℕ → List ℕ → ℕ → List ℕ
+flowedRows over blocks edges touched words =
+    rowsOf (rowCount 3 blocks) words (λ v b. flowsRow over (rowCount 3 blocks) (edgesIn blocks edges) (λ k. rowBit touched words k b) v)
+
+-- the whole answer list by the definition, and its bits by paths
 pub record Filled (over : Over) (blocks edges touched : List ℕ) (words : ℕ) (out₀ work₀ : List ℕ) (r : Answer) (out work : List ℕ) : Type 0 where
   pub outcome : outcomeOf r ≡ given tt
+  pub in-out : out ≡ after (outcomeOf r) (λ _. flowedRows over blocks edges touched words) out₀
   pub bits : (v b : ℕ) → v < rowCount 3 blocks → b < words * 64 → (rowBit out words v b ≡ true) ↔ FlowsTo over (edgesIn blocks edges) (λ k. rowBit touched words k b) v
-  pub length-kept : length out ≡ length out₀
-  pub past : (i : ℕ) → rowCount 3 blocks * words ≤ i → getD out i 0 ≡ getD out₀ i 0
   pub work-cleared : work ≡ cleared (spaceOf (rowCount 3 blocks) (rowCount 2 edges) (rowCount 3 blocks * words)) work₀
 
 -- a refusal: the lists as they were

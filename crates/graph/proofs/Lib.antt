@@ -4,3 +4,4 @@ pub mod Line
 pub mod Within
 pub mod RoundLaws
 pub mod ArriveLaws
+pub mod CheckLaws

@@ -1,11 +1,11 @@
 -- Document 01, "Limits and what is turned back": numbers 1, 2 and 3 for the blocks and the edges that an entry is lent.
 use Prim.Native.Nat.{ℕ, _+_, _*_}
 use mathlib.Core.Bool.{Bool, not, _||_}
-use mathlib.Core.List.{List}
+use mathlib.Core.List.{List, [], _∷_}
 use lib.Dec.{ltb, eqb}
 use Rattle.refusals.specs.declared.Verdict.{Verdict}
 use Rattle.refusals.specs.declared.Refusal.the-variants.{Count, Space}
-use Rattle.refusals.specs.Verdicts.{first, check}
+use Rattle.refusals.specs.Verdicts.{inOrder, check}
 use Rattle.words.specs.Rows.{rowCount, wholeRows}
 use Rattle.graph.specs.Line.{Stretch, blocksOf, jumpsOf, blockAt, gapAt, pastPoints, lineVerdict, edgeVerdict}
 
@@ -21,9 +21,12 @@ countVerdict blocks edges = check Count (badCount blocks edges)
 abbrev pub badSpan : List Stretch → ℕ → ℕ → Bool
 badSpan bs points i = ltb (blockAt bs i .end) (blockAt bs i .start) || (gapAt bs i || pastPoints bs points i)
 
--- numbers 1, 2 and 3, lowest first
+-- numbers 1, 2 and 3, in this order
+abbrev pub graphChecks : List ℕ → List ℕ → ℕ → List Verdict
+graphChecks blocks edges points = countVerdict blocks edges ∷ lineVerdict (blocksOf blocks) points ∷ edgeVerdict (blocksOf blocks) (jumpsOf edges) ∷ []
+
 unfoldable pub graphVerdict : List ℕ → List ℕ → ℕ → Verdict
-graphVerdict blocks edges points = first (countVerdict blocks edges) (first (lineVerdict (blocksOf blocks) points) (edgeVerdict (blocksOf blocks) (jumpsOf edges)))
+graphVerdict blocks edges points = inOrder (graphChecks blocks edges points)
 
 -- number 1 for rows of bits: as many words as blocks × row words; a row cut short is no count
 abbrev pub rowsVerdict : ℕ → ℕ → ℕ → Verdict

@@ -14,7 +14,8 @@ use Rattle.refusals.specs.declared.Verdict.{Verdict}
 use Rattle.refusals.specs.declared.Verdict.the-variants.{Fine, Bad}
 use Rattle.refusals.specs.declared.Refusal.{Refusal}
 use Rattle.refusals.specs.declared.Refusal.the-variants.{Count, Space}
-use Rattle.refusals.proofs.Laws.{first-fine, first-bad, first-left, first-right}
+use Rattle.refusals.specs.Verdicts.{inOrder}
+use Rattle.refusals.proofs.Laws.{first-fine, first-bad, first-left, first-right, check-last}
 use Rattle.bits.specs.Bits.{bit, bitOf, PutBit}
 use Rattle.bits.proofs.DigitLaws.{bit-zero}
 use Rattle.words.proofs.Points.{cut, same}
@@ -150,16 +151,16 @@ module _ (n : ℕ) (js : List ℕ) (i : ℕ) (l : i < length js / 2) where
 
 module _ (blocks edges : List ℕ) (points : ℕ) where
   pub count-bad : (r : Refusal) (i : ℕ) → countVerdict blocks edges ≡ Bad r i → Bad r i ≡ graphVerdict blocks edges points
-  unfolding graphVerdict
+  unfolding graphVerdict inOrder
   count-bad r i e = sym (first-bad _ _ r i e)
 
   pub line-bad : (r : Refusal) (i : ℕ) → countVerdict blocks edges ≡ Fine → lineVerdict (blocksOf blocks) points ≡ Bad r i → Bad r i ≡ graphVerdict blocks edges points
-  unfolding graphVerdict
+  unfolding graphVerdict inOrder
   line-bad r i f e = sym (first-fine _ _ f ∙ first-bad _ _ r i e)
 
   pub edge-last : (v : Verdict) → countVerdict blocks edges ≡ Fine → lineVerdict (blocksOf blocks) points ≡ Fine → v ≡ edgeVerdict (blocksOf blocks) (jumpsOf edges) → v ≡ graphVerdict blocks edges points
-  unfolding graphVerdict
-  edge-last v f g e = e ∙ sym (first-fine _ _ f ∙ first-fine _ _ g)
+  unfolding graphVerdict inOrder
+  edge-last v f g e = e ∙ sym (first-fine _ _ f ∙ first-fine _ _ g ∙ check-last (edgeVerdict (blocksOf blocks) (jumpsOf edges)))
 
   -- a graph that is not refused
   pub record Passed : Type 0 where
@@ -168,7 +169,7 @@ module _ (blocks edges : List ℕ) (points : ℕ) where
     pub edges-fine : edgeVerdict (blocksOf blocks) (jumpsOf edges) ≡ Fine
 
   pub passed : graphVerdict blocks edges points ≡ Fine → Passed
-  unfolding graphVerdict
+  unfolding graphVerdict inOrder
   passed e =
       let a = first-left (countVerdict blocks edges) _ e in
       let b = first-right (countVerdict blocks edges) _ e in
@@ -176,7 +177,7 @@ module _ (blocks edges : List ℕ) (points : ℕ) where
       record {
         counts = c;
         sound = line-sound (blocksOf blocks) points (omega (arith, blocks-length blocks, c .some)) (first-left (lineVerdict (blocksOf blocks) points) _ b);
-        edges-fine = first-right (lineVerdict (blocksOf blocks) points) _ b;
+        edges-fine = first-left (edgeVerdict (blocksOf blocks) (jumpsOf edges)) _ (first-right (lineVerdict (blocksOf blocks) points) _ b);
       }
 
 -- ---- rows of bits, and the space

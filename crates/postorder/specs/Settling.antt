@@ -1,4 +1,5 @@
--- Document 01, "Blocks and edges", `settling`: an order of the places in which, loops aside, each comes after those it reads from.
+-- `settling`: an order of the places in which, loops aside, each comes after those it reads from. Document 01 names it beside `spread` and leaves the order free:
+-- what `Settling` says is what a buyer may build on, and rows of `spread` are the same for every order. Within it the code's order is slots.rs's; that is compared, not proved.
 use Prim.Native.Nat.{ℕ, _+_, _≤_, _<_}
 use mathlib.Core.Path.{_≡_}
 use mathlib.Core.List.{List}
@@ -6,7 +7,7 @@ use lib.ListN.{length, getD}
 use Rattle.graph.specs.Paths.{Edge, Link, Route, Between}
 use Rattle.graph.specs.Work.{Within, EdgeRows}
 
--- each of the n places once; for an edge from j to k where k does not reach j, j stands before k
+-- each of the n places once; for an edge from j to k where k does not reach j, j stands before k; among places of one loop, and without an edge between them, any order
 pub record Settling (es : List Edge) (n : ℕ) (order : ℕ → ℕ) : Type 0 where
   pub listed : (i : ℕ) → i < n → order i < n
   pub every : (k : ℕ) → k < n → (i : ℕ) × (i < n) × (order i ≡ k)

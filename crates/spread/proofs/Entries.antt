@@ -1,33 +1,47 @@
 -- Laws of the entries: each way out.
 use Prim.Native.Nat.{ℕ, _+_, _-_, _*_, _/_, _%_, _^_, _≤_, _<_}
 use mathlib.Core.Path.{_≡_, refl, sym, ap, _∙_, subst}
-use mathlib.Core.List.{List}
+use mathlib.Core.Logic.{_↔_}
+use mathlib.Core.Bool.{Bool, true, not}
+use mathlib.Core.List.{List, [], _∷_}
 use mir.Syntax.{w64}
 use mir.Val.{Fits}
 use native.Mathlib.Omega.{arith}
+use lib.Dec.{eqb}
 use lib.ListN.{length, getD}
 use Rattle.refusals.specs.declared.Refusal.{Refusal}
 use Rattle.refusals.specs.declared.Verdict.{Verdict}
 use Rattle.refusals.specs.declared.Verdict.the-variants.{Fine, Bad}
+use Rattle.refusals.specs.declared.Refusal.the-variants.{Count, Line, Edge as EdgeWord, Space}
+use Rattle.refusals.specs.Verdicts.{numberOf, first, inOrder}
+use Rattle.refusals.specs.Orders.{Ordered}
 use Rattle.refusals.proofs.Laws.{first-fine, first-bad, first-left, first-right, bad-fine}
+use Rattle.refusals.proofs.Orders.{check-gives}
 use Rattle.words.specs.Rows.{rowCount}
 use Rattle.words.specs.Regions.{Region, cleared}
+use Rattle.words.proofs.Bools.{both-ways}
 use Rattle.words.proofs.RegionLaws.{row-before}
 use Rattle.bits.specs.Bits.{bit, bitOf}
-use Rattle.graph.specs.Paths.{Edge}
+use Rattle.bits.proofs.WordLaws.{rows-by-bits}
+use Rattle.graph.specs.Paths.{Edge, Between}
+use Rattle.graph.specs.Line.{blocksOf, jumpsOf}
+use Rattle.graph.specs.Flow.{Arrives}
+use Rattle.graph.specs.Rounds.{arrivingRow}
 use Rattle.graph.specs.Checks.{rowsVerdict, spaceOf}
 use Rattle.graph.specs.Work.{EdgeRows, Neighbours}
+use Rattle.graph.proofs.Line.{blocks-length, edges-between}
+use Rattle.graph.proofs.RoundLaws.{arriving}
 use Rattle.graph.proofs.Within.{within-trans, within-wider, region-within, rows-moved}
 use Rattle.line_checks.proofs.Refusals.{rows-told}
 use Rattle.components.specs.Entry.{edgesIn, verdictOf as orderVerdict}
 use Rattle.components.proofs.Entries.{cleared-same}
 use Rattle.postorder.specs.Settling.{Settling, Walkable, Ordered as InOrder}
 use Rattle.flow.specs.Entry.{rowBit, baseOf, verdictOf as rowVerdict}
-use Rattle.flow.proofs.Entries.{Known as RowsKnown, known as rows-known}
+use Rattle.flow.proofs.Entries.{flowed-ordered, Known as RowsKnown, known as rows-known}
 use Rattle.spread_rows.specs.declared.Layout.{Layout}
 use Rattle.spread.specs.declared.Answer.the-variants.{Given, Refused}
 use Rattle.spread_rows.specs.Spread.{leaveBit, passBit, Laid, Arrived}
-use Rattle.spread.specs.Entry.{Turned, Settled, verdictOf, Answered, Prepared, Solved}
+use Rattle.spread.specs.Entry.{Turned, Settled, spreadChecks, verdictOf, Answered, Prepared, Solved}
 use Rattle.spread_rows.proofs.Turns.{arrives-as}
 
 same-bad : (r : Refusal) (i : ℕ) (list work : List ℕ) (k : Refusal) (j : ℕ) → Bad r i ≡ Bad k j → Turned k j list work (Refused r i) list work
@@ -147,24 +161,32 @@ order-inside P h s = omega (arith, P .at-is, P .kept .len)
 -- ---- spread: the refusals
 
 module _ (blocks edges : List ℕ) (points leaving passing words answer work : ℕ) where
+  -- "lowest number wins": 1, 2, 3, then 7
+  pub spread-ordered : Ordered numberOf (Count ∷ Count ∷ Count ∷ Line ∷ EdgeWord ∷ Space ∷ []) (spreadChecks blocks edges points leaving passing words answer work)
+  spread-ordered = record { gives = (check-gives Count (not (eqb passing (rowCount 3 blocks * words))), flowed-ordered blocks edges points leaving words answer work .gives); rises = refl }
+
+  -- the other rows' check, then those of `flowed`
+  verdict-as : verdictOf blocks edges points leaving passing words answer work ≡ first (rowsVerdict passing (rowCount 3 blocks) words) (rowVerdict blocks edges points leaving words answer work)
+  unfolding verdictOf rowVerdict inOrder
+  verdict-as = refl
+
   pub passing-refused : (r : Refusal) (i : ℕ) → rowsVerdict passing (rowCount 3 blocks) words ≡ Bad r i → Bad r i ≡ verdictOf blocks edges points leaving passing words answer work
-  unfolding verdictOf
-  passing-refused r i e = sym (first-bad _ _ r i e)
+  passing-refused r i e = sym (verdict-as ∙ first-bad _ _ r i e)
 
   pub rest-last : (v : Verdict) → rowsVerdict passing (rowCount 3 blocks) words ≡ Fine → v ≡ rowVerdict blocks edges points leaving words answer work → v ≡ verdictOf blocks edges points leaving passing words answer work
-  unfolding verdictOf
-  rest-last v f e = e ∙ sym (first-fine _ _ f)
+  rest-last v f e = e ∙ sym (verdict-as ∙ first-fine _ _ f)
 
   pub record Known : Type 0 where
     pub passing-rows : passing ≡ rowCount 3 blocks * words
     pub rest : RowsKnown blocks edges points leaving words answer work
 
   pub known : verdictOf blocks edges points leaving passing words answer work ≡ Fine → Known
-  unfolding verdictOf
-  known e = record {
-    passing-rows = rows-told passing (rowCount 3 blocks) words (first-left (rowsVerdict passing (rowCount 3 blocks) words) _ e);
-    rest = rows-known blocks edges points leaving words answer work (first-right (rowsVerdict passing (rowCount 3 blocks) words) _ e);
-  }
+  known e =
+      let f = sym verdict-as ∙ e in
+      record {
+        passing-rows = rows-told passing (rowCount 3 blocks) words (first-left (rowsVerdict passing (rowCount 3 blocks) words) _ f);
+        rest = rows-known blocks edges points leaving words answer work (first-right (rowsVerdict passing (rowCount 3 blocks) words) _ f);
+      }
 
 pub rows-refused : (blocks edges : List ℕ) (points : ℕ) (leaves passes : List ℕ) (words : ℕ) (out work : List ℕ) (r : Refusal) (i : ℕ)
     → verdictOf blocks edges points (length leaves) (length passes) words (length out) (length work) ≡ Bad r i → Answered blocks edges points leaves passes words out work (Refused r i) out work
@@ -277,14 +299,13 @@ module _ (blocks edges leaves passes : List ℕ) (words : ℕ) (w₀ w₁ : List
 
 pub rows-given : (blocks edges : List ℕ) (points : ℕ) (leaves passes : List ℕ) (words : ℕ) (out₀ out work₀ work₁ work₂ : List ℕ)
     → verdictOf blocks edges points (length leaves) (length passes) words (length out₀) (length work₀) ≡ Fine → {at : ℕ} → Solved blocks edges leaves passes words at work₀ work₁
-    → Region out₀ out 0 (length leaves) (λ i. getD work₁ (at + i) 0) → work₂ ≡ cleared (8 * (length blocks / 3 + length edges / 2 + length leaves)) work₁
+    → ((i : ℕ) → getD out i 0 < 2 ^ 64) → Region out₀ out 0 (length leaves) (λ i. getD work₁ (at + i) 0) → work₂ ≡ cleared (8 * (length blocks / 3 + length edges / 2 + length leaves)) work₁
     → Answered blocks edges points leaves passes words out₀ work₀ Given out work₂
-rows-given blocks edges points leaves passes words out₀ out work₀ work₁ work₂ e {at} S R C = record {
+rows-given blocks edges points leaves passes words out₀ out work₀ work₁ work₂ e {at} S fits R C = record {
   answered = λ _. record {
     outcome = refl;
-    bits = λ v b h l. let r = S .bits v b h l in ((λ o. r .0 (sym (out-is v b h l) ∙ o)), (λ o. out-is v b h l ∙ r .1 o));
-    length-kept = R .len;
-    past = λ i h. R .after i (omega (arith, K .rows));
+    in-out = rows-by-bits (length blocks / 3) words _ out₀ out (R .len) (omega (arith, K .rows, K .answer-fits)) fits rounds (λ i h. R .after i (omega (arith, K .rows)));
+    bits = paths;
     work-cleared = C ∙ cleared-same (8 * (length blocks / 3 + length edges / 2 + length leaves)) work₀ work₁ (S .kept) ∙ ap (λ (y : ℕ). cleared (8 * (length blocks / 3 + length edges / 2 + y)) work₀) (K .rows);
   };
   turned-back = λ k i f. bad-fine (sym f ∙ e);
@@ -299,6 +320,15 @@ rows-given blocks edges points leaves passes words out₀ out work₀ work₁ wo
         let z : at + (v * words + b / 64) ≡ at + v * words + b / 64 = omega arith in
         ap (λ (y : ℕ). bitOf y (b % 64)) (R .inside (v * words + b / 64) (v * words + b / 64) (omega arith) (omega (arith, K .rows)) ∙ ap (λ (y : ℕ). getD work₁ y 0) z)
 
-pub rows-inside : {blocks edges leaves passes : List ℕ} {words at : ℕ} {w₀ w : List ℕ} → Solved blocks edges leaves passes words at w₀ w
-    → 8 * (length blocks / 3 + length edges / 2 + length leaves) ≤ length w₀ → at + length leaves ≤ length w
-rows-inside S h = omega (arith, S .inside, S .kept .len)
+    between : Between (length blocks / 3) (edgesIn blocks edges)
+    between = subst (λ (y : ℕ). Between y (edgesIn blocks edges)) (blocks-length blocks) (edges-between (blocksOf blocks) (jumpsOf edges) (K .graph .sound) (K .graph .edges-fine))
+
+    paths : (v b : ℕ) → v < length blocks / 3 → b < words * 64 → (rowBit out words v b ≡ true) ↔ Arrives (edgesIn blocks edges) (λ k. rowBit leaves words k b) (λ k. rowBit passes words k b) v
+    paths v b h l = let r = S .bits v b h l in ((λ o. r .0 (sym (out-is v b h l) ∙ o)), (λ o. out-is v b h l ∙ r .1 o))
+
+    rounds : (v b : ℕ) → v < length blocks / 3 → b < words * 64
+        → rowBit out words v b ≡ arrivingRow (length blocks / 3) (edgesIn blocks edges) (λ k. rowBit leaves words k b) (λ k. rowBit passes words k b) v
+    rounds v b h l =
+        let p = paths v b h l in
+        let r = arriving (edgesIn blocks edges) (length blocks / 3) between (λ k. rowBit leaves words k b) (λ k. rowBit passes words k b) v in
+        both-ways (rowBit out words v b) _ (λ o. r .1 (p .0 o)) (λ o. p .1 (r .0 o))

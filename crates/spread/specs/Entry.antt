@@ -3,22 +3,24 @@ use Prim.Native.Nat.{ℕ, _+_, _*_, _/_, _≤_, _<_}
 use mathlib.Core.Path.{_≡_}
 use mathlib.Core.Logic.{_↔_}
 use mathlib.Core.Bool.{true}
-use mathlib.Core.List.{List}
+use mathlib.Core.List.{List, _∷_}
 use lib.ListN.{length, getD}
 use Rattle.refusals.specs.declared.Refusal.{Refusal}
 use Rattle.refusals.specs.declared.Verdict.{Verdict}
 use Rattle.refusals.specs.declared.Verdict.the-variants.{Fine, Bad}
-use Rattle.refusals.specs.Verdicts.{numberOf, first}
-use Rattle.refusals.specs.Outcomes.{Outcome, given, refused}
+use Rattle.refusals.specs.Verdicts.{numberOf, inOrder}
+use Rattle.refusals.specs.Outcomes.{Outcome, given, refused, after}
 use Rattle.words.specs.Rows.{rowCount}
 use Rattle.words.specs.Regions.{cleared}
 use Rattle.bits.specs.Bits.{bit}
+use Rattle.bits.specs.Words.{rowsOf}
 use Rattle.graph.specs.Paths.{Between}
 use Rattle.graph.specs.Flow.{Arrives}
+use Rattle.graph.specs.Rounds.{arrivingRow}
 use Rattle.graph.specs.Checks.{rowsVerdict, spaceOf}
 use Rattle.graph.specs.Work.{Within, EdgeRows}
 use Rattle.components.specs.Entry.{edgesIn, verdictOf as orderVerdict}
-use Rattle.flow.specs.Entry.{rowBit, baseOf, verdictOf as rowVerdict}
+use Rattle.flow.specs.Entry.{rowBit, baseOf, flowedChecks}
 use Rattle.postorder.specs.Settling.{Settling}
 use Rattle.spread.specs.declared.Answer.{Answer}
 use Rattle.spread.specs.declared.Answer.the-variants.{Given, Refused}
@@ -49,16 +51,24 @@ pub record Settled (blocks edges : List ℕ) (points : ℕ) (order₀ work₀ : 
 
 -- ---- spread
 
--- refusals 1, 2, 3 and 7; both kinds of rows have one row to a block
-unfoldable pub verdictOf : List ℕ → List ℕ → ℕ → ℕ → ℕ → ℕ → ℕ → ℕ → Verdict
-verdictOf blocks edges points leaving passing words answer work = first (rowsVerdict passing (rowCount 3 blocks) words) (rowVerdict blocks edges points leaving words answer work)
+-- the checks of `spread`: those of `flowed`, and before them number 1 of the other rows; both kinds have one row to a block
+abbrev pub spreadChecks : List ℕ → List ℕ → ℕ → ℕ → ℕ → ℕ → ℕ → ℕ → List Verdict
+spreadChecks blocks edges points leaving passing words answer work = rowsVerdict passing (rowCount 3 blocks) words ∷ flowedChecks blocks edges points leaving words answer work
 
+unfoldable pub verdictOf : List ℕ → List ℕ → ℕ → ℕ → ℕ → ℕ → ℕ → ℕ → Verdict
+verdictOf blocks edges points leaving passing words answer work = inOrder (spreadChecks blocks edges points leaving passing words answer work)
+
+-- the answer: a row to a block, whose bits are by rounds
+abbrev pub spreadRows : List ℕ → List ℕ → List ℕ → List ℕ → ℕ → List ℕ
+spreadRows blocks edges leaves passes words =
+    rowsOf (rowCount 3 blocks) words (λ v b. arrivingRow (rowCount 3 blocks) (edgesIn blocks edges) (λ k. rowBit leaves words k b) (λ k. rowBit passes words k b) v)
+
+-- the whole answer list by the definition, and its bits by paths
 pub record Filled (blocks edges leaves passes : List ℕ) (words : ℕ) (out₀ work₀ : List ℕ) (r : Answer) (out work : List ℕ) : Type 0 where
   pub outcome : outcomeOf r ≡ given tt
+  pub in-out : out ≡ after (outcomeOf r) (λ _. spreadRows blocks edges leaves passes words) out₀
   pub bits : (v b : ℕ) → v < rowCount 3 blocks → b < words * 64
       → (rowBit out words v b ≡ true) ↔ Arrives (edgesIn blocks edges) (λ k. rowBit leaves words k b) (λ k. rowBit passes words k b) v
-  pub length-kept : length out ≡ length out₀
-  pub past : (i : ℕ) → rowCount 3 blocks * words ≤ i → getD out i 0 ≡ getD out₀ i 0
   pub work-cleared : work ≡ cleared (spaceOf (rowCount 3 blocks) (rowCount 2 edges) (rowCount 3 blocks * words)) work₀
 
 pub record Answered (blocks edges : List ℕ) (points : ℕ) (leaves passes : List ℕ) (words : ℕ) (out₀ work₀ : List ℕ) (r : Answer) (out work : List ℕ) : Type 0 where
