@@ -1,3 +1,4 @@
 pub mod Wants
 pub mod Plan
+pub mod Lowest
 pub mod Queries

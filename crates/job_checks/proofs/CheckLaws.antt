@@ -1,15 +1,19 @@
 -- The checks of a job's records: their order, and what no refusal says.
-use Prim.Native.Nat.{ℕ, _/_, _≤_}
+use Prim.Native.Nat.{ℕ, _/_, _%_, _≤_}
 use native.Mathlib.Omega.{arith}
 use mathlib.Core.Path.{_≡_, refl, sym, ap, _∙_}
+use mathlib.Core.Bool.{not}
 use mathlib.Core.List.{List, [], _∷_}
 use lib.ListN.{length}
+use lib.Dec.{eqb}
+use borrow.Author.Tests.{eqb-true, not-false}
+use Rattle.words.proofs.Bools.{or-neither}
 use Rattle.refusals.specs.declared.Verdict.{Verdict}
 use Rattle.refusals.specs.declared.Verdict.the-variants.{Fine, Bad}
 use Rattle.refusals.specs.declared.Refusal.{Refusal}
-use Rattle.refusals.specs.declared.Refusal.the-variants.{Edge as EdgeWord}
+use Rattle.refusals.specs.declared.Refusal.the-variants.{Count, Edge as EdgeWord}
 use Rattle.refusals.specs.Verdicts.{first, inOrder, scan}
-use Rattle.refusals.proofs.Laws.{first-fine, first-bad, first-left, first-right}
+use Rattle.refusals.proofs.Laws.{first-fine, first-bad, first-left, first-right, check-told}
 use Rattle.words.specs.Rows.{rowCount}
 use Rattle.graph.specs.Line.{blocksOf, jumpsOf, lineVerdict, badEdge, edgeVerdict, Sound}
 use Rattle.graph.proofs.Line.{blocks-length, line-sound}
@@ -18,7 +22,7 @@ use Rattle.carrying.specs.Carried.{mentionsOf, piecesOf}
 use Rattle.carrying.specs.Checks.{instVerdict, crossingVerdict, addressVerdict, endVerdict}
 use Rattle.areas.specs.Slots.{assignedOf, movesOf, moveVerdict, pieceVerdict, assignedVerdict}
 use Rattle.areas.specs.Job.{checks}
-use Rattle.insts.specs.Counts.{rowsVerdict, mostVerdict}
+use Rattle.insts.specs.Counts.{badRows, rowsVerdict, mostVerdict}
 use Rattle.insts.proofs.CheckLaws.{most-few, rows-few}
 use Rattle.carry_checks.specs.Checks.{carryCounts, strayVerdict as mentionVerdict}
 use Rattle.carry_checks.proofs.CheckLaws.{counted, Counted, stray-whatever, addresses-found, ends-found}
@@ -97,6 +101,18 @@ module _ (v : ℕ) (blocks edges insts operands crossings locals slots addresses
           few-ranges = o .few-ranges;
         };
       }
+
+  -- the area list is whole rows
+  pub whole-areas : countVerdict v blocks edges insts operands crossings locals slots addresses ends pieces assigned moves areas ≡ Fine → areas % 2 ≡ 0
+  unfolding countVerdict otherCounts
+  whole-areas e =
+      let a = first-right (carryCounts v blocks insts operands crossings locals addresses ends) _ e in
+      let b = first-right (rowsVerdict 2 16384 (length edges)) _ a in
+      let c = first-right (mostVerdict 2048 (length slots)) _ b in
+      let d = first-right (rowsVerdict 3 65536 (length pieces)) _ c in
+      let f = first-right (rowsVerdict 2 65536 (length assigned)) _ d in
+      let g = first-right (rowsVerdict 4 65536 (length moves)) _ f in
+      eqb-true (areas % 2) 0 (not-false (eqb (areas % 2) 0) (or-neither (not (eqb (areas % 2) 0)) _ (check-told Count (badRows 2 65536 areas) g) .0))
 
 -- ---- numbers 2 to 6, by the functions that check them
 

@@ -4,15 +4,14 @@ use mathlib.Core.Bool.{Bool, true, false, true≢false}
 use mathlib.Core.List.{List, [], _∷_}
 use Prim.Native.Nat.{ℕ, zero, suc, _≤_, _<_}
 use native.Mathlib.Omega.{arith}
-use native.Mathlib.Numerals.{add-one}
 use lib.ListN.{length}
 use borrow.Author.Tests.{ltb-false, leb-false}
 use Rattle.words.proofs.Bools.{or-neither}
 use Rattle.refusals.specs.declared.Verdict.{Verdict}
 use Rattle.refusals.specs.declared.Verdict.the-variants.{Fine, Bad}
 use Rattle.refusals.specs.declared.Refusal.the-variants.{Want}
-use Rattle.refusals.specs.Verdicts.{scan, refuses}
-use Rattle.refusals.proofs.Laws.{scan-fine, scan-none, scan-miss}
+use Rattle.refusals.specs.Verdicts.{refuses}
+use Rattle.refusals.proofs.Laws.{scan-fine, scan-all}
 use Rattle.ranges.specs.declared.Range.{Range}
 use Rattle.ranges.specs.Points.{Upright, Past, Apart}
 use Rattle.ranges.specs.Lent.{reversedAt, wrongAt, listVerdict, faulty}
@@ -58,13 +57,9 @@ faulty-at rs i h e = go (listVerdict true rs) refl
     go Fine f = absurd (true≢false (sym e ∙ right-at true rs f i h))
     go (Bad r j) f = refl
 
-scan-all : (t : ℕ → Bool) (n : ℕ) → ((i : ℕ) → i < n → t i ≡ false) → scan Want t n ≡ Fine
-scan-all t zero f = scan-none Want t
-scan-all t (suc n) f = ap (scan Want t) (sym (add-one n)) ∙ scan-miss Want t n (scan-all t n (λ i h. f i (omega arith))) (f n (omega arith))
-
 pub faulty-none : (rs : List Range) → ((i : ℕ) → i < length rs → wrongAt true rs i ≡ false) → faulty rs ≡ false
 unfolding listVerdict
-faulty-none rs f = ap refuses (scan-all (wrongAt true rs) (length rs) f)
+faulty-none rs f = ap refuses (scan-all Want (wrongAt true rs) (length rs) f)
 
 pub faulty-apart : (rs : List Range) → faulty rs ≡ false → Apart rs
 faulty-apart rs e = go (listVerdict true rs) refl

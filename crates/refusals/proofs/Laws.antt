@@ -6,6 +6,7 @@ use native.Mathlib.Decide.{le-ind, ℕ-discrete}
 use mathlib.Core.Path.{_≡_, refl, sym, ap, _∙_}
 use mathlib.Core.Bool.{Bool, true, false, cond}
 use mathlib.Core.List.{List, [], _∷_}
+use Rattle.refusals.specs.Outcomes.{numbered}
 use Rattle.refusals.specs.Verdicts.{first, inOrder, scan, check, countedOn}
 use native.Mathlib.Nat.{zero-add}
 use Rattle.refusals.specs.declared.Refusal.{Refusal}
@@ -19,6 +20,11 @@ bad-fine e = absurd (let z : _≡_ {A = ℕ} 0 1 = cc in omega arith)
 pub check-told : (r : Refusal) (t : Bool) → check r t ≡ Fine → t ≡ false
 check-told r true e = bad-fine e
 check-told r false e = refl
+
+-- what is told as done was not refused
+pub numbered-fine : (v : Verdict) → numbered Fine ≡ numbered v → v ≡ Fine
+numbered-fine Fine e = refl
+numbered-fine (Bad r i) e = absurd (let z : _≡_ {A = ℕ} 0 1 = cc in omega arith)
 
 -- ---- the first of two
 
@@ -121,3 +127,9 @@ module _ (r : Refusal) (t : ℕ → Bool) where
   scan-fine zero e i l = absurd (omega arith)
   scan-fine (suc n) e i l =
       elim (ℕ-discrete i n) [ yes q ↦ rw q (scan-last n e .1) | no q ↦ scan-fine n (scan-last n e .0) i (omega arith) ]
+
+  -- and one without offending record is not refused
+  pub scan-all : (n : ℕ) → ((i : ℕ) → i < n → t i ≡ false) → scan r t n ≡ Fine
+  unfolding scan first
+  scan-all zero f = refl
+  scan-all (suc n) f = rw (scan-all n (λ i h. f i (omega arith)), f n (omega arith)) refl

@@ -6,7 +6,7 @@ use mathlib.Core.Bool.{Bool, true, false, not, _||_}
 use mathlib.Core.List.{List, [], _∷_}
 use lib.ListN.{length, take, drop}
 use lib.Dec.{ltb, eqb}
-use borrow.Author.Tests.{ltb-false, lt-ltb, le-ltb}
+use borrow.Author.Tests.{ltb-false, lt-ltb, le-ltb, eqb-true, not-false}
 use Rattle.refusals.specs.declared.Verdict.{Verdict}
 use Rattle.refusals.specs.declared.Verdict.the-variants.{Fine, Bad}
 use Rattle.refusals.specs.declared.Refusal.{Refusal}
@@ -81,4 +81,29 @@ module _ (wants areas : List ℕ) (locals budget cells items work : ℕ) where
         in-cells = omega (arith, ltb-false (cells / 2) (rowCount 5 wants) h);
         in-items = omega (arith, ltb-false (items / 4) (rowCount 5 wants) k);
         fine = scan-fine WantRefused (badWant (areasOf areas) wants) (rowCount 5 wants) c;
+      }
+
+  -- the counts that a query of the plan asks for
+  pub record Counts : Type 0 where
+    pub locals-in : locals ≤ rowCount 5 wants
+    pub few-locals : locals ≤ 2048
+    pub few-slots : rowCount 5 wants - locals ≤ 2048
+    pub whole-areas : length areas % 2 ≡ 0
+
+  pub counts-fine : verdict wants areas locals budget cells items work ≡ Fine → Counts
+  unfolding verdict
+  counts-fine e =
+      let (a, _, _) = three-fine Count Space (badCount wants areas locals budget cells items) (badSpace wants areas cells items work) (wantsVerdict areas wants) e in
+      let (f, b) = or-neither (not (wholeRows 5 wants)) _ a in
+      let (w, d) = or-neither (not (wholeRows 2 areas)) _ b in
+      let (g, h) = or-neither (not (eqb (cells % 2) 0)) _ d in
+      let (k, l) = or-neither (not (eqb (items % 4) 0)) _ h in
+      let (m, n) = or-neither (ltb (rowCount 5 wants) locals) _ l in
+      let (o, p) = or-neither (ltb 2048 locals) _ n in
+      let (q, r) = or-neither (ltb 2048 (rowCount 5 wants - locals)) _ p in
+      record {
+        locals-in = ltb-false (rowCount 5 wants) locals m;
+        few-locals = ltb-false 2048 locals o;
+        few-slots = ltb-false 2048 (rowCount 5 wants - locals) q;
+        whole-areas = eqb-true (length areas % 2) 0 (not-false (wholeRows 2 areas) w);
       }
