@@ -1,3 +1,4 @@
+pub mod Corners
 pub mod BlockLaws
 pub mod ThroughLaws
 pub mod JoinLaws

@@ -1,3 +1,4 @@
+pub mod Corners
 pub mod ListLaws
 pub mod Examples
 pub mod CarryLaws

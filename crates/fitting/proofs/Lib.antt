@@ -1,3 +1,4 @@
+pub mod Corners
 pub mod OrderLaws
 pub mod SearchLaws
 pub mod PlanLaws

@@ -1,3 +1,4 @@
+pub mod Corners
 pub mod PointLaws
 pub mod SortLaws
 pub mod MergeLaws

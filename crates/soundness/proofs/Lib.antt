@@ -1,3 +1,4 @@
+pub mod Corners
 pub mod MarkLaws
 pub mod Agreement
 pub mod Holding

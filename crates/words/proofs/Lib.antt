@@ -1,3 +1,4 @@
+pub mod Corners
 pub mod Points
 pub mod Bools
 pub mod SortLaws
