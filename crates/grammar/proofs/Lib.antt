@@ -1,3 +1,4 @@
+pub mod Corners
 pub mod TableLaws
 pub mod NumeralLaws
 pub mod PartLaws

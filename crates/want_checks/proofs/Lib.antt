@@ -1,2 +1,3 @@
+pub mod Corners
 pub mod PartLaws
 pub mod CheckLaws
