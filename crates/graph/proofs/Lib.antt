@@ -1,3 +1,4 @@
+pub mod Corners
 pub mod Sums
 pub mod Counting
 pub mod Line
