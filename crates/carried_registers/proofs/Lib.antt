@@ -1,2 +1,3 @@
 pub mod UpLaws
 pub mod CarriedLaws
+pub mod OrderLaws

@@ -16,7 +16,7 @@ use Rattle.carrying.specs.Carried.{Code, carried}
 use Rattle.reach.specs.Prepared.{codeOf}
 use Rattle.carried_registers.specs.declared.Carrying.{Carrying}
 use Rattle.carried_registers.specs.declared.Carrying.the-variants.{Listed, Absent, Refused}
-use Rattle.carry_checks.specs.Checks.{carryVerdict, carrySpace}
+use Rattle.carry_checks.specs.Checks.{carryChecks, carryVerdict, carrySpace}
 
 -- what each case of an answer stands for: how many registers, none for a local that is absent, or the refusal
 abbrev pub told : Carrying → Outcome (Option ℕ)
@@ -41,6 +41,11 @@ pub record Registers (C : Code) (l used n : ℕ) (answer₀ answer w₀ w : List
   pub count : n ≡ length (carried C l)
   pub room : n ≤ length answer₀
   pub list : Region answer₀ answer 0 n (λ k. getD (carried C l) k 0)
+
+-- the checks of `carried` in their order: numbers 1, 2, 4, 5 and 7
+abbrev pub carriedChecks : ℕ → ℕ → List ℕ → List ℕ → List ℕ → List ℕ → List ℕ → List ℕ → List ℕ → List ℕ → List ℕ → List Verdict
+carriedChecks points v blocks insts operands crossings locals addresses ends answer work =
+    carryChecks points v blocks insts operands crossings locals addresses ends (length answer) (mostOf v insts) (length work)
 
 abbrev pub verdictOf : ℕ → ℕ → List ℕ → List ℕ → List ℕ → List ℕ → List ℕ → List ℕ → List ℕ → ℕ → ℕ → Verdict
 verdictOf points v blocks insts operands crossings locals addresses ends lent work =

@@ -3,6 +3,7 @@ use Prim.Native.Nat.{ℕ, _+_}
 use mathlib.Core.Path.{_≡_}
 use mathlib.Core.List.{List}
 use lib.ListN.{length, replicate}
+use Rattle.refusals.specs.declared.Verdict.{Verdict}
 use Rattle.refusals.specs.Verdicts.{numberOf}
 use Rattle.refusals.specs.Outcomes.{Outcome, given, refused, unless, after}
 use Rattle.words.specs.Rows.{tabulate, rowCount}
@@ -14,7 +15,7 @@ use Rattle.reach.specs.Prepared.{codeOf, Prepared}
 use Rattle.follow.specs.declared.Sizes.{Sizes}
 use Rattle.local_kinds.specs.declared.Answer.{Answer}
 use Rattle.local_kinds.specs.declared.Answer.the-variants.{Given, Refused}
-use Rattle.carry_checks.specs.Checks.{carryVerdict, carrySpace}
+use Rattle.carry_checks.specs.Checks.{carryChecks, carryVerdict, carrySpace}
 pub use Rattle.kind_numbers.specs.Numbers.{kindNumber}
 
 -- what each case of an answer stands for
@@ -37,6 +38,11 @@ pub record Kinds (insts addresses : List ℕ) (lay : Lay) (z : Sizes) (answer₀
 pub record Measured (C : Code) (l used : ℕ) (answer₀ answer w₀ w : List ℕ) : Type 0 where
   pub kept : Within 0 used w₀ w
   pub kinds : Region answer₀ answer 0 l (λ m. kindNumber (kindOf C m))
+
+-- the checks of `reach` in their order: numbers 1, 2, 4, 5 and 7, the last of them for an answer list shorter than the locals or work space under W
+abbrev pub reachChecks : ℕ → ℕ → List ℕ → List ℕ → List ℕ → List ℕ → List ℕ → List ℕ → List ℕ → List ℕ → List ℕ → List Verdict
+reachChecks points v blocks insts operands crossings locals addresses ends answer work =
+    carryChecks points v blocks insts operands crossings locals addresses ends (length answer) (rowCount 2 locals) (length work)
 
 -- the answer of `reach`, its list and the work space afterwards
 pub record ReachTo (points v : ℕ) (blocks insts operands crossings locals addresses ends answer₀ work₀ : List ℕ) (r : Answer) (answer work : List ℕ) : Type 0 where

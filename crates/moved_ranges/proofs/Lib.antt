@@ -1,1 +1,2 @@
 pub mod MovedEntry
+pub mod OrderLaws

@@ -1,1 +1,2 @@
 pub mod SpilledLaws
+pub mod OrderLaws
