@@ -34,7 +34,7 @@ pub struct Local {
 }
 
 // Puts an area behind the areas so far, where it fits within the room; how many ranges there are then. Past the room nothing more is
-// stored, but the total goes on counting: a later item's number 8 wins over number 9.
+// stored, but the total goes on counting: number 9 is told by the ranges of all areas.
 pub fn append(
     work: &mut [u64],
     base: usize,

@@ -3,7 +3,7 @@ use native.Mathlib.Omega.{arith}
 use Prim.Native.Nat.{_+_, _-_, _*_}
 use denote.Ref.{now}
 use Rattle.area_pieces.proofs.SpanLaws.{between-is}
-use Rattle.area_pieces.proofs.PlaceLaws.{one-lt, two-lt, field, inside}
+use Rattle.area_pieces.proofs.PlaceLaws.{one-lt, field, inside}
 use Rattle.area_pieces.proofs.between.Statement.{statement}
 use Rattle.area_pieces.proofs.between.Tie as tie
 
@@ -23,19 +23,19 @@ shared-slice-read-pack : tie.Need-shared-slice-read-pack
 shared-slice-read-pack c = field ((c .before .before) .args .first + 1) 1 _ (inside _ _ _ ((c .before .before .pre) .0) ((c .before .before .pre) .1) ((c .before .before) .good .0 .1) .from) one-lt ((c .before .before) .good .0 .1) .inside
 
 sub-pack : tie.Need-sub-pack
-sub-pack c = inside _ _ _ ((c .before .before .pre) .0) ((c .before .before .pre) .1) ((c .before .before) .good .0 .1) .some
+sub-pack c = omega arith
 
 mul-pack-3 : tie.Need-mul-pack-3
-mul-pack-3 c = field ((c .before .before) .args .last - 1) 2 _ (inside _ _ _ ((c .before .before .pre) .0) ((c .before .before .pre) .1) ((c .before .before) .good .0 .1) .to) two-lt ((c .before .before) .good .0 .1) .row
+mul-pack-3 c = omega arith
 
 add-pack-3 : tie.Need-add-pack-3
-add-pack-3 c = field ((c .before .before) .args .last - 1) 2 _ (inside _ _ _ ((c .before .before .pre) .0) ((c .before .before .pre) .1) ((c .before .before) .good .0 .1) .to) two-lt ((c .before .before) .good .0 .1) .at
+add-pack-3 c = omega arith
 
 mul-pack-4 : tie.Need-mul-pack-4
-mul-pack-4 c = field ((c .before .before) .args .last - 1) 2 _ (inside _ _ _ ((c .before .before .pre) .0) ((c .before .before .pre) .1) ((c .before .before) .good .0 .1) .to) two-lt ((c .before .before) .good .0 .1) .in-bytes
+mul-pack-4 c = omega arith
 
 shared-slice-read-pack-2 : tie.Need-shared-slice-read-pack-2
-shared-slice-read-pack-2 c = field ((c .before .before .before) .args .last - 1) 2 _ (inside _ _ _ ((c .before .before .before .pre) .0) ((c .before .before .before .pre) .1) ((c .before .before .before) .good .0 .1) .to) two-lt ((c .before .before .before) .good .0 .1) .inside
+shared-slice-read-pack-2 c = omega arith
 
 pack-requires : tie.Need-pack-requires
 pack-requires c κs = tt
