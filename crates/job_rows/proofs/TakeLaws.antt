@@ -27,12 +27,12 @@ use Rattle.job_rows.specs.Taken.{Stored}
 
 -- ---- parts of the rows
 
-flat-append : (a b : List (List ℕ)) → flat (a ++ b) ≡ flat a ++ flat b
+pub flat-append : (a b : List (List ℕ)) → flat (a ++ b) ≡ flat a ++ flat b
 unfolding flat
 flat-append [] b = refl
 flat-append (x ∷ a) b = ap (λ (l : List ℕ). x ++ l) (flat-append a b) ∙ sym (append-assoc x (flat a) (flat b))
 
-flat-one : (x : List ℕ) → flat (x ∷ []) ≡ x
+pub flat-one : (x : List ℕ) → flat (x ∷ []) ≡ x
 unfolding flat
 flat-one x = append-nil x
 

@@ -3,32 +3,34 @@ use Prim.Native.Nat.{ℕ, _+_, _*_, _≤_, _<_}
 use native.Mathlib.Omega.{arith}
 use native.Mathlib.Nat.{zero-add}
 use mathlib.Core.Path.{_≡_, refl, ap, sym, subst, _∙_}
-use mathlib.Core.Bool.{Bool, true, false, not}
+use mathlib.Core.Bool.{Bool, true, false, cond, not, _||_}
 use mathlib.Core.Option.{Option}
-use mathlib.Core.List.{List, [], _++_}
+use mathlib.Core.List.{List, [], _∷_, _++_, List·Memᴰ}
 use lib.ListN.{length, drop}
 use lib.Seq.{sets-eq}
-use lib.Dec.{lit≤}
+use lib.Dec.{lit≤, ltb}
 use borrow.Author.Tests.{ltb-false, lt-ltb, le-ltb}
 use Rattle.refusals.specs.declared.Verdict.{Verdict}
 use Rattle.refusals.specs.declared.Verdict.the-variants.{Fine, Bad}
 use Rattle.refusals.specs.declared.Refusal.{Refusal}
-use Rattle.refusals.specs.declared.Refusal.the-variants.{Space}
-use Rattle.refusals.specs.Verdicts.{numberOf, first, check}
+use Rattle.refusals.specs.declared.Refusal.the-variants.{Count, Space, Want as WantRefused}
+use Rattle.refusals.specs.Verdicts.{numberOf, first, inOrder, check}
+use Rattle.refusals.specs.Orders.{Gives, Ordered}
 use Rattle.refusals.specs.Outcomes.{Outcome, given, refused, unless}
-use Rattle.refusals.proofs.Laws.{bad-fine}
+use Rattle.refusals.proofs.Laws.{bad-fine, first-fine, check-last}
+use Rattle.refusals.proofs.Orders.{check-gives, scan-gives, order-append, lowest-wins}
 use Rattle.words.specs.Rows.{rowCount, wholeRows}
 use Rattle.words.proofs.Bools.{or-neither}
 use Rattle.ranges.specs.declared.Range.{Range}
 use Rattle.fitting.specs.Queries.{slotsOf, shared, areasOf}
 use Rattle.queries.specs.Shares.{SharedBy, shareOf}
-use Rattle.query_checks.specs.Checks.{badAreas, sharedVerdict}
+use Rattle.query_checks.specs.Checks.{badCount, badAreas, badItem, partsVerdict, surplus, sharedVerdict}
 use Rattle.queries.specs.declared.Share.{Share}
 use Rattle.queries.specs.declared.Share.the-variants.{Part, Absent, Refused}
 use Rattle.query_checks.proofs.CheckLaws.{parts-areas, shared-sound}
 use Rattle.printing.specs.Puts.{Puts}
 use Rattle.plan_text.specs.declared.Written.the-variants.{Bytes, Refused as WrittenRefused}
-use Rattle.plan_text.specs.Printed.{cellLine, cellLines, itemLine, itemLines, printed, refusalText, printVerdict, Alike, PrintedTo, planText, noText}
+use Rattle.plan_text.specs.Printed.{cellLine, cellLines, itemLine, itemLines, printed, refusalText, roomChecks, inRoom, planChecks, printVerdict, printRank, Alike, PrintedTo, planText, noText}
 use Rattle.plan_text.proofs.LineLaws.{line-length, rows-length}
 
 -- ---- a plan that is not refused
@@ -93,6 +95,9 @@ alike-fine v w a e = go w (ap (λ (x : Verdict). unless x []) (sym e) ∙ a .out
 
 -- ---- the answer
 
+pub room-told : (text : List ℕ) (room : ℕ) (t : Bool) → ltb room (length text) ≡ t → inRoom text room ≡ unless (check Space t) text
+room-told text room t e = ap (λ (v : Verdict). unless v text) (check-last (check Space (ltb room (length text))) ∙ ap (check Space) e)
+
 first-alike : (v w : Verdict) (r : Refusal) (k : ℕ) (x : Verdict) → Alike v w → v ≡ Bad r k → (l : List ℕ) → refused (numberOf r) k ≡ unless (first w x) l
 unfolding first
 first-alike v w r k x a e l = go w (ap (λ (u : Verdict). unless u l) (sym e) ∙ a .outcome l)
@@ -100,6 +105,10 @@ first-alike v w r k x a e l = go w (ap (λ (u : Verdict). unless u l) (sym e) �
     go : (u : Verdict) → refused (numberOf r) k ≡ unless u l → refused (numberOf r) k ≡ unless (first u x) l
     go Fine q = absurd (let z : _≡_ {A = ℕ} 0 1 = cc in omega arith)
     go (Bad p i) q = q
+
+surplus-gives : (t : Bool) (n : ℕ) → Gives WantRefused (cond t (Bad WantRefused n) Fine)
+surplus-gives true n = refl
+surplus-gives false n = tt
 
 refuses : {o : Outcome (List ℕ)} {out : List ℕ} (r : Refusal) (k : ℕ) → refused (numberOf r) k ≡ o → PrintedTo o out (WrittenRefused r k) out
 refuses {o} {out} r k e = subst (λ (x : Outcome (List ℕ)). PrintedTo x out (WrittenRefused r k) out) e (record { answer = refl; in-out = refl })
@@ -109,36 +118,60 @@ writes {o} {out} {out′} text n m e ne h p =
     subst (λ (x : Outcome (List ℕ)). PrintedTo x out (Bytes n) out′) e
     (record { answer = ap given (ne ∙ zero-add (length text)); in-out = p .written ∙ sets-eq text out 0 (omega arith) ∙ ap (λ (k : ℕ). text ++ drop k out) (zero-add (length text)) })
 
-fine-first : (w : Verdict) (t b : Bool) (l : List ℕ) → w ≡ Fine → t ≡ b → unless (first w (check Space t)) l ≡ unless (check Space b) l
-unfolding first
-fine-first w t b l e f = ap (λ (u : Verdict). unless (first u (check Space t)) l) e ∙ ap (λ (x : Bool). unless (check Space x) l) f
+module _ (cells items areas : List ℕ) (locals probes depth room : ℕ) where
+  -- the list is checked behind the plan
+  print-checks : printVerdict cells items areas locals probes depth room ≡ first (sharedVerdict cells items areas locals) (inOrder (roomChecks (printed cells items areas locals probes depth) room))
+  unfolding printVerdict sharedVerdict
+  print-checks =
+      order-append (check Count (badCount cells items locals || badAreas areas) ∷ partsVerdict cells items (rowCount 2 areas) ∷ surplus cells items ∷ []) (roomChecks (printed cells items areas locals probes depth) room)
+
+  -- a plan that is not refused is refused only for the list
+  pub plan-in-room : sharedVerdict cells items areas locals ≡ Fine → planText cells items areas locals probes depth room ≡ inRoom (printed cells items areas locals probes depth) room
+  plan-in-room e = ap (λ (v : Verdict). unless v (printed cells items areas locals probes depth)) (print-checks ∙ first-fine (sharedVerdict cells items areas locals) _ e)
+
+  pub print-ordered : Ordered printRank (Count ∷ WantRefused ∷ WantRefused ∷ Space ∷ []) (planChecks cells items areas locals probes depth room)
+  print-ordered = record {
+    gives = (
+      check-gives Count (badCount cells items locals || badAreas areas),
+      (
+        scan-gives WantRefused (badItem cells items (rowCount 2 areas)) (rowCount 4 items),
+        (surplus-gives (ltb (rowCount 4 items) (rowCount 2 cells)) (rowCount 4 items), (check-gives Space (ltb room (length (printed cells items areas locals probes depth))), tt)),
+      ),
+    );
+    rises = refl;
+  }
+
+  -- of all refusals that a plan and its list have the first in the order 1, 10, 7 is given
+  pub print-lowest : (r s : Refusal) (i j : ℕ) → printVerdict cells items areas locals probes depth room ≡ Bad r i → List·Memᴰ (Bad s j) (planChecks cells items areas locals probes depth room) → printRank r ≤ printRank s
+  unfolding printVerdict
+  print-lowest = lowest-wins printRank _ _ print-ordered
 
 module _ (cells items areas : List ℕ) (locals probes depth : ℕ) (out : List ℕ) where
   pub plan-refused : (v : Verdict) (r : Refusal) (k : ℕ) → Alike v (sharedVerdict cells items areas locals) → v ≡ Bad r k → PrintedTo (planText cells items areas locals probes depth (length out)) out (WrittenRefused r k) out
-  unfolding printVerdict
-  plan-refused v r k a e = refuses r k (first-alike v (sharedVerdict cells items areas locals) r k _ a e (printed cells items areas locals probes depth))
+  plan-refused v r k a e =
+      refuses r k (first-alike v (sharedVerdict cells items areas locals) r k _ a e (printed cells items areas locals probes depth)
+      ∙ ap (λ (w : Verdict). unless w (printed cells items areas locals probes depth)) (sym (print-checks cells items areas locals probes depth (length out))))
 
   module _ (fine : sharedVerdict cells items areas locals ≡ Fine) {scratch scratch′ : List ℕ} {n : ℕ} (c : Puts (printed cells items areas locals probes depth) scratch 0 scratch′ n) where
     pub plan-long : length out < n → PrintedTo (planText cells items areas locals probes depth (length out)) out (WrittenRefused Space 0) out
-    unfolding printVerdict
     plan-long h =
-        refuses Space 0
-        (sym (fine-first (sharedVerdict cells items areas locals) _ true (printed cells items areas locals probes depth) fine
+        refuses Space 0 (sym (plan-in-room cells items areas locals probes depth (length out) fine ∙ room-told (printed cells items areas locals probes depth) (length out) true
         (lt-ltb (length out) (length (printed cells items areas locals probes depth)) (let p = c .place in omega arith))))
 
     pub plan-written : {out′ : List ℕ} {m : ℕ} → n ≤ length out → Puts (printed cells items areas locals probes depth) out 0 out′ m → PrintedTo (planText cells items areas locals probes depth (length out)) out (Bytes n) out′
-    unfolding printVerdict
     plan-written {out′} {m} h p =
         writes (printed cells items areas locals probes depth) n m
-        (sym (fine-first (sharedVerdict cells items areas locals) _ false (printed cells items areas locals probes depth) fine
+        (sym (plan-in-room cells items areas locals probes depth (length out) fine ∙ room-told (printed cells items areas locals probes depth) (length out) false
         (le-ltb (length out) (length (printed cells items areas locals probes depth)) (let q = c .place in omega arith)))) (c .place) h p
 
 module _ (number index : ℕ) (out : List ℕ) {scratch scratch′ : List ℕ} {n : ℕ} (c : Puts (refusalText number index) scratch 0 scratch′ n) where
   pub refusal-long : length out < n → PrintedTo (noText number index (length out)) out (WrittenRefused Space 0) out
-  refusal-long h =
-      refuses Space 0 (ap (λ (t : Bool). unless (check Space t) (refusalText number index)) (sym (lt-ltb (length out) (length (refusalText number index)) (let p = c .place in omega arith))))
+  refusal-long h = refuses Space 0 (sym (room-told (refusalText number index) (length out) true (lt-ltb (length out) (length (refusalText number index)) (let p = c .place in omega arith))))
 
   pub refusal-written : {out′ : List ℕ} {m : ℕ} → n ≤ length out → Puts (refusalText number index) out 0 out′ m → PrintedTo (noText number index (length out)) out (Bytes n) out′
   refusal-written {out′} {m} h p =
-      writes (refusalText number index) n m
-      (ap (λ (t : Bool). unless (check Space t) (refusalText number index)) (sym (le-ltb (length out) (length (refusalText number index)) (let q = c .place in omega arith)))) (c .place) h p
+      writes (refusalText number index) n m (sym (room-told (refusalText number index) (length out) false (le-ltb (length out) (length (refusalText number index)) (let q = c .place in omega arith)))) (c .place) h p
+
+-- a text in a list has the one refusal 7
+pub room-ordered : (text : List ℕ) (room : ℕ) → Ordered numberOf (Space ∷ []) (roomChecks text room)
+room-ordered text room = record { gives = (check-gives Space (ltb room (length text)), tt); rises = refl }

@@ -1,18 +1,20 @@
 -- Document 01, "Job text": the text of a plan or of a refusal.
 use Prim.Native.Nat.{ℕ, _+_, _-_}
 use mathlib.Core.Path.{_≡_}
+use mathlib.Core.Bool.{_||_}
 use mathlib.Core.Option.{Option, some, none}
 use mathlib.Core.List.{List, [], _∷_, _++_, map}
 use lib.ListN.{length}
 use lib.Dec.{ltb}
-use Rattle.refusals.specs.Verdicts.{numberOf, first, check}
+use Rattle.refusals.specs.Verdicts.{numberOf, inOrder, check}
 use Rattle.refusals.specs.Outcomes.{Outcome, given, refused, unless, after}
 use Rattle.refusals.specs.declared.Verdict.{Verdict}
-use Rattle.refusals.specs.declared.Refusal.the-variants.{Space}
+use Rattle.refusals.specs.declared.Refusal.{Refusal}
+use Rattle.refusals.specs.declared.Refusal.the-variants.{Count, Line, Edge, Inst, Stray, Piece, Space, Inverted, List as ListFull, Want, Text}
 use Rattle.words.specs.Rows.{tabulate, rowCount, field, flat}
 use Rattle.ranges.specs.declared.Range.{Range}
 use Rattle.fitting.specs.Queries.{slotsOf, shared}
-use Rattle.query_checks.specs.Checks.{sharedVerdict}
+use Rattle.query_checks.specs.Checks.{badCount, badAreas, partsVerdict, surplus}
 use Rattle.printing.specs.Lines.{lineText}
 use Rattle.plan_text.specs.declared.Written.{Written}
 use Rattle.plan_text.specs.declared.Written.the-variants.{Bytes, Refused as WrittenRefused}
@@ -61,10 +63,34 @@ refusalText number index = lineText 78 (number ∷ index ∷ [])
 
 -- ---- what is answered
 
--- the plan is checked as `shared` checks it (1 and 10); a list that is shorter than the text is 7
+-- a text in a list: 7 where the list is shorter than the text
+abbrev pub roomChecks : List ℕ → ℕ → List Verdict
+roomChecks text room = check Space (ltb room (length text)) ∷ []
+
+abbrev pub inRoom : List ℕ → ℕ → Outcome (List ℕ)
+inRoom text room = unless (inOrder (roomChecks text room)) text
+
+-- `print_plan`: the plan is checked as `shared` checks it (1 and 10), then the list (7)
+abbrev pub planChecks : List ℕ → List ℕ → List ℕ → ℕ → ℕ → ℕ → ℕ → List Verdict
+planChecks cells items areas locals probes depth room =
+    check Count (badCount cells items locals || badAreas areas) ∷ partsVerdict cells items (rowCount 2 areas) ∷ surplus cells items ∷ roomChecks (printed cells items areas locals probes depth) room
+
 unfoldable pub printVerdict : List ℕ → List ℕ → List ℕ → ℕ → ℕ → ℕ → ℕ → Verdict
-printVerdict cells items areas locals probes depth room =
-    first (sharedVerdict cells items areas locals) (check Space (ltb room (length (printed cells items areas locals probes depth))))
+printVerdict cells items areas locals probes depth room = inOrder (planChecks cells items areas locals probes depth room)
+
+-- its order: 1, 10, 7
+abbrev pub printRank : Refusal → ℕ
+printRank Count = 1
+printRank Want = 2
+printRank Space = 3
+printRank Line = 4
+printRank Edge = 4
+printRank Inst = 4
+printRank Stray = 4
+printRank Piece = 4
+printRank Inverted = 4
+printRank ListFull = 4
+printRank Text = 4
 
 -- two verdicts that refuse by the same number and index, or neither does
 pub record Alike (v w : Verdict) : Type 0 where
@@ -87,4 +113,4 @@ abbrev pub planText : List ℕ → List ℕ → List ℕ → ℕ → ℕ → ℕ
 planText cells items areas locals probes depth room = unless (printVerdict cells items areas locals probes depth room) (printed cells items areas locals probes depth)
 
 abbrev pub noText : ℕ → ℕ → ℕ → Outcome (List ℕ)
-noText number index room = unless (check Space (ltb room (length (refusalText number index)))) (refusalText number index)
+noText number index room = inRoom (refusalText number index) room

@@ -1,26 +1,23 @@
 -- From what each function leaves to what the program prints.
-use Prim.Native.Nat.{ℕ, zero, suc, _+_, _-_, _*_, _/_, _≤_, _<_}
+use Prim.Native.Nat.{ℕ, _+_, _-_, _*_, _/_, _≤_, _<_}
 use native.Mathlib.Omega.{arith}
-use native.Mathlib.Nat.{not-suc-le-zero}
-use native.Mathlib.Decide.{ℕ-discrete}
 use mathlib.Core.Path.{_≡_, refl, ap, sym, subst, _∙_}
-use mathlib.Core.Bool.{Bool, false}
-use mathlib.Core.List.{List, [], _∷_, _++_}
+use mathlib.Core.Bool.{false}
+use mathlib.Core.List.{List, _++_}
 use lib.ListN.{length, getD, take, drop, length-append}
 use lib.Seq.{take-append-seam}
-use lib.Dec.{ltb, lit<, lit≤}
-use borrow.Author.Tests.{le-ltb, ltb-false}
+use lib.Dec.{lit<}
+use borrow.Author.Tests.{le-ltb}
 use Rattle.refusals.specs.declared.Verdict.{Verdict}
 use Rattle.refusals.specs.declared.Verdict.the-variants.{Fine, Bad}
 use Rattle.refusals.specs.declared.Refusal.{Refusal}
-use Rattle.refusals.specs.declared.Refusal.the-variants.{Count, Space}
-use Rattle.refusals.specs.Verdicts.{numberOf, first, check}
+use Rattle.refusals.specs.Verdicts.{numberOf, first}
 use Rattle.refusals.specs.Outcomes.{Outcome, given, refused, unless, after}
-use Rattle.refusals.proofs.Laws.{first-left, first-right, check-told}
+use Rattle.refusals.proofs.Laws.{first-left, first-right}
+use Rattle.refusals.proofs.Numbers.{numbered-same}
 use Rattle.words.specs.Regions.{part}
 use Rattle.words.proofs.RowLaws.{length-records}
 use Rattle.words.proofs.RegionLaws.{length-part}
-use Rattle.words.proofs.Bools.{or-neither}
 use Rattle.areas.specs.Job.{Job, Local, itemCount, itemArea, listVerdict}
 use Rattle.fitting.specs.Plan.{Plan}
 use Rattle.query_checks.specs.Checks.{sharedVerdict}
@@ -33,21 +30,22 @@ use Rattle.job_answers.specs.Answers.{answered, itemRows}
 use Rattle.job.specs.Entry.{lentVerdict, verdictOf}
 use Rattle.grammar.specs.Groups.{groupAt, groupCount, rowNumbers}
 use Rattle.grammar.specs.Lines.{linesOf}
-use Rattle.grammar.specs.Text.{countOf, crowded, tooMany, linesVerdict, readVerdict, registers as registersIn}
+use Rattle.grammar.specs.Text.{linesVerdict, readVerdict}
 use Rattle.grammar.proofs.TableLaws.{room-most}
 use Rattle.job_rows.specs.declared.Reader.{Reader}
-use Rattle.text.specs.Read.{Ready, Records, Finishes}
-use Rattle.text.proofs.EndLaws.{head-counted}
+use Rattle.text.specs.Read.{Ready, Records, Finishes, Finished}
+use Rattle.text.proofs.EndLaws.{head-counted, accepted-few}
+use Rattle.text.proofs.WholeLaws.{text-fine}
 use Rattle.plan_text.specs.declared.Written.{Written}
 use Rattle.plan_text.specs.declared.Written.the-variants.{Bytes, Refused as WrittenRefused}
-use Rattle.plan_text.specs.Printed.{printed, refusalText, printVerdict, writtenOf, PrintedTo, planText, noText}
-use Rattle.plan_text.proofs.LineLaws.{line-length}
+use Rattle.plan_text.specs.Printed.{printed, refusalText, inRoom, writtenOf, PrintedTo, planText}
+use Rattle.plan_text.proofs.PlanLaws.{room-told, plan-in-room}
 use Rattle.planning.specs.Program.{told, jobText, job, refusal, printedFor, numbersIn, programText}
 use Rattle.row_plans.specs.Groups.{points, registers, budget, numbersAt, Few, SharedFor}
 use Rattle.wants.proofs.TallyLaws.{not-refused}
-use Rattle.planning.specs.Answer.{Finished, Read, Stands, Answers, roomFor}
+use Rattle.planning.specs.Answer.{Read, Stands, Answers}
 use Rattle.planning.proofs.GroupLaws.{same-printed}
-use Rattle.planning.proofs.PrintLaws.{Printable, cells-long, items-long, plan-fine, text-before, text-short, printed-same}
+use Rattle.planning.proofs.PrintLaws.{Printable, cells-long, items-long, plan-fine, text-before, printed-same}
 use Rattle.planning.proofs.JobLaws.{job-printable}
 
 -- ---- a text that was written
@@ -70,44 +68,29 @@ bytes-refused {w} {r} {i} e m f =
     let g : refused (numberOf r) i ≡ given m = ap writtenOf (sym e) ∙ f in
     absurd (let z : _≡_ {A = ℕ} 0 1 = cc in omega arith)
 
-pub refusal-given : (number index room : ℕ) → roomFor ≤ room → noText number index room ≡ given (refusalText number index)
-refusal-given number index room h =
-    let l = line-length 78 (number ∷ index ∷ []) (lit≤ tt) in
-    ap (λ (t : Bool). unless (check Space t) (refusalText number index)) (le-ltb room (length (refusalText number index)) (omega arith))
+-- a text that has room is given
+pub room-given : (text : List ℕ) (room : ℕ) → length text ≤ room → inRoom text room ≡ given text
+room-given text room h = room-told text room false (le-ltb room (length text) h)
 
-module _ (cells items areas : List ℕ) (locals probes depth room : ℕ) where
-  pub plan-given : sharedVerdict cells items areas locals ≡ Fine → length (printed cells items areas locals probes depth) ≤ room
-      → planText cells items areas locals probes depth room ≡ given (printed cells items areas locals probes depth)
-  unfolding printVerdict first
-  plan-given e h =
-      ap (λ (v : Verdict). unless (first v (check Space (ltb room (length (printed cells items areas locals probes depth))))) (printed cells items areas locals probes depth)) e
-      ∙ ap (λ (t : Bool). unless (check Space t) (printed cells items areas locals probes depth)) (le-ltb room (length (printed cells items areas locals probes depth)) h)
+pub printed-as : {a b : List ℕ} {out : List ℕ} {w : Written} {out′ : List ℕ} → a ≡ b → PrintedTo (inRoom a (length out)) out w out′ → PrintedTo (inRoom b (length out)) out w out′
+printed-as {a} {b} {out} {w} {out′} e p = subst (λ (x : List ℕ). PrintedTo (inRoom x (length out)) out w out′) e p
+
+-- the plan is not refused, and so only the list can be
+pub plan-told : (cells items areas : List ℕ) (locals probes depth : ℕ) {out : List ℕ} {w : Written} {out′ : List ℕ} → sharedVerdict cells items areas locals ≡ Fine
+    → PrintedTo (planText cells items areas locals probes depth (length out)) out w out′ → PrintedTo (inRoom (printed cells items areas locals probes depth) (length out)) out w out′
+plan-told cells items areas locals probes depth {out} {w} {out′} e p =
+    subst (λ (x : Outcome (List ℕ)). PrintedTo x out w out′) (plan-in-room cells items areas locals probes depth (length out) e) p
 
 -- ---- an accepted text has few records of each group
 
-not-crowded : (ls : List (List ℕ)) (n k : ℕ) → crowded n ls ≡ false → k < n → countOf k ls ≤ groupAt k .room
-unfolding crowded
-not-crowded ls zero k e h = absurd (not-suc-le-zero h)
-not-crowded ls (suc n) k e h =
-    let p = or-neither (crowded n ls) (ltb (groupAt n .room) (countOf n ls)) e in
-    elim (ℕ-discrete k n) [
-      | yes q ↦ rw q (ltb-false (groupAt n .room) (countOf n ls) (p .1))
-      | no d ↦ not-crowded ls n k (p .0) (below d)
-    ]
-  where
-    below : (k ≡ n → ⊥) → k < n
-    below d = elim (ℕ-discrete k n) [ yes q ↦ absurd (d q) | no q ↦ omega arith ]
-
 pub few-of : (text rows counts : List ℕ) {w : Verdict} → w ≡ Fine → Finished text w rows counts → Few counts
 few-of text rows counts e F =
-    let R = F .records e in
-    let v = sym (F .verdict) ∙ e in
-    let t = check-told Count (tooMany (linesOf text)) (first-right (linesVerdict (linesOf text)) _ v) in
-    let c = or-neither (crowded groupCount (linesOf text)) (ltb 64 (registersIn (linesOf text))) t .0 in
+    let v = text-fine text F e in
+    let R = F .records v in
     record {
       head = rw (R .counted 0 (lit< tt)) (head-counted (linesOf text) (first-left (linesVerdict (linesOf text)) _ v));
       few = λ k h.
-          let a = not-crowded (linesOf text) groupCount k c h in
+          let a = accepted-few text v k h in
           let b = room-most k h in
           let d = R .counted k h in
           omega arith;
@@ -121,17 +104,14 @@ module _ (text rows counts : List ℕ) where
 
   pub accepted : {v : Verdict} → v ≡ Fine → Finished text v rows counts → printedFor (numbersAt rows counts) Fine ≡ programText text
   accepted {v} e F =
-      let s = same-numbers (F .records e) in
-      ap (printedFor (numbersAt rows counts)) (sym e ∙ F .verdict)
+      let s = same-numbers (F .records (text-fine text F e)) in
+      ap (printedFor (numbersAt rows counts)) (sym (text-fine text F e))
       ∙ same-printed (numbersAt rows counts) (numbersIn text) (readVerdict text) (s 0 (lit< tt)) (s 1 (lit< tt)) (s 2 (lit< tt)) (s 3 (lit< tt)) (s 4 (lit< tt)) (s 5 (lit< tt)) (s 6 (lit< tt))
       (s 7 (lit< tt)) (s 8 (lit< tt)) (s 9 (lit< tt)) (s 10 (lit< tt)) (s 11 (lit< tt)) (s 12 (lit< tt))
 
   pub turned-back : {v : Verdict} (r : Refusal) (i : ℕ) → v ≡ Bad r i → Finished text v rows counts → refusalText (numberOf r) i ≡ programText text
   unfolding printedFor first
-  turned-back r i e F = ap (λ (x : Verdict). told (unless (first x (refusal (numbersIn text))) (jobText (job (numbersIn text)) (budget (numbersIn text))))) (sym e ∙ F .verdict)
-
-pub stands-as : {a b out : List ℕ} {n : ℕ} {out′ : List ℕ} → a ≡ b → Stands a out n out′ → Stands b out n out′
-stands-as {a} {b} {out} {n} {out′} e s = subst (λ (x : List ℕ). Stands x out n out′) e s
+  turned-back {v} r i e F = ap (λ (x : Verdict). told (unless (first x (refusal (numbersIn text))) (jobText (job (numbersIn text)) (budget (numbersIn text))))) (sym e ∙ numbered-same v (readVerdict text) (F .verdict))
 
 -- ---- the answer of the whole job, as text
 
@@ -155,7 +135,7 @@ held-tally (refused n i) = record { cells = 0; probes = 0; depth = 0 }
 fine-same : (a : List ℕ) {c c′ i i′ : List ℕ} {l l′ : ℕ} → c ≡ c′ → i ≡ i′ → l ≡ l′ → sharedVerdict c′ i′ a l′ ≡ Fine → sharedVerdict c i a l ≡ Fine
 fine-same a e f g h = rw (e, f, g) h
 
-abbrev makeLocal : (ℕ → ℕ) → Local
+abbrev pub makeLocal : (ℕ → ℕ) → Local
 makeLocal f = record { size = f 0; align = f 1 }
 
 module _ (rows counts : List ℕ) (long : length rows ≡ rowNumbers) (F : Few counts) where
@@ -247,15 +227,8 @@ module _ (rows counts : List ℕ) (long : length rows ≡ rowNumbers) (F : Few c
             printed-same cs-is is-is areas-are (sym local-count) (ap (λ (t : Tally). t .probes) tally-is) (ap (λ (t : Tally). t .depth) tally-is)
             ∙ text-before printable (drop (length (areaRows (itemCount J) (itemArea J))) areas)
 
-        text-room : length (jobText J (budget group)) ≤ roomFor
-        unfolding jobText
-        text-room = text-short printable
-
-        pub print-ready : (room : ℕ) → roomFor ≤ room → (sharedVerdict cs is areas′ (getD counts 6 0) ≡ Fine) × (length (printed cs is areas′ (getD counts 6 0) p d) ≤ room)
-        print-ready room h =
-            let s = text-room in
-            let e : length (printed cs is areas′ (getD counts 6 0) p d) ≡ length (jobText J (budget group)) = ap length text-is in
-            (fine-same areas′ cs-is is-is (sym local-count) (plan-fine printable areas′ kept), omega arith)
+        pub print-ready : sharedVerdict cs is areas′ (getD counts 6 0) ≡ Fine
+        print-ready = fine-same areas′ cs-is is-is (sym local-count) (plan-fine printable areas′ kept)
 
         pub plan-printed : printed cs is areas′ (getD counts 6 0) p d ≡ printedFor group Fine
         unfolding printedFor first

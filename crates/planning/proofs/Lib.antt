@@ -4,3 +4,4 @@ pub mod Stars
 pub mod PrintLaws
 pub mod JobLaws
 pub mod AnswerLaws
+pub mod TextLaws

@@ -4,18 +4,13 @@ use mathlib.Core.Path.{_≡_}
 use mathlib.Core.List.{List, _++_}
 use lib.ListN.{length, drop}
 use Rattle.refusals.specs.declared.Verdict.{Verdict}
-use Rattle.refusals.specs.declared.Verdict.the-variants.{Fine}
 use Rattle.grammar.specs.Groups.{groupCount, rowNumbers}
-use Rattle.grammar.specs.Text.{readVerdict}
-use Rattle.text.specs.Read.{Records}
+use Rattle.text.specs.Read.{Finished}
+use Rattle.plan_text.specs.declared.Written.{Written}
+use Rattle.plan_text.specs.Printed.{inRoom, PrintedTo}
 use Rattle.planning.specs.Program.{programText}
 
--- the reader came to the end of this text: its verdict, and the records in its lists where it accepts
-pub record Finished (text : List ℕ) (v : Verdict) (rows counts : List ℕ) : Type 0 where
-  pub verdict : v ≡ readVerdict text
-  pub records : v ≡ Fine → Records text rows counts
-
--- of some text
+-- the reader came to the end of some text
 pub record Read (v : Verdict) (rows counts : List ℕ) : Type 0 where
   pub text : List ℕ
   pub finished : Finished text v rows counts
@@ -31,6 +26,14 @@ pub record Stands (text out : List ℕ) (n : ℕ) (out′ : List ℕ) : Type 0 w
   pub count : n ≡ length text
   pub in-out : out′ ≡ text ++ drop (length text) out
 
--- whatever the text was that the reader read: what the program prints for it
+-- `print_text`: what the program prints for a text stands in the list, or 7 where the list is shorter; nothing else is refused
+abbrev pub TextPrinted : List ℕ → List ℕ → Written → List ℕ → Type 0
+TextPrinted text out r out′ = PrintedTo (inRoom (programText text) (length out)) out r out′
+
+-- the same, whatever the text was that the reader read
+abbrev pub Tells : Verdict → List ℕ → List ℕ → List ℕ → Written → List ℕ → Type 0
+Tells v rows counts out r out′ = (text : List ℕ) → Finished text v rows counts → TextPrinted text out r out′
+
+-- in a list with room for any text
 abbrev pub Answers : Verdict → List ℕ → List ℕ → List ℕ → ℕ → List ℕ → Type 0
 Answers v rows counts out n out′ = (text : List ℕ) → Finished text v rows counts → Stands (programText text) out n out′

@@ -6,11 +6,10 @@ ghost use Rattle.refusals.specs.declared.Verdict.the-variants.{Fine};
 ghost use Rattle.refusals.specs.Verdicts.{numberOf};
 ghost use Rattle.refusals.specs.Outcomes.{given};
 ghost use Rattle.grammar.specs.Groups.{rowNumbers, groupCount};
-ghost use Rattle.query_checks.specs.Checks.{sharedVerdict};
-ghost use Rattle.plan_text.specs.Printed.{printed, refusalText, writtenOf};
+ghost use Rattle.plan_text.specs.Printed.{refusalText, inRoom, writtenOf, PrintedTo};
 ghost use Rattle.planning.specs.Program.{printedFor};
 ghost use Rattle.row_plans.specs.Groups.{numbersAt, Few};
-ghost use Rattle.planning.specs.Answer.{Read, Stands, Answers, roomFor};
+ghost use Rattle.planning.specs.Answer.{Read, TextPrinted, Tells, Answers, roomFor};
 use job::Shared;
 use plan_text::Written;
 use plan_text::print_plan;
@@ -20,6 +19,7 @@ use refusals::Verdict;
 use refusals::number;
 pub use row_plans::held;
 pub use row_plans::planned;
+use text::read_text;
 
 // How many bytes were written, where the text was not refused.
 fn bytes(w: Written) -> usize
@@ -31,34 +31,16 @@ fn bytes(w: Written) -> usize
     }
 }
 
-fn refuse(r: Refusal, i: usize, out: &mut [u8]) -> usize
-    requires { ⌜ roomFor ≤ length (now out) ⌝ }
-    ensures { λ n. ⌜ Stands (refusalText (numberOf r) i) (now (out .entry)) n (now (out .exit)) ⌝ }
+fn refuse(r: Refusal, i: usize, out: &mut [u8]) -> Written
+    ensures { λ w. ⌜ PrintedTo (inRoom (refusalText (numberOf r) i) (length (now (out .entry)))) (now (out .entry)) w (now (out .exit)) ⌝ }
 {
-    let w = print_refusal(number(r), i as u64, out);
-    bytes(w)
-}
-
-fn print(
-    cells: &[u32],
-    items: &[u32],
-    areas: &[u32],
-    locals: u32,
-    probes: u64,
-    depth: u64,
-    out: &mut [u8],
-) -> usize
-    requires { ⌜ (sharedVerdict (now cells) (now items) (now areas) locals ≡ Fine) × (length (printed (now cells) (now items) (now areas) locals probes depth) ≤ length (now out)) ⌝ }
-    ensures { λ n. ⌜ Stands (printed (now (cells .entry)) (now (items .entry)) (now (areas .entry)) locals probes depth) (now (out .entry)) n (now (out .exit)) ⌝ }
-{
-    let w = print_plan(cells, items, areas, locals, probes, depth, out);
-    bytes(w)
+    print_refusal(number(r), i as u64, out)
 }
 
 // The text of the records' plan, or of their refusal.
-fn plan(rows: &[u32], counts: &[u32], out: &mut [u8]) -> usize
-    requires { ⌜ (length (now rows) ≡ rowNumbers) × (length (now counts) ≡ groupCount) × Few (now counts) × (roomFor ≤ length (now out)) ⌝ }
-    ensures { λ n. ⌜ Stands (printedFor (numbersAt (now (rows .entry)) (now (counts .entry))) Fine) (now (out .entry)) n (now (out .exit)) ⌝ }
+fn plan(rows: &[u32], counts: &[u32], out: &mut [u8]) -> Written
+    requires { ⌜ (length (now rows) ≡ rowNumbers) × (length (now counts) ≡ groupCount) × Few (now counts) ⌝ }
+    ensures { λ w. ⌜ PrintedTo (inRoom (printedFor (numbersAt (now (rows .entry)) (now (counts .entry))) Fine) (length (now (out .entry)))) (now (out .entry)) w (now (out .exit)) ⌝ }
 {
     let mut cells = [0u32; 256];
     let mut items = [0u32; 512];
@@ -67,7 +49,7 @@ fn plan(rows: &[u32], counts: &[u32], out: &mut [u8]) -> usize
     let n = held(counts, 6) + held(counts, 7);
     let r = planned(rows, counts, &mut cells, &mut items, &mut areas, &mut work);
     match r {
-        Shared::Plan(c, probes, depth) => print(
+        Shared::Plan(c, probes, depth) => print_plan(
             &cells[0..2 * c],
             &items[0..4 * n],
             &areas,
@@ -80,13 +62,32 @@ fn plan(rows: &[u32], counts: &[u32], out: &mut [u8]) -> usize
     }
 }
 
-// What the program prints, given what its reader answered and left in its lists: how many bytes, and the bytes in the lent list.
-pub fn answer(v: Verdict, rows: &[u32], counts: &[u32], out: &mut [u8]) -> usize
-    requires { ⌜ Read v (now rows) (now counts) × (roomFor ≤ length (now out)) ⌝ }
-    ensures { λ n. ⌜ Answers v (now (rows .entry)) (now (counts .entry)) (now (out .entry)) n (now (out .exit)) ⌝ }
+// What the program prints, given what its reader answered and left in its lists.
+fn tell(v: Verdict, rows: &[u32], counts: &[u32], out: &mut [u8]) -> Written
+    requires { ⌜ Read v (now rows) (now counts) ⌝ }
+    ensures { λ w. ⌜ Tells v (now (rows .entry)) (now (counts .entry)) (now (out .entry)) w (now (out .exit)) ⌝ }
 {
     match v {
         Verdict::Fine => plan(rows, counts, out),
         Verdict::Bad(r, i) => refuse(r, i, out),
     }
+}
+
+// For the program, whose list has room: how many bytes it prints, and the bytes in the lent list.
+pub fn answer(v: Verdict, rows: &[u32], counts: &[u32], out: &mut [u8]) -> usize
+    requires { ⌜ Read v (now rows) (now counts) × (roomFor ≤ length (now out)) ⌝ }
+    ensures { λ n. ⌜ Answers v (now (rows .entry)) (now (counts .entry)) (now (out .entry)) n (now (out .exit)) ⌝ }
+{
+    let w = tell(v, rows, counts, out);
+    bytes(w)
+}
+
+// A job's text in, the program's text out: its plan, or the line of its refusal. Refuses a list that is shorter than that text (7); 65,536 bytes are enough for any.
+pub fn print_text(text: &[u8], out: &mut [u8]) -> Written
+    ensures { λ w. ⌜ TextPrinted (now (text .entry)) (now (out .entry)) w (now (out .exit)) ⌝ }
+{
+    let mut rows = [0; 2115];
+    let mut counts = [0; 13];
+    let v = read_text(text, &mut rows, &mut counts);
+    tell(v, &rows, &counts, out)
 }

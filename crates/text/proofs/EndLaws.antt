@@ -10,17 +10,17 @@ use mathlib.Core.List.{List, [], _∷_, _++_, append-assoc, append-nil}
 use lib.ListN.{length, getD, take, length-append, length-take, List·getD-append}
 use lib.Seq.{take-suc, take-length}
 use lib.Dec.{T, eqb, leb, ltb, lit<, leb·suc-zero}
-use borrow.Author.Tests.{eq-eqb, ne-eqb, lt-ltb, le-ltb, eqb-true}
+use borrow.Author.Tests.{eq-eqb, ne-eqb, lt-ltb, le-ltb, eqb-true, ltb-false}
 use Rattle.refusals.specs.declared.Verdict.{Verdict}
 use Rattle.refusals.specs.declared.Verdict.the-variants.{Fine, Bad}
 use Rattle.refusals.specs.declared.Refusal.the-variants.{Count, Text as TextRefused}
 use Rattle.refusals.specs.Verdicts.{first, scan, check}
-use Rattle.refusals.proofs.Laws.{scan-fine}
+use Rattle.refusals.proofs.Laws.{scan-fine, first-right, check-told}
 use Rattle.words.specs.Rows.{flat}
 use Rattle.words.specs.Regions.{part}
 use Rattle.words.proofs.RegionLaws.{getD-part}
 use Rattle.words.proofs.Points.{cut}
-use Rattle.words.proofs.Bools.{or-right, never}
+use Rattle.words.proofs.Bools.{or-right, or-neither, never}
 use Rattle.grammar.specs.Groups.{groupAt, groupCount, mayFollow}
 use Rattle.grammar.specs.Lines.{newline, linesOf, groupOf, ended, body, formed, wellFormed, lineGroup, lineFields}
 use Rattle.grammar.specs.Text.{placeBefore, malformed, badLine, linesVerdict, rowsIn, rowWith, operandsAfter, countOf, registers, crowded, tooMany, readVerdict}
@@ -86,6 +86,22 @@ unfolding crowded
 none-over ls zero f = refl
 none-over ls (suc n) f =
     ap (λ (t : Bool). t || ltb (groupAt n .room) (countOf n ls)) (none-over ls n (λ k h. f k (omega arith))) ∙ le-ltb (groupAt n .room) (countOf n ls) (f n (omega arith))
+
+pub not-crowded : (ls : List (List ℕ)) (n k : ℕ) → crowded n ls ≡ false → k < n → countOf k ls ≤ groupAt k .room
+unfolding crowded
+not-crowded ls zero k e h = absurd (not-suc-le-zero h)
+not-crowded ls (suc n) k e h =
+    let p = or-neither (crowded n ls) (ltb (groupAt n .room) (countOf n ls)) e in
+    elim (ℕ-discrete k n) [
+      | yes q ↦ rw q (ltb-false (groupAt n .room) (countOf n ls) (p .1))
+      | no d ↦ not-crowded ls n k (p .0) (cut n k (λ a. absurd (d (omega arith))) (λ a. a))
+    ]
+
+-- an accepted text has no more records of a group than there are rows
+pub accepted-few : (text : List ℕ) → readVerdict text ≡ Fine → (k : ℕ) → k < groupCount → countOf k (linesOf text) ≤ groupAt k .room
+accepted-few text e k h =
+    let t = check-told Count (tooMany (linesOf text)) (first-right (linesVerdict (linesOf text)) _ e) in
+    not-crowded (linesOf text) groupCount k (or-neither (crowded groupCount (linesOf text)) (ltb 64 (registers (linesOf text))) t .0) h
 
 -- ---- `H` comes first
 

@@ -1,2 +1,4 @@
 pub mod ByteLaws
 pub mod EndLaws
+pub mod CopyLaws
+pub mod WholeLaws

@@ -2,9 +2,11 @@
 ghost use mathlib.Core.Path.{_≡_};
 ghost use mathlib.Core.List.{_∷_, []};
 ghost use Prim.Native.Nat.{_+_, _≤_, _<_};
-ghost use lib.ListN.{length};
+ghost use lib.ListN.{length, getD};
+ghost use Rattle.words.specs.Regions.{Region, part};
 ghost use Rattle.grammar.specs.Groups.{groupCount, rowNumbers};
-ghost use Rattle.text.specs.Read.{Reading, Ready, Feeds, Finishes, TextRead};
+ghost use Rattle.text.specs.Read.{Reading, Ready, Feeds, Finishes, Finished, Copyable, Copied, TextRead};
+use grammar::entry_of;
 use job_rows::Reader;
 use job_rows::malformed;
 use job_rows::take_line;
@@ -123,15 +125,67 @@ pub fn finish(s: State, rows: &[u32]) -> Verdict
     Verdict::Fine
 }
 
-// Reads a whole text into rows and counts. Refuses the first malformed line (11), and more records than there are rows or more than 64
-// numbered registers (1).
-pub fn read_text(text: &[u8], rows: &mut [u32], counts: &mut [u32]) -> Verdict
+// A whole text into the reader's own lists.
+fn read_all(text: &[u8], rows: &mut [u32], counts: &mut [u32]) -> Verdict
     requires { ⌜ (length (now rows) ≡ rowNumbers) × (length (now counts) ≡ groupCount) ⌝ }
-    ensures { λ v. ⌜ TextRead (now (text .entry)) v (now (rows .entry)) (now (counts .entry)) (now (rows .exit)) (now (counts .exit)) ⌝ }
+    ensures { λ v. ⌜ Finished (now (text .entry)) v (now (rows .exit)) (now (counts .exit)) ⌝ }
 {
     let mut line = [0; 128];
     let mut fields = [0; 7];
     let s = start(&mut line, rows, counts);
     let q = feed(s, text, &mut line, &mut fields, rows, counts);
     finish(q, rows)
+}
+
+// A group's `len` numbers from `base` on, and zeros as far as it has room.
+fn copy_group(held: &[u32], base: usize, len: usize, room: usize, rows: &mut [u32])
+    requires { ⌜ (base + room ≤ length (now held)) × (base + room ≤ length (now rows)) ⌝ }
+    ensures { λ _. ⌜ Region (now (rows .entry)) (now (rows .exit)) base room (λ j. getD (part base len (now (held .entry))) j 0) ⌝ }
+{
+    let mut j = 0;
+    while j < room {
+        if j < len {
+            rows[base + j] = held[base + j];
+            j += 1;
+        } else {
+            rows[base + j] = 0;
+            j += 1;
+        }
+    }
+}
+
+// An accepted text's rows and counts, in lent lists.
+fn copy_all(held: &[u32], counted: &[u32], rows: &mut [u32], counts: &mut [u32])
+    requires { ⌜ Copyable (now held) (now counted) (now rows) (now counts) ⌝ }
+    ensures { λ _. ⌜ Copied (now (held .entry)) (now (counted .entry)) (now (rows .entry)) (now (counts .entry)) (now (rows .exit)) (now (counts .exit)) ⌝ }
+{
+    let mut k = 0;
+    while k < 13 {
+        let e = entry_of(k);
+        let n = counted[k];
+        copy_group(held, e.base, e.width * n as usize, e.width * e.room, rows);
+        counts[k] = n;
+        k += 1;
+    }
+}
+
+// Reads a whole text: the rows of its groups, each group's at its place with zeros behind them, and how many there are. Refuses the first
+// malformed line (11), more than 64 records of a group or numbered registers (1), and lists of under 2,115 and 13 numbers (7), in this order.
+pub fn read_text(text: &[u8], rows: &mut [u32], counts: &mut [u32]) -> Verdict
+    ensures { λ v. ⌜ TextRead (now (text .entry)) (now (rows .entry)) (now (counts .entry)) v (now (rows .exit)) (now (counts .exit)) ⌝ }
+{
+    let mut held = [0; 2115];
+    let mut counted = [0; 13];
+    let v = read_all(text, &mut held, &mut counted);
+    if let Verdict::Bad(r, i) = v {
+        return Verdict::Bad(r, i);
+    }
+    if rows.len() < 2115 {
+        return Verdict::Bad(Refusal::Space, 0);
+    }
+    if counts.len() < 13 {
+        return Verdict::Bad(Refusal::Space, 0);
+    }
+    copy_all(&held, &counted, rows, counts);
+    Verdict::Fine
 }

@@ -1,31 +1,33 @@
 -- `finish` meets its contract: each way out is a case of the definition.
 use native.Mathlib.Omega.{arith}
 use borrow.Author.Needs.{needs}
+use mathlib.Core.Path.{ap, _∙_}
+use Rattle.refusals.specs.Outcomes.{numbered}
 use Rattle.refusals.proofs.Laws.{bad-fine}
 use Rattle.text.proofs.EndLaws.{end-bad, end-open, end-none, end-full, end-registers, end-fine, end-records}
 use Rattle.text.proofs.finish.Statement.{statement}
 use Rattle.text.proofs.finish.Tie as tie
 
 returns : tie.Need-returns
-returns c = record { answer = λ text line counts d. end-bad d ((c .if1) .taken); records = λ text line counts d e. bad-fine e }
+returns c = record { answer = λ text line counts d. ap numbered (end-bad d ((c .if1) .taken)); records = λ text line counts d e. bad-fine (end-bad d ((c .if1) .taken) ∙ e) }
 
 returns-2 : tie.Need-returns-2
-returns-2 c = record { answer = λ text line counts d. end-open d ((c .before .before .if1) .left) ((c .if2) .taken); records = λ text line counts d e. bad-fine e }
+returns-2 c = record { answer = λ text line counts d. ap numbered (end-open d ((c .before .before .if1) .left) ((c .if2) .taken)); records = λ text line counts d e. bad-fine (end-open d ((c .before .before .if1) .left) ((c .if2) .taken) ∙ e) }
 
 returns-3 : tie.Need-returns-3
-returns-3 c = record { answer = λ text line counts d. end-none d (let h = (c .before .before .if2) .left in omega arith) ((c .if3) .taken); records = λ text line counts d e. bad-fine e }
+returns-3 c = record { answer = λ text line counts d. ap numbered (end-none d (let h = (c .before .before .if2) .left in omega arith) ((c .if3) .taken)); records = λ text line counts d e. bad-fine (end-none d (let h = (c .before .before .if2) .left in omega arith) ((c .if3) .taken) ∙ e) }
 
 returns-4 : tie.Need-returns-4
-returns-4 c = record { answer = λ text line counts d. end-full d ((c .before .before .before .before .before .if1) .left) (let h = (c .before .before .before .if2) .left in omega arith) ((c .before .if3) .left) ((c .if4) .taken); records = λ text line counts d e. bad-fine e }
+returns-4 c = record { answer = λ text line counts d. ap numbered (end-full d ((c .before .before .before .before .before .if1) .left) (let h = (c .before .before .before .if2) .left in omega arith) ((c .before .if3) .left) ((c .if4) .taken)); records = λ text line counts d e. bad-fine (end-full d ((c .before .before .before .before .before .if1) .left) (let h = (c .before .before .before .if2) .left in omega arith) ((c .before .if3) .left) ((c .if4) .taken) ∙ e) }
 
 shared-slice-read-if5 : tie.Need-shared-slice-read-if5
 shared-slice-read-if5 c = search needs
 
 returns-5 : tie.Need-returns-5
-returns-5 c = record { answer = λ text line counts d. end-registers d ((c .before .before .before .before .before .before .before .if1) .left) (let h = (c .before .before .before .before .before .if2) .left in omega arith) ((c .before .before .before .if3) .left) ((c .before .before .if4) .left) ((c .if5) .taken); records = λ text line counts d e. bad-fine e }
+returns-5 c = record { answer = λ text line counts d. ap numbered (end-registers d ((c .before .before .before .before .before .before .before .if1) .left) (let h = (c .before .before .before .before .before .if2) .left in omega arith) ((c .before .before .before .if3) .left) ((c .before .before .if4) .left) ((c .if5) .taken)); records = λ text line counts d e. bad-fine (end-registers d ((c .before .before .before .before .before .before .before .if1) .left) (let h = (c .before .before .before .before .before .if2) .left in omega arith) ((c .before .before .before .if3) .left) ((c .before .before .if4) .left) ((c .if5) .taken) ∙ e) }
 
 returns-6 : tie.Need-returns-6
-returns-6 c = record { answer = λ text line counts d. end-fine d ((c .before .before .before .before .before .before .before .if1) .left) (let h = (c .before .before .before .before .before .if2) .left in omega arith) ((c .before .before .before .if3) .left) ((c .before .before .if4) .left) (omega arith); records = λ text line counts d e. end-records d ((c .before .before .before .before .before .before .before .if1) .left) (let h = (c .before .before .before .before .before .if2) .left in omega arith) ((c .before .before .before .if3) .left) ((c .before .before .if4) .left) }
+returns-6 c = record { answer = λ text line counts d. ap numbered (end-fine d ((c .before .before .before .before .before .before .before .if1) .left) (let h = (c .before .before .before .before .before .if2) .left in omega arith) ((c .before .before .before .if3) .left) ((c .before .before .if4) .left) (omega arith)); records = λ text line counts d e. end-records d ((c .before .before .before .before .before .before .before .if1) .left) (let h = (c .before .before .before .before .before .if2) .left in omega arith) ((c .before .before .before .if3) .left) ((c .before .before .if4) .left) }
 
 pub finish-spec : {M : Type 1} → statement M
 finish-spec =

@@ -1,0 +1,80 @@
+-- From a text to what the program prints for it: how long that is, and where it stands.
+use Prim.Native.Nat.{ℕ, _*_, _/_, _≤_}
+use native.Mathlib.Omega.{arith}
+use mathlib.Core.Path.{_≡_, refl, ap, _∙_}
+use mathlib.Core.List.{List, [], _∷_}
+use lib.ListN.{length}
+use lib.Dec.{lit<, lit≤}
+use Rattle.refusals.specs.declared.Verdict.{Verdict}
+use Rattle.refusals.specs.declared.Verdict.the-variants.{Fine, Bad}
+use Rattle.refusals.specs.Verdicts.{numberOf, first}
+use Rattle.refusals.specs.Outcomes.{given, unless}
+use Rattle.refusals.proofs.Laws.{first-left, first-right}
+use Rattle.words.proofs.RowLaws.{length-records}
+use Rattle.areas.specs.Job.{Job, Local, itemCount, itemArea, listVerdict}
+use Rattle.soundness.specs.Demand.{jobPlan}
+use Rattle.job.specs.Entry.{lentVerdict}
+use Rattle.grammar.specs.Groups.{groupCount, rowNumbers}
+use Rattle.grammar.specs.Lines.{linesOf}
+use Rattle.grammar.specs.Text.{readVerdict}
+use Rattle.grammar.proofs.RowLaws.{length-rows}
+use Rattle.text.specs.Read.{TextRead}
+use Rattle.text.proofs.EndLaws.{accepted-few}
+use Rattle.text.proofs.WholeLaws.{read-finished}
+use Rattle.plan_text.specs.declared.Written.{Written}
+use Rattle.plan_text.specs.Printed.{refusalText, writtenOf}
+use Rattle.plan_text.proofs.LineLaws.{line-length}
+use Rattle.row_plans.specs.Groups.{points, registers, budget}
+use Rattle.planning.specs.Program.{told, jobText, job, refusal, printedFor, numbersIn, programText}
+use Rattle.planning.specs.Answer.{Read, Stands, Tells, Answers, roomFor}
+use Rattle.planning.proofs.PrintLaws.{Printable, text-short}
+use Rattle.planning.proofs.JobLaws.{job-printable}
+use Rattle.planning.proofs.AnswerLaws.{makeLocal, room-given, stands-of}
+
+-- ---- a text that is accepted and whose job is not refused
+
+module _ (text : List ℕ) (e : first (readVerdict text) (refusal (numbersIn text)) ≡ Fine) where
+  abbrev J : Job
+  J = job (numbersIn text)
+
+  local-few : length (J .locals) ≤ 64
+  local-few =
+      let a = accepted-few text (first-left (readVerdict text) (refusal (numbersIn text)) e) 6 (lit< tt) in
+      let b = length-rows 6 (lit< tt) (linesOf text) in
+      let c = length-records 2 makeLocal (numbersIn text 6) in
+      omega arith
+
+  slot-few : length (J .slots) ≤ 64
+  slot-few =
+      let a = accepted-few text (first-left (readVerdict text) (refusal (numbersIn text)) e) 7 (lit< tt) in
+      let b = length-rows 7 (lit< tt) (linesOf text) in
+      omega arith
+
+  pub text-printable : Printable (itemCount J) (length (J .locals)) (itemArea J) (jobPlan J (budget (numbersIn text)))
+  text-printable =
+      job-printable J (budget (numbersIn text)) local-few slot-few
+      (first-right (lentVerdict (points (numbersIn text)) (registers (numbersIn text)) (budget (numbersIn text)) (numbersIn text 1) (numbersIn text 2) (numbersIn text 3) (numbersIn text 4) (numbersIn text 5) (numbersIn text 6) (numbersIn text 7) (numbersIn text 8) (numbersIn text 9) (numbersIn text 10) (numbersIn text 11) (numbersIn text 12) 256 512 128 8192) (listVerdict J 64)
+      (first-right (readVerdict text) (refusal (numbersIn text)) e))
+
+  plan-short : length (jobText J (budget (numbersIn text))) ≤ roomFor
+  unfolding jobText
+  plan-short = text-short text-printable
+
+-- ---- no text that the program prints is longer than its list
+
+pub program-short : (text : List ℕ) → length (programText text) ≤ roomFor
+unfolding printedFor
+program-short text = go (first (readVerdict text) (refusal (numbersIn text))) (plan-short text)
+  where
+    go : (v : Verdict) → (v ≡ Fine → length (jobText (job (numbersIn text)) (budget (numbersIn text))) ≤ roomFor) → length (told (unless v (jobText (job (numbersIn text)) (budget (numbersIn text))))) ≤ roomFor
+    go Fine h = h refl
+    go (Bad r i) h = let l = line-length 78 (numberOf r ∷ i ∷ []) (lit≤ tt) in omega arith
+
+-- ---- for the program, and for a text that is lent
+
+pub told-stands : {v : Verdict} {rows counts out : List ℕ} {w : Written} {out′ : List ℕ} {n : ℕ} → roomFor ≤ length out → Tells v rows counts out w out′ → ((m : ℕ) → writtenOf w ≡ given m → n ≡ m) → Answers v rows counts out n out′
+told-stands {out = out} h t f = λ text F. stands-of (programText text) (room-given (programText text) (length out) (let s = program-short text in omega arith)) (t text F) f
+
+pub text-read : {text rows counts : List ℕ} {v : Verdict} {rows′ counts′ : List ℕ} → length rows ≡ rowNumbers → length counts ≡ groupCount → length rows′ ≡ length rows → length counts′ ≡ length counts
+    → TextRead text rows counts v rows′ counts′ → Read v rows′ counts′
+text-read {text} rl cl re ce T = record { text = text; finished = read-finished (omega arith) (omega arith) T; rows-length = re ∙ rl; counts-length = ce ∙ cl }

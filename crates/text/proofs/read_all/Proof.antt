@@ -1,0 +1,50 @@
+-- `read_all` meets its contract: the text is one piece.
+use native.Mathlib.Omega.{arith}
+use borrow.Author.Needs.{needs}
+use denote.Ref.{now}
+use mathlib.Core.Path.{refl, sym, _∙_}
+use lib.Dec.{lit≤}
+use mathlib.Core.List.{[]}
+use Rattle.text.proofs.read_all.Statement.{statement}
+use Rattle.text.proofs.read_all.Tie as tie
+
+slice-aggregate-start : tie.Need-slice-aggregate-start
+slice-aggregate-start c = search needs
+
+start-requires : tie.Need-start-requires
+start-requires c κs = (refl, (c .before .before .before .before .before .before .pre) .0, (c .before .before .before .before .before .before .pre) .1)
+
+slice-aggregate-feed : tie.Need-slice-aggregate-feed
+slice-aggregate-feed c = search needs
+
+slice-aggregate-feed-2 : tie.Need-slice-aggregate-feed-2
+slice-aggregate-feed-2 c = search needs
+
+feed-requires : tie.Need-feed-requires
+feed-requires c κs = (lit≤ tt, record { text = []; reading = (c .before .before .before .before .before .before .before .before .before .start) .ensures; short = omega arith })
+
+finish-requires : tie.Need-finish-requires
+finish-requires c κs = (c .before .before .before .before .before .before .before .feed) .ensures .rows-kept ∙ ((c .before .before .before .before .before .before .before .before .before .before .before .before .before .before .before .before .before .start) .ensures .held .taken .rows-length)
+
+same-length : tie.Need-same-length
+same-length c = (c .before .before .before .before .before .before .before .before .feed) .ensures .rows-kept ∙ ((c .before .before .before .before .before .before .before .before .before .before .before .before .before .before .before .before .before .before .start) .ensures .held .taken .rows-length) ∙ sym ((c .before .before .before .before .before .before .before .before .before .before .before .before .before .before .before .before .before .before .before .before .before .before .before .before .before .pre) .0)
+
+same-length-2 : tie.Need-same-length-2
+same-length-2 c = (c .before .before .before .before .before .before .before .before .feed) .ensures .counts-kept ∙ (c .before .before .before .before .before .before .before .before .before .before .before .before .before .before .before .before .before .before .start) .ensures .held .taken .counts-length ∙ sym ((c .before .before .before .before .before .before .before .before .before .before .before .before .before .before .before .before .before .before .before .before .before .before .before .before .before .pre) .1)
+
+returns : tie.Need-returns
+returns c = record { verdict = (c .finish) .ensures .answer (now ((c .before .before .before .before .before .before .before .before .before .before .before .before .before .before .before .before .before .before .before .before .before .before .before .before .before .args) .text)) _ _ ((c .before .before .before .before .before .before .before .before .feed) .ensures .feeds [] ((c .before .before .before .before .before .before .before .before .before .before .before .before .before .before .before .before .before .before .start) .ensures)); records = (c .finish) .ensures .records (now ((c .before .before .before .before .before .before .before .before .before .before .before .before .before .before .before .before .before .before .before .before .before .before .before .before .before .args) .text)) _ _ ((c .before .before .before .before .before .before .before .before .feed) .ensures .feeds [] ((c .before .before .before .before .before .before .before .before .before .before .before .before .before .before .before .before .before .before .start) .ensures)) }
+
+pub read-all-spec : {M : Type 1} → statement M
+read-all-spec =
+    tie.close
+    (tie.spec
+    slice-aggregate-start
+    start-requires
+    slice-aggregate-feed
+    slice-aggregate-feed-2
+    feed-requires
+    finish-requires
+    same-length
+    same-length-2
+    returns)
