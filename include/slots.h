@@ -141,8 +141,9 @@ uint64_t slots_fit_words(uint32_t wants, uint32_t ranges);
 /* The cell of local i, or of slot i; or SLOTS_ABSENT. */
 uint64_t slots_local(const uint32_t *cells, size_t cells_len, const uint32_t *items, size_t items_len, uint32_t locals, uint32_t i);
 uint64_t slots_slot(const uint32_t *cells, size_t cells_len, const uint32_t *items, size_t items_len, uint32_t locals, uint32_t i);
-/* The area of local i, if its cell has two or more members: 0, and part has the first of its ranges in areas and how many they are, as many
- * of the two as there is room for. Else SLOTS_ABSENT, and part is as it was. Refuses a part outside the area list too (10). */
+/* The area of local i, if its cell has two or more members: 0, and part has the first of its ranges in areas and how many they are, the
+ * numbers of the item's row. Else SLOTS_ABSENT, and part is as it was. Refuses a part list under 2 numbers (7), also where there is no
+ * area to tell, and a part outside the area list (10). */
 uint64_t slots_shared(
     const uint32_t *cells, size_t cells_len, const uint32_t *items, size_t items_len, const uint32_t *areas, size_t areas_len,
     uint32_t locals, uint32_t i, uint64_t *part, size_t part_len);

@@ -184,10 +184,13 @@ static void queries(void) {
 
     uint64_t part[3] = {77, 77, 77};
     HOLDS(slots_shared(cells, 6, items, 20, areas, 6, 2, 1, part, 3) == SLOTS_ABSENT && part[0] == 77 && part[1] == 77);
-    HOLDS(slots_shared(cells, 6, items, 20, areas, 6, 2, 0, part, 1) == 0 && part[0] == 0 && part[1] == 77);
+    REFUSED(slots_shared(cells, 6, items, 20, areas, 6, 2, 0, part, 1), SLOTS_SPACE, 0);
+    REFUSED(slots_shared(cells, 6, items, 20, areas, 6, 2, 1, part, 0), SLOTS_SPACE, 0);
+    HOLDS(part[0] == 77 && part[1] == 77);
     HOLDS(slots_shared(cells, 6, items, 20, areas, 6, 2, 0, part, 3) == 0 && part[0] == 0 && part[1] == 2 && part[2] == 77);
-    HOLDS(slots_shared(cells, 6, items, 20, areas, 6, 2, 0, part, 0) == 0);
     REFUSED(slots_shared(cells, 6, items, 20, areas, 4, 2, 0, part, 3), SLOTS_WANT, 1);
+    REFUSED(slots_shared(cells, 6, items, 20, areas, 4, 2, 0, part, 1), SLOTS_SPACE, 0);
+    REFUSED(slots_shared(cells, 5, items, 20, areas, 4, 2, 0, part, 1), SLOTS_COUNT, 0);
 
     uint32_t out[4] = {77, 77, 77, 77};
     HOLDS(slots_crowded(cells, 6, items, 20, 2, out, 4) == 3 && out[0] == 0 && out[1] == 1 && out[2] == 2 && out[3] == 77);

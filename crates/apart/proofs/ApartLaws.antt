@@ -12,6 +12,7 @@ use Rattle.refusals.specs.declared.Verdict.the-variants.{Fine, Bad}
 use Rattle.refusals.specs.declared.Refusal.{Refusal}
 use Rattle.refusals.specs.declared.Refusal.the-variants.{Count, Space}
 use Rattle.refusals.specs.Verdicts.{check}
+use Rattle.refusals.specs.Outcomes.{numbered}
 use Rattle.refusals.proofs.Laws.{check-bad, check-fine, check-last}
 use Rattle.words.specs.Rows.{rowCount, wholeRows, field, tabulate, flat}
 use Rattle.words.proofs.RowLaws.{length-tabulate, tabulate-eq, tabulate-add, tabulate-getD, map-tabulate}
@@ -41,6 +42,8 @@ module _ (locals slots : List ℕ) (cells items : ℕ) where
 
   -- what holds where nothing is refused
   pub record Spare : Type 0 where
+    pub few-locals : rowCount 2 locals ≤ 2048
+    pub few-slots : length slots ≤ 2048
     pub few : rowCount 2 locals + length slots ≤ 4096
     pub in-cells : 2 * (rowCount 2 locals + length slots) ≤ cells
     pub in-items : 4 * (rowCount 2 locals + length slots) ≤ items
@@ -61,7 +64,7 @@ module _ (locals slots : List ℕ) (cells items : ℕ) where
           let v = ltb-false 2048 (length slots) m in
           let w = ltb-false (cells / 2) (rowCount 2 locals + length slots) s in
           let x = ltb-false (items / 4) (rowCount 2 locals + length slots) t in
-          record { few = omega arith; in-cells = omega arith; in-items = omega arith }
+          record { few-locals = u; few-slots = v; few = omega arith; in-cells = omega arith; in-items = omega arith }
 
 -- two tables one after the other
 tables : {A : Type 0} (l m : ℕ) (a b c : ℕ → A) → ((i : ℕ) → i < l → a i ≡ c i) → ((i : ℕ) → i < m → b i ≡ c (l + i)) → tabulate l a ++ tabulate m b ≡ tabulate (l + m) c
@@ -69,19 +72,19 @@ tables {A} l m a b c f g =
     ap (λ (k : List A). k ++ tabulate m b) (tabulate-eq l a c f) ∙ ap (λ (k : List A). tabulate l c ++ k) (tabulate-eq m b (λ i. c (l + i)) g) ∙ sym (tabulate-add l m c)
 
 module _ (locals slots : List ℕ) where
-  abbrev localAt : ℕ → Want
+  abbrev pub localAt : ℕ → Want
   localAt i = record { size = field 2 locals i 0; align = field 2 locals i 1; area = none }
 
-  abbrev slotAt : ℕ → Want
+  abbrev pub slotAt : ℕ → Want
   slotAt i = record { size = getD slots i 0; align = getD slots i 0; area = none }
 
-  widths-are : widthsOf slots ≡ tabulate (length slots) slotAt
+  pub widths-are : widthsOf slots ≡ tabulate (length slots) slotAt
   widths-are = ap widthsOf (sym (tabulate-getD slots 0)) ∙ map-tabulate _ (length slots) (λ i. getD slots i 0)
 
-  abbrev roomAt : ℕ → Room
+  abbrev pub roomAt : ℕ → Room
   roomAt i = cond (ltb i (rowCount 2 locals)) (roomOf (localAt i)) (roomOf (slotAt (i - rowCount 2 locals)))
 
-  rooms-are : apart (localsOf locals) (widthsOf slots) .cells ≡ tabulate (rowCount 2 locals + length slots) roomAt
+  pub rooms-are : apart (localsOf locals) (widthsOf slots) .cells ≡ tabulate (rowCount 2 locals + length slots) roomAt
   rooms-are =
       ap (λ (l : List Room). l ++ map roomOf (widthsOf slots)) (map-tabulate roomOf (rowCount 2 locals) localAt)
       ∙ ap (λ (l : List Want). tabulate (rowCount 2 locals) (λ i. roomOf (localAt i)) ++ map roomOf l) widths-are
@@ -92,7 +95,7 @@ module _ (locals slots : List ℕ) where
       sym (ap (λ (t : Bool). cond t (roomOf (localAt (rowCount 2 locals + i))) (roomOf (slotAt (rowCount 2 locals + i - rowCount 2 locals)))) (le-ltb (rowCount 2 locals + i) (rowCount 2 locals) (omega arith))
       ∙ ap (λ (k : ℕ). roomOf (slotAt k)) e))
 
-  row-is : (i : ℕ) → roomRow (roomAt i) ≡ ownCell locals slots i
+  pub row-is : (i : ℕ) → roomRow (roomAt i) ≡ ownCell locals slots i
   row-is i = go (ltb i (rowCount 2 locals))
     where
       go : (t : Bool) → roomRow (cond t (roomOf (localAt i)) (roomOf (slotAt (i - rowCount 2 locals))))
@@ -100,15 +103,15 @@ module _ (locals slots : List ℕ) where
       go true = refl
       go false = refl
 
-  cells-are : roomRows (apart (localsOf locals) (widthsOf slots)) ≡ ownCells locals slots
+  pub cells-are : roomRows (apart (localsOf locals) (widthsOf slots)) ≡ ownCells locals slots
   cells-are =
       ap flat (ap (map roomRow) rooms-are ∙ map-tabulate roomRow (rowCount 2 locals + length slots) roomAt
       ∙ tabulate-eq (rowCount 2 locals + length slots) _ (ownCell locals slots) (λ i h. row-is i))
 
-  abbrev lone : ℕ → List ℕ
+  abbrev pub lone : ℕ → List ℕ
   lone i = i ∷ 0 ∷ 0 ∷ 0 ∷ []
 
-  items-are : loneRows (apart (localsOf locals) (widthsOf slots)) ≡ ownItems (rowCount 2 locals + length slots)
+  pub items-are : loneRows (apart (localsOf locals) (widthsOf slots)) ≡ ownItems (rowCount 2 locals + length slots)
   items-are =
       let a : length (localsOf locals) ≡ rowCount 2 locals = length-tabulate (rowCount 2 locals) localAt in
       let b : length (widthsOf slots) ≡ length slots = ap length widths-are ∙ length-tabulate (length slots) slotAt in
@@ -140,14 +143,14 @@ module _ (locals slots : List ℕ) where
   module _ (cells items : List ℕ) where
     pub apart-refused : (r : Refusal) (k : ℕ) → apartVerdict locals slots (length cells) (length items) ≡ Bad r k
         → ApartBy (apartVerdict locals slots (length cells) (length items)) (apartOf locals slots (length cells) (length items)) cells items (Bad r k) cells items
-    apart-refused r k e = record { answer = sym e; in-cells = rw e; in-items = rw e }
+    apart-refused r k e = record { answer = ap numbered (sym e); in-cells = rw e; in-items = rw e }
 
     pub apart-told : (cells′ items′ : List ℕ) → apartVerdict locals slots (length cells) (length items) ≡ Fine
         → cells′ ≡ ownCells locals slots ++ drop (2 * (rowCount 2 locals + length slots)) cells
         → items′ ≡ ownItems (rowCount 2 locals + length slots) ++ drop (4 * (rowCount 2 locals + length slots)) items
         → ApartBy (apartVerdict locals slots (length cells) (length items)) (apartOf locals slots (length cells) (length items)) cells items Fine cells′ items′
     apart-told cells′ items′ e f g = record {
-      answer = sym e;
+      answer = ap numbered (sym e);
       in-cells = f ∙ ap (λ (k : ℕ). ownCells locals slots ++ drop k cells) (sym (flat-length 2 (rowCount 2 locals + length slots) (ownCell locals slots) cell-wide))
           ∙ ap (λ (l : List ℕ). l ++ drop (length l) cells) (sym cells-are) ∙ rw e;
       in-items = g ∙ ap (λ (k : ℕ). ownItems (rowCount 2 locals + length slots) ++ drop k items) (sym (flat-length 4 (rowCount 2 locals + length slots) lone (λ i h. refl)))

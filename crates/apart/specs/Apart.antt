@@ -9,7 +9,7 @@ use lib.Dec.{ltb, eqb}
 use Rattle.refusals.specs.declared.Verdict.{Verdict}
 use Rattle.refusals.specs.declared.Refusal.the-variants.{Count, Space}
 use Rattle.refusals.specs.Verdicts.{inOrder, check}
-use Rattle.refusals.specs.Outcomes.{Outcome, unless, after}
+use Rattle.refusals.specs.Outcomes.{Outcome, unless, numbered, after}
 use Rattle.words.specs.Rows.{rowCount, wholeRows, field, records, tabulate, flat}
 use Rattle.fitting.specs.Wants.{Want}
 use Rattle.fitting.specs.Queries.{Item, Slots, apart}
@@ -48,8 +48,9 @@ loneRows S = flat (map loneRow (S .locals) ++ map loneRow (S .slots))
 abbrev pub apartOf : List ℕ → List ℕ → ℕ → ℕ → Outcome Slots
 apartOf locals slots cells items = unless (apartVerdict locals slots cells items) (apart (localsOf locals) (widthsOf slots))
 
+-- the answer by document 01's number and index, and each list
 pub record ApartBy (v : Verdict) (o : Outcome Slots) (cells items : List ℕ) (r : Verdict) (cells′ items′ : List ℕ) : Type 0 where
-  pub answer : r ≡ v
+  pub answer : numbered r ≡ numbered v
   pub in-cells : cells′ ≡ after o roomRows cells
   pub in-items : items′ ≡ after o loneRows items
 

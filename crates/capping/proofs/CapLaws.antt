@@ -10,7 +10,7 @@ use lib.Dec.{ltb}
 use Rattle.refusals.specs.declared.Verdict.the-variants.{Fine, Bad}
 use Rattle.refusals.specs.declared.Refusal.the-variants.{Count}
 use Rattle.refusals.specs.Verdicts.{check}
-use Rattle.refusals.specs.Outcomes.{unless, after}
+use Rattle.refusals.specs.Outcomes.{unless, numbered, after}
 use Rattle.words.specs.Rows.{rowCount, wholeRows, field}
 use Rattle.words.proofs.PasteLaws.{Filling, fill-above}
 use Rattle.words.proofs.FlatLaws.{flat-length}
@@ -27,7 +27,7 @@ row-was {d} {s} {m} n i f =
 
 pub capped-refused : (cells : List ℕ) (count most : ℕ) → not (wholeRows 2 cells) || (ltb (rowCount 2 cells) count || ltb 4096 count) ≡ true → CappedBy cells count most (Bad Count 0) cells
 capped-refused cells count most e = record {
-  answer = sym (ap (λ (t : Bool). check Count t) e);
+  answer = sym (ap (λ (t : Bool). numbered (check Count t)) e);
   in-cells = sym (ap (λ (t : Bool). after (unless (check Count t) (capRows cells count most)) (λ l. l) cells) e);
 }
 
@@ -35,7 +35,7 @@ pub capped-told : (cells cells′ : List ℕ) (count most : ℕ) → not (wholeR
     → cells′ ≡ capRows cells count most ++ drop (2 * count) cells → CappedBy cells count most Fine cells′
 capped-told cells cells′ count most e f =
     record {
-      answer = sym (ap (λ (t : Bool). check Count t) e);
+      answer = sym (ap (λ (t : Bool). numbered (check Count t)) e);
       in-cells = f ∙ ap (λ (k : ℕ). capRows cells count most ++ drop k cells) (sym (flat-length 2 count (capRow cells most) (λ i h. refl)))
           ∙ sym (ap (λ (t : Bool). after (unless (check Count t) (capRows cells count most)) (λ l. l) cells) e);
     }

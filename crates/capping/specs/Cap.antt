@@ -7,7 +7,7 @@ use lib.Dec.{ltb}
 use Rattle.refusals.specs.declared.Verdict.{Verdict}
 use Rattle.refusals.specs.declared.Refusal.the-variants.{Count}
 use Rattle.refusals.specs.Verdicts.{check}
-use Rattle.refusals.specs.Outcomes.{unless, after}
+use Rattle.refusals.specs.Outcomes.{unless, numbered, after}
 use Rattle.words.specs.Rows.{rowCount, wholeRows, field, tabulate, flat}
 use Rattle.fitting.specs.Queries.{Room, cap}
 use Rattle.capping.specs.declared.Cell.{Cell}
@@ -30,5 +30,5 @@ capRows cells count most = flat (tabulate count (λ i. roomRow (cap most (record
 
 -- "sizes and entries past the count unchanged": a refusal changes nothing
 pub record CappedBy (cells : List ℕ) (count most : ℕ) (r : Verdict) (cells′ : List ℕ) : Type 0 where
-  pub answer : r ≡ capVerdict cells count
+  pub answer : numbered r ≡ numbered (capVerdict cells count)
   pub in-cells : cells′ ≡ after (unless (capVerdict cells count) (capRows cells count most)) (λ l. l) cells

@@ -60,18 +60,3 @@ module _ (c p d : ℕ) where
   told-all (x ∷ []) e = absurd (omega arith)
   told-all (x ∷ y ∷ []) e = absurd (omega arith)
   told-all (x ∷ y ∷ z ∷ l) e = ap (λ (r : List ℕ). c ∷ p ∷ d ∷ r) (sym (take-length l))
-
-module _ (f c : ℕ) where
-  pub part-none : (l : List ℕ) → length l ≡ 0 → l ≡ fitted (f ∷ c ∷ []) l
-  part-none [] e = refl
-  part-none (x ∷ l) e = absurd (omega arith)
-
-  pub part-one : (l : List ℕ) → length l ≡ 1 → set l 0 f ≡ fitted (f ∷ c ∷ []) l
-  part-one [] e = absurd (omega arith)
-  part-one (x ∷ []) e = refl
-  part-one (x ∷ y ∷ l) e = absurd (omega arith)
-
-  pub part-all : (l : List ℕ) → 1 < length l → set (set l 0 f) 1 c ≡ fitted (f ∷ c ∷ []) l
-  part-all [] e = absurd (omega arith)
-  part-all (x ∷ []) e = absurd (omega arith)
-  part-all (x ∷ y ∷ l) e = ap (λ (r : List ℕ). f ∷ c ∷ r) (sym (take-length l))

@@ -33,21 +33,6 @@ pub fn truth(b: bool) -> u64
     0
 }
 
-// Where a part begins and how many ranges it has, as many of the two as there is room for.
-pub fn tell_part(part: &mut [u64], first: usize, count: usize)
-    ensures { λ _. ⌜ now (part .exit) ≡ fitted (first ∷ count ∷ []) (now (part .entry)) ⌝ }
-{
-    let n = part.len();
-    if n == 0 {
-        return;
-    }
-    part[0] = first as u64;
-    if n == 1 {
-        return;
-    }
-    part[1] = count as u64;
-}
-
 // A plan's counts, as many as there is room for.
 pub fn tell(counts: &mut [u64], cells: usize, probes: u64, depth: u64)
     ensures { λ _. ⌜ now (counts .exit) ≡ fitted (cells ∷ probes ∷ depth ∷ []) (now (counts .entry)) ⌝ }

@@ -1,5 +1,5 @@
 -- What each way out of the checks comes to, and what is left where none refuses.
-use Prim.Native.Nat.{ℕ, _+_, _*_, _/_, _≤_, _<_}
+use Prim.Native.Nat.{ℕ, _+_, _*_, _/_, _%_, _≤_, _<_}
 use native.Mathlib.Omega.{arith}
 use mathlib.Core.Path.{_≡_, sym, ap, _∙_}
 use mathlib.Core.Bool.{true, false, _||_}
@@ -16,8 +16,8 @@ use Rattle.refusals.specs.Verdicts.{check}
 use Rattle.refusals.proofs.Laws.{first-fine, first-bad, first-left, first-right, check-told}
 use Rattle.job_space.specs.declared.Sizes.{Sizes}
 use Rattle.job_space.specs.Space.{sizesOf, spaceOf, Small, badShape}
-use Rattle.job_checks.specs.Job.{recordsVerdict}
-use Rattle.job_checks.proofs.CheckLaws.{records-checked}
+use Rattle.job_checks.specs.Job.{countVerdict, recordsVerdict}
+use Rattle.job_checks.proofs.CheckLaws.{records-checked, whole-areas}
 use Rattle.job_areas.specs.Areas.{Lent}
 use Rattle.job.specs.Entry.{spaceVerdict, lentVerdict}
 
@@ -74,3 +74,10 @@ module _ (points v budget : ℕ) (blocks edges insts operands crossings locals s
       let q = ltb-false (cells / 2) (z .locals + z .slots) c in
       let s = ltb-false (items / 4) (z .locals + z .slots) d in
       record { lent = record { passed = p; space = ltb-false (length w) (spaceOf z) a }; in-cells = omega arith; in-items = omega arith }
+
+  -- the area list is whole rows
+  pub whole-list : lentVerdict points v budget blocks edges insts operands crossings locals slots addresses ends pieces assigned moves cells items areas (length w) ≡ Fine → areas % 2 ≡ 0
+  unfolding lentVerdict recordsVerdict
+  whole-list e =
+      let f = first-left _ _ (first-right (check Count (badShape budget cells items)) _ e) in
+      whole-areas v blocks edges insts operands crossings locals slots addresses ends pieces assigned moves areas (first-left (countVerdict v blocks edges insts operands crossings locals slots addresses ends pieces assigned moves areas) _ f)

@@ -10,37 +10,23 @@ use Rattle.refusals.specs.declared.Verdict.{Verdict}
 use Rattle.refusals.specs.declared.Verdict.the-variants.{Fine, Bad}
 use Rattle.refusals.specs.Outcomes.{given, unless, after}
 use Rattle.refusals.proofs.Laws.{first-left}
-use Rattle.words.specs.Rows.{tabulate, flat, field}
-use Rattle.words.proofs.FlatLaws.{flat-length, flat-at}
+use Rattle.words.specs.Rows.{tabulate, flat}
 use Rattle.ranges.specs.declared.Range.{Range}
 use Rattle.areas.specs.Job.{Job, Checked, itemCount, itemArea, rangesOf, listVerdict}
 use Rattle.fitting.specs.Wants.{orderOf}
 use Rattle.fitting.specs.Plan.{Plan, Cell, cellAt}
 use Rattle.wants.specs.Entry.{Tally, tallyOf, cellRow, cellRows}
-use Rattle.item_lists.specs.Lists.{itemRow}
-use Rattle.item_lists.proofs.TableLaws.{row-long}
 use Rattle.job_checks.specs.Job.{jobOf, Passed}
 use Rattle.soundness.specs.Walks.{Step, Legal, Separate}
 use Rattle.soundness.specs.Demand.{wantsOf, frameOf, jobPlan}
 use Rattle.soundness.proofs.Demand.{job-order, separate, uses, any-cells, demand-3}
 use Rattle.job_answers.specs.declared.Shared.the-variants.{Plan as Planned}
 use Rattle.job_answers.specs.Answers.{itemRows}
+use Rattle.job_answers.proofs.SeenLaws.{cell-listed}
 use Rattle.wants.proofs.TallyLaws.{not-refused}
 use Rattle.job.specs.Entry.{lentVerdict, verdictOf, SharedAs}
 use Rattle.job.specs.Reads.{cellIn, sizeIn, ReadsAsPrivate}
 use Rattle.job.proofs.CheckLaws.{granted}
-
--- field f of row i of the item list: item i's cell, then its present flag, first and count
-pub listed-field : (n : ℕ) (A : ℕ → Option (List Range)) (p : Plan) (old : List ℕ) (i f : ℕ) → i < n → f < 4
-    → field 4 (itemRows n A p ++ old) i f ≡ getD (p .cell i ∷ itemRow (rangesOf (tabulate i A)) (A i)) f 0
-listed-field n A p old i f h q =
-    let wide : (j : ℕ) → j < n → length (p .cell j ∷ itemRow (rangesOf (tabulate j A)) (A j)) ≡ 4 = λ j q. ap (λ (k : ℕ). suc k) (row-long (rangesOf (tabulate j A)) (A j)) in
-    let l = flat-length 4 n (λ j. p .cell j ∷ itemRow (rangesOf (tabulate j A)) (A j)) wide in
-    List·getD-append (itemRows n A p) old 0 (4 * i + f) (omega arith) ∙ flat-at 4 n (λ j. p .cell j ∷ itemRow (rangesOf (tabulate j A)) (A j)) wide i f h q
-
--- number 4·i is item i's cell
-listed-cell : (n : ℕ) (A : ℕ → Option (List Range)) (p : Plan) (old : List ℕ) (i : ℕ) → i < n → getD (itemRows n A p ++ old) (4 * i) 0 ≡ p .cell i
-listed-cell n A p old i h = ap (λ (k : ℕ). getD (itemRows n A p ++ old) k 0) (sym (add-zero (4 * i))) ∙ listed-field n A p old i 0 h (omega arith)
 
 -- number 2·c of the cell list is cell c's size
 listed-size : (cs : List Cell) (old : List ℕ) (c b : ℕ) → b < cellAt cs c .size → b < getD (flat (map cellRow cs) ++ old) (2 * c) 0
@@ -75,7 +61,10 @@ module _ {points v budget : ℕ} {blocks edges insts operands crossings locals s
 
   -- the cells that stand in the item list are the plan's
   pub cells-listed : (i : ℕ) → i < itemCount J → cellIn items′ i ≡ jobPlan J budget .cell i
-  cells-listed i h = ap (λ (l : List ℕ). getD l (4 * i) 0) items-written ∙ listed-cell (itemCount J) (itemArea J) (jobPlan J budget) _ i h
+  cells-listed i h =
+      ap (λ (l : List ℕ). getD l (4 * i) 0) items-written
+      ∙ ap (λ (k : ℕ). getD (itemRows (itemCount J) (itemArea J) (jobPlan J budget) ++ drop (length (itemRows (itemCount J) (itemArea J) (jobPlan J budget))) items) k 0) (sym (add-zero (4 * i)))
+      ∙ cell-listed (itemArea J) (itemCount J) (jobPlan J budget) i h _
 
   sizes-listed : (c b : ℕ) → b < cellAt (jobPlan J budget .cells) c .size → b < sizeIn cells′ c
   sizes-listed c b h =

@@ -2,3 +2,4 @@ pub mod CheckLaws
 pub mod EntryLaws
 pub mod Demand
 pub mod Paths
+pub mod Seen

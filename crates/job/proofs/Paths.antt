@@ -17,7 +17,8 @@ use Rattle.job_checks.specs.Job.{jobOf}
 use Rattle.soundness.specs.Demand.{jobPlan}
 use Rattle.job_answers.specs.declared.Shared.the-variants.{Plan as Planned}
 use Rattle.job.specs.Entry.{SharedAs}
-use Rattle.job.proofs.Demand.{listed-field, none-refused, passed, items-written}
+use Rattle.job_answers.proofs.SeenLaws.{field-listed}
+use Rattle.job.proofs.Demand.{none-refused, passed, items-written}
 
 module _ {points v budget : ℕ} {blocks edges insts operands crossings locals slots addresses ends pieces assigned moves cells items areas work cells′ items′ areas′ work′ : List ℕ} {c p d : ℕ}
     (E : SharedAs points v budget blocks edges insts operands crossings locals slots addresses ends pieces assigned moves cells items areas work (Planned c p d) cells′ items′ areas′ work′) where
@@ -32,7 +33,7 @@ module _ {points v budget : ℕ} {blocks edges insts operands crossings locals s
   areas-written = E .lists .in-areas ∙ ap (λ (x : Verdict). after (unless x plan) (λ _. areaRows (itemCount J) (itemArea J)) areas) (none-refused E)
 
   field-written : (i : ℕ) → i < itemCount J → (f : ℕ) → f < 4 → field 4 items′ i f ≡ getD (plan .cell i ∷ itemRow (rangesOf (tabulate i (itemArea J))) (itemArea J i)) f 0
-  field-written i h f q = ap (λ (l : List ℕ). field 4 l i f) (items-written E) ∙ listed-field (itemCount J) (itemArea J) plan _ i f h q
+  field-written i h f q = ap (λ (l : List ℕ). field 4 l i f) (items-written E) ∙ field-listed (itemArea J) (itemCount J) plan i h _ f q
 
   -- whenever the answer is a plan: a point is in the part of the area list that item i's row names exactly when document 01's definition has it, by paths of a local, by moves and
   -- live pieces of a slot, and the row says absent exactly for an unfollowed local or a slot without area

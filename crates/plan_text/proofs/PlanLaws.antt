@@ -20,14 +20,12 @@ use Rattle.refusals.specs.Outcomes.{Outcome, given, refused, unless}
 use Rattle.refusals.proofs.Laws.{bad-fine, first-fine, check-last}
 use Rattle.refusals.proofs.Orders.{check-gives, scan-gives, order-append, lowest-wins}
 use Rattle.words.specs.Rows.{rowCount, wholeRows}
-use Rattle.words.proofs.Bools.{or-neither}
-use Rattle.ranges.specs.declared.Range.{Range}
-use Rattle.fitting.specs.Queries.{slotsOf, shared, areasOf}
-use Rattle.queries.specs.Shares.{SharedBy, shareOf}
+use Rattle.words.proofs.Bools.{or-right, or-neither}
+use Rattle.queries.specs.Shares.{Stretch, shareOf, sharedPart, sharedOf}
 use Rattle.query_checks.specs.Checks.{badCount, badAreas, badItem, partsVerdict, surplus, sharedVerdict}
 use Rattle.queries.specs.declared.Share.{Share}
 use Rattle.queries.specs.declared.Share.the-variants.{Part, Absent, Refused}
-use Rattle.query_checks.proofs.CheckLaws.{parts-areas, shared-sound}
+use Rattle.query_checks.proofs.CheckLaws.{parts-count, shared-sound}
 use Rattle.printing.specs.Puts.{Puts}
 use Rattle.plan_text.specs.declared.Written.the-variants.{Bytes, Refused as WrittenRefused}
 use Rattle.plan_text.specs.Printed.{cellLine, cellLines, itemLine, itemLines, printed, refusalText, roomChecks, inRoom, planChecks, printVerdict, printRank, Alike, PrintedTo, planText, noText}
@@ -47,7 +45,7 @@ whole-of cells items areas locals e =
     record { locals-in = s .whole .0; few = s .whole .1; enough = s .enough; ranges = go (badAreas areas) refl }
   where
     go : (t : Bool) → badAreas areas ≡ t → rowCount 2 areas ≤ 65536
-    go true q = bad-fine (parts-areas cells items areas locals q ∙ e)
+    go true q = bad-fine (parts-count cells items areas locals (or-right (badCount cells items locals) (badAreas areas) q) ∙ e)
     go false q = ltb-false 65536 (rowCount 2 areas) (or-neither (not (wholeRows 2 areas)) _ q .1)
 
 pub cells-length : (cells : List ℕ) → length (cellLines cells) ≤ 128 * rowCount 2 cells
@@ -58,8 +56,8 @@ items-length letter items base n = rows-length (itemLine letter items base) 128 
 
 -- ---- the plan's verdict
 
-module _ (v : Verdict) (o : Option (List Range)) where
-  given-fine : {x : Option (List Range)} → given x ≡ unless v o → v ≡ Fine
+module _ (v : Verdict) (o : Option Stretch) where
+  given-fine : {x : Option Stretch} → given x ≡ unless v o → v ≡ Fine
   given-fine {x} e = go v e
     where
       go : (w : Verdict) → given x ≡ unless w o → w ≡ Fine
@@ -76,15 +74,15 @@ module _ (v : Verdict) (o : Option (List Range)) where
 fine-alike : (v : Verdict) → v ≡ Fine → Alike Fine v
 fine-alike v e = record { outcome = λ l. ap (λ (w : Verdict). unless w l) (sym e) }
 
-module _ (cells items areas : List ℕ) (locals : ℕ) {s : Share} (a : SharedBy cells items areas locals 0 s) where
+module _ (cells items areas : List ℕ) (locals : ℕ) {s : Share} (a : shareOf s ≡ sharedOf cells items areas locals 0) where
   pub part-alike : (start n : ℕ) → s ≡ Part start n → Alike Fine (sharedVerdict cells items areas locals)
-  part-alike start n e = fine-alike (sharedVerdict cells items areas locals) (given-fine (sharedVerdict cells items areas locals) (shared (slotsOf locals cells items areas) 0) (ap (shareOf (areasOf areas)) (sym e) ∙ a .answer))
+  part-alike start n e = fine-alike (sharedVerdict cells items areas locals) (given-fine (sharedVerdict cells items areas locals) (sharedPart cells items locals 0) (ap shareOf (sym e) ∙ a))
 
   pub absent-alike : s ≡ Absent → Alike Fine (sharedVerdict cells items areas locals)
-  absent-alike e = fine-alike (sharedVerdict cells items areas locals) (given-fine (sharedVerdict cells items areas locals) (shared (slotsOf locals cells items areas) 0) (ap (shareOf (areasOf areas)) (sym e) ∙ a .answer))
+  absent-alike e = fine-alike (sharedVerdict cells items areas locals) (given-fine (sharedVerdict cells items areas locals) (sharedPart cells items locals 0) (ap shareOf (sym e) ∙ a))
 
   pub bad-alike : (r : Refusal) (k : ℕ) → s ≡ Refused r k → Alike (Bad r k) (sharedVerdict cells items areas locals)
-  bad-alike r k e = refused-alike (sharedVerdict cells items areas locals) (shared (slotsOf locals cells items areas) 0) r k (ap (shareOf (areasOf areas)) (sym e) ∙ a .answer)
+  bad-alike r k e = refused-alike (sharedVerdict cells items areas locals) (sharedPart cells items locals 0) r k (ap shareOf (sym e) ∙ a)
 
 pub alike-fine : (v w : Verdict) → Alike v w → v ≡ Fine → w ≡ Fine
 alike-fine v w a e = go w (ap (λ (x : Verdict). unless x []) (sym e) ∙ a .outcome [])

@@ -1,7 +1,7 @@
 -- What `shared` answers of a local, as lines.
 use Prim.Native.Nat.{ℕ, _+_, _-_, _≤_}
 use native.Mathlib.Omega.{arith}
-use mathlib.Core.Path.{_≡_, ap, sym, subst, _∙_}
+use mathlib.Core.Path.{_≡_, ap, sym, _∙_}
 use mathlib.Core.List.{List, [], map}
 use lib.ListN.{take, drop}
 use Rattle.refusals.specs.declared.Verdict.{Verdict}
@@ -13,7 +13,9 @@ use Rattle.words.proofs.RowLaws.{take-tabulate, drop-tabulate, map-tabulate}
 use Rattle.ranges.specs.declared.Range.{Range}
 use Rattle.ranges.specs.Points.{range}
 use Rattle.fitting.specs.Queries.{slotsOf, shared, areasOf}
-use Rattle.queries.specs.Shares.{SharedBy, shareOf, Inside}
+use Rattle.queries.specs.Shares.{shareOf, sharedPart, sharedOf, rangesOf}
+use Rattle.queries.proofs.ShareLaws.{shared-area, shared-inside}
+use Rattle.query_checks.proofs.CheckLaws.{shared-sound}
 use Rattle.query_checks.specs.Checks.{sharedVerdict}
 use Rattle.queries.specs.declared.Share.{Share}
 use Rattle.queries.specs.declared.Share.the-variants.{Part, Absent, Refused}
@@ -30,20 +32,24 @@ part-lines areas i start n h =
 given-is : {A : Type 0} {a b : A} → _≡_ {A = Outcome A} (given a) (given b) → a ≡ b
 given-is e = cc
 
-module _ (cells items areas : List ℕ) (locals i : ℕ) (fine : sharedVerdict cells items areas locals ≡ Fine) {s : Share} (a : SharedBy cells items areas locals i s) where
-  outcome : shareOf (areasOf areas) s ≡ given (shared (slotsOf locals cells items areas) i)
-  outcome = a .answer ∙ ap (λ (v : Verdict). unless v (shared (slotsOf locals cells items areas) i)) fine
+module _ (cells items areas : List ℕ) (locals i : ℕ) (fine : sharedVerdict cells items areas locals ≡ Fine) where
+  area-is : rangesOf (areasOf areas) (sharedPart cells items locals i) ≡ shared (slotsOf locals cells items areas) i
+  area-is = shared-area cells items areas locals (shared-sound cells items areas locals fine) i
 
-  pub share-inside : (start n : ℕ) → s ≡ Part start n → start + n ≤ rowCount 2 areas
-  share-inside start n e = subst (λ (x : Share). Inside (rowCount 2 areas) x) e (a .inside)
+  part-is : (s x : Share) → shareOf s ≡ sharedOf cells items areas locals i → s ≡ x → shareOf x ≡ given (sharedPart cells items locals i)
+  part-is s x a e = ap shareOf (sym e) ∙ a ∙ ap (λ (v : Verdict). unless v (sharedPart cells items locals i)) fine
 
-  pub share-part : (start n : ℕ) → s ≡ Part start n → flat (tabulate n (λ j. rowLine areas i (start + j))) ≡ areaLines i (shared (slotsOf locals cells items areas) i)
-  share-part start n e =
-      sym (part-lines areas i start n (share-inside start n e))
-      ∙ ap (areaLines i) (given-is (ap (shareOf (areasOf areas)) (sym e) ∙ outcome))
+  module _ {s : Share} (a : shareOf s ≡ sharedOf cells items areas locals i) where
+    pub share-inside : (start n : ℕ) → s ≡ Part start n → start + n ≤ rowCount 2 areas
+    share-inside start n e = shared-inside cells items areas locals i fine (record { first = start; count = n }) (sym (given-is (part-is s (Part start n) a e)))
 
-  pub share-absent : s ≡ Absent → [] ≡ areaLines i (shared (slotsOf locals cells items areas) i)
-  share-absent e = ap (areaLines i) (given-is (ap (shareOf (areasOf areas)) (sym e) ∙ outcome))
+    pub share-part : (start n : ℕ) → s ≡ Part start n → flat (tabulate n (λ j. rowLine areas i (start + j))) ≡ areaLines i (shared (slotsOf locals cells items areas) i)
+    share-part start n e =
+        sym (part-lines areas i start n (share-inside start n e))
+        ∙ ap (areaLines i) (ap (rangesOf (areasOf areas)) (given-is (part-is s (Part start n) a e)) ∙ area-is)
 
-  pub share-refused : (r : Refusal) (k : ℕ) → s ≡ Refused r k → ⊥
-  share-refused r k e = let w = ap (shareOf (areasOf areas)) (sym e) ∙ outcome in let z : _≡_ {A = ℕ} 0 1 = cc in omega arith
+    pub share-absent : s ≡ Absent → [] ≡ areaLines i (shared (slotsOf locals cells items areas) i)
+    share-absent e = ap (areaLines i) (ap (rangesOf (areasOf areas)) (given-is (part-is s Absent a e)) ∙ area-is)
+
+    pub share-refused : (r : Refusal) (k : ℕ) → s ≡ Refused r k → ⊥
+    share-refused r k e = let w = part-is s (Refused r k) a e in let z : _≡_ {A = ℕ} 0 1 = cc in omega arith

@@ -1,3 +1,4 @@
 pub mod QueryLaws
 pub mod MemberLaws
 pub mod ShareLaws
+pub mod SeenLaws

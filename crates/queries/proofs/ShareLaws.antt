@@ -1,76 +1,117 @@
--- `shared` and `crowded`: what each answer is.
+-- `shared` and `crowded`: what each answer is, and that the part answered is the area of the definition.
 use Prim.Native.Nat.{ℕ, _+_, _-_, _*_, _≤_, _<_}
 use native.Mathlib.Omega.{arith}
+use native.Mathlib.Nat.{add-zero}
 use mathlib.Core.Path.{_≡_, refl, ap, sym, _∙_}
 use mathlib.Core.Bool.{Bool, true, false, cond}
 use mathlib.Core.Option.{Option, some, none}
-use mathlib.Core.List.{List, _++_}
+use mathlib.Core.List.{List, [], _++_}
 use lib.ListN.{length, getD, getElem?, take, drop}
-use lib.Dec.{ltb}
-use borrow.Author.Tests.{lt-ltb, le-ltb, eq-eqb, ne-eqb}
+use lib.Dec.{ltb, eqb}
+use borrow.Author.Tests.{lt-ltb, le-ltb, eq-eqb, ne-eqb, eqb-false}
+use Rattle.refusals.specs.declared.Verdict.{Verdict}
 use Rattle.refusals.specs.declared.Verdict.the-variants.{Fine, Bad}
 use Rattle.refusals.specs.declared.Refusal.{Refusal}
-use Rattle.refusals.specs.Outcomes.{given}
+use Rattle.refusals.specs.Outcomes.{given, unless}
 use Rattle.words.specs.Rows.{rowCount, field}
+use Rattle.words.proofs.Points.{cut}
 use Rattle.ranges.specs.declared.Range.{Range}
-use Rattle.fitting.specs.Queries.{Item, slotsOf, areasOf, partOf, sharedBy, shared}
+use Rattle.fitting.specs.Queries.{Item, slotsOf, areasOf, crowd, sharedBy, shared}
 use Rattle.queries.specs.declared.Share.the-variants.{Part, Absent, Refused as ShareRefused}
 use Rattle.queries.specs.declared.Crowd.the-variants.{Slots as SlotsGiven, Refused as CrowdRefused}
 use Rattle.query_checks.specs.Checks.{sharedVerdict, crowdedVerdict}
-use Rattle.queries.specs.Shares.{SharedBy, crowdedOf, CrowdedBy}
-use Rattle.query_checks.proofs.CheckLaws.{crowd-passed, Sound, sound}
+use Rattle.queries.specs.Shares.{Stretch, shareOf, partNamed, sharedPart, sharedOf, rangesOf, areaOf, crowdedOf, CrowdedBy}
+use Rattle.query_checks.proofs.CheckLaws.{crowd-passed, Sound, sound, shared-sound, part-inside}
 use Rattle.members.specs.Members.{membersIn, crowdedSlots, Picked}
-use Rattle.queries.proofs.QueryLaws.{there, not-there, itemAt, locals-are, cell-at}
+use Rattle.queries.proofs.QueryLaws.{there, not-there, itemAt, locals-are}
 use Rattle.queries.proofs.MemberLaws.{crowd-is, crowded-is}
 
--- ---- `shared`
+-- ---- `shared`: the part
 
-module _ (cells items areas : List ℕ) (locals : ℕ) where
-  module _ (S : Sound cells items locals) (i : ℕ) where
-    pub shared-past : locals ≤ i → shared (slotsOf locals cells items areas) i ≡ none
-    shared-past h =
-        ap (λ (l : List Item). sharedBy (slotsOf locals cells items areas) (getElem? l i)) (locals-are areas cells items locals S)
-        ∙ ap (sharedBy (slotsOf locals cells items areas)) (not-there locals (itemAt areas items) i h)
+module _ (cells items : List ℕ) (locals i : ℕ) where
+  pub part-past : locals ≤ i → sharedPart cells items locals i ≡ none
+  part-past h = ap (λ (t : Bool). cond t (cond (crowd (slotsOf locals cells items []) (field 4 items i 0)) (partNamed items i) none) none) (le-ltb i locals h)
 
-    module _ (h : i < locals) where
-      pub shared-at : shared (slotsOf locals cells items areas) i
-          ≡ cond (ltb 1 (membersIn items (getD items (4 * i) 0))) (partOf (areasOf areas) (field 4 items i 1) (field 4 items i 2) (field 4 items i 3)) none
-      shared-at =
-          ap (λ (l : List Item). sharedBy (slotsOf locals cells items areas) (getElem? l i)) (locals-are areas cells items locals S)
-          ∙ ap (sharedBy (slotsOf locals cells items areas)) (there locals (itemAt areas items) i h)
-          ∙ ap (λ (t : Bool). cond t (itemAt areas items i .area) none)
-          (crowd-is areas cells items locals (field 4 items i 0) ∙ ap (λ (c : ℕ). ltb 1 (membersIn items c)) (sym (cell-at areas cells items locals S i)))
+  module _ (h : i < locals) where
+    part-here : sharedPart cells items locals i ≡ cond (ltb 1 (membersIn items (getD items (4 * i) 0))) (partNamed items i) none
+    part-here =
+        ap (λ (t : Bool). cond t (cond (crowd (slotsOf locals cells items []) (field 4 items i 0)) (partNamed items i) none) none) (lt-ltb i locals h)
+        ∙ ap (λ (t : Bool). cond t (partNamed items i) none)
+        (crowd-is [] cells items locals (field 4 items i 0) ∙ ap (λ (k : ℕ). ltb 1 (membersIn items (getD items k 0))) (add-zero (4 * i)))
 
-      pub shared-absent : field 4 items i 1 ≡ 0 → shared (slotsOf locals cells items areas) i ≡ none
-      shared-absent e =
-          shared-at ∙ ap (λ (t : Bool). cond (ltb 1 (membersIn items (getD items (4 * i) 0))) (cond t none (some (take (field 4 items i 3) (drop (field 4 items i 2) (areasOf areas))))) none) (eq-eqb _ _ e)
-          ∙ both (ltb 1 (membersIn items (getD items (4 * i) 0)))
-        where
-          both : (t : Bool) → _≡_ {A = Option (List Range)} (cond t none none) none
-          both true = refl
-          both false = refl
+    pub part-absent : field 4 items i 1 ≡ 0 → sharedPart cells items locals i ≡ none
+    part-absent e =
+        part-here
+        ∙ ap (λ (t : Bool). cond (ltb 1 (membersIn items (getD items (4 * i) 0))) (cond t none (some (record { first = field 4 items i 2; count = field 4 items i 3 }))) none) (eq-eqb _ _ e)
+        ∙ both (ltb 1 (membersIn items (getD items (4 * i) 0)))
+      where
+        both : (t : Bool) → _≡_ {A = Option Stretch} (cond t none none) none
+        both true = refl
+        both false = refl
 
-      pub shared-lone : membersIn items (getD items (4 * i) 0) < 2 → shared (slotsOf locals cells items areas) i ≡ none
-      shared-lone l =
-          shared-at ∙ ap (λ (t : Bool). cond t (partOf (areasOf areas) (field 4 items i 1) (field 4 items i 2) (field 4 items i 3)) none) (le-ltb 1 (membersIn items (getD items (4 * i) 0)) (omega arith))
+    pub part-lone : membersIn items (getD items (4 * i) 0) < 2 → sharedPart cells items locals i ≡ none
+    part-lone l = part-here ∙ ap (λ (t : Bool). cond t (partNamed items i) none) (le-ltb 1 (membersIn items (getD items (4 * i) 0)) (omega arith))
 
-      pub shared-part : (field 4 items i 1 ≡ 0 → ⊥) → 2 ≤ membersIn items (getD items (4 * i) 0)
-          → shared (slotsOf locals cells items areas) i ≡ some (take (field 4 items i 3) (drop (field 4 items i 2) (areasOf areas)))
-      shared-part d l =
-          shared-at
-          ∙ ap (λ (t : Bool). cond t (partOf (areasOf areas) (field 4 items i 1) (field 4 items i 2) (field 4 items i 3)) none) (lt-ltb 1 (membersIn items (getD items (4 * i) 0)) (omega arith))
-          ∙ ap (λ (t : Bool). cond t none (some (take (field 4 items i 3) (drop (field 4 items i 2) (areasOf areas))))) (ne-eqb _ _ d)
+    pub part-shared : (field 4 items i 1 ≡ 0 → ⊥) → 2 ≤ membersIn items (getD items (4 * i) 0)
+        → sharedPart cells items locals i ≡ some (record { first = field 4 items i 2; count = field 4 items i 3 })
+    part-shared d l =
+        part-here ∙ ap (λ (t : Bool). cond t (partNamed items i) none) (lt-ltb 1 (membersIn items (getD items (4 * i) 0)) (omega arith))
+        ∙ ap (λ (t : Bool). cond t none (some (record { first = field 4 items i 2; count = field 4 items i 3 }))) (ne-eqb _ _ d)
 
-  module _ (i : ℕ) where
-    pub share-refused : (r : Refusal) (k : ℕ) → sharedVerdict cells items areas locals ≡ Bad r k → SharedBy cells items areas locals i (ShareRefused r k)
-    share-refused r k e = record { answer = rw e; inside = tt }
+module _ (cells items areas : List ℕ) (locals i : ℕ) where
+  pub share-refused : (r : Refusal) (k : ℕ) → sharedVerdict cells items areas locals ≡ Bad r k → shareOf (ShareRefused r k) ≡ sharedOf cells items areas locals i
+  share-refused r k e = rw e
 
-    pub share-none : sharedVerdict cells items areas locals ≡ Fine → shared (slotsOf locals cells items areas) i ≡ none → SharedBy cells items areas locals i Absent
-    share-none e f = record { answer = rw (e, f); inside = tt }
+  pub share-none : sharedVerdict cells items areas locals ≡ Fine → sharedPart cells items locals i ≡ none → shareOf Absent ≡ sharedOf cells items areas locals i
+  share-none e f = sym (ap (λ (v : Verdict). unless v (sharedPart cells items locals i)) e ∙ ap (λ (o : Option Stretch). given o) f)
 
-    pub share-some : sharedVerdict cells items areas locals ≡ Fine → (at count : ℕ)
-        → shared (slotsOf locals cells items areas) i ≡ some (take count (drop at (areasOf areas))) → at + count ≤ rowCount 2 areas → SharedBy cells items areas locals i (Part at count)
-    share-some e at count f h = record { answer = rw (e, f); inside = h }
+  pub share-some : sharedVerdict cells items areas locals ≡ Fine → (first count : ℕ) → sharedPart cells items locals i ≡ some (record { first = first; count = count })
+      → shareOf (Part first count) ≡ sharedOf cells items areas locals i
+  share-some e first count f = sym (ap (λ (v : Verdict). unless v (sharedPart cells items locals i)) e ∙ ap (λ (o : Option Stretch). given o) f)
+
+-- ---- `shared`: the area that the part is
+
+module _ (cells items areas : List ℕ) (locals : ℕ) (S : Sound cells items locals) (i : ℕ) where
+  shared-past : locals ≤ i → shared (slotsOf locals cells items areas) i ≡ none
+  shared-past h =
+      ap (λ (l : List Item). sharedBy (slotsOf locals cells items areas) (getElem? l i)) (locals-are areas cells items locals S)
+      ∙ ap (sharedBy (slotsOf locals cells items areas)) (not-there locals (itemAt areas items) i h)
+
+  shared-at : i < locals → shared (slotsOf locals cells items areas) i ≡ cond (crowd (slotsOf locals cells items areas) (field 4 items i 0)) (itemAt areas items i .area) none
+  shared-at h =
+      ap (λ (l : List Item). sharedBy (slotsOf locals cells items areas) (getElem? l i)) (locals-are areas cells items locals S)
+      ∙ ap (sharedBy (slotsOf locals cells items areas)) (there locals (itemAt areas items) i h)
+
+  -- the ranges of the part are the area of the definition
+  pub shared-area : rangesOf (areasOf areas) (sharedPart cells items locals i) ≡ shared (slotsOf locals cells items areas) i
+  shared-area = cut locals i
+      (λ h. ap (rangesOf (areasOf areas)) (part-past cells items locals i h) ∙ sym (shared-past h))
+      (λ h.
+      ap (λ (t : Bool). rangesOf (areasOf areas) (cond t (cond (crowd (slotsOf locals cells items []) (field 4 items i 0)) (partNamed items i) none) none)) (lt-ltb i locals h)
+      ∙ ap (λ (t : Bool). rangesOf (areasOf areas) (cond t (partNamed items i) none)) (crowd-is [] cells items locals (field 4 items i 0) ∙ sym (crowd-is areas cells items locals (field 4 items i 0)))
+      ∙ go (crowd (slotsOf locals cells items areas) (field 4 items i 0)) (eqb (field 4 items i 1) 0) ∙ sym (shared-at h))
+    where
+      go : (b t : Bool) → rangesOf (areasOf areas) (cond b (cond t none (some (record { first = field 4 items i 2; count = field 4 items i 3 }))) none)
+          ≡ cond b (cond t none (some (take (field 4 items i 3) (drop (field 4 items i 2) (areasOf areas))))) none
+      go true true = refl
+      go true false = refl
+      go false t = refl
+
+module _ (cells items areas : List ℕ) (locals i : ℕ) (fine : sharedVerdict cells items areas locals ≡ Fine) where
+  -- a part that is answered lies in the area list
+  pub shared-inside : (s : Stretch) → sharedPart cells items locals i ≡ some s → s .first + s .count ≤ rowCount 2 areas
+  shared-inside s e = cut locals i
+      (λ h. absurd (let f = sym (part-past cells items locals i h) ∙ e in let z : _≡_ {A = ℕ} 0 1 = cc in omega arith))
+      (λ h. go h (ltb 1 (membersIn items (getD items (4 * i) 0))) (eqb (field 4 items i 1) 0) refl (sym (part-here cells items locals i h) ∙ e))
+    where
+      go : i < locals → (b t : Bool) → eqb (field 4 items i 1) 0 ≡ t → cond b (cond t none (some (record { first = field 4 items i 2; count = field 4 items i 3 }))) none ≡ some s → s .first + s .count ≤ rowCount 2 areas
+      go h false t q f = absurd (let z : _≡_ {A = ℕ} 0 1 = cc in omega arith)
+      go h true true q f = absurd (let z : _≡_ {A = ℕ} 0 1 = cc in omega arith)
+      go h true false q f =
+          let p = part-inside cells items areas locals fine i (omega (arith, shared-sound cells items areas locals fine .whole .0)) (eqb-false _ _ q) in
+          let x : field 4 items i 2 ≡ s .first = cc in
+          let y : field 4 items i 3 ≡ s .count = cc in
+          omega arith
 
 -- ---- `crowded`
 

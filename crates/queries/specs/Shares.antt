@@ -1,14 +1,16 @@
 -- What `shared` and `crowded` answer.
-use Prim.Native.Nat.{ℕ, _+_, _-_, _≤_}
+use Prim.Native.Nat.{ℕ}
 use mathlib.Core.Path.{_≡_}
+use mathlib.Core.Bool.{cond}
 use mathlib.Core.Option.{Option, some, none}
 use mathlib.Core.List.{List, []}
 use lib.ListN.{length, take, drop}
+use lib.Dec.{ltb, eqb}
 use Rattle.refusals.specs.Verdicts.{numberOf}
 use Rattle.refusals.specs.Outcomes.{Outcome, given, refused, unless, after}
-use Rattle.words.specs.Rows.{rowCount}
+use Rattle.words.specs.Rows.{field}
 use Rattle.ranges.specs.declared.Range.{Range}
-use Rattle.fitting.specs.Queries.{areasOf, slotsOf, shared, crowded}
+use Rattle.fitting.specs.Queries.{slotsOf, crowd, crowded}
 use Rattle.query_checks.specs.Checks.{sharedVerdict, crowdedVerdict}
 use Rattle.queries.specs.declared.Share.{Share}
 use Rattle.queries.specs.declared.Share.the-variants.{Part, Absent, Refused as ShareRefused}
@@ -17,21 +19,36 @@ use Rattle.queries.specs.declared.Crowd.the-variants.{Slots as SlotsGive
 
 -- ---- `shared`
 
+-- "a part of the area list": its first range and how many it has
+pub record Stretch : Type 0 where
+  pub first : ℕ
+  pub count : ℕ
+
 -- what each case of the answer stands for: a part of the lent area list, or no shared area
-abbrev pub shareOf : List Range → Share → Outcome (Option (List Range))
-shareOf areas (Part first count) = given (some (take count (drop first areas)))
-shareOf areas Absent = given none
-shareOf areas (ShareRefused r i) = refused (numberOf r) i
+abbrev pub shareOf : Share → Outcome (Option Stretch)
+shareOf (Part first count) = given (some (record { first = first; count = count }))
+shareOf Absent = given none
+shareOf (ShareRefused r i) = refused (numberOf r) i
 
--- the part lies in a list of so many ranges
-abbrev pub Inside : ℕ → Share → Type 0
-Inside ranges (Part first count) = first + count ≤ ranges
-Inside ranges Absent = Unit {0}
-Inside ranges (ShareRefused r i) = Unit {0}
+-- the part that an item's row names: "a present flag and a part of the area list"
+abbrev pub partNamed : List ℕ → ℕ → Option Stretch
+partNamed items i = cond (eqb (field 4 items i 1) 0) none (some (record { first = field 4 items i 2; count = field 4 items i 3 }))
 
-pub record SharedBy (cells items areas : List ℕ) (locals i : ℕ) (r : Share) : Type 0 where
-  pub answer : shareOf (areasOf areas) r ≡ unless (sharedVerdict cells items areas locals) (shared (slotsOf locals cells items areas) i)
-  pub inside : Inside (rowCount 2 areas) r
+-- "`shared` gives a local's area only if its cell has two or more members": the numbers of its own row
+abbrev pub sharedPart : List ℕ → List ℕ → ℕ → ℕ → Option Stretch
+sharedPart cells items locals i = cond (ltb i locals) (cond (crowd (slotsOf locals cells items []) (field 4 items i 0)) (partNamed items i) none) none
+
+abbrev pub sharedOf : List ℕ → List ℕ → List ℕ → ℕ → ℕ → Outcome (Option Stretch)
+sharedOf cells items areas locals i = unless (sharedVerdict cells items areas locals) (sharedPart cells items locals i)
+
+-- the ranges of a part of an area list
+abbrev pub rangesOf : List Range → Option Stretch → Option (List Range)
+rangesOf areas none = none
+rangesOf areas (some s) = some (take (s .count) (drop (s .first) areas))
+
+abbrev pub areaOf : List Range → Outcome (Option Stretch) → Outcome (Option (List Range))
+areaOf areas (given s) = given (rangesOf areas s)
+areaOf areas (refused n i) = refused n i
 
 -- ---- `crowded`
 

@@ -3,7 +3,7 @@ ghost use mathlib.Core.Path.{_≡_};
 ghost use Prim.Native.Nat.{_+_, _*_};
 ghost use lib.ListN.{length};
 ghost use Rattle.queries.specs.Entry.{placeOf, savedOf, localOf, slotOf, savedBy};
-ghost use Rattle.queries.specs.Shares.{SharedBy, crowdedOf, CrowdedBy};
+ghost use Rattle.queries.specs.Shares.{shareOf, sharedOf, crowdedOf, CrowdedBy};
 use refusals::Refusal;
 use refusals::Verdict;
 
@@ -75,7 +75,7 @@ pub fn saved(cells: &[u32], items: &[u32], locals: u32) -> Saving
 
 // The area of local `i`, only if its cell has two or more members. Refuses as `local` does, and an area list that is no whole rows or over its limit (1), a part outside it (10).
 pub fn shared(cells: &[u32], items: &[u32], areas: &[u32], locals: u32, i: u32) -> Share
-    ensures { λ r. ⌜ SharedBy (now (cells .entry)) (now (items .entry)) (now (areas .entry)) locals i r ⌝ }
+    ensures { λ r. ⌜ shareOf r ≡ sharedOf (now (cells .entry)) (now (items .entry)) (now (areas .entry)) locals i ⌝ }
 {
     let v = query_checks::parts(cells, items, areas, locals);
     if let Verdict::Bad(r, k) = v {

@@ -13,10 +13,10 @@ use Rattle.refusals.specs.declared.Verdict.the-variants.{Fine, Bad}
 use Rattle.refusals.specs.declared.Refusal.{Refusal}
 use Rattle.refusals.specs.declared.Refusal.the-variants.{Count, Want, Space}
 use Rattle.refusals.specs.Verdicts.{inOrder, first, check}
-use Rattle.refusals.proofs.Laws.{check-bad, check-fine, check-last, first-fine, first-bad, first-left, first-right, scan-fine, three-first, three-second, three-third}
+use Rattle.refusals.proofs.Laws.{check-bad, check-fine, check-last, first-fine, first-bad, first-left, first-right, scan-fine}
 use Rattle.words.specs.Rows.{rowCount, wholeRows, field}
 use Rattle.words.proofs.Bools.{or-right, or-neither}
-use Rattle.query_checks.specs.Checks.{badCount, noCell, itemsVerdict, surplus, planVerdict, badAreas, outside, badItem, partsVerdict, sharedVerdict, crowdedVerdict}
+use Rattle.query_checks.specs.Checks.{badCount, noCell, itemsVerdict, surplus, planVerdict, badAreas, outside, badItem, partsVerdict, sharedVerdict, toldVerdict, crowdedVerdict}
 
 -- ---- the checks
 
@@ -130,31 +130,28 @@ out-present ranges present first count d = sym (ap (λ (t : Bool). cond t false 
 -- ---- `shared`
 
 module _ (cells items areas : List ℕ) (locals : ℕ) where
-  pub parts-count : badCount cells items locals ≡ true → Bad Count 0 ≡ sharedVerdict cells items areas locals
+  pub counts-plan : badCount cells items locals ≡ true → true ≡ badCount cells items locals || badAreas areas
+  counts-plan e = sym (ap (λ (t : Bool). t || badAreas areas) e)
+
+  pub counts-areas : {r : Bool} → badCount cells items locals ≡ false → r ≡ badAreas areas → r ≡ badCount cells items locals || badAreas areas
+  counts-areas e f = f ∙ sym (ap (λ (t : Bool). t || badAreas areas) e)
+
+  pub parts-count : badCount cells items locals || badAreas areas ≡ true → Bad Count 0 ≡ sharedVerdict cells items areas locals
   unfolding sharedVerdict
-  parts-count e =
-      checks-count (badCount cells items locals || badAreas areas) (partsVerdict cells items (rowCount 2 areas)) cells items (ap (λ (t : Bool). t || badAreas areas) e)
+  parts-count e = checks-count (badCount cells items locals || badAreas areas) (partsVerdict cells items (rowCount 2 areas)) cells items e
 
-  pub parts-areas : badAreas areas ≡ true → Bad Count 0 ≡ sharedVerdict cells items areas locals
-  unfolding sharedVerdict
-  parts-areas e =
-      checks-count (badCount cells items locals || badAreas areas) (partsVerdict cells items (rowCount 2 areas)) cells items (or-right (badCount cells items locals) (badAreas areas) e)
-
-  module _ (e : badCount cells items locals ≡ false) (f : badAreas areas ≡ false) where
-    whole : badCount cells items locals || badAreas areas ≡ false
-    whole = ap (λ (t : Bool). t || badAreas areas) e ∙ f
-
+  module _ (e : badCount cells items locals || badAreas areas ≡ false) where
     pub parts-item : (r : Refusal) (i : ℕ) → partsVerdict cells items (rowCount 2 areas) ≡ Bad r i → Bad r i ≡ sharedVerdict cells items areas locals
     unfolding sharedVerdict
-    parts-item r i g = checks-item (badCount cells items locals || badAreas areas) (partsVerdict cells items (rowCount 2 areas)) cells items whole r i g
+    parts-item r i g = checks-item (badCount cells items locals || badAreas areas) (partsVerdict cells items (rowCount 2 areas)) cells items e r i g
 
     pub parts-surplus : partsVerdict cells items (rowCount 2 areas) ≡ Fine → rowCount 4 items < rowCount 2 cells → Bad Want (rowCount 4 items) ≡ sharedVerdict cells items areas locals
     unfolding sharedVerdict
-    parts-surplus g h = checks-surplus (badCount cells items locals || badAreas areas) (partsVerdict cells items (rowCount 2 areas)) cells items whole g h
+    parts-surplus g h = checks-surplus (badCount cells items locals || badAreas areas) (partsVerdict cells items (rowCount 2 areas)) cells items e g h
 
     pub parts-fine : partsVerdict cells items (rowCount 2 areas) ≡ Fine → rowCount 2 cells ≤ rowCount 4 items → Fine ≡ sharedVerdict cells items areas locals
     unfolding sharedVerdict
-    parts-fine g h = checks-fine (badCount cells items locals || badAreas areas) (partsVerdict cells items (rowCount 2 areas)) cells items whole g h
+    parts-fine g h = checks-fine (badCount cells items locals || badAreas areas) (partsVerdict cells items (rowCount 2 areas)) cells items e g h
 
   passed : sharedVerdict cells items areas locals ≡ Fine
       → (badCount cells items locals || badAreas areas ≡ false) × (partsVerdict cells items (rowCount 2 areas) ≡ Fine) × (surplus cells items ≡ Fine)
@@ -169,21 +166,54 @@ module _ (cells items areas : List ℕ) (locals : ℕ) where
       let q = or-neither (noCell cells items i) _ (scan-fine Want (badItem cells items (rowCount 2 areas)) (rowCount 4 items) (passed e .1) i h) .1 in
       ltb-false _ _ (out-present (rowCount 2 areas) (field 4 items i 1) (field 4 items i 2) (field 4 items i 3) d ∙ q)
 
+-- ---- `shared` with its part told
+
+module _ (cells items areas : List ℕ) (locals room : ℕ) where
+  abbrev records : List Verdict
+  records = partsVerdict cells items (rowCount 2 areas) ∷ surplus cells items ∷ []
+
+  pub told-count : badCount cells items locals || badAreas areas ≡ true → Bad Count 0 ≡ toldVerdict cells items areas locals room
+  unfolding toldVerdict
+  told-count e = sym (check-bad Count (badCount cells items locals || badAreas areas) (check Space (ltb room 2) ∷ records) e)
+
+  pub told-space : badCount cells items locals || badAreas areas ≡ false → room < 2 → Bad Space 0 ≡ toldVerdict cells items areas locals room
+  unfolding toldVerdict
+  told-space e h = sym (check-fine Count (badCount cells items locals || badAreas areas) (check Space (ltb room 2) ∷ records) e ∙ check-bad Space (ltb room 2) records (lt-ltb room 2 h))
+
+  -- where there is room, nothing else changes
+  pub told-room : 2 ≤ room → sharedVerdict cells items areas locals ≡ toldVerdict cells items areas locals room
+  unfolding sharedVerdict toldVerdict
+  told-room h = go (badCount cells items locals || badAreas areas)
+    where
+      go : (t : Bool) → inOrder (check Count t ∷ records) ≡ inOrder (check Count t ∷ check Space (ltb room 2) ∷ records)
+      go true = check-bad Count true records refl ∙ sym (check-bad Count true (check Space (ltb room 2) ∷ records) refl)
+      go false =
+          check-fine Count false records refl
+          ∙ sym (check-fine Count false (check Space (ltb room 2) ∷ records) refl ∙ check-fine Space (ltb room 2) records (le-ltb room 2 h))
+
 -- ---- `crowded`
 
 module _ (cells items : List ℕ) (locals room : ℕ) where
+  abbrev rest : List Verdict
+  rest = itemsVerdict cells items ∷ surplus cells items ∷ []
+
   pub crowd-count : badCount cells items locals ≡ true → Bad Count 0 ≡ crowdedVerdict cells items locals room
   unfolding crowdedVerdict
-  crowd-count e = three-first Count Space (badCount cells items locals) (ltb room (rowCount 4 items - locals)) (planVerdict cells items locals) e
+  crowd-count e = sym (check-bad Count (badCount cells items locals) (check Space (ltb room (rowCount 4 items - locals)) ∷ rest) e)
 
   module _ (e : badCount cells items locals ≡ false) where
     pub crowd-space : room < rowCount 4 items - locals → Bad Space 0 ≡ crowdedVerdict cells items locals room
     unfolding crowdedVerdict
-    crowd-space h = three-second Count Space (badCount cells items locals) (ltb room (rowCount 4 items - locals)) (planVerdict cells items locals) e (lt-ltb _ _ h)
+    crowd-space h =
+        sym (check-fine Count (badCount cells items locals) (check Space (ltb room (rowCount 4 items - locals)) ∷ rest) e
+        ∙ check-bad Space (ltb room (rowCount 4 items - locals)) rest (lt-ltb _ _ h))
 
     pub crowd-plan : rowCount 4 items - locals ≤ room → planVerdict cells items locals ≡ crowdedVerdict cells items locals room
-    unfolding crowdedVerdict
-    crowd-plan h = three-third Count Space (badCount cells items locals) (ltb room (rowCount 4 items - locals)) (planVerdict cells items locals) e (le-ltb _ _ h)
+    unfolding planVerdict crowdedVerdict
+    crowd-plan h =
+        check-fine Count (badCount cells items locals) rest e
+        ∙ sym (check-fine Count (badCount cells items locals) (check Space (ltb room (rowCount 4 items - locals)) ∷ rest) e
+        ∙ check-fine Space (ltb room (rowCount 4 items - locals)) rest (le-ltb _ _ h))
 
   -- what holds where nothing is refused
   pub record Roomy : Type 0 where

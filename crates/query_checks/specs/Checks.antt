@@ -25,9 +25,12 @@ itemsVerdict cells items = scan Want (noCell cells items) (rowCount 4 items)
 abbrev pub surplus : List ℕ → List ℕ → Verdict
 surplus cells items = cond (ltb (rowCount 4 items) (rowCount 2 cells)) (Bad Want (rowCount 4 items)) Fine
 
+-- "the queries check 1, 7, 10": `local`, `slot` and `saved` write no list
+abbrev pub planChecks : List ℕ → List ℕ → ℕ → List Verdict
+planChecks cells items locals = check Count (badCount cells items locals) ∷ itemsVerdict cells items ∷ surplus cells items ∷ []
+
 unfoldable pub planVerdict : List ℕ → List ℕ → ℕ → Verdict
-planVerdict cells items locals =
-    inOrder (check Count (badCount cells items locals) ∷ itemsVerdict cells items ∷ surplus cells items ∷ [])
+planVerdict cells items locals = inOrder (planChecks cells items locals)
 
 -- ---- `shared`
 
@@ -45,13 +48,27 @@ badItem cells items ranges i = noCell cells items i || outside ranges (field 4 i
 abbrev pub partsVerdict : List ℕ → List ℕ → ℕ → Verdict
 partsVerdict cells items ranges = scan Want (badItem cells items ranges) (rowCount 4 items)
 
+abbrev pub sharedChecks : List ℕ → List ℕ → List ℕ → ℕ → List Verdict
+sharedChecks cells items areas locals =
+    check Count (badCount cells items locals || badAreas areas) ∷ partsVerdict cells items (rowCount 2 areas) ∷ surplus cells items ∷ []
+
 unfoldable pub sharedVerdict : List ℕ → List ℕ → List ℕ → ℕ → Verdict
-sharedVerdict cells items areas locals =
-    inOrder (check Count (badCount cells items locals || badAreas areas) ∷ partsVerdict cells items (rowCount 2 areas) ∷ surplus cells items ∷ [])
+sharedVerdict cells items areas locals = inOrder (sharedChecks cells items areas locals)
+
+-- where the part's two numbers are told in a list: one that is shorter is 7
+abbrev pub toldChecks : List ℕ → List ℕ → List ℕ → ℕ → ℕ → List Verdict
+toldChecks cells items areas locals room =
+    check Count (badCount cells items locals || badAreas areas) ∷ check Space (ltb room 2) ∷ partsVerdict cells items (rowCount 2 areas) ∷ surplus cells items ∷ []
+
+unfoldable pub toldVerdict : List ℕ → List ℕ → List ℕ → ℕ → ℕ → Verdict
+toldVerdict cells items areas locals room = inOrder (toldChecks cells items areas locals room)
 
 -- ---- `crowded`
 
--- numbers 1, 7 and 10: an answer list under the slots is 7
+-- an answer list under the slots is 7
+abbrev pub crowdedChecks : List ℕ → List ℕ → ℕ → ℕ → List Verdict
+crowdedChecks cells items locals room =
+    check Count (badCount cells items locals) ∷ check Space (ltb room (rowCount 4 items - locals)) ∷ itemsVerdict cells items ∷ surplus cells items ∷ []
+
 unfoldable pub crowdedVerdict : List ℕ → List ℕ → ℕ → ℕ → Verdict
-crowdedVerdict cells items locals room =
-    inOrder (check Count (badCount cells items locals) ∷ check Space (ltb room (rowCount 4 items - locals)) ∷ planVerdict cells items locals ∷ [])
+crowdedVerdict cells items locals room = inOrder (crowdedChecks cells items locals room)

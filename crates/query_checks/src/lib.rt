@@ -1,5 +1,6 @@
 // The refusals of the queries: numbers 1, 7 and 10, in this order.
 ghost use mathlib.Core.Path.{_≡_};
+ghost use mathlib.Core.Bool.{_||_};
 ghost use Prim.Native.Nat.{_+_};
 ghost use Rattle.query_checks.specs.Checks.{badCount, itemsVerdict, planVerdict, badAreas, outside, partsVerdict, sharedVerdict, crowdedVerdict};
 use refusals::Refusal;
@@ -74,6 +75,16 @@ fn bad_areas(areas: &[u32]) -> bool
     RANGES < areas.len() / 2
 }
 
+// Whether a list of a plan with its areas is no whole rows, or a count is over its limit: number 1 of `shared`.
+pub fn counts(cells: &[u32], items: &[u32], areas: &[u32], locals: u32) -> bool
+    ensures { λ r. ⌜ r ≡ badCount (now (cells .entry)) (now (items .entry)) locals || badAreas (now (areas .entry)) ⌝ }
+{
+    if bad_count(cells, items, locals) {
+        return true;
+    }
+    bad_areas(areas)
+}
+
 // Whether a part is outside a list of so many ranges.
 fn part_outside(ranges: usize, present: u32, first: u32, count: u32) -> bool
     ensures { λ r. ⌜ r ≡ outside ranges present first count ⌝ }
@@ -108,10 +119,7 @@ fn items_within(cells: &[u32], items: &[u32], ranges: usize) -> Verdict
 pub fn parts(cells: &[u32], items: &[u32], areas: &[u32], locals: u32) -> Verdict
     ensures { λ r. ⌜ r ≡ sharedVerdict (now (cells .entry)) (now (items .entry)) (now (areas .entry)) locals ⌝ }
 {
-    if bad_count(cells, items, locals) {
-        return Verdict::Bad(Refusal::Count, 0);
-    }
-    if bad_areas(areas) {
+    if counts(cells, items, areas, locals) {
         return Verdict::Bad(Refusal::Count, 0);
     }
     let v = items_within(cells, items, areas.len() / 2);

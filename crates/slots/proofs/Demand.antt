@@ -21,7 +21,7 @@ use Rattle.codes.proofs.CodeLaws.{refusal-no-answer}
 use Rattle.slots.specs.Job.{JobCoded}
 
 -- a number below 2 to the 32 is no refusal's
-no-refusal : (v : Verdict) (p : Plan) → codeOf (tallyOf (unless v p)) < 2 ^ 32 → v ≡ Fine
+pub no-refusal : (v : Verdict) (p : Plan) → codeOf (tallyOf (unless v p)) < 2 ^ 32 → v ≡ Fine
 no-refusal Fine p h = refl
 no-refusal (Bad r i) p h = absurd (omega (arith, refusal-no-answer r i _ h))
 

@@ -12,13 +12,11 @@ use Rattle.flow.specs.Entry.{Answered as Flowed, outcomeOf as flowOutcome}
 use Rattle.spread.specs.declared.Answer.{Answer as SpreadAnswer}
 use Rattle.spread.specs.Entry.{Answered as Spread, outcomeOf as spreadOutcome}
 use Rattle.fitting.specs.Queries.{Slots}
-use Rattle.queries.specs.declared.Share.{Share}
-use Rattle.queries.specs.Shares.{SharedBy, counted}
+use Rattle.queries.specs.Shares.{counted}
 use Rattle.capping.specs.Cap.{capVerdict, capRows}
 use Rattle.apart.specs.Apart.{roomRows, loneRows}
 use Rattle.codes.specs.Codes.{codeOf, countCode, verdictCode}
 use Rattle.part_codes.specs.Codes.{overOf}
-use Rattle.query_codes.specs.Codes.{partCode, partAfter}
 
 -- `flowed` and `spread`
 pub record FlowCoded (over : ℕ) (blocks edges : List ℕ) (points : ℕ) (touched : List ℕ) (words : ℕ) (out₀ work₀ : List ℕ) (r : ℕ) (out work : List ℕ) : Type 0 where
@@ -40,13 +38,6 @@ pub record ListCoded (o : Outcome (List Range)) (os oe : List ℕ) (r : ℕ) (os
   pub answer : r ≡ countCode (size o)
   pub in-starts : os′ ≡ after o starts os
   pub in-ends : oe′ ≡ after o ends oe
-
--- `shared`: the part is one that the entry answers
-pub record ShareCoded (cells items areas : List ℕ) (locals i : ℕ) (part : List ℕ) (r : ℕ) (part′ : List ℕ) : Type 0 where
-  pub told : Share
-  pub answer : r ≡ partCode told
-  pub in-part : part′ ≡ partAfter told part
-  pub holds : SharedBy cells items areas locals i told
 
 -- `crowded`
 pub record CrowdCoded (o : Outcome (List ℕ)) (out : List ℕ) (r : ℕ) (out′ : List ℕ) : Type 0 where

@@ -10,7 +10,8 @@ ghost use Rattle.apart.specs.Apart.{apartVerdict, apartOf};
 ghost use Rattle.job_space.specs.Space.{spaceOf};
 ghost use Rattle.codes.specs.Codes.{countCode, optionCode, truthOf, truthCode};
 ghost use Rattle.want_codes.specs.Plans.{PlanCoded};
-ghost use Rattle.slots.specs.Exports.{FlowCoded, SpreadCoded, fitSpace, ListCoded, ShareCoded, CrowdCoded, CapCoded, ApartCoded};
+ghost use Rattle.query_codes.specs.Codes.{toldOf, PartTold};
+ghost use Rattle.slots.specs.Exports.{FlowCoded, SpreadCoded, fitSpace, ListCoded, CrowdCoded, CapCoded, ApartCoded};
 ghost use Rattle.slots.specs.Job.{JobCoded};
 
 // `flow::flowed`: over predecessors for 0, else over successors.
@@ -212,9 +213,9 @@ pub extern "C" fn slots_shared(
     i: u32,
     part: &mut [u64],
 ) -> u64
-    ensures { λ r. ⌜ ShareCoded (now (cells .entry)) (now (items .entry)) (now (areas .entry)) locals i (now (part .entry)) r (now (part .exit)) ⌝ }
+    ensures { λ r. ⌜ PartTold (toldOf (now (cells .entry)) (now (items .entry)) (now (areas .entry)) locals i (length (now (part .entry)))) (now (part .entry)) r (now (part .exit)) ⌝ }
 {
-    query_codes::share(part, queries::shared(cells, items, areas, locals, i))
+    query_codes::shared(cells, items, areas, locals, i, part)
 }
 
 // `queries::crowded`.

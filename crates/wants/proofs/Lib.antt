@@ -1,3 +1,4 @@
 pub mod TallyLaws
 pub mod LoadLaws
 pub mod EntryLaws
+pub mod SeenLaws

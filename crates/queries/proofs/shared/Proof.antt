@@ -1,6 +1,6 @@
 -- `shared` meets its contract: refused, none, or the part.
-use Rattle.query_checks.proofs.CheckLaws.{shared-sound, part-inside}
-use Rattle.queries.proofs.ShareLaws.{share-refused, share-none, share-some, shared-past, shared-absent, shared-lone, shared-part}
+use Rattle.query_checks.proofs.CheckLaws.{shared-sound}
+use Rattle.queries.proofs.ShareLaws.{share-refused, share-none, share-some, part-past, part-absent, part-lone, part-shared}
 use denote.Ref.{now}
 use native.Mathlib.Omega.{arith}
 use Prim.Native.Nat.{_+_, _-_, _*_}
@@ -22,7 +22,7 @@ enum-told : tie.Need-enum-told
 enum-told c = omega arith
 
 returns-2 : tie.Need-returns-2
-returns-2 c = let a = (c .before .before .before .before .before .before .before .args) in share-none (now (a .cells)) (now (a .items)) (now (a .areas)) (a .locals) (a .i) (sym ((c .before .before .before .parts) .ensures) ∙ (c .before .enum-told) .given .1) (shared-past (now (a .cells)) (now (a .items)) (now (a .areas)) (a .locals) (shared-sound (now (a .cells)) (now (a .items)) (now (a .areas)) (a .locals) (sym ((c .before .before .before .parts) .ensures) ∙ (c .before .enum-told) .given .1)) (a .i) (omega arith))
+returns-2 c = let a = (c .before .before .before .before .before .before .before .args) in share-none (now (a .cells)) (now (a .items)) (now (a .areas)) (a .locals) (a .i) (sym ((c .before .before .before .parts) .ensures) ∙ (c .before .enum-told) .given .1) (part-past (now (a .cells)) (now (a .items)) (a .locals) (a .i) (omega arith))
 
 mul-at : tie.Need-mul-at
 mul-at c = omega arith
@@ -37,7 +37,7 @@ shared-slice-read-if2 : tie.Need-shared-slice-read-if2
 shared-slice-read-if2 c = let a = (c .before .before .before .before .before .before .before .before .args) in omega (arith, (shared-sound (now (a .cells)) (now (a .items)) (now (a .areas)) (a .locals) (sym ((c .before .before .before .before .parts) .ensures) ∙ (c .before .before .enum-told) .given .1)) .whole)
 
 returns-3 : tie.Need-returns-3
-returns-3 c = let a = (c .before .before .before .before .before .before .before .before .before .args) in share-none (now (a .cells)) (now (a .items)) (now (a .areas)) (a .locals) (a .i) (sym ((c .before .before .before .before .before .parts) .ensures) ∙ (c .before .before .before .enum-told) .given .1) (shared-absent (now (a .cells)) (now (a .items)) (now (a .areas)) (a .locals) (shared-sound (now (a .cells)) (now (a .items)) (now (a .areas)) (a .locals) (sym ((c .before .before .before .before .before .parts) .ensures) ∙ (c .before .before .before .enum-told) .given .1)) (a .i) (omega arith) ((c .if2) .taken))
+returns-3 c = let a = (c .before .before .before .before .before .before .before .before .before .args) in share-none (now (a .cells)) (now (a .items)) (now (a .areas)) (a .locals) (a .i) (sym ((c .before .before .before .before .before .parts) .ensures) ∙ (c .before .before .before .enum-told) .given .1) (part-absent (now (a .cells)) (now (a .items)) (a .locals) (a .i) (omega arith) ((c .if2) .taken))
 
 mul-members : tie.Need-mul-members
 mul-members c = omega arith
@@ -49,7 +49,7 @@ members-requires : tie.Need-members-requires
 members-requires c κs = tt
 
 returns-4 : tie.Need-returns-4
-returns-4 c = let a = (c .before .before .before .before .before .before .before .before .before .before .before .before .args) in share-none (now (a .cells)) (now (a .items)) (now (a .areas)) (a .locals) (a .i) (sym ((c .before .before .before .before .before .before .before .before .parts) .ensures) ∙ (c .before .before .before .before .before .before .enum-told) .given .1) (shared-lone (now (a .cells)) (now (a .items)) (now (a .areas)) (a .locals) (shared-sound (now (a .cells)) (now (a .items)) (now (a .areas)) (a .locals) (sym ((c .before .before .before .before .before .before .before .before .parts) .ensures) ∙ (c .before .before .before .before .before .before .enum-told) .given .1)) (a .i) (omega arith) (omega (arith, (c .before .members) .ensures)))
+returns-4 c = let a = (c .before .before .before .before .before .before .before .before .before .before .before .before .args) in share-none (now (a .cells)) (now (a .items)) (now (a .areas)) (a .locals) (a .i) (sym ((c .before .before .before .before .before .before .before .before .parts) .ensures) ∙ (c .before .before .before .before .before .before .enum-told) .given .1) (part-lone (now (a .cells)) (now (a .items)) (a .locals) (a .i) (omega arith) (omega (arith, (c .before .members) .ensures)))
 
 add-t11 : tie.Need-add-t11
 add-t11 c = omega arith
@@ -76,7 +76,7 @@ cast-t22 : tie.Need-cast-t22
 cast-t22 c = omega (arith, (c .shared-slice-known7) .given (4 * (c .before .before .before .before .before .before .before .before .before .before .before .before .before .before .args) .i + 3))
 
 returns-5 : tie.Need-returns-5
-returns-5 c = let a = (c .before .before .before .before .before .before .before .before .before .before .before .before .before .before .args) in share-some (now (a .cells)) (now (a .items)) (now (a .areas)) (a .locals) (a .i) (sym ((c .before .before .before .before .before .before .before .before .before .before .parts) .ensures) ∙ (c .before .before .before .before .before .before .before .before .enum-told) .given .1) _ _ (shared-part (now (a .cells)) (now (a .items)) (now (a .areas)) (a .locals) (shared-sound (now (a .cells)) (now (a .items)) (now (a .areas)) (a .locals) (sym ((c .before .before .before .before .before .before .before .before .before .before .parts) .ensures) ∙ (c .before .before .before .before .before .before .before .before .enum-told) .given .1)) (a .i) (omega arith) ((c .before .before .before .before .before .if2) .left) (omega (arith, (c .before .before .before .members) .ensures))) (part-inside (now (a .cells)) (now (a .items)) (now (a .areas)) (a .locals) (sym ((c .before .before .before .before .before .before .before .before .before .before .parts) .ensures) ∙ (c .before .before .before .before .before .before .before .before .enum-told) .given .1) (a .i) (omega (arith, (shared-sound (now (a .cells)) (now (a .items)) (now (a .areas)) (a .locals) (sym ((c .before .before .before .before .before .before .before .before .before .before .parts) .ensures) ∙ (c .before .before .before .before .before .before .before .before .enum-told) .given .1)) .whole)) ((c .before .before .before .before .before .if2) .left))
+returns-5 c = let a = (c .before .before .before .before .before .before .before .before .before .before .before .before .before .before .args) in share-some (now (a .cells)) (now (a .items)) (now (a .areas)) (a .locals) (a .i) (sym ((c .before .before .before .before .before .before .before .before .before .before .parts) .ensures) ∙ (c .before .before .before .before .before .before .before .before .enum-told) .given .1) _ _ (part-shared (now (a .cells)) (now (a .items)) (a .locals) (a .i) (omega arith) ((c .before .before .before .before .before .if2) .left) (omega (arith, (c .before .before .before .members) .ensures)))
 
 pub shared-spec : {M : Type 1} → statement M
 shared-spec =

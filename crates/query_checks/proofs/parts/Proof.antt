@@ -1,5 +1,5 @@
 -- `parts` meets its contract: one law for each way out.
-use Rattle.query_checks.proofs.CheckLaws.{parts-count, parts-areas, parts-item, parts-surplus, parts-fine}
+use Rattle.query_checks.proofs.CheckLaws.{parts-count, parts-item, parts-surplus, parts-fine}
 use denote.Ref.{now}
 use native.Mathlib.Omega.{arith}
 use Prim.Native.Nat.{_-_}
@@ -8,17 +8,11 @@ use borrow.Author.Needs.{needs}
 use Rattle.query_checks.proofs.parts.Statement.{statement}
 use Rattle.query_checks.proofs.parts.Tie as tie
 
-bad-count-requires : tie.Need-bad-count-requires
-bad-count-requires c κs = tt
+counts-requires : tie.Need-counts-requires
+counts-requires c κs = tt
 
 returns : tie.Need-returns
-returns c = let a = (c .before .before .before .before .before .args) in parts-count (now (a .cells)) (now (a .items)) (now (a .areas)) (a .locals) (sym ((c .before .bad-count) .ensures) ∙ (c .if1) .taken)
-
-bad-areas-requires : tie.Need-bad-areas-requires
-bad-areas-requires c κs = tt
-
-returns-2 : tie.Need-returns-2
-returns-2 c = let a = (c .before .before .before .before .before .before .before .args) in parts-areas (now (a .cells)) (now (a .items)) (now (a .areas)) (a .locals) (sym ((c .before .bad-areas) .ensures) ∙ (c .if2) .taken)
+returns c = let a = (c .before .before .before .before .before .args) in parts-count (now (a .cells)) (now (a .items)) (now (a .areas)) (a .locals) (sym ((c .before .counts) .ensures) ∙ (c .if1) .taken)
 
 items-within-requires : tie.Need-items-within-requires
 items-within-requires c κs = tt
@@ -26,29 +20,27 @@ items-within-requires c κs = tt
 enum-known-v : tie.Need-enum-known-v
 enum-known-v c = search needs
 
-returns-3 : tie.Need-returns-3
-returns-3 c = let a = (c .before .before .before .before .before .before .before .before .before .before .before .args) in parts-item (now (a .cells)) (now (a .items)) (now (a .areas)) (a .locals) (sym ((c .before .before .before .before .before .before .before .bad-count) .ensures) ∙ (c .before .before .before .before .before .before .if1) .left) (sym ((c .before .before .before .before .before .bad-areas) .ensures) ∙ (c .before .before .before .before .if2) .left) _ _ (sym ((c .before .before .before .items-within) .ensures) ∙ (c .before .v) .given .1)
+returns-2 : tie.Need-returns-2
+returns-2 c = let a = (c .before .before .before .before .before .before .before .before .before .args) in parts-item (now (a .cells)) (now (a .items)) (now (a .areas)) (a .locals) (sym ((c .before .before .before .before .before .counts) .ensures) ∙ (c .before .before .before .before .if1) .left) _ _ (sym ((c .before .before .before .items-within) .ensures) ∙ (c .before .v) .given .1)
 
 enum-told : tie.Need-enum-told
 enum-told c = omega arith
 
-returns-4 : tie.Need-returns-4
-returns-4 c = let a = (c .before .before .before .before .before .before .before .before .before .before .before .args) in parts-surplus (now (a .cells)) (now (a .items)) (now (a .areas)) (a .locals) (sym ((c .before .before .before .before .before .before .before .bad-count) .ensures) ∙ (c .before .before .before .before .before .before .if1) .left) (sym ((c .before .before .before .before .before .bad-areas) .ensures) ∙ (c .before .before .before .before .if2) .left) (sym ((c .before .before .before .items-within) .ensures) ∙ (c .before .enum-told) .given .1) (omega arith)
+returns-3 : tie.Need-returns-3
+returns-3 c = let a = (c .before .before .before .before .before .before .before .before .before .args) in parts-surplus (now (a .cells)) (now (a .items)) (now (a .areas)) (a .locals) (sym ((c .before .before .before .before .before .counts) .ensures) ∙ (c .before .before .before .before .if1) .left) (sym ((c .before .before .before .items-within) .ensures) ∙ (c .before .enum-told) .given .1) (omega arith)
 
-returns-5 : tie.Need-returns-5
-returns-5 c = let a = (c .before .before .before .before .before .before .before .before .before .before .before .args) in parts-fine (now (a .cells)) (now (a .items)) (now (a .areas)) (a .locals) (sym ((c .before .before .before .before .before .before .before .bad-count) .ensures) ∙ (c .before .before .before .before .before .before .if1) .left) (sym ((c .before .before .before .before .before .bad-areas) .ensures) ∙ (c .before .before .before .before .if2) .left) (sym ((c .before .before .before .items-within) .ensures) ∙ (c .before .enum-told) .given .1) (omega arith)
+returns-4 : tie.Need-returns-4
+returns-4 c = let a = (c .before .before .before .before .before .before .before .before .before .args) in parts-fine (now (a .cells)) (now (a .items)) (now (a .areas)) (a .locals) (sym ((c .before .before .before .before .before .counts) .ensures) ∙ (c .before .before .before .before .if1) .left) (sym ((c .before .before .before .items-within) .ensures) ∙ (c .before .enum-told) .given .1) (omega arith)
 
 pub parts-spec : {M : Type 1} → statement M
 parts-spec =
     tie.close
     (tie.spec
-    bad-count-requires
+    counts-requires
     returns
-    bad-areas-requires
-    returns-2
     items-within-requires
     enum-known-v
-    returns-3
+    returns-2
     enum-told
-    returns-4
-    returns-5)
+    returns-3
+    returns-4)

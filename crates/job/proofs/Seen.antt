@@ -1,0 +1,140 @@
+-- The plan that a call wrote, as the queries see it: each query of it is the definition's, none refuses it, and each item stands in the lowest fitting cell.
+use Prim.Native.Nat.{ℕ, _+_, _-_, _*_, _/_, _%_, _≤_, _<_}
+use native.Mathlib.Omega.{arith}
+use mathlib.Core.Path.{_≡_, refl, sym, ap, subst, _∙_}
+use mathlib.Core.Option.{Option, none}
+use mathlib.Core.List.{List, _++_}
+use lib.ListN.{length, getD, take, drop, length-append, length-drop, List·getD-append}
+use lib.Seq.{take-at}
+use borrow.Author.Tests.{ltb-false}
+use Rattle.refusals.specs.declared.Verdict.{Verdict}
+use Rattle.refusals.specs.declared.Verdict.the-variants.{Fine}
+use Rattle.refusals.specs.declared.Refusal.the-variants.{List as ListWord}
+use Rattle.refusals.specs.Outcomes.{unless, after}
+use Rattle.refusals.proofs.Laws.{first-left, first-right, check-told}
+use Rattle.words.specs.Rows.{rowCount, field, tabulate}
+use Rattle.words.proofs.RowLaws.{length-tabulate, getD-tabulate, length-records}
+use Rattle.ranges.specs.declared.Range.{Range}
+use Rattle.areas.specs.Job.{Job, Local, itemCount, itemArea, rangesOf, listVerdict}
+use Rattle.fitting.specs.Wants.{Want, wantAt, orderOf}
+use Rattle.fitting.specs.Plan.{Plan}
+use Rattle.fitting.specs.Lowest.{PutLowest}
+use Rattle.fitting.specs.Queries.{areasOf, partOf, answered}
+use Rattle.fitting.proofs.OrderLaws.{length-ordered}
+use Rattle.fitting.proofs.PlanLaws.{facts}
+use Rattle.fitting.proofs.PutLaws.{plan-few, put-lowest}
+use Rattle.queries.specs.Seen.{PlanSeen}
+use Rattle.queries.proofs.SeenLaws.{RowsHold, roomAt, itemOf, answered-seen, cut-held}
+use Rattle.area_tables.specs.Tables.{areaRows}
+use Rattle.area_tables.proofs.PartLaws.{areas-long}
+use Rattle.wants.specs.Entry.{cellRows}
+use Rattle.wants.proofs.SeenLaws.{cells-long, front-is, told-cells}
+use Rattle.soundness.specs.Demand.{wantOf, wantsOf, jobPlan}
+use Rattle.soundness.proofs.Demand.{job-order}
+use Rattle.job_answers.specs.declared.Shared.the-variants.{Plan as Planned}
+use Rattle.job_answers.specs.Answers.{itemRows}
+use Rattle.job_answers.proofs.SeenLaws.{items-long, cell-listed, area-listed, rows-held}
+use Rattle.job_checks.specs.Job.{jobOf}
+use Rattle.job_space.specs.Space.{sizesOf, Small}
+use Rattle.job.specs.Entry.{lentVerdict, verdictOf, SharedAs}
+use Rattle.job.proofs.CheckLaws.{granted, whole-list}
+use Rattle.job.proofs.Demand.{none-refused}
+
+module _ {points v budget : ℕ} {blocks edges insts operands crossings locals slots addresses ends pieces assigned moves cells items areas work cells′ items′ areas′ work′ : List ℕ} {c p d : ℕ}
+    (E : SharedAs points v budget blocks edges insts operands crossings locals slots addresses ends pieces assigned moves cells items areas work (Planned c p d) cells′ items′ areas′ work′) where
+  -- the job's records, its plan, and how many locals and items it has
+  abbrev J : Job
+  J = jobOf points v blocks edges insts operands crossings locals slots addresses ends pieces assigned moves
+
+  abbrev P : Plan
+  P = jobPlan J budget
+
+  abbrev many : ℕ
+  many = rowCount 2 locals + length slots
+
+  verdict-fine : verdictOf points v budget blocks edges insts operands crossings locals slots addresses ends pieces assigned moves (length cells) (length items) (length areas) (length work) ≡ Fine
+  verdict-fine = none-refused E
+
+  lent-fine : lentVerdict points v budget blocks edges insts operands crossings locals slots addresses ends pieces assigned moves (length cells) (length items) (length areas) (length work) ≡ Fine
+  lent-fine = first-left _ (listVerdict J (length areas / 2)) verdict-fine
+
+  small : Small (sizesOf v blocks edges insts operands crossings locals slots addresses ends pieces assigned moves (length areas))
+  small = granted points v budget blocks edges insts operands crossings locals slots addresses ends pieces assigned moves (length cells) (length items) (length areas) work lent-fine .lent .passed .small
+
+  count-is : itemCount J ≡ many
+  count-is = ap (λ (k : ℕ). k + length slots) (length-records 2 (λ f. record { size = f 0; align = f 1 }) locals)
+
+  -- all areas have room in the area list
+  ranges-fit : rangesOf (tabulate (itemCount J) (itemArea J)) ≤ length areas / 2
+  ranges-fit =
+      ltb-false (length areas / 2) (rangesOf (tabulate (itemCount J) (itemArea J)))
+      (check-told ListWord _ (first-right (lentVerdict points v budget blocks edges insts operands crossings locals slots addresses ends pieces assigned moves (length cells) (length items) (length areas) (length work)) (listVerdict J (length areas / 2)) verdict-fine))
+
+  -- ---- the lists, by their rows
+
+  cells-front : take (2 * c) cells′ ≡ cellRows P
+  cells-front =
+      ap (take (2 * c)) (E .lists .in-cells ∙ ap (λ (x : Verdict). after (unless x P) cellRows cells) verdict-fine)
+      ∙ front-is (cellRows P) cells (2 * c) (omega (arith, cells-long P, told-cells (verdictOf points v budget blocks edges insts operands crossings locals slots addresses ends pieces assigned moves (length cells) (length items) (length areas) (length work)) P c p d (E .lists .answer)))
+
+  items-whole : items′ ≡ itemRows (itemCount J) (itemArea J) P ++ drop (length (itemRows (itemCount J) (itemArea J) P)) items
+  items-whole = E .lists .in-items ∙ ap (λ (x : Verdict). after (unless x P) (itemRows (itemCount J) (itemArea J)) items) verdict-fine
+
+  items-front : take (4 * many) items′ ≡ itemRows (itemCount J) (itemArea J) P
+  items-front = ap (take (4 * many)) items-whole ∙ front-is (itemRows (itemCount J) (itemArea J) P) items (4 * many) (omega (arith, items-long (itemArea J) (itemCount J) P, count-is))
+
+  abbrev behind : List ℕ
+  behind = drop (length (areaRows (itemCount J) (itemArea J))) areas
+
+  areas-whole : areas′ ≡ areaRows (itemCount J) (itemArea J) ++ behind
+  areas-whole = E .lists .in-areas ∙ ap (λ (x : Verdict). after (unless x P) (λ _. areaRows (itemCount J) (itemArea J)) areas) verdict-fine
+
+  areas-kept : length (areaRows (itemCount J) (itemArea J) ++ behind) ≡ length areas
+  areas-kept =
+      omega (arith, length-append (areaRows (itemCount J) (itemArea J)) behind, length-drop (length (areaRows (itemCount J) (itemArea J))) areas, areas-long (itemCount J) (itemArea J), ranges-fit)
+
+  area-of : (i : ℕ) → i < itemCount J → wantAt (wantsOf J) i .area ≡ itemArea J i
+  area-of i h = ap (λ (w : Want). w .area) (getD-tabulate (itemCount J) (wantOf J) i (record { size = 0; align = 0; area = none }) h)
+
+  held : RowsHold (take (2 * c) cells′) (take (4 * many) items′) areas′ (rowCount 2 locals) (length (P .cells)) (itemCount J) (roomAt P) (itemOf (wantsOf J) P)
+  held =
+      let w = whole-list points v budget blocks edges insts operands crossings locals slots addresses ends pieces assigned moves (length cells) (length items) (length areas) work lent-fine in
+      rw (cells-front, items-front, areas-whole)
+      (rows-held (itemArea J) (itemCount J) P (wantsOf J) area-of
+      (facts (wantsOf J) budget (itemCount J) (orderOf (wantsOf J)) (job-order J) .known)
+      (omega (arith, plan-few (wantsOf J) budget (orderOf (wantsOf J)), length-ordered (wantsOf J) (length (wantsOf J)), length-tabulate (itemCount J) (wantOf J)))
+      (rowCount 2 locals) (omega (arith, count-is)) (small .few-locals) (omega (arith, count-is, small .few-slots)) behind
+      (omega (arith, areas-kept)) (omega (arith, areas-kept, small .few-ranges)))
+
+  -- ---- what the queries say
+
+  -- the plan that the job wrote: each query of it is the definition's of the job's plan, and none refuses it
+  pub job-seen : PlanSeen (answered (wantsOf J) (rowCount 2 locals) P) (rowCount 2 locals) (take (2 * c) cells′) (take (4 * many) items′) areas′
+  job-seen = answered-seen (wantsOf J) P (length-tabulate (itemCount J) (wantOf J)) held
+
+  -- and with the area list cut behind the last part
+  pub job-seen-cut : (k : ℕ) → k ≤ rowCount 2 areas′
+      → ((i : ℕ) → i < itemCount J → (field 4 (take (4 * many) items′) i 1 ≡ 0 → ⊥) → field 4 (take (4 * many) items′) i 2 + field 4 (take (4 * many) items′) i 3 ≤ k)
+      → PlanSeen (answered (wantsOf J) (rowCount 2 locals) P) (rowCount 2 locals) (take (2 * c) cells′) (take (4 * many) items′) (take (2 * k) areas′)
+  job-seen-cut k h ends = answered-seen (wantsOf J) P (length-tabulate (itemCount J) (wantOf J)) (cut-held held k h ends)
+
+  module _ (i : ℕ) (h : i < itemCount J) where
+    listed-at : (f : ℕ) → f < 4 → field 4 items′ i f ≡ field 4 (itemRows (itemCount J) (itemArea J) P) i f
+    listed-at f k =
+        ap (λ (l : List ℕ). field 4 l i f) items-whole
+        ∙ List·getD-append (itemRows (itemCount J) (itemArea J) P) _ 0 (4 * i + f) (omega (arith, items-long (itemArea J) (itemCount J) P))
+
+    -- the part of the area list that item i's row names is its area: absent exactly where it has none
+    pub job-part : partOf (areasOf areas′) (field 4 items′ i 1) (field 4 items′ i 2) (field 4 items′ i 3) ≡ itemArea J i
+    job-part =
+        ap (λ (l : List ℕ). partOf (areasOf l) (field 4 items′ i 1) (field 4 items′ i 2) (field 4 items′ i 3)) areas-whole
+        ∙ ap (λ (k : ℕ). partOf (areasOf (areaRows (itemCount J) (itemArea J) ++ behind)) k (field 4 items′ i 2) (field 4 items′ i 3)) (listed-at 1 (omega arith))
+        ∙ ap (λ (k : ℕ). partOf (areasOf (areaRows (itemCount J) (itemArea J) ++ behind)) (field 4 (itemRows (itemCount J) (itemArea J) P) i 1) k (field 4 items′ i 3)) (listed-at 2 (omega arith))
+        ∙ ap (λ (k : ℕ). partOf (areasOf (areaRows (itemCount J) (itemArea J) ++ behind)) (field 4 (itemRows (itemCount J) (itemArea J) P) i 1) (field 4 (itemRows (itemCount J) (itemArea J) P) i 2) k) (listed-at 3 (omega arith))
+        ∙ area-listed (itemArea J) (itemCount J) P i h behind (itemArea J i) refl
+
+  -- each item's row names the lowest fitting cell of those that there were when it was put in
+  pub job-lowest : PutLowest (wantsOf J) budget (orderOf (wantsOf J)) (λ i. field 4 items′ i 0)
+  job-lowest =
+      put-lowest (wantsOf J) budget (itemCount J) (orderOf (wantsOf J)) (job-order J) (λ i. field 4 items′ i 0)
+      (λ i h. ap (λ (l : List ℕ). field 4 l i 0) items-whole ∙ cell-listed (itemArea J) (itemCount J) P i h _)

@@ -1,0 +1,77 @@
+-- A plan that an exported function wrote, as the queries see it: each query of it is the definition's, and none refuses it.
+use Prim.Native.Nat.{ℕ, _+_, _*_, _%_, _^_, _≤_, _<_}
+use native.Mathlib.Omega.{arith}
+use mathlib.Core.Path.{_≡_, refl, ap, sym, _∙_}
+use mathlib.Core.List.{List}
+use lib.ListN.{length, take}
+use Rattle.refusals.specs.declared.Verdict.{Verdict}
+use Rattle.refusals.specs.declared.Verdict.the-variants.{Fine, Bad}
+use Rattle.refusals.specs.Outcomes.{unless, numbered}
+use Rattle.words.specs.Rows.{rowCount, field}
+use Rattle.fitting.specs.Wants.{orderOf}
+use Rattle.fitting.specs.Lowest.{PutLowest}
+use Rattle.fitting.specs.Queries.{Slots, areasOf, answered, apart}
+use Rattle.queries.specs.Seen.{PlanSeen}
+use Rattle.want_checks.specs.Checks.{verdict}
+use Rattle.wants.specs.declared.Fitted.the-variants.{Plan as Fit}
+use Rattle.wants.specs.Entry.{wantsOf, planFor, outcome, tallyOf, answerOf, FittedAlone}
+use Rattle.wants.proofs.SeenLaws.{fit-seen, fit-lowest}
+use Rattle.want_codes.specs.Plans.{PlanCoded}
+use Rattle.apart.specs.Apart.{localsOf, widthsOf, apartVerdict, apartOf, ApartBy}
+use Rattle.apart.proofs.SeenLaws.{apart-seen}
+use Rattle.soundness.specs.Demand.{wantsOf as jobWants, jobPlan}
+use Rattle.job.specs.Entry.{job}
+use Rattle.job.proofs.Seen.{job-seen, job-lowest}
+use Rattle.codes.specs.Codes.{verdictCode}
+use Rattle.codes.proofs.CodeLaws.{refusal-no-answer}
+use Rattle.slots.specs.Exports.{ApartCoded}
+use Rattle.slots.specs.Job.{JobCoded}
+use Rattle.slots.proofs.Demand.{no-refusal, shared}
+
+-- ---- the whole job: its rows, as many cells as the plan has
+
+module _ {points v budget : ℕ} {blocks edges insts operands crossings locals slots addresses ends pieces assigned moves cells items areas counts work cells′ items′ areas′ counts′ work′ : List ℕ} {r : ℕ}
+    (E : JobCoded points v budget blocks edges insts operands crossings locals slots addresses ends pieces assigned moves cells items areas counts work r cells′ items′ areas′ counts′ work′) (h : r < 2 ^ 32) where
+  pub export-job-seen : PlanSeen (answered (jobWants (job points v budget blocks edges insts operands crossings locals slots addresses ends pieces assigned moves)) (rowCount 2 locals) (jobPlan (job points v budget blocks edges insts operands crossings locals slots addresses ends pieces assigned moves) budget)) (rowCount 2 locals)
+      (take (2 * length (jobPlan (job points v budget blocks edges insts operands crossings locals slots addresses ends pieces assigned moves) budget .cells)) cells′) (take (4 * (rowCount 2 locals + length slots)) items′) areas′
+  export-job-seen = job-seen (shared E h _ _ _ refl)
+
+  pub export-job-lowest : PutLowest (jobWants (job points v budget blocks edges insts operands crossings locals slots addresses ends pieces assigned moves)) budget (orderOf (jobWants (job points v budget blocks edges insts operands crossings locals slots addresses ends pieces assigned moves))) (λ i. field 4 items′ i 0)
+  export-job-lowest = job-lowest (shared E h _ _ _ refl)
+
+-- ---- fitting alone
+
+module _ (locals budget : ℕ) {wants areas cells items counts work cells′ items′ counts′ work′ : List ℕ} {r : ℕ}
+    (E : PlanCoded wants areas (outcome wants areas locals budget (length cells) (length items) (length work)) cells items counts work r cells′ items′ counts′ work′) (h : r < 2 ^ 32) where
+  fine : verdict wants areas locals budget (length cells) (length items) (length work) ≡ Fine
+  fine = no-refusal (verdict wants areas locals budget (length cells) (length items) (length work)) (planFor wants areas budget) (omega (arith, E .answer))
+
+  fitted : (c p d : ℕ) → answerOf (Fit c p d) ≡ tallyOf (unless Fine (planFor wants areas budget))
+      → FittedAlone wants areas (outcome wants areas locals budget (length cells) (length items) (length work)) cells items work (Fit c p d) cells′ items′ work′
+  fitted c p d e = record {
+    answer = e ∙ ap (λ (x : Verdict). tallyOf (unless x (planFor wants areas budget))) (sym fine);
+    in-cells = E .in-cells;
+    in-items = E .in-items;
+    in-work = E .in-work;
+  }
+
+  pub export-fit-seen : PlanSeen (answered (wantsOf (areasOf areas) wants) locals (planFor wants areas budget)) locals (take (2 * length (planFor wants areas budget .cells)) cells′) (take (4 * rowCount 5 wants) items′) areas
+  export-fit-seen = fit-seen locals budget (fitted _ _ _ refl)
+
+  pub export-fit-lowest : PutLowest (wantsOf (areasOf areas) wants) budget (orderOf (wantsOf (areasOf areas) wants)) (λ i. field 4 items′ i 0)
+  export-fit-lowest = fit-lowest locals budget (fitted _ _ _ refl)
+
+-- ---- `apart`
+
+no-code : (v : Verdict) → verdictCode v < 2 ^ 32 → v ≡ Fine
+no-code Fine h = refl
+no-code (Bad r i) h = absurd (omega (arith, refusal-no-answer r i _ h))
+
+module _ (locals slots : List ℕ) {cells items cells′ items′ : List ℕ} {r : ℕ}
+    (E : ApartCoded (apartVerdict locals slots (length cells) (length items)) (apartOf locals slots (length cells) (length items)) cells items r cells′ items′) (h : r < 2 ^ 32) where
+  done : ApartBy (apartVerdict locals slots (length cells) (length items)) (apartOf locals slots (length cells) (length items)) cells items Fine cells′ items′
+  done = record { answer = ap numbered (sym (no-code (apartVerdict locals slots (length cells) (length items)) (omega (arith, E .answer)))); in-cells = E .in-cells; in-items = E .in-items }
+
+  pub export-apart-seen : (areas : List ℕ) → length areas % 2 ≡ 0 → rowCount 2 areas ≤ 65536
+      → PlanSeen (apart (localsOf locals) (widthsOf slots)) (rowCount 2 locals) (take (2 * (rowCount 2 locals + length slots)) cells′) (take (4 * (rowCount 2 locals + length slots)) items′) areas
+  export-apart-seen areas w s = apart-seen locals slots done areas w s
