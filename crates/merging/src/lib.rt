@@ -75,7 +75,7 @@ pub fn merge(start: &[u32], end: &[u32], out_start: &mut [u32], out_end: &mut [u
     if start.len() <= FEW {
         return merge_few(start, end, out_start, out_end);
     }
-    merge_many(start, end, out_start, out_end)
+    merge_many(start, end, out_start, out_end, end[0] < start[0])
 }
 
 // Sorting needs room beside the answer, whose entries past the merged ranges are to stay: an array by value, for a list of 256, or of any length.
@@ -87,10 +87,21 @@ fn merge_few(start: &[u32], end: &[u32], out_start: &mut [u32], out_end: &mut [u
     merge_by(start, end, out_start, out_end, &mut keys)
 }
 
-fn merge_many(start: &[u32], end: &[u32], out_start: &mut [u32], out_end: &mut [u32]) -> usize
+// In the built library the large array stands in this function's own frame, so that a short list and a refusal take little stack: a function that calls itself
+// after its array is declared is not put into its caller. It calls itself once where the first range is reversed, which `range_entries` refuses.
+fn merge_many(
+    start: &[u32],
+    end: &[u32],
+    out_start: &mut [u32],
+    out_end: &mut [u32],
+    again: bool,
+) -> usize
     requires { ⌜ (length (now start) ≡ length (now end)) × (length (now «out_start») ≡ length (now «out_end»)) × (length (now start) ≤ length (now «out_start»)) × (length (now start) ≤ 65536) ⌝ }
     ensures { λ r. ⌜ Listing (columns (now («out_start» .entry)) (now («out_end» .entry))) (columns (now («out_start» .exit)) (now («out_end» .exit))) r (merged (columns (now (start .entry)) (now (end .entry)))) ⌝ }
 {
     let mut keys = [0u64; 65536];
+    if again {
+        return merge_many(start, end, out_start, out_end, false);
+    }
     merge_by(start, end, out_start, out_end, &mut keys)
 }

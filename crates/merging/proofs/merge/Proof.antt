@@ -15,6 +15,12 @@ same-length-2 c = omega arith
 returns : tie.Need-returns
 returns c = (c .before .before .before .before .merge-few) .ensures
 
+shared-slice-read-merge-many : tie.Need-shared-slice-read-merge-many
+shared-slice-read-merge-many c = omega arith
+
+shared-slice-read-merge-many-2 : tie.Need-shared-slice-read-merge-many-2
+shared-slice-read-merge-many-2 c = omega arith
+
 merge-many-requires : tie.Need-merge-many-requires
 merge-many-requires c κs = omega arith
 
@@ -35,6 +41,8 @@ merge-spec =
     same-length
     same-length-2
     returns
+    shared-slice-read-merge-many
+    shared-slice-read-merge-many-2
     merge-many-requires
     same-length-3
     same-length-4
