@@ -1,11 +1,10 @@
 -- Of a job that passes its checks: the area of every item has exactly the points that document 01 gives it by paths, moves and live pieces, and an item has no area exactly
 -- where it is an unfollowed local or a slot without area.
 use Prim.Native.Nat.{ℕ, _-_, _≤_, _<_}
-use native.Mathlib.Omega.{arith}
 use mathlib.Core.Path.{_≡_, refl, sym, ap, _∙_}
 use mathlib.Core.Logic.{_⊎_, inl, inr, _↔_}
 use mathlib.Core.Bool.{Bool, true, false, cond}
-use mathlib.Core.Option.{Option, some, none, Option·none-ne-some, Option·some-injective, Option·some-ne-none}
+use mathlib.Core.Option.{some, none, Option·none-ne-some, Option·some-injective, Option·some-ne-none}
 use mathlib.Core.List.{List, map, List·Memᴰ, List·Memᴰ·append-cases, Memᴰ·append-left, Memᴰ·append-right, Memᴰ·map, Memᴰ·of-map, Memᴰ·cast}
 use lib.ListN.{length}
 use lib.Dec.{eqb, ltb}

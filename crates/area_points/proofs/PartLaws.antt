@@ -1,19 +1,17 @@
 -- The rows that an entry writes: an item's part of the area list has exactly the points of its area.
 use Prim.Native.Nat.{ℕ, _+_, _-_, _*_, _≤_, _<_}
 use native.Mathlib.Omega.{arith}
-use native.Mathlib.Nat.{add-zero}
 use mathlib.Core.Path.{_≡_, refl, sym, ap, _∙_}
 use mathlib.Core.Logic.{_↔_}
 use mathlib.Core.Option.{Option, some, none, Option·some-ne-none}
 use mathlib.Core.List.{List, [], _∷_, _++_, map}
-use lib.ListN.{length, getD, drop, length-append, List·getD-append}
+use lib.ListN.{length, getD, length-append, List·getD-append}
 use lib.Seq.{getD-append-add}
 use Rattle.words.specs.Rows.{tabulate, flat, field}
 use Rattle.words.proofs.RowLaws.{tabulate-getD, map-tabulate, tabulate-add}
 use Rattle.words.proofs.FlatLaws.{flat-length, flat-at}
 use Rattle.ranges.specs.declared.Range.{Range}
 use Rattle.ranges.specs.Points.{range, rangeAt, Point}
-use Rattle.ranges.proofs.PointLaws.{point-none}
 use Rattle.graph.proofs.Line.{mem-at, at-mem}
 use Rattle.carrying.specs.Lists.{gather}
 use Rattle.areas.specs.Job.{Job, Checked, itemCount, itemArea, rangesIn, rangesOf}
@@ -23,7 +21,6 @@ use Rattle.area_measure.proofs.ListLaws.{gather-more}
 use Rattle.area_tables.specs.Tables.{areaRows}
 use Rattle.area_tables.proofs.RowLaws.{gathered-long, listed-long, ranges-below}
 use Rattle.item_lists.specs.Lists.{itemRow}
-use Rattle.area_points.specs.Points.{ItemPoint, NoArea}
 use Rattle.area_points.specs.Parts.{PartPoint, Tells}
 use Rattle.area_points.proofs.ItemLaws.{item-exact, none-exact, no-point}
 

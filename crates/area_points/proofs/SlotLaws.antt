@@ -1,5 +1,5 @@
 -- A slot's register, moves and area, as lists, have what document 01's words give them.
-use Prim.Native.Nat.{ℕ, _-_, _+_, _≤_, min}
+use Prim.Native.Nat.{ℕ, _-_, _+_, min}
 use native.Mathlib.Omega.{arith}
 use mathlib.Core.Path.{_≡_, refl, sym, ap, _∙_}
 use mathlib.Core.Logic.{_⊎_, inl, inr, _↔_}
@@ -10,10 +10,9 @@ use lib.Dec.{eqb}
 use borrow.Author.Tests.{eqb-true, eq-eqb, ne-eqb, eqb-false}
 use Rattle.ranges.specs.declared.Range.{Range}
 use Rattle.ranges.specs.Points.{range, Point}
-use Rattle.ranges.specs.Merged.{merged}
-use Rattle.ranges.proofs.PointLaws.{point-none, point-left, point-right, point-split}
+use Rattle.ranges.proofs.PointLaws.{point-left, point-right, point-split}
 use Rattle.ranges.proofs.MergeLaws.{merged-keeps, merged-only}
-use Rattle.carrying.specs.Lists.{keep, gather}
+use Rattle.carrying.specs.Lists.{keep}
 use Rattle.carrying.specs.Carried.{Piece, livePieces}
 use Rattle.carrying.proofs.ListLaws.{kept, of-kept, gathered, of-gathered}
 use Rattle.areas.specs.Slots.{Assigned, Move, position, around, covering, moved, orElse, spilled, liveArea, slotArea}
@@ -22,21 +21,7 @@ use Rattle.area_points.specs.Points.{LastAssigned, Unassigned, Lives, Mo
 
 -- ---- the register: the last assignment that names the slot
 
-or-none : (o : Option ℕ) → orElse o none ≡ o
-or-none none = refl
-or-none (some r) = refl
-
-or-three : (o p q : Option ℕ) → orElse (orElse o p) q ≡ orElse o (orElse p q)
-or-three none p q = refl
-or-three (some r) p q = refl
-
 module _ (s : ℕ) where
-  spilled-append : (l m : List Assigned) → spilled (l ++ m) s ≡ orElse (spilled m s) (spilled l s)
-  unfolding spilled
-  spilled-append [] m = sym (or-none (spilled m s))
-  spilled-append (a ∷ l) m =
-      ap (λ (o : Option ℕ). orElse o (cond (eqb (a .slot) s) (some (a .register)) none)) (spilled-append l m) ∙ or-three (spilled m s) (spilled l s) _
-
   unassigned-none : (list : List Assigned) → Unassigned list s → spilled list s ≡ none
   unfolding spilled
   unassigned-none [] u = refl
@@ -57,12 +42,13 @@ module _ (s : ℕ) where
       go none h false f e ih (inl c) g = eqb-false (b .slot) s f (ap (λ (x : Assigned). x .slot) (sym c) ∙ g)
       go none h false f e ih (inr c) g = ih h a c g
 
-  last-some : (list : List Assigned) (r : ℕ) → LastAssigned list s r → spilled list s ≡ some r
+  last-in : (before behind : List Assigned) (r : ℕ) → Unassigned behind s → spilled (before ++ record { register = r; slot = s } ∷ behind) s ≡ some r
   unfolding spilled
-  last-some list r l =
-      ap (λ (k : List Assigned). spilled k s) (l .parted) ∙ spilled-append (l .before) (record { register = r; slot = s } ∷ l .behind)
-      ∙ ap (λ (o : Option ℕ). orElse (orElse o (cond (eqb s s) (some r) none)) (spilled (l .before) s)) (unassigned-none (l .behind) (l .last))
-      ∙ ap (λ (t : Bool). orElse (cond t (some r) none) (spilled (l .before) s)) (eq-eqb s s refl)
+  last-in [] behind r u = rw (unassigned-none behind u, eq-eqb s s refl) refl
+  last-in (a ∷ l) behind r u = ap (λ (o : Option ℕ). orElse o (cond (eqb (a .slot) s) (some (a .register)) none)) (last-in l behind r u)
+
+  last-some : (list : List Assigned) (r : ℕ) → LastAssigned list s r → spilled list s ≡ some r
+  last-some list r l = ap (λ (k : List Assigned). spilled k s) (l .parted) ∙ last-in (l .before) (l .behind) r (l .last)
 
   some-last : (list : List Assigned) (r : ℕ) → spilled list s ≡ some r → LastAssigned list s r
   unfolding spilled

@@ -4,7 +4,6 @@ use mathlib.Core.Path.{_≡_, refl}
 use mathlib.Core.Bool.{true, false}
 use mathlib.Core.Option.{some, none}
 use mathlib.Core.List.{List, [], _∷_}
-use Rattle.refusals.specs.declared.Verdict.{Verdict}
 use Rattle.refusals.specs.declared.Verdict.the-variants.{Fine, Bad}
 use Rattle.refusals.specs.declared.Refusal.the-variants.{Stray, Piece as PieceWord, Inverted, List as ListWord}
 use Rattle.refusals.specs.Verdicts.{first, scan}
@@ -12,13 +11,13 @@ use Rattle.words.specs.Rows.{tabulate}
 use Rattle.ranges.specs.Points.{range}
 use Rattle.ranges.specs.Merged.{insert, sort, join, merged}
 use Rattle.graph.specs.Line.{placeIn}
-use Rattle.carrying.specs.declared.Kind.the-variants.{Unfollowed, Plain, Ending}
-use Rattle.carrying.specs.Lists.{any, keep, gather, below}
+use Rattle.carrying.specs.declared.Kind.the-variants.{Unfollowed}
+use Rattle.carrying.specs.Lists.{any, keep, gather}
 use Rattle.carrying.specs.Insts.{Inst}
 use Rattle.carrying.specs.Carried.{Piece, kindOf}
 use Rattle.areas.specs.Blocks.{Graph, holding, blockOf, bounds, between, clip, invertedVerdict, touched, until, cover, leaves, passes}
 use Rattle.areas.specs.Pieces.{through}
-use Rattle.areas.specs.Slots.{Assigned, Move, assignedOf, movesOf, position, around, moved, spilled, moveVerdict, badPiece, pieceVerdict, assignedVerdict}
+use Rattle.areas.specs.Slots.{Move, assignedOf, movesOf, position, around, spilled, moveVerdict, badPiece, pieceVerdict, assignedVerdict}
 use Rattle.areas.specs.Job.{Job, localsOf, areaBy, itemCount, itemArea, rangesOf, listVerdict}
 
 -- rows `L,size,align`, `P,register,slot` and `M,kind,number,to,from`

@@ -1,7 +1,7 @@
 -- The corners of the definitions, by computation: each check where it turns, every field told apart. V = 4, blocks 5–9 (number 1) and 10–19 (number 0).
 use Prim.Native.Nat.{ℕ}
 use mathlib.Core.Path.{_≡_, refl}
-use mathlib.Core.Bool.{Bool, true, false}
+use mathlib.Core.Bool.{true, false}
 use mathlib.Core.Option.{some, none}
 use mathlib.Core.List.{List, [], _∷_}
 use Rattle.refusals.specs.declared.Verdict.{Verdict}

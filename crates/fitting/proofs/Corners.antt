@@ -8,7 +8,7 @@ use Rattle.words.specs.Rows.{tabulate}
 use Rattle.ranges.specs.Points.{range}
 use Rattle.ranges.specs.Merged.{insert as insertRange, sort, join, merged, meets, clashes}
 use Rattle.fitting.specs.Wants.{Want, before, insert, ordered, orderOf}
-use Rattle.fitting.specs.Plan.{Cell, Plan, takes, lowest, spent, widened, nothing, put, fit, planOf, depthOf}
+use Rattle.fitting.specs.Plan.{Cell, takes, lowest, spent, widened, nothing, put, fit, planOf, depthOf}
 use Rattle.fitting.specs.Queries.{Slots, partOf, areasOf, roomsOf, itemsOf, slotsOf, local, slot, countIn, shared, crowdedFrom, crowded, saved, apart, cap, answered}
 
 -- cells 2 numbers: size, align; areas 2: start, end; items 4: cell, present, first, count

@@ -1,5 +1,5 @@
 -- The corners of the definitions, by computation: each limit at it and one past, each check where it turns, every field told apart.
-use Prim.Native.Nat.{ℕ, _+_, _*_, _/_}
+use Prim.Native.Nat.{ℕ, _*_}
 use mathlib.Core.Path.{_≡_, refl}
 use mathlib.Core.Bool.{true, false}
 use mathlib.Core.List.{List, [], _∷_}

@@ -2,7 +2,6 @@
 use mathlib.Core.Path.{_≡_, refl}
 use mathlib.Core.Bool.{true, false}
 use mathlib.Core.List.{[], _∷_}
-use Rattle.job_space.specs.declared.Sizes.{Sizes}
 use Rattle.job_space.specs.Space.{rowWords, sizesOf, spaceOf, badShape}
 
 pub words : (rowWords 0 ≡ 0) × (rowWords 1 ≡ 1) × (rowWords 64 ≡ 1) × (rowWords 65 ≡ 2)
