@@ -1,14 +1,14 @@
--- What the codes tell apart, and what is told in a list with room for some of it.
+-- What the codes tell apart, and what is told in a list.
 use mathlib.Core.Path.{_≡_, refl, sym, ap}
 use mathlib.Core.List.{List, [], _∷_}
 use Prim.Native.Nat.{ℕ, _/_, _%_, _^_, _≤_, _<_}
 use native.Mathlib.Omega.{arith}
-use lib.ListN.{length, set}
+use lib.ListN.{length, set, drop}
 use lib.Seq.{take-length}
 use Rattle.refusals.specs.declared.Refusal.{Refusal}
 use Rattle.refusals.specs.declared.Refusal.the-variants.{Count, Line, Edge, Inst, Stray, Piece, Space, Inverted, List as ListFull, Want, Text}
 use Rattle.refusals.specs.Verdicts.{numberOf}
-use Rattle.codes.specs.Codes.{refusalCode, absentCode, fitted}
+use Rattle.codes.specs.Codes.{refusalCode, absentCode}
 
 -- ---- a refusal's code is no answer, is not that of absence, and gives its number and index back
 
@@ -39,24 +39,8 @@ code-index k i h = omega arith
 
 -- ---- counts told
 
-module _ (c p d : ℕ) where
-  pub told-none : (l : List ℕ) → length l ≡ 0 → l ≡ fitted (c ∷ p ∷ d ∷ []) l
-  told-none [] e = refl
-  told-none (x ∷ l) e = absurd (omega arith)
-
-  pub told-one : (l : List ℕ) → length l ≡ 1 → set l 0 c ≡ fitted (c ∷ p ∷ d ∷ []) l
-  told-one [] e = absurd (omega arith)
-  told-one (x ∷ []) e = refl
-  told-one (x ∷ y ∷ l) e = absurd (omega arith)
-
-  pub told-two : (l : List ℕ) → length l ≡ 2 → set (set l 0 c) 1 p ≡ fitted (c ∷ p ∷ d ∷ []) l
-  told-two [] e = absurd (omega arith)
-  told-two (x ∷ []) e = absurd (omega arith)
-  told-two (x ∷ y ∷ []) e = refl
-  told-two (x ∷ y ∷ z ∷ l) e = absurd (omega arith)
-
-  pub told-all : (l : List ℕ) → 2 < length l → set (set (set l 0 c) 1 p) 2 d ≡ fitted (c ∷ p ∷ d ∷ []) l
-  told-all [] e = absurd (omega arith)
-  told-all (x ∷ []) e = absurd (omega arith)
-  told-all (x ∷ y ∷ []) e = absurd (omega arith)
-  told-all (x ∷ y ∷ z ∷ l) e = ap (λ (r : List ℕ). c ∷ p ∷ d ∷ r) (sym (take-length l))
+pub told-all : (c p d : ℕ) (l : List ℕ) → 3 ≤ length l → set (set (set l 0 c) 1 p) 2 d ≡ c ∷ p ∷ d ∷ drop 3 l
+told-all c p d [] e = absurd (omega arith)
+told-all c p d (x ∷ []) e = absurd (omega arith)
+told-all c p d (x ∷ y ∷ []) e = absurd (omega arith)
+told-all c p d (x ∷ y ∷ z ∷ l) e = refl

@@ -1,11 +1,14 @@
 -- How the exported functions answer in one number: a refusal's number above, its index in the low 32 bits; an answer is below, 0 where it only says that all is done.
-use Prim.Native.Nat.{ℕ, _+_, _*_, _%_, _^_}
+use Prim.Native.Nat.{ℕ, _+_, _*_, _/_, _%_, _^_, _<_}
+use mathlib.Core.Path.{_≡_}
+use mathlib.Core.Logic.{_⊎_}
 use mathlib.Core.Bool.{Bool, true, false}
 use mathlib.Core.Option.{Option, some, none}
 use mathlib.Core.List.{List, _++_}
 use lib.ListN.{length, take, drop}
 use Rattle.refusals.specs.Verdicts.{numberOf}
 use Rattle.refusals.specs.Outcomes.{Outcome, given, refused}
+use Rattle.refusals.specs.declared.Refusal.{Refusal}
 use Rattle.refusals.specs.declared.Verdict.{Verdict}
 use Rattle.refusals.specs.declared.Verdict.the-variants.{Fine, Bad}
 
@@ -46,6 +49,30 @@ abbrev pub truthCode : Outcome Bool → ℕ
 truthCode (given b) = truthOf b
 truthCode (refused k i) = refusalCode k i
 
--- as many numbers as the list has room for
-abbrev pub fitted : List ℕ → List ℕ → List ℕ
-fitted counts old = take (length old) (counts ++ drop (length counts) old)
+-- what an entry promises, with its answer in one number
+pub record Coded {A : Type 0} (code : A → ℕ) (Promised : A → Type 0) (r : ℕ) : Type 0 where
+  pub told : A
+  pub answer : r ≡ code told
+  pub holds : Promised told
+
+-- the index of a refusal
+abbrev pub indexOf : Verdict → ℕ
+indexOf Fine = 0
+indexOf (Bad r i) = i
+
+-- it fits the 32 bits that a code has for it
+pub record Fits (v : Verdict) : Type 0 where
+  pub index : indexOf v < 2 ^ 32
+
+-- an answer as the exported functions give it: below every refusal's code; of some also that there is none
+abbrev pub Small : ℕ → Type 0
+Small r = r < 2 ^ 32
+
+abbrev pub SmallOrAbsent : ℕ → Type 0
+SmallOrAbsent r = (r < 2 ^ 32) ⊎ (r ≡ absentCode)
+
+-- what a caller reads in the code of an entry with this verdict: an answer, or the refusal's number above and its index, whole, in the low 32 bits
+pub record Read (Answer : ℕ → Type 0) (v : Verdict) (r : ℕ) : Type 0 where
+  pub answer : v ≡ Fine → Answer r
+  pub number : (k : Refusal) (i : ℕ) → v ≡ Bad k i → r / 2 ^ 32 ≡ numberOf k
+  pub index : (k : Refusal) (i : ℕ) → v ≡ Bad k i → r % 2 ^ 32 ≡ i

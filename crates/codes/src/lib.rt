@@ -1,8 +1,10 @@
 // Answers in one number, for C and Rust: below 2 to the 32 an answer, or a refusal's number times 2 to the 32 plus its index, or that there is none.
 ghost use mathlib.Core.Path.{_≡_};
 ghost use mathlib.Core.List.{[], _∷_};
+ghost use Prim.Native.Nat.{_≤_};
+ghost use lib.ListN.{length, drop};
 ghost use Rattle.refusals.specs.Verdicts.{numberOf};
-ghost use Rattle.codes.specs.Codes.{truthOf, verdictCode, refusalCode, fitted};
+ghost use Rattle.codes.specs.Codes.{truthOf, verdictCode, refusalCode};
 use refusals::Refusal;
 use refusals::Verdict;
 
@@ -33,21 +35,12 @@ pub fn truth(b: bool) -> u64
     0
 }
 
-// A plan's counts, as many as there is room for.
+// A plan's counts.
 pub fn tell(counts: &mut [u64], cells: usize, probes: u64, depth: u64)
-    ensures { λ _. ⌜ now (counts .exit) ≡ fitted (cells ∷ probes ∷ depth ∷ []) (now (counts .entry)) ⌝ }
+    requires { ⌜ 3 ≤ length (now counts) ⌝ }
+    ensures { λ _. ⌜ now (counts .exit) ≡ cells ∷ probes ∷ depth ∷ drop 3 (now (counts .entry)) ⌝ }
 {
-    let n = counts.len();
-    if n == 0 {
-        return;
-    }
     counts[0] = cells as u64;
-    if n == 1 {
-        return;
-    }
     counts[1] = probes;
-    if n == 2 {
-        return;
-    }
     counts[2] = depth;
 }

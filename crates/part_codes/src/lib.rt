@@ -1,10 +1,11 @@
 // The answers of the parts in one number: rows over a graph, and ranges.
 ghost use mathlib.Core.Path.{_≡_};
+ghost use Rattle.components.specs.Entry.{outcomeOf as componentsOutcome};
 ghost use Rattle.flow.specs.Entry.{outcomeOf as flowOutcome};
 ghost use Rattle.spread.specs.Entry.{outcomeOf as spreadOutcome};
 ghost use Rattle.range_entries.specs.Entries.{counted, clashing};
 ghost use Rattle.codes.specs.Codes.{codeOf, countCode, truthCode};
-ghost use Rattle.part_codes.specs.Codes.{overOf};
+ghost use Rattle.part_codes.specs.Codes.{overOf, graphWords};
 use codes::refused;
 use flow::Over;
 use range_entries::Clash;
@@ -53,4 +54,25 @@ pub fn over(over: u32) -> Over
         return Over::Predecessors;
     }
     Over::Successors
+}
+
+pub fn components(a: components::Answer) -> u64
+    ensures { λ n. ⌜ n ≡ countCode (componentsOutcome a) ⌝ }
+{
+    match a {
+        components::Answer::Given(n) => n as u64,
+        components::Answer::Refused(r, i) => refused(r, i),
+    }
+}
+
+// W of an entry over a graph, by the numbers of blocks, of edges and of words to a row; the largest number where it is no smaller.
+pub fn graph_words(blocks: u32, edges: u32, words: u32) -> u64
+    ensures { λ r. ⌜ r ≡ graphWords blocks edges words ⌝ }
+{
+    let rows = blocks as u64 * words as u64;
+    let n = blocks as u64 + edges as u64 + rows;
+    if 0x1fff_ffff_ffff_ffff < n {
+        return 0xffff_ffff_ffff_ffff;
+    }
+    8 * n
 }

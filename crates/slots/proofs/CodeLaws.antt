@@ -9,31 +9,12 @@ use Rattle.ranges.specs.declared.Range.{Range}
 use Rattle.range_entries.specs.declared.Counted.{Counted}
 use Rattle.range_entries.specs.Entries.{counted, Listed}
 use Rattle.fitting.specs.Queries.{Slots}
-use Rattle.wants.specs.Entry.{Tally}
 use Rattle.queries.specs.declared.Crowd.{Crowd}
 use Rattle.queries.specs.Shares.{crowdOf, CrowdedBy}
 use Rattle.capping.specs.Cap.{capVerdict, CappedBy}
 use Rattle.apart.specs.Apart.{ApartBy}
-use Rattle.job_answers.specs.declared.Shared.{Shared}
-use Rattle.job_answers.specs.Answers.{answered}
-use Rattle.job.specs.Entry.{SharedAs}
 use Rattle.codes.specs.Codes.{codeOf, countCode, verdictCode}
-use Rattle.want_codes.specs.Plans.{countsAfter, PlanTold}
 use Rattle.slots.specs.Exports.{ListCoded, CrowdCoded, CapCoded, ApartCoded}
-use Rattle.slots.specs.Job.{JobCoded}
-
-pub job-coded : {points v budget : ℕ} {blocks edges insts operands crossings locals slots addresses ends pieces assigned moves cells items areas counts work cells′ items′ areas′ counts′ work′ : List ℕ} {s : Shared} {r : ℕ}
-    → SharedAs points v budget blocks edges insts operands crossings locals slots addresses ends pieces assigned moves cells items areas work s cells′ items′ areas′ work′ → PlanTold counts (answered s) r counts′
-    → JobCoded points v budget blocks edges insts operands crossings locals slots addresses ends pieces assigned moves cells items areas counts work r cells′ items′ areas′ counts′ work′
-job-coded {counts = counts} a t =
-    record {
-      answer = t .answer ∙ ap codeOf (a .lists .answer);
-      in-cells = a .lists .in-cells;
-      in-items = a .lists .in-items;
-      in-areas = a .lists .in-areas;
-      in-counts = t .in-counts ∙ ap (λ (x : Outcome Tally). countsAfter x counts) (a .lists .answer);
-      in-work = a .in-work;
-    }
 
 pub list-coded : {o : Outcome (List Range)} {os oe os′ oe′ : List ℕ} {c : Counted} {r : ℕ} → Listed o os oe c os′ oe′ → r ≡ countCode (counted c) → ListCoded o os oe r os′ oe′
 list-coded a e = record { answer = e ∙ ap countCode (a .answer); in-starts = a .in-starts; in-ends = a .in-ends }

@@ -7,27 +7,59 @@ use Rattle.refusals.specs.declared.Verdict.{Verdict}
 use Rattle.ranges.specs.declared.Range.{Range}
 use Rattle.ranges.specs.Forms.{starts, ends}
 use Rattle.range_entries.specs.Entries.{size}
-use Rattle.flow.specs.declared.Answer.{Answer as FlowAnswer}
 use Rattle.flow.specs.Entry.{Answered as Flowed, outcomeOf as flowOutcome}
-use Rattle.spread.specs.declared.Answer.{Answer as SpreadAnswer}
-use Rattle.spread.specs.Entry.{Answered as Spread, outcomeOf as spreadOutcome}
+use Rattle.spread.specs.Entry.{Answered as Spread, Settled, outcomeOf as spreadOutcome}
+use Rattle.components.specs.Entry.{Answered as Components, outcomeOf as componentsOutcome}
+use Rattle.local_kinds.specs.Entry.{ReachTo, answered as kindsOutcome}
+use Rattle.carried_registers.specs.Carried.{CarriedTo, told as carriedOutcome}
+use Rattle.spill_checks.specs.Answer.{answered as spillOutcome}
+use Rattle.moved_ranges.specs.Moved.{MovedTo}
+use Rattle.item_lists.specs.Lists.{answered as areasOutcome}
+use Rattle.item_areas.specs.Entry.{ItemAreas}
 use Rattle.fitting.specs.Queries.{Slots}
 use Rattle.queries.specs.Shares.{counted}
 use Rattle.capping.specs.Cap.{capVerdict, capRows}
 use Rattle.apart.specs.Apart.{roomRows, loneRows}
-use Rattle.codes.specs.Codes.{codeOf, countCode, verdictCode}
+use Rattle.codes.specs.Codes.{codeOf, countCode, optionCode, verdictCode, Coded}
 use Rattle.part_codes.specs.Codes.{overOf}
 
--- `flowed` and `spread`
-pub record FlowCoded (over : ℕ) (blocks edges : List ℕ) (points : ℕ) (touched : List ℕ) (words : ℕ) (out₀ work₀ : List ℕ) (r : ℕ) (out work : List ℕ) : Type 0 where
-  pub told : FlowAnswer
-  pub answer : r ≡ codeOf (flowOutcome told)
-  pub holds : Flowed (overOf over) blocks edges points touched words out₀ work₀ told out work
+-- ---- over a graph
 
-pub record SpreadCoded (blocks edges : List ℕ) (points : ℕ) (leaves passes : List ℕ) (words : ℕ) (out₀ work₀ : List ℕ) (r : ℕ) (out work : List ℕ) : Type 0 where
-  pub told : SpreadAnswer
-  pub answer : r ≡ codeOf (spreadOutcome told)
-  pub holds : Spread blocks edges points leaves passes words out₀ work₀ told out work
+abbrev pub FlowCoded : ℕ → List ℕ → List ℕ → ℕ → List ℕ → ℕ → List ℕ → List ℕ → ℕ → List ℕ → List ℕ → Type 0
+FlowCoded over blocks edges points touched words out₀ work₀ r out work =
+    Coded (λ a. codeOf (flowOutcome a)) (λ a. Flowed (overOf over) blocks edges points touched words out₀ work₀ a out work) r
+
+abbrev pub SpreadCoded : List ℕ → List ℕ → ℕ → List ℕ → List ℕ → ℕ → List ℕ → List ℕ → ℕ → List ℕ → List ℕ → Type 0
+SpreadCoded blocks edges points leaves passes words out₀ work₀ r out work =
+    Coded (λ a. codeOf (spreadOutcome a)) (λ a. Spread blocks edges points leaves passes words out₀ work₀ a out work) r
+
+abbrev pub ComponentsCoded : List ℕ → List ℕ → ℕ → List ℕ → List ℕ → ℕ → List ℕ → List ℕ → Type 0
+ComponentsCoded blocks edges points which₀ work₀ r which work = Coded (λ a. countCode (componentsOutcome a)) (λ a. Components blocks edges points which₀ work₀ a which work) r
+
+abbrev pub SettlingCoded : List ℕ → List ℕ → ℕ → List ℕ → List ℕ → ℕ → List ℕ → List ℕ → Type 0
+SettlingCoded blocks edges points order₀ work₀ r order work = Coded (λ a. codeOf (spreadOutcome a)) (λ a. Settled blocks edges points order₀ work₀ a order work) r
+
+-- ---- carrying, moves and slots
+
+abbrev pub ReachCoded : ℕ → ℕ → List ℕ → List ℕ → List ℕ → List ℕ → List ℕ → List ℕ → List ℕ → List ℕ → List ℕ → ℕ → List ℕ → List ℕ → Type 0
+ReachCoded points v blocks insts operands crossings locals addresses ends kinds₀ work₀ r kinds work =
+    Coded (λ a. countCode (kindsOutcome a)) (λ a. ReachTo points v blocks insts operands crossings locals addresses ends kinds₀ work₀ a kinds work) r
+
+abbrev pub CarriedCoded : ℕ → ℕ → List ℕ → List ℕ → List ℕ → List ℕ → List ℕ → List ℕ → List ℕ → ℕ → List ℕ → List ℕ → ℕ → List ℕ → List ℕ → Type 0
+CarriedCoded points v blocks insts operands crossings locals addresses ends local registers₀ work₀ r registers work =
+    Coded (λ a. optionCode (carriedOutcome a)) (λ a. CarriedTo points v blocks insts operands crossings locals addresses ends local registers₀ work₀ a registers work) r
+
+abbrev pub MovedCoded : ℕ → ℕ → List ℕ → List ℕ → List ℕ → List ℕ → ℕ → List ℕ → List ℕ → ℕ → List ℕ → List ℕ → Type 0
+MovedCoded points v blocks insts operands moves slot out₀ work₀ r out work =
+    Coded (λ a. countCode (spillOutcome a)) (λ a. MovedTo points v blocks insts operands moves slot out₀ work₀ a out work) r
+
+-- ---- areas
+
+abbrev pub ItemAreasCoded : ℕ → ℕ → List ℕ → List ℕ → List ℕ → List ℕ → List ℕ → List ℕ → List ℕ → List ℕ → List ℕ → List ℕ → List ℕ → List ℕ → List ℕ → List ℕ → List ℕ → ℕ → List ℕ → List ℕ → List ℕ → Type 0
+ItemAreasCoded points v blocks edges insts operands crossings locals slots addresses ends pieces assigned moves areas₀ items₀ work₀ r areas items work =
+    Coded (λ a. countCode (areasOutcome a)) (λ a. ItemAreas points v blocks edges insts operands crossings locals slots addresses ends pieces assigned moves areas₀ items₀ work₀ a areas items work) r
+
+-- ---- fitting, queries and ranges
 
 -- W of fitting alone, of so many wants and ranges: 8 × (wants + length of the area list)
 abbrev pub fitSpace : ℕ → ℕ → ℕ

@@ -3,16 +3,19 @@ ghost use mathlib.Core.Path.{_≡_};
 ghost use lib.ListN.{length};
 ghost use Rattle.ranges.specs.Points.{range, overlaps};
 ghost use Rattle.range_entries.specs.Entries.{mergedOf, joinedOf, unionOf, clashesOf};
-ghost use Rattle.wants.specs.Entry.{outcome};
 ghost use Rattle.queries.specs.Entry.{localOf, slotOf, savedBy};
 ghost use Rattle.queries.specs.Shares.{crowdedOf};
 ghost use Rattle.apart.specs.Apart.{apartVerdict, apartOf};
 ghost use Rattle.job_space.specs.Space.{spaceOf};
 ghost use Rattle.codes.specs.Codes.{countCode, optionCode, truthOf, truthCode};
-ghost use Rattle.want_codes.specs.Plans.{PlanCoded};
+ghost use Rattle.want_codes.specs.Plans.{codedOutcome, PlanCoded};
 ghost use Rattle.query_codes.specs.Codes.{toldOf, PartTold};
 ghost use Rattle.slots.specs.Exports.{FlowCoded, SpreadCoded, fitSpace, ListCoded, CrowdCoded, CapCoded, ApartCoded};
-ghost use Rattle.slots.specs.Job.{JobCoded};
+ghost use Rattle.job_codes.specs.Job.{JobCoded};
+
+mod area_exports; // area_exports.rt: areas of items
+mod carry_exports; // carry_exports.rt: carried addresses, moves and slots
+mod graph_exports; // graph_exports.rt: components and an order
 
 // `flow::flowed`: over predecessors for 0, else over successors.
 #[no_mangle]
@@ -57,7 +60,7 @@ pub extern "C" fn slots_spread(
     part_codes::spread(spread::spread(blocks, edges, points, leaves, passes, words, out, work))
 }
 
-// `wants::fit_wants`: of the plan's counts, which are cells, probes and depth, as many as `counts` has room for.
+// `wants::fit_wants`: the plan's counts are cells, probes and depth.
 #[no_mangle]
 pub extern "C" fn slots_fit_wants(
     wants: &[u32],
@@ -70,7 +73,7 @@ pub extern "C" fn slots_fit_wants(
     work: &mut [u64],
 ) -> u64
     ensures { λ r. ⌜ PlanCoded (now (wants .entry)) (now (areas .entry))
-        (outcome (now (wants .entry)) (now (areas .entry)) locals budget (length (now (cells .entry))) (length (now (items .entry))) (length (now (work .entry))))
+        (codedOutcome (now (wants .entry)) (now (areas .entry)) locals budget (length (now (cells .entry))) (length (now (items .entry))) (length (now (counts .entry))) (length (now (work .entry))))
         (now (cells .entry)) (now (items .entry)) (now (counts .entry)) (now (work .entry)) r
         (now (cells .exit)) (now (items .exit)) (now (counts .exit)) (now (work .exit)) ⌝ }
 {
@@ -105,29 +108,27 @@ pub extern "C" fn slots_share(
         (now (cells .entry)) (now (items .entry)) (now (areas .entry)) (now (counts .entry)) (now (work .entry)) r
         (now (cells .exit)) (now (items .exit)) (now (areas .exit)) (now (counts .exit)) (now (work .exit)) ⌝ }
 {
-    job_codes::job(
+    job_codes::share(
+        points,
+        v,
+        budget,
+        blocks,
+        edges,
+        insts,
+        operands,
+        crossings,
+        locals,
+        slots,
+        addresses,
+        ends,
+        pieces,
+        assigned,
+        moves,
+        cells,
+        items,
+        areas,
         counts,
-        job::share(
-            points,
-            v,
-            budget,
-            blocks,
-            edges,
-            insts,
-            operands,
-            crossings,
-            locals,
-            slots,
-            addresses,
-            ends,
-            pieces,
-            assigned,
-            moves,
-            cells,
-            items,
-            areas,
-            work,
-        ),
+        work,
     )
 }
 

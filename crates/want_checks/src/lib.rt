@@ -69,7 +69,7 @@ fn bad_wants(wants: &[u32], areas: &[u32]) -> Verdict
 }
 
 // Whether a list is no whole rows, or a count is over its limit.
-fn bad_count(
+pub fn bad_count(
     wants: &[u32],
     areas: &[u32],
     locals: u32,

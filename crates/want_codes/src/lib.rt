@@ -1,13 +1,16 @@
 // The answer of fitting alone in one number, and its counts.
+ghost use Prim.Native.Nat.{_≤_};
 ghost use lib.ListN.{length};
-ghost use Rattle.wants.specs.Entry.{answerOf, outcome};
-ghost use Rattle.want_codes.specs.Plans.{PlanTold, PlanCoded};
+ghost use Rattle.wants.specs.Entry.{answerOf};
+ghost use Rattle.want_codes.specs.Plans.{PlanTold, codedOutcome, PlanCoded};
 use codes::refused;
 use codes::tell;
+use refusals::Refusal;
 use wants::Fitted;
 
 // A plan's counts are told, or the refusal is answered.
 fn plan(counts: &mut [u64], f: Fitted) -> u64
+    requires { ⌜ 3 ≤ length (now counts) ⌝ }
     ensures { λ r. ⌜ PlanTold (now (counts .entry)) (answerOf f) r (now (counts .exit)) ⌝ }
 {
     match f {
@@ -19,7 +22,7 @@ fn plan(counts: &mut [u64], f: Fitted) -> u64
     }
 }
 
-// `wants::fit_wants`: of the plan's counts, which are cells, probes and depth, as many as `counts` has room for.
+// `wants::fit_wants`: the plan's counts are cells, probes and depth; fewer than three numbers for them are refused with 7.
 pub fn fit_wants(
     wants: &[u32],
     areas: &[u32],
@@ -31,10 +34,16 @@ pub fn fit_wants(
     work: &mut [u64],
 ) -> u64
     ensures { λ r. ⌜ PlanCoded (now (wants .entry)) (now (areas .entry))
-        (outcome (now (wants .entry)) (now (areas .entry)) locals budget (length (now (cells .entry))) (length (now (items .entry))) (length (now (work .entry))))
+        (codedOutcome (now (wants .entry)) (now (areas .entry)) locals budget (length (now (cells .entry))) (length (now (items .entry))) (length (now (counts .entry))) (length (now (work .entry))))
         (now (cells .entry)) (now (items .entry)) (now (counts .entry)) (now (work .entry)) r
         (now (cells .exit)) (now (items .exit)) (now (counts .exit)) (now (work .exit)) ⌝ }
 {
+    if counts.len() < 3 {
+        if want_checks::bad_count(wants, areas, locals, budget, cells.len(), items.len()) {
+            return refused(Refusal::Count, 0);
+        }
+        return refused(Refusal::Space, 0);
+    }
     plan(
         counts,
         wants::fit_wants(wants, areas, locals, budget, cells, items, work),

@@ -1,14 +1,10 @@
 -- `slots::slots_share` meets its contract.
 use borrow.Author.Needs.{needs}
-use Rattle.slots.proofs.CodeLaws.{job-coded}
 use Rattle.slots.proofs.slots_share.Statement.{statement}
 use Rattle.slots.proofs.slots_share.Tie as tie
 
 share-requires : tie.Need-share-requires
 share-requires c κs = search needs
-
-job-requires : tie.Need-job-requires
-job-requires c κs = search needs
 
 same-length : tie.Need-same-length
 same-length c = search needs
@@ -26,17 +22,7 @@ same-length-5 : tie.Need-same-length-5
 same-length-5 c = search needs
 
 returns : tie.Need-returns
-returns c = job-coded ((c .before .before .before .before .before .before .before .before .before .before .before .share) .ensures) ((c .before .before .job) .ensures)
+returns c = (c .before .before .before .before .before .before .before .before .before .before .share) .ensures
 
 pub slots-share-spec : {M : Type 1} → statement M
-slots-share-spec =
-    tie.close
-    (tie.spec
-    share-requires
-    job-requires
-    same-length
-    same-length-2
-    same-length-3
-    same-length-4
-    same-length-5
-    returns)
+slots-share-spec = tie.close (tie.spec share-requires same-length same-length-2 same-length-3 same-length-4 same-length-5 returns)

@@ -5,8 +5,8 @@ use mathlib.Core.List.{List}
 use Rattle.area_points.specs.Parts.{AreasTold}
 use Rattle.job.specs.Entry.{job}
 use Rattle.job.proofs.Paths.{shared-by-paths}
-use Rattle.slots.specs.Job.{JobCoded}
-use Rattle.slots.proofs.Demand.{shared}
+use Rattle.job_codes.specs.Job.{JobCoded}
+use Rattle.export_laws.proofs.Demand.{shared}
 
 module _ {points v budget : ℕ} {blocks edges insts operands crossings locals slots addresses ends pieces assigned moves cells items areas counts work cells′ items′ areas′ counts′ work′ : List ℕ} {r : ℕ}
     (E : JobCoded points v budget blocks edges insts operands crossings locals slots addresses ends pieces assigned moves cells items areas counts work r cells′ items′ areas′ counts′ work′) (h : r < 2 ^ 32) where

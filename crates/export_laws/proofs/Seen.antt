@@ -2,21 +2,27 @@
 use Prim.Native.Nat.{ℕ, _+_, _*_, _%_, _^_, _≤_, _<_}
 use native.Mathlib.Omega.{arith}
 use mathlib.Core.Path.{_≡_, refl, ap, sym, _∙_}
-use mathlib.Core.List.{List}
+use mathlib.Core.Bool.{Bool, false, _||_}
+use mathlib.Core.List.{List, [], _∷_}
 use lib.ListN.{length, take}
 use Rattle.refusals.specs.declared.Verdict.{Verdict}
 use Rattle.refusals.specs.declared.Verdict.the-variants.{Fine, Bad}
-use Rattle.refusals.specs.Outcomes.{unless, numbered}
+use Rattle.refusals.specs.declared.Refusal.the-variants.{Count, Space}
+use Rattle.refusals.specs.Verdicts.{inOrder, first, check}
+use Rattle.refusals.specs.Outcomes.{Outcome, unless, after, numbered}
+use Rattle.refusals.proofs.Laws.{first-left, first-right, check-told}
+use Rattle.words.proofs.Bools.{or-neither}
 use Rattle.words.specs.Rows.{rowCount, field}
 use Rattle.fitting.specs.Wants.{orderOf}
 use Rattle.fitting.specs.Lowest.{PutLowest}
 use Rattle.fitting.specs.Queries.{Slots, areasOf, answered, apart}
 use Rattle.queries.specs.Seen.{PlanSeen}
-use Rattle.want_checks.specs.Checks.{verdict}
+use Rattle.fitting.specs.Plan.{Plan}
+use Rattle.want_checks.specs.Checks.{badCount, badSpace, wantsVerdict, spaceOf, verdict}
 use Rattle.wants.specs.declared.Fitted.the-variants.{Plan as Fit}
-use Rattle.wants.specs.Entry.{wantsOf, planFor, outcome, tallyOf, answerOf, FittedAlone}
+use Rattle.wants.specs.Entry.{wantsOf, planFor, outcome, tallyOf, answerOf, cellRows, itemRows, zeroed, FittedAlone}
 use Rattle.wants.proofs.SeenLaws.{fit-seen, fit-lowest}
-use Rattle.want_codes.specs.Plans.{PlanCoded}
+use Rattle.want_codes.specs.Plans.{fewCounts, codedVerdict, codedOutcome, PlanCoded}
 use Rattle.apart.specs.Apart.{localsOf, widthsOf, apartVerdict, apartOf, ApartBy}
 use Rattle.apart.proofs.SeenLaws.{apart-seen}
 use Rattle.soundness.specs.Demand.{wantsOf as jobWants, jobPlan}
@@ -24,9 +30,9 @@ use Rattle.job.specs.Entry.{job}
 use Rattle.job.proofs.Seen.{job-seen, job-lowest}
 use Rattle.codes.specs.Codes.{verdictCode}
 use Rattle.codes.proofs.CodeLaws.{refusal-no-answer}
+use Rattle.job_codes.specs.Job.{JobCoded}
 use Rattle.slots.specs.Exports.{ApartCoded}
-use Rattle.slots.specs.Job.{JobCoded}
-use Rattle.slots.proofs.Demand.{no-refusal, shared}
+use Rattle.export_laws.proofs.Demand.{no-refusal, shared}
 
 -- ---- the whole job: its rows, as many cells as the plan has
 
@@ -41,18 +47,39 @@ module _ {points v budget : ℕ} {blocks edges insts operands crossings locals s
 
 -- ---- fitting alone
 
+module _ (wants areas : List ℕ) (locals budget cells items counts work : ℕ) where
+  -- with room for the counts the entry refuses nothing else
+  room-too : check Space (badSpace wants areas cells items work || fewCounts counts) ≡ Fine → badSpace wants areas cells items work ≡ badSpace wants areas cells items work || fewCounts counts
+  room-too e =
+      let q : badSpace wants areas cells items work || fewCounts counts ≡ false = check-told Space (badSpace wants areas cells items work || fewCounts counts) e in
+      or-neither (badSpace wants areas cells items work) (fewCounts counts) q .0 ∙ sym q
+
+  entry-fine : codedVerdict wants areas locals budget cells items counts work ≡ Fine → verdict wants areas locals budget cells items work ≡ Fine
+  unfolding verdict inOrder
+  entry-fine e =
+      let room : check Space (badSpace wants areas cells items work || fewCounts counts) ≡ Fine =
+      first-left (check Space (badSpace wants areas cells items work || fewCounts counts)) (inOrder (wantsVerdict areas wants ∷ []))
+      (first-right (check Count (badCount wants areas locals budget cells items)) _ e) in
+      ap (λ (b : Bool). inOrder (check Count (badCount wants areas locals budget cells items) ∷ check Space b ∷ wantsVerdict areas wants ∷ [])) (room-too room) ∙ e
+
 module _ (locals budget : ℕ) {wants areas cells items counts work cells′ items′ counts′ work′ : List ℕ} {r : ℕ}
-    (E : PlanCoded wants areas (outcome wants areas locals budget (length cells) (length items) (length work)) cells items counts work r cells′ items′ counts′ work′) (h : r < 2 ^ 32) where
+    (E : PlanCoded wants areas (codedOutcome wants areas locals budget (length cells) (length items) (length counts) (length work)) cells items counts work r cells′ items′ counts′ work′) (h : r < 2 ^ 32) where
+  coded-fine : codedVerdict wants areas locals budget (length cells) (length items) (length counts) (length work) ≡ Fine
+  coded-fine = no-refusal (codedVerdict wants areas locals budget (length cells) (length items) (length counts) (length work)) (planFor wants areas budget) (omega (arith, E .answer))
+
   fine : verdict wants areas locals budget (length cells) (length items) (length work) ≡ Fine
-  fine = no-refusal (verdict wants areas locals budget (length cells) (length items) (length work)) (planFor wants areas budget) (omega (arith, E .answer))
+  fine = entry-fine wants areas locals budget (length cells) (length items) (length counts) (length work) coded-fine
+
+  same : codedOutcome wants areas locals budget (length cells) (length items) (length counts) (length work) ≡ outcome wants areas locals budget (length cells) (length items) (length work)
+  same = ap (λ (v : Verdict). unless v (planFor wants areas budget)) (coded-fine ∙ sym fine)
 
   fitted : (c p d : ℕ) → answerOf (Fit c p d) ≡ tallyOf (unless Fine (planFor wants areas budget))
       → FittedAlone wants areas (outcome wants areas locals budget (length cells) (length items) (length work)) cells items work (Fit c p d) cells′ items′ work′
   fitted c p d e = record {
     answer = e ∙ ap (λ (x : Verdict). tallyOf (unless x (planFor wants areas budget))) (sym fine);
-    in-cells = E .in-cells;
-    in-items = E .in-items;
-    in-work = E .in-work;
+    in-cells = E .in-cells ∙ ap (λ (o : Outcome Plan). after o cellRows cells) same;
+    in-items = E .in-items ∙ ap (λ (o : Outcome Plan). after o (itemRows wants) items) same;
+    in-work = E .in-work ∙ ap (λ (o : Outcome Plan). zeroed o (spaceOf wants areas) work) same;
   }
 
   pub export-fit-seen : PlanSeen (answered (wantsOf (areasOf areas) wants) locals (planFor wants areas budget)) locals (take (2 * length (planFor wants areas budget .cells)) cells′) (take (4 * rowCount 5 wants) items′) areas

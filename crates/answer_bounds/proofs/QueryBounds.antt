@@ -1,4 +1,4 @@
--- The cells and counts that the queries answer are far below 2 to the 32, so no answer is a refusal's code or that of absence.
+-- The cells and counts that the queries answer are far below 2 to the 32, so that no answer is the code of a refusal or of absence.
 use Prim.Native.Nat.{ℕ, _+_, _-_, _*_, _≤_, _<_}
 use native.Mathlib.Omega.{arith}
 use mathlib.Core.Path.{_≡_, refl, sym, ap, subst}

@@ -1,0 +1,58 @@
+-- The whole job as it is exported: the outcome and the lists of `job::share`, the answer in one number.
+use Prim.Native.Nat.{ℕ, _/_}
+use mathlib.Core.Path.{_≡_}
+use mathlib.Core.List.{List}
+use lib.ListN.{length, replicate}
+use Rattle.refusals.specs.declared.Verdict.{Verdict}
+use Rattle.refusals.specs.declared.Refusal.the-variants.{Space}
+use Rattle.refusals.specs.Verdicts.{first, check}
+use Rattle.refusals.specs.Outcomes.{Outcome, unless, after}
+use Rattle.areas.specs.Job.{itemCount, itemArea, listVerdict}
+use Rattle.fitting.specs.Plan.{Plan}
+use Rattle.wants.specs.Entry.{tallyOf, cellRows}
+use Rattle.area_tables.specs.Tables.{areaRows}
+use Rattle.job_space.specs.Space.{spaceOf}
+use Rattle.soundness.specs.Demand.{jobPlan}
+use Rattle.job_answers.specs.Answers.{itemRows}
+use Rattle.job.specs.Entry.{job, sizes, lentVerdict}
+use Rattle.codes.specs.Codes.{codeOf}
+use Rattle.want_codes.specs.Plans.{countsOf, fewCounts}
+
+-- what a call is lent: `H`'s numbers and the rows of each group
+module _ (points v budget : ℕ) (blocks edges insts operands crossings locals slots addresses ends pieces assigned moves : List ℕ) where
+  -- the answer lists, the counts and the work space, by their lengths
+  module _ (cells items areas counts work : ℕ) where
+    -- numbers 1 to 7; `counts` is an answer list of three numbers
+    abbrev pub measuredVerdict : Verdict
+    measuredVerdict = first (lentVerdict points v budget blocks edges insts operands crossings locals slots addresses ends pieces assigned moves cells items areas work) (check Space (fewCounts counts))
+
+    -- all refusals, lowest number first: 9 comes after every cause of 7
+    abbrev pub codedVerdict : Verdict
+    codedVerdict = first measuredVerdict (listVerdict (job points v budget blocks edges insts operands crossings locals slots addresses ends pieces assigned moves) (areas / 2))
+
+    -- the job's plan, unless refused
+    abbrev pub jobOutcome : Outcome Plan
+    jobOutcome = unless codedVerdict (jobPlan (job points v budget blocks edges insts operands crossings locals slots addresses ends pieces assigned moves) budget)
+
+    -- W, unless refused before anything is measured
+    abbrev pub workOutcome : Outcome ℕ
+    workOutcome = unless measuredVerdict (spaceOf (sizes points v budget blocks edges insts operands crossings locals slots addresses ends pieces assigned moves areas))
+
+  abbrev pub itemsTold : Plan → List ℕ
+  itemsTold =
+      itemRows (itemCount (job points v budget blocks edges insts operands crossings locals slots addresses ends pieces assigned moves))
+      (itemArea (job points v budget blocks edges insts operands crossings locals slots addresses ends pieces assigned moves))
+
+  abbrev pub areasTold : Plan → List ℕ
+  areasTold _ =
+      areaRows (itemCount (job points v budget blocks edges insts operands crossings locals slots addresses ends pieces assigned moves))
+      (itemArea (job points v budget blocks edges insts operands crossings locals slots addresses ends pieces assigned moves))
+
+  -- the whole job: the answer in one number, and each list that was lent
+  pub record JobCoded (cells items areas counts work : List ℕ) (r : ℕ) (cells′ items′ areas′ counts′ work′ : List ℕ) : Type 0 where
+    pub answer : r ≡ codeOf (tallyOf (jobOutcome (length cells) (length items) (length areas) (length counts) (length work)))
+    pub in-cells : cells′ ≡ after (jobOutcome (length cells) (length items) (length areas) (length counts) (length work)) cellRows cells
+    pub in-items : items′ ≡ after (jobOutcome (length cells) (length items) (length areas) (length counts) (length work)) itemsTold items
+    pub in-areas : areas′ ≡ after (jobOutcome (length cells) (length items) (length areas) (length counts) (length work)) areasTold areas
+    pub in-counts : counts′ ≡ after (tallyOf (jobOutcome (length cells) (length items) (length areas) (length counts) (length work))) countsOf counts
+    pub in-work : work′ ≡ after (workOutcome (length cells) (length items) (length areas) (length counts) (length work)) (λ n. replicate n 0) work

@@ -1,0 +1,22 @@
+-- `slots::slots_moved` meets its contract.
+use borrow.Author.Needs.{needs}
+use Rattle.slots.proofs.carry_exports.slots_moved.Statement.{statement}
+use Rattle.slots.proofs.carry_exports.slots_moved.Tie as tie
+
+moved-requires : tie.Need-moved-requires
+moved-requires c κs = search needs
+
+spill-code-requires : tie.Need-spill-code-requires
+spill-code-requires c κs = search needs
+
+same-length : tie.Need-same-length
+same-length c = search needs
+
+same-length-2 : tie.Need-same-length-2
+same-length-2 c = search needs
+
+returns : tie.Need-returns
+returns c = record { told = (c .before .before .before .before .before .moved) .result; answer = (c .spill-code) .ensures; holds = (c .before .before .before .before .before .moved) .ensures }
+
+pub slots-moved-spec : {M : Type 1} → statement M
+slots-moved-spec = tie.close (tie.spec moved-requires spill-code-requires same-length same-length-2 returns)

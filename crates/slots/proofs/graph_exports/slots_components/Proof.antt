@@ -1,0 +1,22 @@
+-- `slots::slots_components` meets its contract.
+use borrow.Author.Needs.{needs}
+use Rattle.slots.proofs.graph_exports.slots_components.Statement.{statement}
+use Rattle.slots.proofs.graph_exports.slots_components.Tie as tie
+
+components-requires : tie.Need-components-requires
+components-requires c κs = search needs
+
+components-requires-2 : tie.Need-components-requires-2
+components-requires-2 c κs = search needs
+
+same-length : tie.Need-same-length
+same-length c = search needs
+
+same-length-2 : tie.Need-same-length-2
+same-length-2 c = search needs
+
+returns : tie.Need-returns
+returns c = record { told = (c .before .before .before .before .before .components) .result; answer = (c .components2) .ensures; holds = (c .before .before .before .before .before .components) .ensures }
+
+pub slots-components-spec : {M : Type 1} → statement M
+slots-components-spec = tie.close (tie.spec components-requires components-requires-2 same-length same-length-2 returns)

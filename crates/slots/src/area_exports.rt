@@ -1,0 +1,47 @@
+// Exported: the areas of items.
+ghost use Rattle.slots.specs.Exports.{ItemAreasCoded};
+
+// `item_areas::item_areas`.
+#[no_mangle]
+pub extern "C" fn slots_item_areas(
+    points: u32,
+    v: u32,
+    blocks: &[u32],
+    edges: &[u32],
+    insts: &[u32],
+    operands: &[u32],
+    crossings: &[u32],
+    locals: &[u32],
+    slots: &[u32],
+    addresses: &[u32],
+    ends: &[u32],
+    pieces: &[u32],
+    assigned: &[u32],
+    moves: &[u32],
+    areas: &mut [u32],
+    items: &mut [u32],
+    work: &mut [u64],
+) -> u64
+    ensures { λ r. ⌜ ItemAreasCoded points v (now (blocks .entry)) (now (edges .entry)) (now (insts .entry)) (now (operands .entry)) (now (crossings .entry)) (now (locals .entry)) (now (slots .entry)) (now (addresses .entry)) (now (ends .entry)) (now (pieces .entry)) (now (assigned .entry)) (now (moves .entry))
+        (now (areas .entry)) (now (items .entry)) (now (work .entry)) r (now (areas .exit)) (now (items .exit)) (now (work .exit)) ⌝ }
+{
+    area_codes::areas_code(item_areas::item_areas(
+        points,
+        v,
+        blocks,
+        edges,
+        insts,
+        operands,
+        crossings,
+        locals,
+        slots,
+        addresses,
+        ends,
+        pieces,
+        assigned,
+        moves,
+        areas,
+        items,
+        work,
+    ))
+}

@@ -1,0 +1,99 @@
+// Exported: carried addresses, the moves of a slot and the registers of slots.
+ghost use Rattle.slots.specs.Exports.{ReachCoded, CarriedCoded, MovedCoded};
+
+// `local_kinds::reach`.
+#[no_mangle]
+pub extern "C" fn slots_reach(
+    points: u32,
+    v: u32,
+    blocks: &[u32],
+    insts: &[u32],
+    operands: &[u32],
+    crossings: &[u32],
+    locals: &[u32],
+    addresses: &[u32],
+    ends: &[u32],
+    kinds: &mut [u32],
+    work: &mut [u64],
+) -> u64
+    ensures { λ r. ⌜ ReachCoded points v (now (blocks .entry)) (now (insts .entry)) (now (operands .entry)) (now (crossings .entry)) (now (locals .entry)) (now (addresses .entry)) (now (ends .entry))
+        (now (kinds .entry)) (now (work .entry)) r (now (kinds .exit)) (now (work .exit)) ⌝ }
+{
+    carry_codes::reach_code(local_kinds::reach(
+        points,
+        v,
+        blocks,
+        insts,
+        operands,
+        crossings,
+        locals,
+        addresses,
+        ends,
+        kinds,
+        work,
+    ))
+}
+
+// `carried_registers::carried`.
+#[no_mangle]
+pub extern "C" fn slots_carried(
+    points: u32,
+    v: u32,
+    blocks: &[u32],
+    insts: &[u32],
+    operands: &[u32],
+    crossings: &[u32],
+    locals: &[u32],
+    addresses: &[u32],
+    ends: &[u32],
+    local: u32,
+    registers: &mut [u32],
+    work: &mut [u64],
+) -> u64
+    ensures { λ r. ⌜ CarriedCoded points v (now (blocks .entry)) (now (insts .entry)) (now (operands .entry)) (now (crossings .entry)) (now (locals .entry)) (now (addresses .entry)) (now (ends .entry)) local
+        (now (registers .entry)) (now (work .entry)) r (now (registers .exit)) (now (work .exit)) ⌝ }
+{
+    carry_codes::carried_code(carried_registers::carried(
+        points,
+        v,
+        blocks,
+        insts,
+        operands,
+        crossings,
+        locals,
+        addresses,
+        ends,
+        local as usize,
+        registers,
+        work,
+    ))
+}
+
+// `moved_ranges::moved`.
+#[no_mangle]
+pub extern "C" fn slots_moved(
+    points: u32,
+    v: u32,
+    blocks: &[u32],
+    insts: &[u32],
+    operands: &[u32],
+    moves: &[u32],
+    slot: u32,
+    out: &mut [u32],
+    work: &mut [u64],
+) -> u64
+    ensures { λ r. ⌜ MovedCoded points v (now (blocks .entry)) (now (insts .entry)) (now (operands .entry)) (now (moves .entry)) slot
+        (now (out .entry)) (now (work .entry)) r (now (out .exit)) (now (work .exit)) ⌝ }
+{
+    carry_codes::spill_code(moved_ranges::moved(
+        points,
+        v,
+        blocks,
+        insts,
+        operands,
+        moves,
+        slot,
+        out,
+        work,
+    ))
+}
