@@ -10,8 +10,7 @@ use Rattle.refusals.specs.declared.Refusal.the-variants.{Count, Line, Edge, Ins
 use Rattle.refusals.specs.Verdicts.{numberOf, first, inOrder}
 use Rattle.refusals.specs.Orders.{Giving, Ordered}
 use Rattle.refusals.proofs.Orders.{check-gives, scan-gives, order-two, order-more, order-append}
-use Rattle.graph.specs.Line.{blocksOf, jumpsOf, lineVerdict, edgeVerdict}
-use Rattle.graph.specs.Checks.{badCount, countVerdict, graphVerdict}
+use Rattle.graph.specs.Checks.{badCount, graphChecks, graphVerdict}
 use Rattle.insts.specs.Counts.{badRows, rowsVerdict, mostVerdict}
 use Rattle.area_layout.specs.Layout.{spaceFor}
 use Rattle.area_checks.specs.Checks.{rowCounts, sizesOf, kindsVerdict, spaceVerdict, lentVerdict, lentChecks, lentGive}
@@ -21,7 +20,7 @@ module _ (blocks edges : List ℕ) (points : ℕ) (kinds : List ℕ) (touches en
   counts = mostVerdict 2048 (length kinds) ∷ rowsVerdict 3 65536 touches ∷ rowsVerdict 2 65536 ends ∷ rowsVerdict 2 65536 areas ∷ rowsVerdict 3 items items ∷ []
 
   abbrev graph : List Verdict
-  graph = countVerdict blocks edges ∷ lineVerdict (blocksOf blocks) points ∷ edgeVerdict (blocksOf blocks) (jumpsOf edges) ∷ []
+  graph = graphChecks blocks edges points
 
   abbrev rest : List Verdict
   rest = kindsVerdict kinds ∷ spaceVerdict (sizesOf blocks edges (length kinds) touches ends areas) items work ∷ []
@@ -35,7 +34,7 @@ module _ (blocks edges : List ℕ) (points : ℕ) (kinds : List ℕ) (touches en
 
   graph-order : graphVerdict blocks edges points ≡ inOrder graph
   unfolding graphVerdict
-  graph-order = order-more _ (lineVerdict (blocksOf blocks) points ∷ edgeVerdict (blocksOf blocks) (jumpsOf edges) ∷ []) (order-two _ _)
+  graph-order = refl
 
   pub lent-order : lentVerdict blocks edges points kinds touches ends areas items work ≡ inOrder (lentChecks blocks edges points kinds touches ends areas items work)
   unfolding lentVerdict

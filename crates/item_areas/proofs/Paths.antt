@@ -1,13 +1,13 @@
 -- By paths, at the entry: what the rows that a call wrote tell of every item's area.
 use Prim.Native.Nat.{ℕ, _+_, _*_, _/_, _<_}
 use native.Mathlib.Omega.{arith}
-use mathlib.Core.Path.{_≡_, refl, ap, _∙_}
+use mathlib.Core.Path.{_≡_, refl, sym, ap, _∙_}
 use mathlib.Core.List.{List, _++_}
 use lib.ListN.{length, getD, drop, List·getD-append}
 use Rattle.refusals.specs.declared.Verdict.{Verdict}
 use Rattle.refusals.specs.declared.Verdict.the-variants.{Fine, Bad}
 use Rattle.refusals.specs.Outcomes.{given, unless, after}
-use Rattle.refusals.specs.Verdicts.{first}
+use Rattle.refusals.specs.Verdicts.{inOrder}
 use Rattle.refusals.proofs.Laws.{first-left}
 use Rattle.words.specs.Rows.{tabulate, field}
 use Rattle.words.proofs.FlatLaws.{flat-length, flat-at}
@@ -19,8 +19,9 @@ use Rattle.item_lists.specs.declared.Answer.the-variants.{Given}
 use Rattle.item_lists.specs.Lists.{itemRow, itemRows}
 use Rattle.item_lists.proofs.TableLaws.{row-long}
 use Rattle.job_checks.specs.Job.{jobOf, Passed}
-use Rattle.item_areas.specs.Entry.{lentVerdict, total, ItemAreas}
+use Rattle.item_areas.specs.Entry.{lentVerdict, itemChecks, total, ItemAreas}
 use Rattle.item_areas.proofs.CheckLaws.{lent}
+use Rattle.item_areas.proofs.OrderLaws.{item-verdict}
 
 -- an answer is no refusal
 told : (v : Verdict) (n k : ℕ) → given k ≡ unless v n → v ≡ Fine
@@ -36,13 +37,18 @@ module _ {points v : ℕ} {blocks edges insts operands crossings locals slots ad
   abbrev lentV : Verdict
   lentV = lentVerdict points v blocks edges insts operands crossings locals slots addresses ends pieces assigned moves (length areas) (length items) (length work)
 
-  fine : first lentV (listVerdict J (length areas / 2)) ≡ Fine
+  fine : inOrder (itemChecks points v blocks edges insts operands crossings locals slots addresses ends pieces assigned moves (length areas) (length items) (length work)) ≡ Fine
   fine = told _ (total J) n (E .lists .answer)
+
+  lent-fine : lentV ≡ Fine
+  lent-fine =
+      first-left lentV (listVerdict J (length areas / 2))
+      (sym (item-verdict points v blocks edges insts operands crossings locals slots addresses ends pieces assigned moves (length areas) (length items) (length work)) ∙ fine)
 
   passed : Passed points v blocks edges insts operands crossings locals slots addresses ends pieces assigned moves (length areas)
   passed =
       lent points v blocks edges insts operands crossings locals slots addresses ends pieces assigned moves (length areas) (length items) work
-      (first-left lentV (listVerdict J (length areas / 2)) fine) .0 .passed
+      lent-fine .0 .passed
 
   areas-written : areas′ ≡ areaRows (itemCount J) (itemArea J) ++ drop (length (areaRows (itemCount J) (itemArea J))) areas
   areas-written = E .lists .in-areas ∙ ap (λ (x : Verdict). after (unless x (total J)) (λ _. areaRows (itemCount J) (itemArea J)) areas) fine
