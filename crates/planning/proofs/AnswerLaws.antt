@@ -43,9 +43,11 @@ use Rattle.plan_text.proofs.PlanLaws.{room-told, plan-in-room}
 use Rattle.planning.specs.Program.{told, jobText, job, refusal, printedFor, numbersIn, programText}
 use Rattle.row_plans.specs.Groups.{points, registers, budget, numbersAt, Few, SharedFor}
 use Rattle.wants.proofs.TallyLaws.{not-refused}
+use Rattle.wants.proofs.SeenLaws.{cells-long}
+use Rattle.job_answers.proofs.SeenLaws.{items-long}
 use Rattle.planning.specs.Answer.{Read, Stands, Answers}
 use Rattle.planning.proofs.GroupLaws.{same-printed}
-use Rattle.planning.proofs.PrintLaws.{Printable, cells-long, items-long, plan-fine, text-before, printed-same}
+use Rattle.planning.proofs.PrintLaws.{Printable, plan-fine, text-before, printed-same}
 use Rattle.planning.proofs.JobLaws.{job-printable}
 
 -- ---- a text that was written
@@ -132,8 +134,8 @@ abbrev held-tally : Outcome Tally → Tally
 held-tally (given t) = t
 held-tally (refused n i) = record { cells = 0; probes = 0; depth = 0 }
 
-fine-same : (a : List ℕ) {c c′ i i′ : List ℕ} {l l′ : ℕ} → c ≡ c′ → i ≡ i′ → l ≡ l′ → sharedVerdict c′ i′ a l′ ≡ Fine → sharedVerdict c i a l ≡ Fine
-fine-same a e f g h = rw (e, f, g) h
+fine-same : {c c′ i i′ a a′ : List ℕ} {l l′ : ℕ} → c ≡ c′ → i ≡ i′ → a ≡ a′ → l ≡ l′ → sharedVerdict c′ i′ a′ l′ ≡ Fine → sharedVerdict c i a l ≡ Fine
+fine-same e f k g h = rw (e, f, k, g) h
 
 abbrev pub makeLocal : (ℕ → ℕ) → Local
 makeLocal f = record { size = f 0; align = f 1 }
@@ -213,22 +215,28 @@ module _ (rows counts : List ℕ) (long : length rows ≡ rowNumbers) (F : Few c
         cs-is : cs ≡ cellRows P
         cs-is =
             ap (λ (l : List ℕ). take (2 * c - 0) (drop 0 l)) cells-are
-            ∙ take-front (cellRows P) (drop (length (cellRows P)) cells) (2 * c) (ap (λ (t : Tally). 2 * t .cells) tally-is ∙ sym (cells-long (P .cells)))
+            ∙ take-front (cellRows P) (drop (length (cellRows P)) cells) (2 * c) (ap (λ (t : Tally). 2 * t .cells) tally-is ∙ sym (cells-long P))
 
         is-is : is ≡ itemRows (itemCount J) (itemArea J) P
         is-is =
             ap (λ (l : List ℕ). take (4 * n - 0) (drop 0 l)) items-are
             ∙ take-front (itemRows (itemCount J) (itemArea J) P) (drop (length (itemRows (itemCount J) (itemArea J) P)) items) (4 * n)
-            (let x = local-count in let y = slot-count in let z = items-long (itemCount J) (itemArea J) P in omega arith)
+            (let x = local-count in let y = slot-count in let z = items-long (itemArea J) (itemCount J) P in omega arith)
+
+        abbrev behind : List ℕ
+        behind = drop (length (areaRows (itemCount J) (itemArea J))) areas
+
+        areas-kept : length (areaRows (itemCount J) (itemArea J) ++ behind) ≡ 128
+        areas-kept = ap length (sym areas-are) ∙ kept
 
         text-is : printed cs is areas′ (getD counts 6 0) p d ≡ jobText J (budget group)
         unfolding jobText
         text-is =
             printed-same cs-is is-is areas-are (sym local-count) (ap (λ (t : Tally). t .probes) tally-is) (ap (λ (t : Tally). t .depth) tally-is)
-            ∙ text-before printable (drop (length (areaRows (itemCount J) (itemArea J))) areas)
+            ∙ text-before printable behind areas-kept
 
         pub print-ready : sharedVerdict cs is areas′ (getD counts 6 0) ≡ Fine
-        print-ready = fine-same areas′ cs-is is-is (sym local-count) (plan-fine printable areas′ kept)
+        print-ready = fine-same cs-is is-is areas-are (sym local-count) (plan-fine printable behind areas-kept)
 
         pub plan-printed : printed cs is areas′ (getD counts 6 0) p d ≡ printedFor group Fine
         unfolding printedFor first
