@@ -1,2 +1,3 @@
 pub mod ApartLaws
+pub mod OrderLaws
 pub mod SeenLaws

@@ -31,9 +31,11 @@ apartCount locals slots cells items =
 abbrev pub apartSpace : ℕ → ℕ → ℕ → Bool
 apartSpace n cells items = ltb (cells / 2) n || ltb (items / 4) n
 
+abbrev pub apartChecks : List ℕ → List ℕ → ℕ → ℕ → List Verdict
+apartChecks locals slots cells items = check Count (apartCount locals slots cells items) ∷ check Space (apartSpace (rowCount 2 locals + length slots) cells items) ∷ []
+
 unfoldable pub apartVerdict : List ℕ → List ℕ → ℕ → ℕ → Verdict
-apartVerdict locals slots cells items =
-    inOrder (check Count (apartCount locals slots cells items) ∷ check Space (apartSpace (rowCount 2 locals + length slots) cells items) ∷ [])
+apartVerdict locals slots cells items = inOrder (apartChecks locals slots cells items)
 
 -- an item's row where no area is shared: cell, 0, 0, 0
 abbrev pub loneRow : Item → List ℕ

@@ -24,6 +24,9 @@ roomBy c = record { size = c .size; align = c .align }
 abbrev pub capVerdict : List ℕ → ℕ → Verdict
 capVerdict cells count = check Count (not (wholeRows 2 cells) || (ltb (rowCount 2 cells) count || ltb 4096 count))
 
+abbrev pub capChecks : List ℕ → ℕ → List Verdict
+capChecks cells count = capVerdict cells count ∷ []
+
 -- the first `count` cells, each with its alignment lowered
 abbrev pub capRows : List ℕ → ℕ → ℕ → List ℕ
 capRows cells count most = flat (tabulate count (λ i. roomRow (cap most (record { size = field 2 cells i 0; align = field 2 cells i 1 }))))

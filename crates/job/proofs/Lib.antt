@@ -1,4 +1,5 @@
 pub mod CheckLaws
+pub mod OrderLaws
 pub mod EntryLaws
 pub mod Demand
 pub mod Paths

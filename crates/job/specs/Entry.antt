@@ -2,7 +2,7 @@
 use Prim.Native.Nat.{ℕ, _+_, _/_}
 use mathlib.Core.Path.{_≡_}
 use mathlib.Core.Bool.{_||_}
-use mathlib.Core.List.{List}
+use mathlib.Core.List.{List, [], _∷_, _++_}
 use lib.ListN.{length, replicate}
 use lib.Dec.{ltb}
 use Rattle.refusals.specs.declared.Verdict.{Verdict}
@@ -12,7 +12,7 @@ use Rattle.refusals.specs.Outcomes.{unless, after}
 use Rattle.areas.specs.Job.{Job, itemCount, itemArea, listVerdict}
 use Rattle.job_space.specs.declared.Sizes.{Sizes}
 use Rattle.job_space.specs.Space.{sizesOf, spaceOf, badShape}
-use Rattle.job_checks.specs.Job.{jobOf, recordsVerdict}
+use Rattle.job_checks.specs.Job.{jobOf, recordsVerdict, recordsChecks}
 use Rattle.soundness.specs.Demand.{jobPlan}
 use Rattle.job_answers.specs.declared.Shared.{Shared}
 use Rattle.job_answers.specs.Answers.{AnsweredBy}
@@ -43,6 +43,13 @@ module _ (points v budget : ℕ) (blocks edges insts operands crossings locals s
     -- all refusals, lowest number first
     abbrev pub verdictOf : Verdict
     verdictOf = first lentVerdict (listVerdict job (areas / 2))
+
+    -- the same as one list of checks, in their order: number 1, numbers 2 to 6 of the records, 7, 9
+    abbrev pub jobChecks : List Verdict
+    jobChecks =
+        check Count (badShape budget cells items)
+        ∷ (recordsChecks points v blocks edges insts operands crossings locals slots addresses ends pieces assigned moves areas
+        ++ (spaceVerdict (sizes areas) cells items work ∷ listVerdict job (areas / 2) ∷ []))
 
   -- the whole job: the plan of all items' areas, unless refused; the work space is unchanged after a refusal that comes before measuring, else its first W words are zero
   pub record SharedAs (cells items areas work : List ℕ) (r : Shared) (cells′ items′ areas′ work′ : List ℕ) : Type 0 where

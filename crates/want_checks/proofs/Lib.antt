@@ -1,3 +1,4 @@
 pub mod Corners
 pub mod PartLaws
 pub mod CheckLaws
+pub mod OrderLaws

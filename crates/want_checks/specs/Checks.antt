@@ -41,10 +41,13 @@ spaceOf wants areas = 8 * (rowCount 5 wants + rowCount 2 areas)
 abbrev pub badSpace : List ℕ → List ℕ → ℕ → ℕ → ℕ → Bool
 badSpace wants areas cells items work = ltb work (spaceOf wants areas) || (ltb (cells / 2) (rowCount 5 wants) || ltb (items / 4) (rowCount 5 wants))
 
+-- "fitting alone checks 1, 7, 10"
+abbrev pub fitChecks : List ℕ → List ℕ → ℕ → ℕ → ℕ → ℕ → ℕ → List Verdict
+fitChecks wants areas locals budget cells items work =
+    check Count (badCount wants areas locals budget cells items) ∷ check Space (badSpace wants areas cells items work) ∷ wantsVerdict areas wants ∷ []
+
 unfoldable pub verdict : List ℕ → List ℕ → ℕ → ℕ → ℕ → ℕ → ℕ → Verdict
-verdict wants areas locals budget cells items work =
-    inOrder (check Count (badCount wants areas locals budget cells items) ∷ check Space (badSpace wants areas cells items work)
-    ∷ wantsVerdict areas wants ∷ [])
+verdict wants areas locals budget cells items work = inOrder (fitChecks wants areas locals budget cells items work)
 
 -- what holds where nothing is refused: the counts within their limits, room in the answer lists and the work space, each want's part proper
 pub record Granted (wants areas : List ℕ) (cells items work : ℕ) : Type 0 where
