@@ -40,14 +40,6 @@ rows-ranges [] more = refl
 rows-ranges (r ∷ rs) more =
     row-range (r .start) (r .end) (flat (map (λ (r : Range). r .start ∷ r .end ∷ []) rs) ++ more) ∙ ap (λ (l : List Range). r ∷ l) (rows-ranges rs more)
 
-ranges-long : (rs : List Range) → length (flat (map (λ (r : Range). r .start ∷ r .end ∷ []) rs)) ≡ 2 * length rs
-unfolding flat
-ranges-long [] = refl
-ranges-long (r ∷ rs) = omega (arith, ranges-long rs)
-
-pub areas-long : (n : ℕ) (A : ℕ → Option (List Range)) → length (areaRows n A) ≡ 2 * rangesOf (tabulate n A)
-areas-long n A = ranges-long (gather listed (tabulate n A)) ∙ ap (λ (k : ℕ). 2 * k) (gathered-long (tabulate n A))
-
 -- ---- the areas of the items before, item i's, and the others
 
 module _ (A : ℕ → Option (List Range)) (i n : ℕ) (h : i < n) where
@@ -71,3 +63,13 @@ module _ (A : ℕ → Option (List Range)) (i n : ℕ) (h : i < n) where
       ∙ append-assoc (gather listed (tabulate i A)) (rs ++ others) (areasOf more))
       ∙ ap (take (length rs)) (drop-at (gather listed (tabulate i A)) ((rs ++ others) ++ areasOf more) (rangesOf (tabulate i A)) (gathered-long (tabulate i A)))
       ∙ ap (take (length rs)) (append-assoc rs others (areasOf more)) ∙ take-append-seam rs (others ++ areasOf more)
+
+-- ---- how long the rows are
+
+ranges-long : (rs : List Range) → length (flat (map (λ (r : Range). r .start ∷ r .end ∷ []) rs)) ≡ 2 * length rs
+unfolding flat
+ranges-long [] = refl
+ranges-long (r ∷ rs) = omega (arith, ranges-long rs)
+
+pub areas-long : (n : ℕ) (A : ℕ → Option (List Range)) → length (areaRows n A) ≡ 2 * rangesOf (tabulate n A)
+areas-long n A = ranges-long (gather listed (tabulate n A)) ∙ ap (λ (k : ℕ). 2 * k) (gathered-long (tabulate n A))

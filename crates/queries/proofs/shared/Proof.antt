@@ -61,7 +61,7 @@ shared-slice-read-t14 : tie.Need-shared-slice-read-t14
 shared-slice-read-t14 c = let a = (c .before .before .before .before .before .before .before .before .before .before .before .before .before .args) in omega (arith, (shared-sound (now (a .cells)) (now (a .items)) (now (a .areas)) (a .locals) (sym ((c .before .before .before .before .before .before .before .before .before .parts) .ensures) ∙ (c .before .before .before .before .before .before .before .enum-told) .given .1)) .whole)
 
 cast-t17 : tie.Need-cast-t17
-cast-t17 c = omega (arith, (c .shared-slice-known6) .given (4 * (c .before .before .before .before .before .before .before .before .before .before .before .before .before .args) .i + 2))
+cast-t17 c = omega (arith, (c .shared-slice-known6) .given (4 * (c .before .before .before .before .before .before .before .before .before .before .before .before .before .args) .i + 2), (c .shared-slice-known6) .given (4 * (c .before .before .before .before .before .before .before .before .before .before .before .before .before .args) .i + 3))
 
 add-t18 : tie.Need-add-t18
 add-t18 c = omega arith
