@@ -21,8 +21,8 @@ fn cover_touch(blocks: &[u32], work: &mut [u64], t: Spots, s: Local, x: u64, m: 
     requires { ⌜ (t .at + t .count ≤ s .to) × (t .ends + t .stops ≤ s .to) × (s .to + (m + 3) ≤ length (now work)) ⌝ }
     ensures { λ r. ⌜ ((es : List Edge) → Covered (lineOf (now (blocks .entry)) es) (endsAt t (now (work .entry))) s x m r (now (work .entry)) (now (work .exit))) ⌝ }
 {
-    let first = spots::holding(blocks, packed::start_of(x));
-    let last = spots::holding(blocks, packed::end_of(x));
+    let first = spots::holding(blocks, packed::start_of(x)).0;
+    let last = spots::holding(blocks, packed::end_of(x)).0;
     let one = touch_covers::cover(blocks, work, t, first, x);
     work[s.to + m] = one;
     let next = m + 1;

@@ -93,8 +93,8 @@ fn touch(blocks: &[u32], work: &mut [u64], s: Local, x: u64, m: usize) -> usize
     requires { ⌜ Sound (blocksOf (now blocks)) × Free s (length (now blocks) / 3) (m + 1) (now work) × ((es : List Edge) → inverted (lineOf (now blocks) es) (unpack x) ≡ false) ⌝ }
     ensures { λ r. ⌜ ((es : List Edge) → Put (lineOf (now (blocks .entry)) es) s (length (now (blocks .entry)) / 3) x m r (now (work .entry)) (now (work .exit))) ⌝ }
 {
-    let first = spots::holding(blocks, packed::start_of(x));
-    let last = spots::holding(blocks, packed::end_of(x));
+    let first = spots::holding(blocks, packed::start_of(x)).0;
+    let last = spots::holding(blocks, packed::end_of(x)).0;
     clip(blocks, work, s, first, x);
     if last <= first {
         return m;

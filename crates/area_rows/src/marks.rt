@@ -41,8 +41,8 @@ fn mark_touch(blocks: &[u32], work: &mut [u64], c: Column, start: u32, end: u32)
     requires { ⌜ Sound (blocksOf (now blocks)) × (c .n ≡ length (now blocks) / 3) × Fits c (now work) ⌝ }
     ensures { λ _. ⌜ Put c true (λ j. spans (lineOf (now (blocks .entry)) []) (range start end) j ≡ true) (now (work .entry)) (now (work .exit)) ⌝ }
 {
-    let first = spots::holding(blocks, start);
-    let last = spots::holding(blocks, end);
+    let first = spots::holding(blocks, start).0;
+    let last = spots::holding(blocks, end).0;
     mark_places(work, c, first, last + 1);
 }
 

@@ -42,8 +42,8 @@ fn mark_leave(blocks: &[u32], work: &mut [u64], s: Spots, c: Column, start: u32,
     requires { ⌜ Sound (blocksOf (now blocks)) × (c .n ≡ length (now blocks) / 3) × Fits c (now work) × Stand s (now work) ⌝ }
     ensures { λ _. ⌜ Put c true (λ j. leavesBy (lineOf (now (blocks .entry)) []) (endsAt s (now (work .entry))) j (range start end) ≡ true) (now (work .entry)) (now (work .exit)) ⌝ }
 {
-    let first = spots::holding(blocks, start);
-    let last = spots::holding(blocks, end);
+    let first = spots::holding(blocks, start).0;
+    let last = spots::holding(blocks, end).0;
     let one = covers_bottom(blocks, work, s, first, end);
     let two = covers_bottom(blocks, work, s, last, end);
     mark_if(work, c, first, one);

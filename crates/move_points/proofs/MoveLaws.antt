@@ -5,7 +5,7 @@ use mathlib.Core.Path.{_≡_, refl, sym, ap, _∙_}
 use mathlib.Core.Logic.{_≢_}
 use mathlib.Core.Bool.{Bool, true, false, cond, not, _||_}
 use mathlib.Core.List.{List, [], _∷_, _++_}
-use lib.ListN.{length, getD}
+use lib.ListN.{length}
 use lib.Dec.{eqb}
 use borrow.Author.Tests.{eq-eqb, ne-eqb, leb-false}
 use Rattle.refusals.specs.declared.Verdict.the-variants.{Fine}
@@ -15,8 +15,8 @@ use Rattle.words.specs.Rows.{rowCount, field}
 use Rattle.words.proofs.Bools.{or-neither}
 use Rattle.ranges.specs.declared.Range.{Range}
 use Rattle.graph.specs.declared.Block.{Block}
-use Rattle.graph.specs.Line.{Stretch, blocksOf, blockAt, placeIn, Sound}
-use Rattle.graph.specs.Work.{Table}
+use Rattle.graph.specs.declared.Place.{Place}
+use Rattle.graph.specs.Line.{Stretch, blocksOf, blockAt, placeIn, placeOf, Sound}
 use Rattle.graph.proofs.Line.{blocks-length, place-lt, start-is, end-is}
 use Rattle.carrying.specs.Insts.{Inst, instsOf, instAt, isSet}
 use Rattle.carrying.specs.Checks.{absent}
@@ -32,11 +32,11 @@ use Rattle.spill_checks.proofs.PositionLaws.{told, stray-told}
 
 -- ---- where a move stands
 
--- the place that the table has for a block that is there is that block's
-pub row-there : (blocks work : List ℕ) (table : ℕ) → Sound (blocksOf blocks) → Table (blocksOf blocks) table work → (b : Block) (p : ℕ) → b .0 < length (blocksOf blocks)
-    → p ≡ getD work (table + b .0) 0 → (p ≡ placeIn (blocksOf blocks) (b .0)) × (p < rowCount 3 blocks)
-row-there blocks work table s t b p h e =
-    let q : p ≡ placeIn (blocksOf blocks) (b .0) = e ∙ t .place (b .0) h in
+-- the place of a block that is there is in the line
+pub row-there : (blocks : List ℕ) → Sound (blocksOf blocks) → (b : Block) (p : Place) → b .0 < length (blocksOf blocks) → p ≡ placeOf (blocksOf blocks) b
+    → (p .0 ≡ placeIn (blocksOf blocks) (b .0)) × (p .0 < rowCount 3 blocks)
+row-there blocks s b p h e =
+    let q : p .0 ≡ placeIn (blocksOf blocks) (b .0) = ap (λ (x : Place). x .0) e in
     (q, (let l = place-lt s (b .0) h in let n = blocks-length blocks in omega arith))
 
 -- a move that was accepted stands where `position` says

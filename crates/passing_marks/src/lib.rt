@@ -31,7 +31,7 @@ fn stopped(blocks: &[u32], point: u64) -> usize
         return n;
     }
     let p = point as u32;
-    let k = spots::holding(blocks, p);
+    let k = spots::holding(blocks, p).0;
     if p < blocks[3 * k + 1] {
         return n;
     }

@@ -12,6 +12,7 @@ ghost use Rattle.graph.specs.Line.{blocksOf, Sound};
 ghost use Rattle.carrying.specs.Lists.{any};
 ghost use Rattle.areas.specs.Blocks.{clip, reversed, inverted, until};
 ghost use Rattle.spots.specs.Spots.{lineOf, Held};
+use graph::Place;
 
 // The touches are the packed ranges `work[at .. at + count]`, the ends the points `work[ends .. ends + stops]`, rising.
 pub struct Spots {
@@ -22,16 +23,16 @@ pub struct Spots {
 }
 
 // The place of the block that holds a point: of a point before all blocks the first, after all the last.
-pub fn holding(blocks: &[u32], point: u32) -> usize
+pub fn holding(blocks: &[u32], point: u32) -> Place
     requires { ⌜ Sound (blocksOf (now blocks)) ⌝ }
-    ensures { λ r. ⌜ Held (now (blocks .entry)) point r ⌝ }
+    ensures { λ r. ⌜ Held (now (blocks .entry)) point (r .0) ⌝ }
 {
     let n = blocks.len() / 3;
     let r = words::at_most_in_rows(blocks, 3, 1, n, point);
     if r == 0 {
-        return 0;
+        return Place(0);
     }
-    r - 1
+    Place(r - 1)
 }
 
 // The first end at or after a point, or the bottom where there is none up to it.
@@ -83,11 +84,11 @@ pub fn inverted(blocks: &[u32], start: u32, end: u32) -> bool
     requires { ⌜ Sound (blocksOf (now blocks)) ⌝ }
     ensures { λ r. ⌜ ((es : List Edge) → r ≡ inverted (lineOf (now (blocks .entry)) es) (range start end)) ⌝ }
 {
-    let first = holding(blocks, start);
+    let first = holding(blocks, start).0;
     if clip_reversed(blocks, first, start, end) {
         return true;
     }
-    let last = holding(blocks, end);
+    let last = holding(blocks, end).0;
     clip_reversed(blocks, last, start, end)
 }
 

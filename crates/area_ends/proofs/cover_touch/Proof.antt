@@ -50,16 +50,16 @@ cover-requires-2 : tie.Need-cover-requires-2
 cover-requires-2 c κs = ((c .before .before .before .before .before .holding2) .ensures .below, stand-set ((c .before .before .before .before .before .before .before .before .before .before .before .args) .t) ((c .before .before .before .before .before .before .before .before .before .before .before .args) .s .to) (now ((c .before .before .before .before .before .before .before .before .before .before .before .args) .work)) ((c .before .before .before .before .before .before .before .before .before .before .before .pre) .0 .1) ((c .before .before .before .before .before .before .before .before .before .before .before .pre) .1 .0) ((c .before .before .before .before .before .before .before .before .before .before .before .pre) .1 .1) ((c .before .before .before .before .before .before .before .before .before .before .before .args) .s .to + (c .before .before .before .before .before .before .before .before .before .before .before .args) .m) ((c .before .before .before .cover) .result) (omega arith) (omega arith))
 
 add-work-2 : tie.Need-add-work-2
-add-work-2 c = search needs
+add-work-2 c = omega (arith, (c .before .before .before .before .before .before .before .before .before .before .before .before .before .pre) .1 .2, (c .before .before .before .before .before .before .before .before .before .before .before .before .before .good))
 
 mul-work-2 : tie.Need-mul-work-2
-mul-work-2 c = search needs
+mul-work-2 c = omega (arith, (c .before .before .before .before .before .before .before .before .before .before .before .before .before .pre) .1 .2, (c .before .before .before .before .before .before .before .before .before .before .before .before .before .good))
 
 slice-write-work-2 : tie.Need-slice-write-work-2
 slice-write-work-2 c = simp length-set (omega (arith, (c .before .before .before .before .before .before .before .before .before .before .before .before .before .pre) .1 .2))
 
 add-third : tie.Need-add-third
-add-third c = search needs
+add-third c = omega (arith, (c .before .before .before .before .before .before .before .before .before .before .before .before .before .pre) .1 .2, (c .before .before .before .before .before .before .before .before .before .before .before .before .before .good))
 
 add-if2 : tie.Need-add-if2
 add-if2 c = search needs
@@ -68,7 +68,7 @@ same-length-2 : tie.Need-same-length-2
 same-length-2 c = search needs
 
 returns-2 : tie.Need-returns-2
-returns-2 c = λ es. covered-two (lineOf (now ((c .before .before .before .before .before .before .before .before .before .before .before .before .before .before .args) .blocks)) es) ((c .before .before .before .before .before .before .before .before .before .before .before .before .before .before .pre) .0 .0) (endsAt ((c .before .before .before .before .before .before .before .before .before .before .before .before .before .before .args) .t) (now ((c .before .before .before .before .before .before .before .before .before .before .before .before .before .before .args) .work))) ((c .before .before .before .before .before .before .before .before .before .before .before .before .before .before .args) .s) ((c .before .before .before .before .before .before .before .before .before .before .before .before .before .before .args) .x) ((c .before .before .before .before .before .before .before .before .before .before .before .before .before .before .args) .m) ((c .before .before .before .before .before .before .before .before .before .before .before .before .before .before .pre) .0 .2 es) _ _ ((c .before .before .before .before .before .before .before .before .before .before .holding) .ensures .is es ∙ ap (λ (y : ℕ). blockOf (lineOf (now ((c .before .before .before .before .before .before .before .before .before .before .before .before .before .before .args) .blocks)) es) y) ((c .before .before .before .before .before .before .before .before .before .before .before .start-of) .ensures)) ((c .before .before .before .before .before .before .before .before .holding2) .ensures .is es ∙ ap (λ (y : ℕ). blockOf (lineOf (now ((c .before .before .before .before .before .before .before .before .before .before .before .before .before .before .args) .blocks)) es) y) ((c .before .before .before .before .before .before .before .before .before .end-of) .ensures)) (now ((c .before .before .before .before .before .before .before .before .before .before .before .before .before .before .args) .work)) ((c .before .before .before .before .before .before .before .before .before .before .before .before .before .before .pre) .1 .2) _ ((c .before .before .before .before .before .before .cover) .ensures) _ ((c .before .before .cover2) .ensures ∙ ap (λ (l : List ℕ). cover (lineOf (now ((c .before .before .before .before .before .before .before .before .before .before .before .before .before .before .args) .blocks)) es) l ((c .before .before .before .before .before .before .before .before .holding2) .result) (unpack ((c .before .before .before .before .before .before .before .before .before .before .before .before .before .before .args) .x))) (ends-set ((c .before .before .before .before .before .before .before .before .before .before .before .before .before .before .args) .t) ((c .before .before .before .before .before .before .before .before .before .before .before .before .before .before .args) .s .to) (now ((c .before .before .before .before .before .before .before .before .before .before .before .before .before .before .args) .work)) ((c .before .before .before .before .before .before .before .before .before .before .before .before .before .before .pre) .0 .1) ((c .before .before .before .before .before .before .before .before .before .before .before .before .before .before .pre) .1 .0) ((c .before .before .before .before .before .before .before .before .before .before .before .before .before .before .pre) .1 .1) ((c .before .before .before .before .before .before .before .before .before .before .before .before .before .before .args) .s .to + (c .before .before .before .before .before .before .before .before .before .before .before .before .before .before .args) .m) ((c .before .before .before .before .before .before .cover) .result) (omega (arith, (c .before .before .before .before .before .before .before .before .before .before .before .before .before .before .pre) .1 .2)) (omega (arith, (c .before .before .before .before .before .before .before .before .before .before .before .before .before .before .pre) .1 .2)))) (omega arith) (omega arith)
+returns-2 c = λ es. covered-two (lineOf (now ((c .before .before .before .before .before .before .before .before .before .before .before .before .before .before .args) .blocks)) es) ((c .before .before .before .before .before .before .before .before .before .before .before .before .before .before .pre) .0 .0) (endsAt ((c .before .before .before .before .before .before .before .before .before .before .before .before .before .before .args) .t) (now ((c .before .before .before .before .before .before .before .before .before .before .before .before .before .before .args) .work))) ((c .before .before .before .before .before .before .before .before .before .before .before .before .before .before .args) .s) ((c .before .before .before .before .before .before .before .before .before .before .before .before .before .before .args) .x) ((c .before .before .before .before .before .before .before .before .before .before .before .before .before .before .args) .m) ((c .before .before .before .before .before .before .before .before .before .before .before .before .before .before .pre) .0 .2 es) _ _ ((c .before .before .before .before .before .before .before .before .before .before .holding) .ensures .is es ∙ ap (λ (y : ℕ). blockOf (lineOf (now ((c .before .before .before .before .before .before .before .before .before .before .before .before .before .before .args) .blocks)) es) y) ((c .before .before .before .before .before .before .before .before .before .before .before .start-of) .ensures)) ((c .before .before .before .before .before .before .before .before .holding2) .ensures .is es ∙ ap (λ (y : ℕ). blockOf (lineOf (now ((c .before .before .before .before .before .before .before .before .before .before .before .before .before .before .args) .blocks)) es) y) ((c .before .before .before .before .before .before .before .before .before .end-of) .ensures)) (now ((c .before .before .before .before .before .before .before .before .before .before .before .before .before .before .args) .work)) ((c .before .before .before .before .before .before .before .before .before .before .before .before .before .before .pre) .1 .2) _ ((c .before .before .before .before .before .before .cover) .ensures) _ ((c .before .before .cover2) .ensures ∙ ap (λ (l : List ℕ). cover (lineOf (now ((c .before .before .before .before .before .before .before .before .before .before .before .before .before .before .args) .blocks)) es) l ((c .before .before .before .before .before .before .before .before .holding2) .result .0) (unpack ((c .before .before .before .before .before .before .before .before .before .before .before .before .before .before .args) .x))) (ends-set ((c .before .before .before .before .before .before .before .before .before .before .before .before .before .before .args) .t) ((c .before .before .before .before .before .before .before .before .before .before .before .before .before .before .args) .s .to) (now ((c .before .before .before .before .before .before .before .before .before .before .before .before .before .before .args) .work)) ((c .before .before .before .before .before .before .before .before .before .before .before .before .before .before .pre) .0 .1) ((c .before .before .before .before .before .before .before .before .before .before .before .before .before .before .pre) .1 .0) ((c .before .before .before .before .before .before .before .before .before .before .before .before .before .before .pre) .1 .1) ((c .before .before .before .before .before .before .before .before .before .before .before .before .before .before .args) .s .to + (c .before .before .before .before .before .before .before .before .before .before .before .before .before .before .args) .m) ((c .before .before .before .before .before .before .cover) .result) (omega (arith, (c .before .before .before .before .before .before .before .before .before .before .before .before .before .before .pre) .1 .2)) (omega (arith, (c .before .before .before .before .before .before .before .before .before .before .before .before .before .before .pre) .1 .2)))) (omega arith) (omega arith)
 
 between-requires : tie.Need-between-requires
 between-requires c κs = search needs
@@ -89,7 +89,7 @@ same-length-3 : tie.Need-same-length-3
 same-length-3 c = search needs
 
 returns-3 : tie.Need-returns-3
-returns-3 c = λ es. covered-three (lineOf (now ((c .before .before .before .before .before .before .before .before .before .before .before .before .before .before .before .before .args) .blocks)) es) ((c .before .before .before .before .before .before .before .before .before .before .before .before .before .before .before .before .pre) .0 .0) (endsAt ((c .before .before .before .before .before .before .before .before .before .before .before .before .before .before .before .before .args) .t) (now ((c .before .before .before .before .before .before .before .before .before .before .before .before .before .before .before .before .args) .work))) ((c .before .before .before .before .before .before .before .before .before .before .before .before .before .before .before .before .args) .s) ((c .before .before .before .before .before .before .before .before .before .before .before .before .before .before .before .before .args) .x) ((c .before .before .before .before .before .before .before .before .before .before .before .before .before .before .before .before .args) .m) ((c .before .before .before .before .before .before .before .before .before .before .before .before .before .before .before .before .pre) .0 .2 es) _ _ ((c .before .before .before .before .before .before .before .before .before .before .before .before .holding) .ensures .is es ∙ ap (λ (y : ℕ). blockOf (lineOf (now ((c .before .before .before .before .before .before .before .before .before .before .before .before .before .before .before .before .args) .blocks)) es) y) ((c .before .before .before .before .before .before .before .before .before .before .before .before .before .start-of) .ensures)) ((c .before .before .before .before .before .before .before .before .before .before .holding2) .ensures .is es ∙ ap (λ (y : ℕ). blockOf (lineOf (now ((c .before .before .before .before .before .before .before .before .before .before .before .before .before .before .before .before .args) .blocks)) es) y) ((c .before .before .before .before .before .before .before .before .before .before .before .end-of) .ensures)) (now ((c .before .before .before .before .before .before .before .before .before .before .before .before .before .before .before .before .args) .work)) ((c .before .before .before .before .before .before .before .before .before .before .before .before .before .before .before .before .pre) .1 .2) _ ((c .before .before .before .before .before .before .before .before .cover) .ensures) _ ((c .before .before .before .before .cover2) .ensures ∙ ap (λ (l : List ℕ). cover (lineOf (now ((c .before .before .before .before .before .before .before .before .before .before .before .before .before .before .before .before .args) .blocks)) es) l ((c .before .before .before .before .before .before .before .before .before .before .holding2) .result) (unpack ((c .before .before .before .before .before .before .before .before .before .before .before .before .before .before .before .before .args) .x))) (ends-set ((c .before .before .before .before .before .before .before .before .before .before .before .before .before .before .before .before .args) .t) ((c .before .before .before .before .before .before .before .before .before .before .before .before .before .before .before .before .args) .s .to) (now ((c .before .before .before .before .before .before .before .before .before .before .before .before .before .before .before .before .args) .work)) ((c .before .before .before .before .before .before .before .before .before .before .before .before .before .before .before .before .pre) .0 .1) ((c .before .before .before .before .before .before .before .before .before .before .before .before .before .before .before .before .pre) .1 .0) ((c .before .before .before .before .before .before .before .before .before .before .before .before .before .before .before .before .pre) .1 .1) ((c .before .before .before .before .before .before .before .before .before .before .before .before .before .before .before .before .args) .s .to + (c .before .before .before .before .before .before .before .before .before .before .before .before .before .before .before .before .args) .m) ((c .before .before .before .before .before .before .before .before .cover) .result) (omega (arith, (c .before .before .before .before .before .before .before .before .before .before .before .before .before .before .before .before .pre) .1 .2)) (omega (arith, (c .before .before .before .before .before .before .before .before .before .before .before .before .before .before .before .before .pre) .1 .2)))) _ ((c .before .between) .ensures) (omega arith)
+returns-3 c = λ es. covered-three (lineOf (now ((c .before .before .before .before .before .before .before .before .before .before .before .before .before .before .before .before .args) .blocks)) es) ((c .before .before .before .before .before .before .before .before .before .before .before .before .before .before .before .before .pre) .0 .0) (endsAt ((c .before .before .before .before .before .before .before .before .before .before .before .before .before .before .before .before .args) .t) (now ((c .before .before .before .before .before .before .before .before .before .before .before .before .before .before .before .before .args) .work))) ((c .before .before .before .before .before .before .before .before .before .before .before .before .before .before .before .before .args) .s) ((c .before .before .before .before .before .before .before .before .before .before .before .before .before .before .before .before .args) .x) ((c .before .before .before .before .before .before .before .before .before .before .before .before .before .before .before .before .args) .m) ((c .before .before .before .before .before .before .before .before .before .before .before .before .before .before .before .before .pre) .0 .2 es) _ _ ((c .before .before .before .before .before .before .before .before .before .before .before .before .holding) .ensures .is es ∙ ap (λ (y : ℕ). blockOf (lineOf (now ((c .before .before .before .before .before .before .before .before .before .before .before .before .before .before .before .before .args) .blocks)) es) y) ((c .before .before .before .before .before .before .before .before .before .before .before .before .before .start-of) .ensures)) ((c .before .before .before .before .before .before .before .before .before .before .holding2) .ensures .is es ∙ ap (λ (y : ℕ). blockOf (lineOf (now ((c .before .before .before .before .before .before .before .before .before .before .before .before .before .before .before .before .args) .blocks)) es) y) ((c .before .before .before .before .before .before .before .before .before .before .before .end-of) .ensures)) (now ((c .before .before .before .before .before .before .before .before .before .before .before .before .before .before .before .before .args) .work)) ((c .before .before .before .before .before .before .before .before .before .before .before .before .before .before .before .before .pre) .1 .2) _ ((c .before .before .before .before .before .before .before .before .cover) .ensures) _ ((c .before .before .before .before .cover2) .ensures ∙ ap (λ (l : List ℕ). cover (lineOf (now ((c .before .before .before .before .before .before .before .before .before .before .before .before .before .before .before .before .args) .blocks)) es) l ((c .before .before .before .before .before .before .before .before .before .before .holding2) .result .0) (unpack ((c .before .before .before .before .before .before .before .before .before .before .before .before .before .before .before .before .args) .x))) (ends-set ((c .before .before .before .before .before .before .before .before .before .before .before .before .before .before .before .before .args) .t) ((c .before .before .before .before .before .before .before .before .before .before .before .before .before .before .before .before .args) .s .to) (now ((c .before .before .before .before .before .before .before .before .before .before .before .before .before .before .before .before .args) .work)) ((c .before .before .before .before .before .before .before .before .before .before .before .before .before .before .before .before .pre) .0 .1) ((c .before .before .before .before .before .before .before .before .before .before .before .before .before .before .before .before .pre) .1 .0) ((c .before .before .before .before .before .before .before .before .before .before .before .before .before .before .before .before .pre) .1 .1) ((c .before .before .before .before .before .before .before .before .before .before .before .before .before .before .before .before .args) .s .to + (c .before .before .before .before .before .before .before .before .before .before .before .before .before .before .before .before .args) .m) ((c .before .before .before .before .before .before .before .before .cover) .result) (omega (arith, (c .before .before .before .before .before .before .before .before .before .before .before .before .before .before .before .before .pre) .1 .2)) (omega (arith, (c .before .before .before .before .before .before .before .before .before .before .before .before .before .before .before .before .pre) .1 .2)))) _ ((c .before .between) .ensures) (omega arith)
 
 pub cover-touch-spec : {M : Type 1} → statement M
 cover-touch-spec =

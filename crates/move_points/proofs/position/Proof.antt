@@ -4,6 +4,7 @@ use Prim.Native.Nat.{_-_}
 use mathlib.Core.Path.{sym, _∙_}
 use denote.Ref.{now}
 use borrow.Author.Needs.{needs}
+use Rattle.graph.specs.Line.{blocksOf}
 use Rattle.graph.proofs.Line.{blocks-length}
 use Rattle.move_points.proofs.MoveLaws.{row-there, at-early, at-late, start-there, end-there, at-start, at-end, at-none}
 use Rattle.move_points.proofs.position.Statement.{statement}
@@ -55,16 +56,16 @@ place-of-requires : tie.Need-place-of-requires
 place-of-requires c κs = let h = start-there ((c .before .before .before .before .before .before .before .args) .blocks .now) ((c .before .before .before .before .before .before .before .args) .insts .now) ((c .before .before .before .before .before .before .before .args) .kind) ((c .before .before .before .before .before .before .before .args) .number) _ (sym ((c .before .before .before .locate) .ensures) ∙ (c .before .b) .given .1) in let n = blocks-length ((c .before .before .before .before .before .before .before .args) .blocks .now) in omega arith
 
 mul-t26 : tie.Need-mul-t26
-mul-t26 c = let h = row-there ((c .before .before .before .before .before .before .before .before .before .args) .blocks .now) ((c .before .before .before .before .before .before .before .before .before .args) .work .now) ((c .before .before .before .before .before .before .before .before .before .args) .table) ((c .before .before .before .before .before .before .before .before .before .pre) .0) ((c .before .before .before .before .before .before .before .before .before .pre) .1) _ _ (start-there ((c .before .before .before .before .before .before .before .before .before .args) .blocks .now) ((c .before .before .before .before .before .before .before .before .before .args) .insts .now) ((c .before .before .before .before .before .before .before .before .before .args) .kind) ((c .before .before .before .before .before .before .before .before .before .args) .number) _ (sym ((c .before .before .before .before .before .locate) .ensures) ∙ (c .before .before .before .b) .given .1)) ((c .before .place-of) .ensures) .1 in omega arith
+mul-t26 c = let t = start-there ((c .before .before .before .before .before .before .before .before .before .args) .blocks .now) ((c .before .before .before .before .before .before .before .before .before .args) .insts .now) ((c .before .before .before .before .before .before .before .before .before .args) .kind) ((c .before .before .before .before .before .before .before .before .before .args) .number) _ (sym ((c .before .before .before .before .before .locate) .ensures) ∙ (c .before .before .before .b) .given .1) in let h = row-there ((c .before .before .before .before .before .before .before .before .before .args) .blocks .now) ((c .before .before .before .before .before .before .before .before .before .pre) .0) _ _ t ((c .before .place-of) .ensures .1 (blocksOf ((c .before .before .before .before .before .before .before .before .before .args) .blocks .now)) ((c .before .before .before .before .before .before .before .before .before .pre) .1) t) .1 in omega arith
 
 add-t27 : tie.Need-add-t27
-add-t27 c = let h = row-there ((c .before .before .before .before .before .before .before .before .before .args) .blocks .now) ((c .before .before .before .before .before .before .before .before .before .args) .work .now) ((c .before .before .before .before .before .before .before .before .before .args) .table) ((c .before .before .before .before .before .before .before .before .before .pre) .0) ((c .before .before .before .before .before .before .before .before .before .pre) .1) _ _ (start-there ((c .before .before .before .before .before .before .before .before .before .args) .blocks .now) ((c .before .before .before .before .before .before .before .before .before .args) .insts .now) ((c .before .before .before .before .before .before .before .before .before .args) .kind) ((c .before .before .before .before .before .before .before .before .before .args) .number) _ (sym ((c .before .before .before .before .before .locate) .ensures) ∙ (c .before .before .before .b) .given .1)) ((c .before .place-of) .ensures) .1 in omega arith
+add-t27 c = let t = start-there ((c .before .before .before .before .before .before .before .before .before .args) .blocks .now) ((c .before .before .before .before .before .before .before .before .before .args) .insts .now) ((c .before .before .before .before .before .before .before .before .before .args) .kind) ((c .before .before .before .before .before .before .before .before .before .args) .number) _ (sym ((c .before .before .before .before .before .locate) .ensures) ∙ (c .before .before .before .b) .given .1) in let h = row-there ((c .before .before .before .before .before .before .before .before .before .args) .blocks .now) ((c .before .before .before .before .before .before .before .before .before .pre) .0) _ _ t ((c .before .place-of) .ensures .1 (blocksOf ((c .before .before .before .before .before .before .before .before .before .args) .blocks .now)) ((c .before .before .before .before .before .before .before .before .before .pre) .1) t) .1 in omega arith
 
 mul-t28 : tie.Need-mul-t28
-mul-t28 c = let h = row-there ((c .before .before .before .before .before .before .before .before .before .args) .blocks .now) ((c .before .before .before .before .before .before .before .before .before .args) .work .now) ((c .before .before .before .before .before .before .before .before .before .args) .table) ((c .before .before .before .before .before .before .before .before .before .pre) .0) ((c .before .before .before .before .before .before .before .before .before .pre) .1) _ _ (start-there ((c .before .before .before .before .before .before .before .before .before .args) .blocks .now) ((c .before .before .before .before .before .before .before .before .before .args) .insts .now) ((c .before .before .before .before .before .before .before .before .before .args) .kind) ((c .before .before .before .before .before .before .before .before .before .args) .number) _ (sym ((c .before .before .before .before .before .locate) .ensures) ∙ (c .before .before .before .b) .given .1)) ((c .before .place-of) .ensures) .1 in omega arith
+mul-t28 c = let t = start-there ((c .before .before .before .before .before .before .before .before .before .args) .blocks .now) ((c .before .before .before .before .before .before .before .before .before .args) .insts .now) ((c .before .before .before .before .before .before .before .before .before .args) .kind) ((c .before .before .before .before .before .before .before .before .before .args) .number) _ (sym ((c .before .before .before .before .before .locate) .ensures) ∙ (c .before .before .before .b) .given .1) in let h = row-there ((c .before .before .before .before .before .before .before .before .before .args) .blocks .now) ((c .before .before .before .before .before .before .before .before .before .pre) .0) _ _ t ((c .before .place-of) .ensures .1 (blocksOf ((c .before .before .before .before .before .before .before .before .before .args) .blocks .now)) ((c .before .before .before .before .before .before .before .before .before .pre) .1) t) .1 in omega arith
 
 shared-slice-read-t30 : tie.Need-shared-slice-read-t30
-shared-slice-read-t30 c = let h = row-there ((c .before .before .before .before .before .before .before .before .before .before .args) .blocks .now) ((c .before .before .before .before .before .before .before .before .before .before .args) .work .now) ((c .before .before .before .before .before .before .before .before .before .before .args) .table) ((c .before .before .before .before .before .before .before .before .before .before .pre) .0) ((c .before .before .before .before .before .before .before .before .before .before .pre) .1) _ _ (start-there ((c .before .before .before .before .before .before .before .before .before .before .args) .blocks .now) ((c .before .before .before .before .before .before .before .before .before .before .args) .insts .now) ((c .before .before .before .before .before .before .before .before .before .before .args) .kind) ((c .before .before .before .before .before .before .before .before .before .before .args) .number) _ (sym ((c .before .before .before .before .before .before .locate) .ensures) ∙ (c .before .before .before .before .b) .given .1)) ((c .before .before .place-of) .ensures) .1 in omega arith
+shared-slice-read-t30 c = let t = start-there ((c .before .before .before .before .before .before .before .before .before .before .args) .blocks .now) ((c .before .before .before .before .before .before .before .before .before .before .args) .insts .now) ((c .before .before .before .before .before .before .before .before .before .before .args) .kind) ((c .before .before .before .before .before .before .before .before .before .before .args) .number) _ (sym ((c .before .before .before .before .before .before .locate) .ensures) ∙ (c .before .before .before .before .b) .given .1) in let h = row-there ((c .before .before .before .before .before .before .before .before .before .before .args) .blocks .now) ((c .before .before .before .before .before .before .before .before .before .before .pre) .0) _ _ t ((c .before .before .place-of) .ensures .1 (blocksOf ((c .before .before .before .before .before .before .before .before .before .before .args) .blocks .now)) ((c .before .before .before .before .before .before .before .before .before .before .pre) .1) t) .1 in omega arith
 
 enum-known-b-2 : tie.Need-enum-known-b-2
 enum-known-b-2 c = search needs
@@ -73,16 +74,16 @@ place-of-requires-2 : tie.Need-place-of-requires-2
 place-of-requires-2 c κs = let h = end-there ((c .before .before .before .before .before .before .before .args) .blocks .now) ((c .before .before .before .before .before .before .before .args) .insts .now) ((c .before .before .before .before .before .before .before .args) .kind) ((c .before .before .before .before .before .before .before .args) .number) _ (sym ((c .before .before .before .locate) .ensures) ∙ (c .before .b2) .given .1) in let n = blocks-length ((c .before .before .before .before .before .before .before .args) .blocks .now) in omega arith
 
 mul-t32 : tie.Need-mul-t32
-mul-t32 c = let h = row-there ((c .before .before .before .before .before .before .before .before .before .args) .blocks .now) ((c .before .before .before .before .before .before .before .before .before .args) .work .now) ((c .before .before .before .before .before .before .before .before .before .args) .table) ((c .before .before .before .before .before .before .before .before .before .pre) .0) ((c .before .before .before .before .before .before .before .before .before .pre) .1) _ _ (end-there ((c .before .before .before .before .before .before .before .before .before .args) .blocks .now) ((c .before .before .before .before .before .before .before .before .before .args) .insts .now) ((c .before .before .before .before .before .before .before .before .before .args) .kind) ((c .before .before .before .before .before .before .before .before .before .args) .number) _ (sym ((c .before .before .before .before .before .locate) .ensures) ∙ (c .before .before .before .b2) .given .1)) ((c .before .place-of2) .ensures) .1 in omega arith
+mul-t32 c = let t = end-there ((c .before .before .before .before .before .before .before .before .before .args) .blocks .now) ((c .before .before .before .before .before .before .before .before .before .args) .insts .now) ((c .before .before .before .before .before .before .before .before .before .args) .kind) ((c .before .before .before .before .before .before .before .before .before .args) .number) _ (sym ((c .before .before .before .before .before .locate) .ensures) ∙ (c .before .before .before .b2) .given .1) in let h = row-there ((c .before .before .before .before .before .before .before .before .before .args) .blocks .now) ((c .before .before .before .before .before .before .before .before .before .pre) .0) _ _ t ((c .before .place-of2) .ensures .1 (blocksOf ((c .before .before .before .before .before .before .before .before .before .args) .blocks .now)) ((c .before .before .before .before .before .before .before .before .before .pre) .1) t) .1 in omega arith
 
 add-t33 : tie.Need-add-t33
-add-t33 c = let h = row-there ((c .before .before .before .before .before .before .before .before .before .args) .blocks .now) ((c .before .before .before .before .before .before .before .before .before .args) .work .now) ((c .before .before .before .before .before .before .before .before .before .args) .table) ((c .before .before .before .before .before .before .before .before .before .pre) .0) ((c .before .before .before .before .before .before .before .before .before .pre) .1) _ _ (end-there ((c .before .before .before .before .before .before .before .before .before .args) .blocks .now) ((c .before .before .before .before .before .before .before .before .before .args) .insts .now) ((c .before .before .before .before .before .before .before .before .before .args) .kind) ((c .before .before .before .before .before .before .before .before .before .args) .number) _ (sym ((c .before .before .before .before .before .locate) .ensures) ∙ (c .before .before .before .b2) .given .1)) ((c .before .place-of2) .ensures) .1 in omega arith
+add-t33 c = let t = end-there ((c .before .before .before .before .before .before .before .before .before .args) .blocks .now) ((c .before .before .before .before .before .before .before .before .before .args) .insts .now) ((c .before .before .before .before .before .before .before .before .before .args) .kind) ((c .before .before .before .before .before .before .before .before .before .args) .number) _ (sym ((c .before .before .before .before .before .locate) .ensures) ∙ (c .before .before .before .b2) .given .1) in let h = row-there ((c .before .before .before .before .before .before .before .before .before .args) .blocks .now) ((c .before .before .before .before .before .before .before .before .before .pre) .0) _ _ t ((c .before .place-of2) .ensures .1 (blocksOf ((c .before .before .before .before .before .before .before .before .before .args) .blocks .now)) ((c .before .before .before .before .before .before .before .before .before .pre) .1) t) .1 in omega arith
 
 mul-t34 : tie.Need-mul-t34
-mul-t34 c = let h = row-there ((c .before .before .before .before .before .before .before .before .before .args) .blocks .now) ((c .before .before .before .before .before .before .before .before .before .args) .work .now) ((c .before .before .before .before .before .before .before .before .before .args) .table) ((c .before .before .before .before .before .before .before .before .before .pre) .0) ((c .before .before .before .before .before .before .before .before .before .pre) .1) _ _ (end-there ((c .before .before .before .before .before .before .before .before .before .args) .blocks .now) ((c .before .before .before .before .before .before .before .before .before .args) .insts .now) ((c .before .before .before .before .before .before .before .before .before .args) .kind) ((c .before .before .before .before .before .before .before .before .before .args) .number) _ (sym ((c .before .before .before .before .before .locate) .ensures) ∙ (c .before .before .before .b2) .given .1)) ((c .before .place-of2) .ensures) .1 in omega arith
+mul-t34 c = let t = end-there ((c .before .before .before .before .before .before .before .before .before .args) .blocks .now) ((c .before .before .before .before .before .before .before .before .before .args) .insts .now) ((c .before .before .before .before .before .before .before .before .before .args) .kind) ((c .before .before .before .before .before .before .before .before .before .args) .number) _ (sym ((c .before .before .before .before .before .locate) .ensures) ∙ (c .before .before .before .b2) .given .1) in let h = row-there ((c .before .before .before .before .before .before .before .before .before .args) .blocks .now) ((c .before .before .before .before .before .before .before .before .before .pre) .0) _ _ t ((c .before .place-of2) .ensures .1 (blocksOf ((c .before .before .before .before .before .before .before .before .before .args) .blocks .now)) ((c .before .before .before .before .before .before .before .before .before .pre) .1) t) .1 in omega arith
 
 shared-slice-read-t36 : tie.Need-shared-slice-read-t36
-shared-slice-read-t36 c = let h = row-there ((c .before .before .before .before .before .before .before .before .before .before .args) .blocks .now) ((c .before .before .before .before .before .before .before .before .before .before .args) .work .now) ((c .before .before .before .before .before .before .before .before .before .before .args) .table) ((c .before .before .before .before .before .before .before .before .before .before .pre) .0) ((c .before .before .before .before .before .before .before .before .before .before .pre) .1) _ _ (end-there ((c .before .before .before .before .before .before .before .before .before .before .args) .blocks .now) ((c .before .before .before .before .before .before .before .before .before .before .args) .insts .now) ((c .before .before .before .before .before .before .before .before .before .before .args) .kind) ((c .before .before .before .before .before .before .before .before .before .before .args) .number) _ (sym ((c .before .before .before .before .before .before .locate) .ensures) ∙ (c .before .before .before .before .b2) .given .1)) ((c .before .before .place-of2) .ensures) .1 in omega arith
+shared-slice-read-t36 c = let t = end-there ((c .before .before .before .before .before .before .before .before .before .before .args) .blocks .now) ((c .before .before .before .before .before .before .before .before .before .before .args) .insts .now) ((c .before .before .before .before .before .before .before .before .before .before .args) .kind) ((c .before .before .before .before .before .before .before .before .before .before .args) .number) _ (sym ((c .before .before .before .before .before .before .locate) .ensures) ∙ (c .before .before .before .before .b2) .given .1) in let h = row-there ((c .before .before .before .before .before .before .before .before .before .before .args) .blocks .now) ((c .before .before .before .before .before .before .before .before .before .before .pre) .0) _ _ t ((c .before .before .place-of2) .ensures .1 (blocksOf ((c .before .before .before .before .before .before .before .before .before .before .args) .blocks .now)) ((c .before .before .before .before .before .before .before .before .before .before .pre) .1) t) .1 in omega arith
 
 enum-told : tie.Need-enum-told
 enum-told c = search needs
@@ -94,10 +95,10 @@ returns-2 : tie.Need-returns-2
 returns-2 c = at-late ((c .before .before .before .before .before .before .before .before .args) .blocks .now) ((c .before .before .before .before .before .before .before .before .args) .insts .now) ((c .before .before .before .before .before .before .before .before .args) .kind) ((c .before .before .before .before .before .before .before .before .args) .number) _ (sym ((c .before .before .before .before .locate) .ensures) ∙ (c .before .before .i2) .given .1) .1
 
 returns-3 : tie.Need-returns-3
-returns-3 c = let r = row-there ((c .before .before .before .before .before .before .before .before .before .before .args) .blocks .now) ((c .before .before .before .before .before .before .before .before .before .before .args) .work .now) ((c .before .before .before .before .before .before .before .before .before .before .args) .table) ((c .before .before .before .before .before .before .before .before .before .before .pre) .0) ((c .before .before .before .before .before .before .before .before .before .before .pre) .1) _ _ (start-there ((c .before .before .before .before .before .before .before .before .before .before .args) .blocks .now) ((c .before .before .before .before .before .before .before .before .before .before .args) .insts .now) ((c .before .before .before .before .before .before .before .before .before .before .args) .kind) ((c .before .before .before .before .before .before .before .before .before .before .args) .number) _ (sym ((c .before .before .before .before .before .before .locate) .ensures) ∙ (c .before .before .before .before .b) .given .1)) ((c .before .before .place-of) .ensures) in at-start ((c .before .before .before .before .before .before .before .before .before .before .args) .blocks .now) ((c .before .before .before .before .before .before .before .before .before .before .args) .insts .now) ((c .before .before .before .before .before .before .before .before .before .before .args) .kind) ((c .before .before .before .before .before .before .before .before .before .before .args) .number) _ _ (sym ((c .before .before .before .before .before .before .locate) .ensures) ∙ (c .before .before .before .before .b) .given .1) (r .0) (r .1)
+returns-3 c = let t = start-there ((c .before .before .before .before .before .before .before .before .before .before .args) .blocks .now) ((c .before .before .before .before .before .before .before .before .before .before .args) .insts .now) ((c .before .before .before .before .before .before .before .before .before .before .args) .kind) ((c .before .before .before .before .before .before .before .before .before .before .args) .number) _ (sym ((c .before .before .before .before .before .before .locate) .ensures) ∙ (c .before .before .before .before .b) .given .1) in let r = row-there ((c .before .before .before .before .before .before .before .before .before .before .args) .blocks .now) ((c .before .before .before .before .before .before .before .before .before .before .pre) .0) _ _ t ((c .before .before .place-of) .ensures .1 (blocksOf ((c .before .before .before .before .before .before .before .before .before .before .args) .blocks .now)) ((c .before .before .before .before .before .before .before .before .before .before .pre) .1) t) in at-start ((c .before .before .before .before .before .before .before .before .before .before .args) .blocks .now) ((c .before .before .before .before .before .before .before .before .before .before .args) .insts .now) ((c .before .before .before .before .before .before .before .before .before .before .args) .kind) ((c .before .before .before .before .before .before .before .before .before .before .args) .number) _ _ (sym ((c .before .before .before .before .before .before .locate) .ensures) ∙ (c .before .before .before .before .b) .given .1) (r .0) (r .1)
 
 returns-4 : tie.Need-returns-4
-returns-4 c = let r = row-there ((c .before .before .before .before .before .before .before .before .before .before .args) .blocks .now) ((c .before .before .before .before .before .before .before .before .before .before .args) .work .now) ((c .before .before .before .before .before .before .before .before .before .before .args) .table) ((c .before .before .before .before .before .before .before .before .before .before .pre) .0) ((c .before .before .before .before .before .before .before .before .before .before .pre) .1) _ _ (end-there ((c .before .before .before .before .before .before .before .before .before .before .args) .blocks .now) ((c .before .before .before .before .before .before .before .before .before .before .args) .insts .now) ((c .before .before .before .before .before .before .before .before .before .before .args) .kind) ((c .before .before .before .before .before .before .before .before .before .before .args) .number) _ (sym ((c .before .before .before .before .before .before .locate) .ensures) ∙ (c .before .before .before .before .b2) .given .1)) ((c .before .before .place-of2) .ensures) in at-end ((c .before .before .before .before .before .before .before .before .before .before .args) .blocks .now) ((c .before .before .before .before .before .before .before .before .before .before .args) .insts .now) ((c .before .before .before .before .before .before .before .before .before .before .args) .kind) ((c .before .before .before .before .before .before .before .before .before .before .args) .number) _ _ (sym ((c .before .before .before .before .before .before .locate) .ensures) ∙ (c .before .before .before .before .b2) .given .1) (r .0) (r .1)
+returns-4 c = let t = end-there ((c .before .before .before .before .before .before .before .before .before .before .args) .blocks .now) ((c .before .before .before .before .before .before .before .before .before .before .args) .insts .now) ((c .before .before .before .before .before .before .before .before .before .before .args) .kind) ((c .before .before .before .before .before .before .before .before .before .before .args) .number) _ (sym ((c .before .before .before .before .before .before .locate) .ensures) ∙ (c .before .before .before .before .b2) .given .1) in let r = row-there ((c .before .before .before .before .before .before .before .before .before .before .args) .blocks .now) ((c .before .before .before .before .before .before .before .before .before .before .pre) .0) _ _ t ((c .before .before .place-of2) .ensures .1 (blocksOf ((c .before .before .before .before .before .before .before .before .before .before .args) .blocks .now)) ((c .before .before .before .before .before .before .before .before .before .before .pre) .1) t) in at-end ((c .before .before .before .before .before .before .before .before .before .before .args) .blocks .now) ((c .before .before .before .before .before .before .before .before .before .before .args) .insts .now) ((c .before .before .before .before .before .before .before .before .before .before .args) .kind) ((c .before .before .before .before .before .before .before .before .before .before .args) .number) _ _ (sym ((c .before .before .before .before .before .before .locate) .ensures) ∙ (c .before .before .before .before .b2) .given .1) (r .0) (r .1)
 
 returns-5 : tie.Need-returns-5
 returns-5 c = at-none ((c .before .before .before .before .before .before .args) .blocks .now) ((c .before .before .before .before .before .before .args) .insts .now) ((c .before .before .before .before .before .before .args) .kind) ((c .before .before .before .before .before .before .args) .number) (sym ((c .before .before .locate) .ensures) ∙ (c .enum-told) .given .1)

@@ -12,11 +12,11 @@ at-most-in-rows-requires c κs = (omega arith, omega arith, starts-rise ((c .bef
 returns : tie.Need-returns
 returns c = held _ _ _ _ ((c .before .before .before .pre)) ((c .before .at-most-in-rows) .ensures) (omega arith)
 
-sub-result : tie.Need-sub-result
-sub-result c = search needs
+sub-t5 : tie.Need-sub-t5
+sub-t5 c = search needs
 
 returns-2 : tie.Need-returns-2
 returns-2 c = held _ _ _ _ ((c .before .before .before .pre)) ((c .before .at-most-in-rows) .ensures) (omega arith)
 
 pub holding-spec : {M : Type 1} → statement M
-holding-spec = tie.close (tie.spec at-most-in-rows-requires returns sub-result returns-2)
+holding-spec = tie.close (tie.spec at-most-in-rows-requires returns sub-t5 returns-2)
