@@ -28,6 +28,17 @@ digits-snoc (b ∷ s) d e h = go (digit b) e (λ q. digits-snoc s d q h)
 digit-is : (m : ℕ) → m < 10 → digit (48 + m) ≡ true
 digit-is m h = ap (λ (t : Bool). t && leb (48 + m) 57) (le-leb 48 (48 + m) (omega arith)) ∙ le-leb (48 + m) 57 (omega arith)
 
+-- a number is written with digits alone
+digits-of : (most n : ℕ) → digits (digitsOf most n) ≡ true
+unfolding digitsOf digits
+digits-of zero n = refl
+digits-of (suc most) n =
+    cut 10 n (λ l. rw (le-ltb n 10 l) (digits-snoc (digitsOf most (n / 10)) (48 + n % 10) (digits-of most (n / 10)) (digit-is (n % 10) (omega arith))))
+    (λ l. rw (lt-ltb n 10 l) (ap (λ (t : Bool). t && true) (digit-is n l)))
+
+pub decimal-digits : (n : ℕ) → digits (decimal n) ≡ true
+decimal-digits n = digits-of 20 n
+
 -- what the digits of a number are
 record Numeral (s : List ℕ) (n : ℕ) : Type 0 where
   all : digits s ≡ true

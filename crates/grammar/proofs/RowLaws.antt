@@ -1,16 +1,17 @@
 -- The rows that lines decode to, and one line more.
-use Prim.Native.Nat.{ℕ, suc, _+_, _*_, _<_}
+use Prim.Native.Nat.{ℕ, zero, suc, _+_, _*_, _<_}
 use native.Mathlib.Omega.{arith}
 use native.Mathlib.Nat.{mul-suc, mul-zero}
 use mathlib.Core.Path.{_≡_, refl, ap, sym, _∙_}
 use mathlib.Core.Bool.{Bool, true, false, cond}
 use mathlib.Core.List.{List, [], _∷_, _++_}
-use lib.ListN.{length, length-append}
-use lib.Dec.{eqb, leb, ltb, eqb→eq}
-use borrow.Author.Tests.{eq-eqb, ne-eqb, eqb-true}
+use lib.ListN.{length, getD, length-append}
+use lib.Dec.{eqb, leb, ltb, eqb→eq, lit<}
+use borrow.Author.Tests.{eq-eqb, ne-eqb, eqb-true, ltb-true}
 use Rattle.words.specs.Rows.{flat}
 use Rattle.words.proofs.Points.{same}
 use Rattle.words.proofs.Bools.{and-both, never}
+use Rattle.grammar.specs.Numerals.{limit}
 use Rattle.grammar.specs.Groups.{groupAt, groupCount, instGroup, operandGroup}
 use Rattle.grammar.specs.Lines.{meant, fits, groupOf, formed, wellFormed, body, ended, lineGroup, lineFields}
 use Rattle.grammar.specs.Text.{numbers, placed, rowWith, operandsAfter, rowsIn, countOf}
@@ -67,6 +68,36 @@ length-rows k h (l ∷ ls) = go (eqb (lineGroup l) k) refl (length-rows k h ls)
         length-append (rowWith k (lineFields l) (operandsAfter ls)) (flat (rowsIn k ls))
         ∙ omega (arith, length-row k (lineFields l) (operandsAfter ls) h (rw g at (group-fits l (rw g h))), mul-suc (groupAt k .width) (countOf k ls))
     go false e q = q
+
+-- ---- the numbers of a row are 32-bit; only an instruction's operand count is none of its fields
+
+numbers-below : (ds fs : List ℕ) → fits ds fs ≡ true → (i : ℕ) → getD (numbers ds fs) i 0 < limit
+unfolding fits numbers
+numbers-below [] [] e i = lit< tt
+numbers-below [] (f ∷ fs) e i = never e
+numbers-below (d ∷ ds) [] e i = never e
+numbers-below (d ∷ ds) (f ∷ fs) e zero = ltb-true (meant d f) limit (and-both (ltb (meant d f) limit) (fits ds fs) e .0)
+numbers-below (d ∷ ds) (f ∷ fs) e (suc i) = numbers-below ds fs (and-both (ltb (meant d f) limit) (fits ds fs) e .1) i
+
+append-below : (a b : List ℕ) (m : ℕ) → ((i : ℕ) → getD a i 0 < m) → ((i : ℕ) → getD b i 0 < m) → (i : ℕ) → getD (a ++ b) i 0 < m
+append-below [] b m f g i = g i
+append-below (x ∷ a) b m f g zero = f 0
+append-below (x ∷ a) b m f g (suc i) = append-below a b m (λ j. f (suc j)) g i
+
+pub rows-below : (k : ℕ) → k < groupCount → (k ≡ instGroup → ⊥) → (ls : List (List ℕ)) (i : ℕ) → getD (flat (rowsIn k ls)) i 0 < limit
+unfolding rowsIn flat
+rows-below k h d [] i = lit< tt
+rows-below k h d (l ∷ ls) i = go (eqb (lineGroup l) k) refl (rows-below k h d ls)
+  where
+    go : (t : Bool) → eqb (lineGroup l) k ≡ t → ((j : ℕ) → getD (flat (rowsIn k ls)) j 0 < limit)
+        → getD (flat (cond t (rowWith k (lineFields l) (operandsAfter ls) ∷ rowsIn k ls) (rowsIn k ls))) i 0 < limit
+    go true e r =
+        let g : lineGroup l ≡ k = eqb-true (lineGroup l) k e in
+        let w : rowWith k (lineFields l) (operandsAfter ls) ≡ numbers (groupAt k .dashes) (lineFields l) =
+        ap (λ (t : Bool). cond t (placed (lineFields l) ∷ (numbers (groupAt k .dashes) (lineFields l) ++ (operandsAfter ls ∷ []))) (numbers (groupAt k .dashes) (lineFields l))) (ne-eqb k instGroup d) in
+        append-below (rowWith k (lineFields l) (operandsAfter ls)) (flat (rowsIn k ls)) limit
+        (λ j. rw w (numbers-below (groupAt k .dashes) (lineFields l) (rw g at (group-fits l (rw g h))) j)) r i
+    go false e r = r i
 
 -- ---- one line more
 

@@ -73,7 +73,8 @@ inRoom text room = unless (inOrder (roomChecks text room)) text
 -- `print_plan`: the plan is checked as `shared` checks it (1 and 10), then the list (7)
 abbrev pub planChecks : List ℕ → List ℕ → List ℕ → ℕ → ℕ → ℕ → ℕ → List Verdict
 planChecks cells items areas locals probes depth room =
-    check Count (badCount cells items locals || badAreas areas) ∷ partsVerdict cells items (rowCount 2 areas) ∷ surplus cells items ∷ roomChecks (printed cells items areas locals probes depth) room
+    check Count (badCount cells items locals || badAreas areas) ∷ partsVerdict cells items (rowCount 2 areas) ∷ surplus cells items
+    ∷ roomChecks (printed cells items areas locals probes depth) room
 
 unfoldable pub printVerdict : List ℕ → List ℕ → List ℕ → ℕ → ℕ → ℕ → ℕ → Verdict
 printVerdict cells items areas locals probes depth room = inOrder (planChecks cells items areas locals probes depth room)

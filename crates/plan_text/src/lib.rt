@@ -133,7 +133,7 @@ fn plan_verdict(cells: &[u32], items: &[u32], areas: &[u32], locals: u32) -> Ver
     }
 }
 
-// Writes the text of a plan: its cells, items, areas, probes and depth as the entries answer them. Refuses a plan as `shared` does (1 and 10), and a list that is
+// Writes the text of a plan: its cells, items, areas, probes and depth as the entries answer them. Refuses a plan as `shared` does (1 and 10), then a list that is
 // shorter than the text (7).
 pub fn print_plan(
     cells: &[u32],
@@ -165,10 +165,10 @@ pub fn print_refusal(number: u32, index: u64, out: &mut [u8]) -> Written
 {
     let ns = [number as u64, index];
     let mut scratch = [0; 1];
-    let n = put_line(&mut scratch, 0, b'N', &ns);
-    if out.len() < n {
+    let len = put_line(&mut scratch, 0, b'N', &ns);
+    if out.len() < len {
         return Written::Refused(Refusal::Space, 0);
     }
     put_line(out, 0, b'N', &ns);
-    Written::Bytes(n)
+    Written::Bytes(len)
 }

@@ -5,3 +5,6 @@ pub mod PrintLaws
 pub mod JobLaws
 pub mod AnswerLaws
 pub mod TextLaws
+pub mod LineLaws
+pub mod SizeLaws
+pub mod Demand

@@ -1,7 +1,7 @@
 -- From a text to what the program prints for it: how long that is, and where it stands.
-use Prim.Native.Nat.{ℕ, _*_, _/_, _≤_}
+use Prim.Native.Nat.{ℕ, _≤_}
 use native.Mathlib.Omega.{arith}
-use mathlib.Core.Path.{_≡_, refl, ap, _∙_}
+use mathlib.Core.Path.{_≡_, refl, _∙_}
 use mathlib.Core.List.{List, [], _∷_}
 use lib.ListN.{length}
 use lib.Dec.{lit<, lit≤}
@@ -11,9 +11,8 @@ use Rattle.refusals.specs.Verdicts.{numberOf, first}
 use Rattle.refusals.specs.Outcomes.{given, unless}
 use Rattle.refusals.proofs.Laws.{first-left, first-right}
 use Rattle.words.proofs.RowLaws.{length-records}
-use Rattle.areas.specs.Job.{Job, Local, itemCount, itemArea, listVerdict}
+use Rattle.areas.specs.Job.{Job, itemCount, itemArea, listVerdict}
 use Rattle.soundness.specs.Demand.{jobPlan}
-use Rattle.job.specs.Entry.{lentVerdict}
 use Rattle.grammar.specs.Groups.{groupCount, rowNumbers}
 use Rattle.grammar.specs.Lines.{linesOf}
 use Rattle.grammar.specs.Text.{readVerdict}
@@ -22,11 +21,11 @@ use Rattle.text.specs.Read.{TextRead}
 use Rattle.text.proofs.EndLaws.{accepted-few}
 use Rattle.text.proofs.WholeLaws.{read-finished}
 use Rattle.plan_text.specs.declared.Written.{Written}
-use Rattle.plan_text.specs.Printed.{refusalText, writtenOf}
+use Rattle.plan_text.specs.Printed.{writtenOf}
 use Rattle.plan_text.proofs.LineLaws.{line-length}
-use Rattle.row_plans.specs.Groups.{points, registers, budget}
+use Rattle.row_plans.specs.Groups.{budget}
 use Rattle.planning.specs.Program.{told, jobText, job, refusal, printedFor, numbersIn, programText}
-use Rattle.planning.specs.Answer.{Read, Stands, Tells, Answers, roomFor}
+use Rattle.planning.specs.Answer.{Read, Tells, Answers, roomFor}
 use Rattle.planning.proofs.PrintLaws.{Printable, text-short}
 use Rattle.planning.proofs.JobLaws.{job-printable}
 use Rattle.planning.proofs.AnswerLaws.{makeLocal, room-given, stands-of}
@@ -53,7 +52,7 @@ module _ (text : List ℕ) (e : first (readVerdict text) (refusal (numbersIn tex
   pub text-printable : Printable (itemCount J) (length (J .locals)) (itemArea J) (jobPlan J (budget (numbersIn text)))
   text-printable =
       job-printable J (budget (numbersIn text)) local-few slot-few
-      (first-right (lentVerdict (points (numbersIn text)) (registers (numbersIn text)) (budget (numbersIn text)) (numbersIn text 1) (numbersIn text 2) (numbersIn text 3) (numbersIn text 4) (numbersIn text 5) (numbersIn text 6) (numbersIn text 7) (numbersIn text 8) (numbersIn text 9) (numbersIn text 10) (numbersIn text 11) (numbersIn text 12) 256 512 128 8192) (listVerdict J 64)
+      (first-right _ (listVerdict J 64)
       (first-right (readVerdict text) (refusal (numbersIn text)) e))
 
   plan-short : length (jobText J (budget (numbersIn text))) ≤ roomFor

@@ -8,7 +8,7 @@ use mathlib.Core.List.{List, [], _∷_, _++_, append-assoc, List·Memᴰ}
 use lib.ListN.{length, getD, take, drop, replicate, length-append, length-replicate, List·getD-append, List·getD-eq-default}
 use lib.Seq.{take-take, take-append-seam, drop-append-add}
 use lib.Dec.{ltb}
-use borrow.Author.Tests.{lt-ltb, le-ltb}
+use borrow.Author.Tests.{lt-ltb, le-ltb, ltb-false}
 use Rattle.refusals.specs.declared.Verdict.{Verdict}
 use Rattle.refusals.specs.declared.Verdict.the-variants.{Fine, Bad}
 use Rattle.refusals.specs.declared.Refusal.{Refusal}
@@ -16,12 +16,12 @@ use Rattle.refusals.specs.declared.Refusal.the-variants.{Count, Space, Text as 
 use Rattle.refusals.specs.Verdicts.{first, inOrder, check, rankOf}
 use Rattle.refusals.specs.Outcomes.{unless, numbered, after}
 use Rattle.refusals.specs.Orders.{Ordered}
-use Rattle.refusals.proofs.Laws.{first-fine, first-bad, first-assoc, check-last}
+use Rattle.refusals.proofs.Laws.{first-fine, first-assoc, first-left, first-right, check-last, check-told}
 use Rattle.refusals.proofs.Orders.{check-gives, scan-gives, lowest-wins}
 use Rattle.refusals.proofs.Numbers.{numbered-same}
 use Rattle.words.specs.Rows.{tabulate, flat}
 use Rattle.words.specs.Regions.{part}
-use Rattle.words.proofs.Bools.{or-left, or-right}
+use Rattle.words.proofs.Bools.{or-left, or-right, or-neither}
 use Rattle.words.proofs.RowLaws.{length-tabulate, getD-tabulate, tabulate-eq, tabulate-add, tabulate-getD, tabulate-replicate}
 use Rattle.grammar.specs.Groups.{groupAt, groupCount, rowNumbers}
 use Rattle.grammar.specs.Lines.{linesOf}
@@ -29,7 +29,7 @@ use Rattle.grammar.specs.Text.{badLine, rowsIn, countOf, textVerdict, tooMany, 
 use Rattle.grammar.proofs.RowLaws.{length-rows}
 use Rattle.text.specs.Read.{Records, Finished, readChecks, groupRows, rowsFor, countsFor, TextRead, padded, Copyable, Copied}
 use Rattle.text.proofs.EndLaws.{accepted-few}
-use Rattle.text.proofs.CopyLaws.{before, starts, before-all, flat-before}
+use Rattle.text.proofs.CopyLaws.{starts, before-all, flat-before}
 
 -- ---- the refusals, 11 first
 
@@ -61,19 +61,35 @@ module _ (text rows counts : List ℕ) where
     in-counts = ap (λ (v : Verdict). after (unless v text) countsFor counts) (sym e);
   }
 
-  module _ {v : Verdict} {held counted : List ℕ} (F : Finished text v held counted) where
-    pub read-refused : (r : Refusal) (i : ℕ) → v ≡ Bad r i → TextRead text rows counts (Bad r i) rows counts
-    read-refused r i e = refuses r i (read-checks text (length rows) (length counts) ∙ first-bad (readVerdict text) _ r i (sym (verdict-is text F) ∙ e))
+  module _ {v w : Verdict} {held counted : List ℕ} (F : Finished text v held counted) (e : w ≡ first v (check Space (ltb (length rows) rowNumbers || ltb (length counts) groupCount))) where
+    all-checks : inOrder (readChecks text (length rows) (length counts)) ≡ w
+    all-checks = read-checks text (length rows) (length counts) ∙ ap (λ (x : Verdict). first x (check Space (ltb (length rows) rowNumbers || ltb (length counts) groupCount))) (sym (verdict-is text F)) ∙ sym e
 
-    module _ (e : v ≡ Fine) where
-      space-is : (t : Bool) → (ltb (length rows) rowNumbers || ltb (length counts) groupCount) ≡ t → inOrder (readChecks text (length rows) (length counts)) ≡ check Space t
-      space-is t q = read-checks text (length rows) (length counts) ∙ first-fine (readVerdict text) _ (text-fine text F e) ∙ ap (check Space) q
+    pub read-refused : (r : Refusal) (i : ℕ) → w ≡ Bad r i → TextRead text rows counts (Bad r i) rows counts
+    read-refused r i q = refuses r i (all-checks ∙ q)
 
-      pub rows-short : length rows < rowNumbers → TextRead text rows counts (Bad Space 0) rows counts
-      rows-short h = refuses Space 0 (space-is true (or-left (ltb (length rows) rowNumbers) _ (lt-ltb (length rows) rowNumbers h)))
+    module _ (q : w ≡ Fine) where
+      pub text-taken : readVerdict text ≡ Fine
+      text-taken = text-fine text F (first-left v _ (sym e ∙ q))
 
-      pub counts-short : length counts < groupCount → TextRead text rows counts (Bad Space 0) rows counts
-      counts-short h = refuses Space 0 (space-is true (or-right (ltb (length rows) rowNumbers) _ (lt-ltb (length counts) groupCount h)))
+      roomy : (ltb (length rows) rowNumbers || ltb (length counts) groupCount) ≡ false
+      roomy = check-told Space _ (first-right v _ (sym e ∙ q))
+
+      pub rows-roomy : rowNumbers ≤ length rows
+      rows-roomy = ltb-false (length rows) rowNumbers (or-neither (ltb (length rows) rowNumbers) (ltb (length counts) groupCount) roomy .0)
+
+      pub counts-roomy : groupCount ≤ length counts
+      counts-roomy = ltb-false (length counts) groupCount (or-neither (ltb (length rows) rowNumbers) (ltb (length counts) groupCount) roomy .1)
+
+-- the list's length by the code's tests
+pub space-rows : (rows counts : ℕ) → rows < rowNumbers → Bad Space 0 ≡ check Space (ltb rows rowNumbers || ltb counts groupCount)
+space-rows rows counts h = ap (check Space) (sym (or-left (ltb rows rowNumbers) (ltb counts groupCount) (lt-ltb rows rowNumbers h)))
+
+pub space-counts : (rows counts : ℕ) → counts < groupCount → Bad Space 0 ≡ check Space (ltb rows rowNumbers || ltb counts groupCount)
+space-counts rows counts h = ap (check Space) (sym (or-right (ltb rows rowNumbers) (ltb counts groupCount) (lt-ltb counts groupCount h)))
+
+pub space-fine : (rows counts : ℕ) → rowNumbers ≤ rows → groupCount ≤ counts → Fine ≡ check Space (ltb rows rowNumbers || ltb counts groupCount)
+space-fine rows counts h k = ap (check Space) (sym (ap (λ (t : Bool). t || ltb counts groupCount) (le-ltb rows rowNumbers h) ∙ le-ltb counts groupCount k))
 
 -- ---- an accepted text's numbers
 
@@ -141,13 +157,12 @@ module _ (text : List ℕ) (fine : readVerdict text ≡ Fine) where
     pub copyable : {rows counts : List ℕ} → length held ≡ rowNumbers → length counted ≡ groupCount → rowNumbers ≤ length rows → groupCount ≤ length counts → Copyable held counted rows counts
     copyable hl cl rr cr = record { held-length = hl; counted-length = cl; rows-room = rr; counts-room = cr; fitting = λ k h. rw (R .counted k h) (accepted-few text fine k h) }
 
-    pub read-fine : {rows counts rows′ counts′ : List ℕ} → rowNumbers ≤ length rows → groupCount ≤ length counts → Copied held counted rows counts rows′ counts′ → TextRead text rows counts Fine rows′ counts′
-    read-fine {rows} {counts} rr cr C =
+    pub read-fine : {rows counts : List ℕ} {w : Verdict} {rows′ counts′ : List ℕ} → w ≡ Fine → rowNumbers ≤ length rows → groupCount ≤ length counts → Copied held counted rows counts rows′ counts′ → TextRead text rows counts w rows′ counts′
+    read-fine {rows} {counts} q rr cr C =
         let e : inOrder (readChecks text (length rows) (length counts)) ≡ Fine =
-        read-checks text (length rows) (length counts) ∙ first-fine (readVerdict text) _ fine
-        ∙ ap (λ (t : Bool). check Space (t || ltb (length counts) groupCount)) (le-ltb (length rows) rowNumbers rr) ∙ ap (check Space) (le-ltb (length counts) groupCount cr) in
+        read-checks text (length rows) (length counts) ∙ first-fine (readVerdict text) _ fine ∙ sym (space-fine (length rows) (length counts) rr cr) in
         record {
-          answer = ap numbered (sym e);
+          answer = ap numbered (q ∙ sym e);
           in-rows = C .in-rows ∙ ap (λ (l : List (List ℕ)). flat l ++ drop rowNumbers rows) (tabulate-eq groupCount _ _ group-is) ∙ ap (λ (n : ℕ). rowsFor text ++ drop n rows) (sym rows-long)
               ∙ ap (λ (v : Verdict). after (unless v text) rowsFor rows) (sym e);
           in-counts = C .in-counts ∙ ap (λ (l : List ℕ). l ++ drop groupCount counts) (tabulate-eq groupCount _ _ (R .counted)) ∙ ap (λ (n : ℕ). countsFor text ++ drop n counts) (sym counts-long)
@@ -163,9 +178,7 @@ alone (Bad r i) = refl
 pub read-finished : {text rows counts : List ℕ} {v : Verdict} {rows′ counts′ : List ℕ} → rowNumbers ≤ length rows → groupCount ≤ length counts → TextRead text rows counts v rows′ counts′ → Finished text v rows′ counts′
 read-finished {text} {rows} {counts} {v} {rows′} {counts′} rr cr T =
     let e : inOrder (readChecks text (length rows) (length counts)) ≡ readVerdict text =
-    read-checks text (length rows) (length counts)
-    ∙ ap (λ (t : Bool). first (readVerdict text) (check Space (t || ltb (length counts) groupCount))) (le-ltb (length rows) rowNumbers rr)
-    ∙ ap (λ (t : Bool). first (readVerdict text) (check Space t)) (le-ltb (length counts) groupCount cr) ∙ alone (readVerdict text) in
+    read-checks text (length rows) (length counts) ∙ ap (first (readVerdict text)) (sym (space-fine (length rows) (length counts) rr cr)) ∙ alone (readVerdict text) in
     record {
       verdict = T .answer ∙ ap numbered e;
       records = λ fine.

@@ -2,7 +2,11 @@
 ghost use mathlib.Core.Path.{_≡_};
 ghost use mathlib.Core.List.{_∷_, []};
 ghost use Prim.Native.Nat.{_+_, _≤_, _<_};
+ghost use mathlib.Core.Bool.{_||_};
+ghost use lib.Dec.{ltb};
 ghost use lib.ListN.{length, getD};
+ghost use Rattle.refusals.specs.declared.Refusal.the-variants.{Space};
+ghost use Rattle.refusals.specs.Verdicts.{check};
 ghost use Rattle.words.specs.Regions.{Region, part};
 ghost use Rattle.grammar.specs.Groups.{groupCount, rowNumbers};
 ghost use Rattle.text.specs.Read.{Reading, Ready, Feeds, Finishes, Finished, Copyable, Copied, TextRead};
@@ -12,6 +16,7 @@ use job_rows::malformed;
 use job_rows::take_line;
 use refusals::Refusal;
 use refusals::Verdict;
+use refusals::earlier;
 
 // The longest line, with its newline.
 const LONGEST: usize = 128;
@@ -169,6 +174,19 @@ fn copy_all(held: &[u32], counted: &[u32], rows: &mut [u32], counts: &mut [u32])
     }
 }
 
+// Lists of this many numbers: 7 where one is shorter than its answer.
+fn space(rows: usize, counts: usize) -> Verdict
+    ensures { λ v. ⌜ v ≡ check Space (ltb rows rowNumbers || ltb counts groupCount) ⌝ }
+{
+    if rows < 2115 {
+        return Verdict::Bad(Refusal::Space, 0);
+    }
+    if counts < 13 {
+        return Verdict::Bad(Refusal::Space, 0);
+    }
+    Verdict::Fine
+}
+
 // Reads a whole text: the rows of its groups, each group's at its place with zeros behind them, and how many there are. Refuses the first
 // malformed line (11), more than 64 records of a group or numbered registers (1), and lists of under 2,115 and 13 numbers (7), in this order.
 pub fn read_text(text: &[u8], rows: &mut [u32], counts: &mut [u32]) -> Verdict
@@ -177,15 +195,11 @@ pub fn read_text(text: &[u8], rows: &mut [u32], counts: &mut [u32]) -> Verdict
     let mut held = [0; 2115];
     let mut counted = [0; 13];
     let v = read_all(text, &mut held, &mut counted);
-    if let Verdict::Bad(r, i) = v {
+    let s = space(rows.len(), counts.len());
+    let w = earlier(v, s);
+    if let Verdict::Bad(r, i) = w {
         return Verdict::Bad(r, i);
     }
-    if rows.len() < 2115 {
-        return Verdict::Bad(Refusal::Space, 0);
-    }
-    if counts.len() < 13 {
-        return Verdict::Bad(Refusal::Space, 0);
-    }
     copy_all(&held, &counted, rows, counts);
-    Verdict::Fine
+    w
 }

@@ -1,6 +1,5 @@
 -- `print_text` meets its contract: the text is read into lists of the reader's lengths.
 use native.Mathlib.Omega.{arith}
-use borrow.Author.Needs.{needs}
 use denote.Ref.{now}
 use mathlib.Core.Path.{refl}
 use lib.Dec.{lit≤}
