@@ -1,3 +1,4 @@
+pub mod KindLaws
 pub mod SlotLaws
 pub mod ItemLaws
 pub mod PartLaws

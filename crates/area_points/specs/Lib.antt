@@ -1,2 +1,3 @@
+pub mod Kinds
 pub mod Points
 pub mod Parts
