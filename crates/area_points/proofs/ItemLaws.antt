@@ -24,6 +24,7 @@ use Rattle.areas.proofs.JobLaws.{job-line, job-edges, touches-fine}
 use Rattle.areas.proofs.PlainLaws.{plain-exact}
 use Rattle.areas.proofs.EndLaws.{end-exact}
 use Rattle.area_points.specs.Points.{Touch, of-piece, of-entry, ItemPoint, plain, ending, slot, NoArea, unfollowed, bare}
+use Rattle.area_points.proofs.KindLaws.{unfollowed-exact, ending-exact, plain-kind-exact}
 use Rattle.area_points.proofs.SlotLaws.{slot-exact, slot-none, bare-exact}
 
 -- ---- touches
@@ -82,8 +83,8 @@ module _ (J : Job) (C : Checked J) (some-block : 0 < length (J .blocks)) (i : �
   of-kind k h e = of-local h ∙ ap (λ (m : Kind). areaBy (graphOf J) m (touchesIn J i) (endsOf (J .code) i)) e
 
   item-has : (rs : List Range) (x : ℕ) → itemArea J i ≡ some rs → ItemPoint J i x → Point rs x
-  item-has rs x e (plain h k p) = rw (Option·some-injective _ rs (sym (of-kind Plain h k) ∙ e)) at (plain-points x .1 p)
-  item-has rs x e (ending h k p) = rw (Option·some-injective _ rs (sym (of-kind Ending h k) ∙ e)) at (end-points x .1 p)
+  item-has rs x e (plain h k p) = rw (Option·some-injective _ rs (sym (of-kind Plain h (plain-kind-exact (J .code) i .1 k)) ∙ e)) at (plain-points x .1 p)
+  item-has rs x e (ending h k p) = rw (Option·some-injective _ rs (sym (of-kind Ending h (ending-exact (J .code) i .1 k)) ∙ e)) at (end-points x .1 p)
   item-has rs x e (slot h p) = slot-exact J (i - length (J .locals)) rs x (sym (of-slot h) ∙ e) .1 p
 
   item-only : (rs : List Range) (x : ℕ) → itemArea J i ≡ some rs → Point rs x → ItemPoint J i x
@@ -91,8 +92,8 @@ module _ (J : Job) (C : Checked J) (some-block : 0 < length (J .blocks)) (i : �
     where
       by-kind : (k : Kind) → i < length (J .locals) → kindOf (J .code) i ≡ k → areaBy (graphOf J) k (touchesIn J i) (endsOf (J .code) i) ≡ some rs → ItemPoint J i x
       by-kind Unfollowed h k f = absurd (Option·none-ne-some rs f)
-      by-kind Plain h k f = plain h k (plain-points x .0 (rw (← Option·some-injective _ rs f) at p))
-      by-kind Ending h k f = ending h k (end-points x .0 (rw (← Option·some-injective _ rs f) at p))
+      by-kind Plain h k f = plain h (plain-kind-exact (J .code) i .0 k) (plain-points x .0 (rw (← Option·some-injective _ rs f) at p))
+      by-kind Ending h k f = ending h (ending-exact (J .code) i .0 k) (end-points x .0 (rw (← Option·some-injective _ rs f) at p))
 
       go : (t : Bool) → ltb i (length (J .locals)) ≡ t → ItemPoint J i x
       go true f =
@@ -107,14 +108,14 @@ module _ (J : Job) (C : Checked J) (some-block : 0 < length (J .blocks)) (i : �
   item-exact rs x e = (item-only rs x e, item-has rs x e)
 
   without : NoArea J i → itemArea J i ≡ none
-  without (unfollowed h k) = of-kind Unfollowed h k
+  without (unfollowed h k) = of-kind Unfollowed h (unfollowed-exact (J .code) i .1 k)
   without (bare h b) = of-slot h ∙ bare-exact J (i - length (J .locals)) .1 b
 
   none-without : itemArea J i ≡ none → NoArea J i
   none-without e = go (ltb i (length (J .locals))) refl
     where
       by-kind : (k : Kind) → i < length (J .locals) → kindOf (J .code) i ≡ k → areaBy (graphOf J) k (touchesIn J i) (endsOf (J .code) i) ≡ none → NoArea J i
-      by-kind Unfollowed h k f = unfollowed h k
+      by-kind Unfollowed h k f = unfollowed h (unfollowed-exact (J .code) i .0 k)
       by-kind Plain h k f = absurd (Option·some-ne-none _ f)
       by-kind Ending h k f = absurd (Option·some-ne-none _ f)
 
@@ -132,6 +133,6 @@ module _ (J : Job) (C : Checked J) (some-block : 0 < length (J .blocks)) (i : �
 
   -- an item without area has no point
   pub no-point : (x : ℕ) → itemArea J i ≡ none → ItemPoint J i x → ⊥
-  no-point x e (plain h k p) = Option·some-ne-none _ (sym (of-kind Plain h k) ∙ e)
-  no-point x e (ending h k p) = Option·some-ne-none _ (sym (of-kind Ending h k) ∙ e)
+  no-point x e (plain h k p) = Option·some-ne-none _ (sym (of-kind Plain h (plain-kind-exact (J .code) i .1 k)) ∙ e)
+  no-point x e (ending h k p) = Option·some-ne-none _ (sym (of-kind Ending h (ending-exact (J .code) i .1 k)) ∙ e)
   no-point x e (slot h p) = slot-none J (i - length (J .locals)) x (sym (of-slot h) ∙ e) p

@@ -7,11 +7,11 @@ use mathlib.Core.List.{List, _∷_, _++_, List·Memᴰ}
 use lib.ListN.{length}
 use Rattle.ranges.specs.declared.Range.{Range}
 use Rattle.ranges.specs.Points.{range}
-use Rattle.carrying.specs.declared.Kind.the-variants.{Unfollowed, Plain, Ending}
-use Rattle.carrying.specs.Carried.{Mention, Piece, mentioned, Carries, kindOf, endsOf}
+use Rattle.carrying.specs.Carried.{Mention, Piece, mentioned, Carries, endsOf}
 use Rattle.areas.specs.Areas.{PlainPoint, EndPoint}
 use Rattle.areas.specs.Slots.{Assigned, Move, position}
 use Rattle.areas.specs.Job.{Job, graphOf, touchesIn}
+use Rattle.area_points.specs.Kinds.{IsUnfollowed, IsEnding, IsPlain}
 
 -- "touches: live pieces of carried registers, and early to late of each listed instruction"; a register is carried by the least set, not by rounds
 pub data Touch (J : Job) (l : ℕ) (t : Range) : Type 0 where
@@ -70,11 +70,11 @@ pub data SlotBare (J : Job) (s : ℕ) : Type 0 where
 
 -- x is in the area of item i: "locals, then slots"
 pub data ItemPoint (J : Job) (i x : ℕ) : Type 0 where
-  plain : i < length (J .locals) → kindOf (J .code) i ≡ Plain → PlainPoint (graphOf J) (touchesIn J i) x → ItemPoint J i x
-  ending : i < length (J .locals) → kindOf (J .code) i ≡ Ending → EndPoint (graphOf J) (touchesIn J i) (endsOf (J .code) i) x → ItemPoint J i x
+  plain : i < length (J .locals) → IsPlain (J .code) i → PlainPoint (graphOf J) (touchesIn J i) x → ItemPoint J i x
+  ending : i < length (J .locals) → IsEnding (J .code) i → EndPoint (graphOf J) (touchesIn J i) (endsOf (J .code) i) x → ItemPoint J i x
   slot : length (J .locals) ≤ i → SlotPoint J (i - length (J .locals)) x → ItemPoint J i x
 
 -- item i has no area: an unfollowed local, or a slot without area
 pub data NoArea (J : Job) (i : ℕ) : Type 0 where
-  unfollowed : i < length (J .locals) → kindOf (J .code) i ≡ Unfollowed → NoArea J i
+  unfollowed : i < length (J .locals) → IsUnfollowed (J .code) i → NoArea J i
   bare : length (J .locals) ≤ i → SlotBare J (i - length (J .locals)) → NoArea J i
