@@ -1,3 +1,4 @@
+pub mod Corners
 pub mod TallyLaws
 pub mod LoadLaws
 pub mod EntryLaws
