@@ -83,12 +83,12 @@ depth = (refl, refl)
 
 -- three wants and their plan as the queries see them: the second shares the first's cell
 abbrev wants : List Want
-wants = want 8 4 0 ∷ want 4 4 5 ∷ want 2 2 0 ∷ []
+wants = want 8 4 0 ∷ want 4 4 5 ∷ want 2 2 5 ∷ []
 
 pub told : answered wants 2 (planOf wants 9 (orderOf wants)) ≡ record {
   cells = record { size = 8; align = 4 } ∷ record { size = 2; align = 2 } ∷ [];
   locals = record { cell = 0; area = some (range 0 0 ∷ []) } ∷ record { cell = 0; area = some (range 5 5 ∷ []) } ∷ [];
-  slots = record { cell = 1; area = some (range 0 0 ∷ []) } ∷ [];
+  slots = record { cell = 1; area = some (range 5 5 ∷ []) } ∷ [];
 }
 unfolding tabulate insertRange sort join merged meets clashes insert ordered lowest fit
 told = refl
