@@ -14,7 +14,9 @@ use Rattle.local_kinds.specs.Entry.{ReachTo, answered as kindsOutcome}
 use Rattle.carried_registers.specs.Carried.{CarriedTo, told as carriedOutcome}
 use Rattle.spill_checks.specs.Answer.{answered as spillOutcome}
 use Rattle.moved_ranges.specs.Moved.{MovedTo}
+use Rattle.spilled_registers.specs.Spilled.{SpilledTo}
 use Rattle.item_lists.specs.Lists.{answered as areasOutcome}
+use Rattle.area_entries.specs.Entry.{LocalAreas}
 use Rattle.item_areas.specs.Entry.{ItemAreas}
 use Rattle.fitting.specs.Queries.{Slots}
 use Rattle.queries.specs.Shares.{counted}
@@ -53,7 +55,15 @@ abbrev pub MovedCoded : ℕ → ℕ → List ℕ → List ℕ → List ℕ → L
 MovedCoded points v blocks insts operands moves slot out₀ work₀ r out work =
     Coded (λ a. countCode (spillOutcome a)) (λ a. MovedTo points v blocks insts operands moves slot out₀ work₀ a out work) r
 
+abbrev pub SpilledCoded : ℕ → ℕ → List ℕ → List ℕ → List ℕ → ℕ → List ℕ → List ℕ → Type 0
+SpilledCoded v slots assigned registers₀ work₀ r registers work =
+    Coded (λ a. countCode (spillOutcome a)) (λ a. SpilledTo v slots assigned registers₀ work₀ a registers work) r
+
 -- ---- areas
+
+abbrev pub LocalAreasCoded : List ℕ → List ℕ → ℕ → List ℕ → List ℕ → List ℕ → List ℕ → List ℕ → List ℕ → ℕ → List ℕ → List ℕ → List ℕ → Type 0
+LocalAreasCoded blocks edges points kinds touches ends areas₀ items₀ work₀ r areas items work =
+    Coded (λ a. countCode (areasOutcome a)) (λ a. LocalAreas blocks edges points kinds touches ends areas₀ items₀ work₀ a areas items work) r
 
 abbrev pub ItemAreasCoded : ℕ → ℕ → List ℕ → List ℕ → List ℕ → List ℕ → List ℕ → List ℕ → List ℕ → List ℕ → List ℕ → List ℕ → List ℕ → List ℕ → List ℕ → List ℕ → List ℕ → ℕ → List ℕ → List ℕ → List ℕ → Type 0
 ItemAreasCoded points v blocks edges insts operands crossings locals slots addresses ends pieces assigned moves areas₀ items₀ work₀ r areas items work =

@@ -1,5 +1,5 @@
 // Exported: the areas of items.
-ghost use Rattle.slots.specs.Exports.{ItemAreasCoded};
+ghost use Rattle.slots.specs.Exports.{ItemAreasCoded, LocalAreasCoded};
 
 // `item_areas::item_areas`.
 #[no_mangle]
@@ -40,6 +40,35 @@ pub extern "C" fn slots_item_areas(
         pieces,
         assigned,
         moves,
+        areas,
+        items,
+        work,
+    ))
+}
+
+// `area_entries::local_areas`.
+#[no_mangle]
+pub extern "C" fn slots_local_areas(
+    blocks: &[u32],
+    edges: &[u32],
+    points: u32,
+    kinds: &[u32],
+    touches: &[u32],
+    ends: &[u32],
+    areas: &mut [u32],
+    items: &mut [u32],
+    work: &mut [u64],
+) -> u64
+    ensures { λ r. ⌜ LocalAreasCoded (now (blocks .entry)) (now (edges .entry)) points (now (kinds .entry)) (now (touches .entry)) (now (ends .entry))
+        (now (areas .entry)) (now (items .entry)) (now (work .entry)) r (now (areas .exit)) (now (items .exit)) (now (work .exit)) ⌝ }
+{
+    area_codes::areas_code(area_entries::local_areas(
+        blocks,
+        edges,
+        points,
+        kinds,
+        touches,
+        ends,
         areas,
         items,
         work,

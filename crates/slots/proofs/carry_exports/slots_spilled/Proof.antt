@@ -1,0 +1,22 @@
+-- `slots::slots_spilled` meets its contract.
+use borrow.Author.Needs.{needs}
+use Rattle.slots.proofs.carry_exports.slots_spilled.Statement.{statement}
+use Rattle.slots.proofs.carry_exports.slots_spilled.Tie as tie
+
+spilled-requires : tie.Need-spilled-requires
+spilled-requires c κs = search needs
+
+spill-code-requires : tie.Need-spill-code-requires
+spill-code-requires c κs = search needs
+
+same-length : tie.Need-same-length
+same-length c = search needs
+
+same-length-2 : tie.Need-same-length-2
+same-length-2 c = search needs
+
+returns : tie.Need-returns
+returns c = record { told = (c .before .before .before .before .before .spilled) .result; answer = (c .spill-code) .ensures; holds = (c .before .before .before .before .before .spilled) .ensures }
+
+pub slots-spilled-spec : {M : Type 1} → statement M
+slots-spilled-spec = tie.close (tie.spec spilled-requires spill-code-requires same-length same-length-2 returns)
