@@ -1,45 +1,74 @@
-//! `area_tests`: the areas of locals whose touches and ends are lent by themselves.
+//! The areas of locals whose touches and ends are lent by themselves: `local_areas`, and what `area_tests` prints of it.
 use crate::cases::{list, Case, Random, Records};
+use crate::job::{BLOCKS, EDGES};
+use crate::plans::rows;
 use reference::slots::probe;
 use rucc_mir::{Inst, Reg};
 use rucc_regalloc::live::{Area, Live, Range};
 
-fn space(c: &[Vec<u32>]) -> usize {
-    let (blocks, locals) = (c[1].len() / 3, c[3].len());
-    8 * (blocks + c[2].len() / 2 + locals + c[4].len() / 3 + c[5].len() / 2 + blocks * locals.div_ceil(64) + c[0][1] as usize / 2)
+/// Blocks, edges, a kind for each local (0 unfollowed, 1 plain, 2 ending), touches (local, start, end) and ends (local, point).
+#[derive(Clone, Debug)]
+pub struct Lent {
+    pub points: u32,
+    pub groups: [Vec<u32>; 5],
 }
 
-/// The number of the block with that point.
-fn holding(blocks: &[u32], point: u32) -> Option<u32> {
-    blocks.chunks(3).find(|b| b[1] <= point && point <= b[2]).map(|b| b[0])
+pub const KINDS: usize = 2;
+pub const TOUCHES: usize = 3;
+pub const ENDS: usize = 4;
+pub const WIDTHS: [usize; 5] = [3, 2, 1, 3, 2];
+
+impl Lent {
+    pub fn rows(&self, group: usize) -> std::slice::Chunks<'_, u32> {
+        self.groups[group].chunks(WIDTHS[group])
+    }
+
+    pub fn count(&self, group: usize) -> usize {
+        self.groups[group].len() / WIDTHS[group]
+    }
+
+    pub fn locals(&self) -> usize {
+        self.groups[KINDS].len()
+    }
+
+    /// W, with an area list of that many numbers.
+    pub fn space(&self, areas: usize) -> usize {
+        let records: usize = (0..5).map(|group| self.count(group)).sum();
+        8 * (records + self.count(BLOCKS) * self.locals().div_ceil(64) + areas / 2)
+    }
+
+    /// The number of the block with that point.
+    fn holding(&self, point: u32) -> Option<u32> {
+        self.rows(BLOCKS).find(|b| b[1] <= point && point <= b[2]).map(|b| b[0])
+    }
+
+    /// The area of each local. Each end is an instruction, unplaced where it is in no block; register k has the touches of local k.
+    pub fn areas(&self) -> Vec<Option<Vec<Range>>> {
+        let insts: Vec<u32> = self.rows(ENDS).flat_map(|end| {
+            let block = self.holding(end[1]);
+            [u32::from(block.is_some()), block.unwrap_or(0), end[1], end[1], 0, 0, 256, 256, 0]
+        }).collect();
+        let count = self.locals();
+        let records = Records { v: count as u32, points: self.points, blocks: &self.groups[BLOCKS], edges: &self.groups[EDGES], insts: &insts, operands: &[], crossings: &[] };
+        let mut live = Live(vec![Area::default(); count]);
+        for touch in self.rows(TOUCHES).filter(|touch| (touch[0] as usize) < count) {
+            live.0[touch[0] as usize].0.push(Range { start: touch[1], end: touch[2] });
+        }
+        let locals = self.groups[KINDS].iter().enumerate().map(|(local, &kind)| {
+            let ends = self.rows(ENDS).enumerate().filter(|(_, end)| end[0] as usize == local).map(|(i, _)| Inst(i as u32));
+            (kind != 0).then(|| (kind == 2, vec![Reg::Numbered(local as u32)], ends.collect()))
+        }).collect();
+        probe::areas(&records.func(), locals, &live, &records.order())
+    }
 }
 
-/// Each end as an instruction, unplaced where it is in no block. Register k has the touches of local k.
+/// The case of a test program: points, the lengths of the area list, of the item list and of the work space; then the groups.
 pub fn lines(case: &Case) -> Vec<Option<String>> {
-    let c = &case.columns;
-    let insts: Vec<u32> = c[5].chunks(2).flat_map(|end| {
-        let block = holding(&c[1], end[1]);
-        [u32::from(block.is_some()), block.unwrap_or(0), end[1], end[1], 0, 0, 256, 256, 0]
-    }).collect();
-    let count = c[3].len();
-    let records = Records { v: count as u32, points: c[0][0], blocks: &c[1], edges: &c[2], insts: &insts, operands: &[], crossings: &[] };
-    let mut live = Live(vec![Area::default(); count]);
-    for touch in c[4].chunks(3).filter(|touch| (touch[0] as usize) < count) {
-        live.0[touch[0] as usize].0.push(Range { start: touch[1], end: touch[2] });
-    }
-    let locals = c[3].iter().enumerate().map(|(local, &kind)| {
-        let ends = c[5].chunks(2).enumerate().filter(|(_, end)| end[0] as usize == local).map(|(i, _)| Inst(i as u32));
-        (kind != 0, vec![Reg::Numbered(local as u32)], ends.collect())
-    }).collect();
-
-    let (mut ranges, mut items) = (Vec::new(), Vec::new());
-    for area in probe::areas(&records.func(), locals, &live, &records.order()) {
-        let area = area.expect("each local is followed");
-        items.extend([ranges.len() as u32 / 2, area.len() as u32]);
-        ranges.extend(area.iter().flat_map(|r| [r.start, r.end]));
-    }
-    let (given, lent) = (list(&ranges, c[0][1] as usize), list(&items, c[0][2] as usize));
-    vec![Some(format!("{} {}:{given} |{lent} | {}", case.name, ranges.len() / 2, space(c)))]
+    let (head, groups) = (&case.columns[0], std::array::from_fn(|group| case.columns[1 + group].clone()));
+    let lent = Lent { points: head[0], groups };
+    let [ranges, items] = rows(&lent.areas());
+    let (given, told) = (list(&ranges, head[1] as usize), list(&items, head[2] as usize));
+    vec![Some(format!("{} {}:{given} |{told} | {}", case.name, ranges.len() / 2, lent.space(head[1] as usize)))]
 }
 
 /// A touch that is not reversed where it is clipped to its first and its last block: it starts at or before its last block's end, and ends in or after its first.
@@ -56,12 +85,12 @@ fn touch(r: &mut Random, blocks: &[u32]) -> [u32; 2] {
 }
 
 /// Up to 5 locals over up to 6 blocks, now and then more than a word has bits.
-pub fn random(r: &mut Random) -> String {
+pub fn some(r: &mut Random) -> Lent {
     let (blocks, points) = r.line(6);
     let count = blocks.len() as u32 / 3;
     let edges: Vec<u32> = (0..r.below(2 * count + 1)).flat_map(|_| [r.below(count), r.below(count)]).collect();
     let locals = if r.one_in(20) { 60 + r.below(10) } else { 1 + r.below(5) };
-    let kinds: Vec<u32> = (0..locals).map(|_| r.below(2)).collect();
+    let kinds: Vec<u32> = (0..locals).map(|_| if r.one_in(6) { 0 } else { 1 + r.below(2) }).collect();
     // rows of the last locals, and of one past them
     let local = |r: &mut Random| locals - r.below(locals.min(5) + 1);
     let touches: Vec<u32> = (0..r.below(10)).flat_map(|_| {
@@ -69,7 +98,12 @@ pub fn random(r: &mut Random) -> String {
         [local(r), start, end]
     }).collect();
     let ends: Vec<u32> = (0..r.below(8)).flat_map(|_| [local(r), r.below(points + 3)]).collect();
-    let mut columns = vec![vec![points, 80, 2 * locals + 2, 0], blocks, edges, kinds, touches, ends];
-    columns[0][3] = space(&columns) as u32 + 1;
+    Lent { points, groups: [blocks, edges, kinds, touches, ends] }
+}
+
+pub fn random(r: &mut Random) -> String {
+    let lent = some(r);
+    let head = vec![lent.points, 80, 3 * lent.locals() as u32 + 3, lent.space(80) as u32 + 1];
+    let columns: Vec<Vec<u32>> = std::iter::once(head).chain(lent.groups).collect();
     Case::write("random", &columns)
 }

@@ -27,17 +27,23 @@ fn one(out: &mut impl Write, job: &Job, lent: &Lent, seed: u64) -> io::Result<()
     out.write_all(&expected.answer.to_ne_bytes())
 }
 
-/// A random and a damaged job of each seed, and of each thousandth a large one.
-pub fn emit(count: u64, seed: u64) -> io::Result<()> {
+/// A random and a damaged job of each seed, or a large one; how many records they have is told on the other stream.
+pub fn emit(count: u64, seed: u64, large: bool) -> io::Result<()> {
     let mut out = BufWriter::new(io::stdout().lock());
+    let mut records = Vec::new();
     for own in seed..seed + count {
-        for (job, lent) in [random(own), damaged(own)] {
-            one(&mut out, &job, &lent, own)?;
-        }
-        if own % 1000 == 0 {
+        let jobs = if large {
             let (job, _, lent) = scale::large(own);
+            vec![(job, lent)]
+        } else {
+            vec![random(own), damaged(own)]
+        };
+        for (job, lent) in jobs {
+            records.push((0..12).map(|group| job.count(group)).sum::<usize>());
             one(&mut out, &job, &lent, own)?;
         }
     }
+    let (least, most) = (records.iter().min().copied().unwrap_or(0), records.iter().max().copied().unwrap_or(0));
+    eprintln!("{} jobs, {} records each on average, {least} to {most}", records.len(), records.iter().sum::<usize>() / records.len().max(1));
     out.flush()
 }

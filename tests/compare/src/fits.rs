@@ -1,4 +1,5 @@
 //! Fitting alone: all triples of small lists of ranges, random wants, and damaged ones.
+use crate::calls::cut;
 use crate::cases::Random;
 use crate::entry::{fit_wants, Lists};
 use crate::job::Lent;
@@ -30,11 +31,11 @@ fn sorted(ranges: &[Range]) -> bool {
 /// Numbers 1, 7 and 10.
 fn refusal(w: &Wants, lent: &Lent) -> Option<(u32, u32)> {
     let (wants, locals) = (w.rows.len() / 5, w.locals as usize);
-    let cut = w.rows.len() % 5 != 0 || w.areas.len() % 2 != 0 || lent.cells % 2 != 0 || lent.items % 4 != 0;
-    if cut || locals > wants || locals > LIMITS[5] || wants - locals > LIMITS[6] || w.areas.len() / 2 > RANGES || w.budget > BUDGET {
+    let odd = w.rows.len() % 5 != 0 || w.areas.len() % 2 != 0 || lent.cells % 2 != 0 || lent.items % 4 != 0;
+    if odd || locals > wants || locals > LIMITS[5] || wants - locals > LIMITS[6] || w.areas.len() / 2 > RANGES || w.budget > BUDGET {
         return Some((1, 0));
     }
-    if lent.work < space(w) || lent.cells / 2 < wants || lent.items / 4 < wants {
+    if lent.work < space(w) || lent.cells / 2 < wants || lent.items / 4 < wants || lent.counts < 3 {
         return Some((7, 0));
     }
     w.rows.chunks(5).position(|row| row[2] != 0 && !part(w, row).is_some_and(|ranges| sorted(&ranges))).map(|i| (10, i as u32))
@@ -61,13 +62,14 @@ fn hold(w: &Wants, lent: &Lent, before: &Lists) -> usize {
     }
     let mut lists = before.clone();
     let given = fit_wants(&w.rows, &w.areas, w.locals, w.budget, &mut lists);
-    assert!((given, &lists) == (answer, &expected), "on {w:?}\nlent {lent:?}\nthe entry answers {given}, expected {answer}, and leaves\n{lists:?}, expected\n{expected:?}");
+    let same = (given, &lists) == (answer, &expected);
+    assert!(same, "on {}\nlent {lent:?}\nthe entry answers {given:x}, expected {answer:x}, and leaves\n{}\nexpected\n{}", cut(w), cut(&lists), cut(&expected));
     (answer >> 32) as usize
 }
 
 fn lent(w: &Wants, more: usize) -> Lent {
     let wants = w.rows.len() / 5;
-    Lent { cells: 2 * wants + 2 * more, items: 4 * wants + 4 * more, areas: 0, counts: 3, work: space(w) + more }
+    Lent { cells: 2 * wants + 2 * more, items: 4 * wants + 4 * more, areas: 0, counts: 3 + more, work: space(w) + more }
 }
 
 /// All lists of ranges that lie apart or touch, over points below `points`.
@@ -140,9 +142,10 @@ fn damage(r: &mut Random, w: &mut Wants, lent: &mut Lent) {
         6 => drop(w.rows.pop()),
         7 => w.locals = any(r),
         8 => w.budget = BUDGET + any(r),
-        _ => match r.below(3) {
+        _ => match r.below(4) {
             0 => lent.cells = lent.cells.saturating_sub(short),
             1 => lent.items = lent.items.saturating_sub(short),
+            2 => lent.counts = lent.counts.saturating_sub(short),
             _ => lent.work = lent.work.saturating_sub(short),
         },
     }

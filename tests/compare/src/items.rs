@@ -1,7 +1,7 @@
 //! `item_tests`: the areas of all items of a whole job.
 use crate::cases::{list, Case, Random};
 use crate::job::{space, Job};
-use crate::plans::areas;
+use crate::plans::{areas, rows};
 
 /// The job of a case: points, V, the lengths of the area list, of the item list and of the work space; then the groups.
 fn job(c: &[Vec<u32>]) -> Job {
@@ -10,11 +10,7 @@ fn job(c: &[Vec<u32>]) -> Job {
 
 pub fn lines(case: &Case) -> Vec<Option<String>> {
     let (job, head) = (job(&case.columns), &case.columns[0]);
-    let (mut ranges, mut items) = (Vec::new(), Vec::new());
-    for area in areas(&job) {
-        items.extend(area.as_ref().map_or([0, 0, 0], |area| [1, ranges.len() as u32 / 2, area.len() as u32]));
-        ranges.extend(area.iter().flatten().flat_map(|r| [r.start, r.end]));
-    }
+    let [ranges, items] = rows(&areas(&job));
     let (given, lent) = (list(&ranges, head[2] as usize), list(&items, head[3] as usize));
     vec![Some(format!("{} {}:{given} |{lent} | {}", case.name, ranges.len() / 2, space(&job, head[2] as usize)))]
 }

@@ -38,6 +38,12 @@ impl Job {
         self.count(LOCALS) + self.count(SLOTS)
     }
 
+    /// The records of these groups alone, and V where that is lent too.
+    pub fn only(mut self, groups: &[usize], registers: bool) -> Self {
+        (0..12).filter(|group| !groups.contains(group)).for_each(|group| self.groups[group].clear());
+        Self { v: if registers { self.v } else { 0 }, budget: 0, ..self }
+    }
+
     /// The same job with all points later by as many.
     pub fn later(mut self, by: u32) -> Self {
         self.points += by;
@@ -62,7 +68,7 @@ pub struct Lent {
     pub work: usize,
 }
 
-/// W of a job whose area list has that many numbers.
+/// W of an entry that is lent these records and an area list of that many numbers: each term counts what is lent.
 pub fn space(job: &Job, areas: usize) -> usize {
     let records: usize = (0..12).map(|group| job.count(group)).sum();
     let rows = job.count(BLOCKS) * job.count(LOCALS).div_ceil(64);
@@ -83,6 +89,6 @@ pub fn lent(r: &mut Random, job: &Job, ranges: usize) -> Lent {
     lent.cells += 2 * more(r);
     lent.items += 4 * more(r);
     lent.work += more(r);
-    lent.counts = if r.one_in(3) { r.below(6) as usize } else { 3 };
+    lent.counts = if r.one_in(20) { r.below(3) as usize } else { 3 + more(r) };
     lent
 }

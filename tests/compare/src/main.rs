@@ -1,14 +1,20 @@
-//! Compares the component with slots.rs: `parts` by the programs that test them, whole jobs through the static library, texts through the planning program.
+//! Compares the component with slots.rs: whole jobs and each entry of its parts through the static library, parts by the programs that test them, texts through the planning program.
 mod areas;
+mod calls;
+mod carried;
 mod carry;
 mod cases;
 mod emit;
+mod entries;
 mod entry;
 mod fits;
 mod grammar;
+mod graphs;
 mod items;
 mod job;
 mod limits;
+mod local_areas;
+mod moves;
 mod parts;
 mod plans;
 mod queries;
@@ -17,6 +23,7 @@ mod ranges;
 mod refusals;
 mod sample;
 mod scale;
+mod shows;
 mod small;
 mod spills;
 mod texts;
@@ -25,7 +32,7 @@ mod whole;
 use job::{Job, Lent};
 use whole::{hold, Tally};
 
-const USAGE: &str = "parts CASES | jobs JOBS SEED | damaged JOBS SEED | small | limits JOBS | scale SECONDS SEED | texts TEXTS SEED | fits CALLS SEED | ranges | queries JOBS SEED | sample | record | emit JOBS SEED";
+const USAGE: &str = "parts CASES | jobs JOBS SEED | damaged JOBS SEED | small | limits JOBS | scale SECONDS SEED | entries CALLS SEED [NAME] | graphs | texts TEXTS SEED | fits CALLS SEED | ranges | queries JOBS SEED | sample | record | emit JOBS SEED [large]";
 
 /// Jobs from a seed on, each by a seed of its own.
 fn jobs(what: &str, made: fn(u64) -> (Job, Lent), count: u64, seed: u64) {
@@ -35,6 +42,7 @@ fn jobs(what: &str, made: fn(u64) -> (Job, Lent), count: u64, seed: u64) {
         hold(&job, &lent, own, None, &mut tally);
     }
     tally.say(&format!("{what} jobs, seeds {seed} to {}", seed + count - 1));
+    tally.must_show();
 }
 
 fn main() {
@@ -47,13 +55,15 @@ fn main() {
         Some("small") => small::compare(),
         Some("limits") => limits::compare(number(1, 200)),
         Some("scale") => scale::compare(number(1, 60), number(2, 1)),
+        Some("entries") => entries::compare(number(1, 50_000), number(2, 1), given.get(3).map(String::as_str)),
+        Some("graphs") => graphs::small(),
         Some("texts") => texts::compare(number(1, 5_000), number(2, 1)),
         Some("fits") => fits::compare(number(1, 100_000), number(2, 1)),
         Some("ranges") => ranges::compare(),
         Some("queries") => queries::compare(number(1, 50_000), number(2, 1)),
         Some("sample") => sample::record(false),
         Some("record") => sample::record(true),
-        Some("emit") => emit::emit(number(1, 5_000), number(2, 1)).expect("what reads the jobs reads them all"),
+        Some("emit") => emit::emit(number(1, 5_000), number(2, 1), given.get(3).is_some_and(|what| what == "large")).expect("what reads the jobs reads them all"),
         _ => panic!("{USAGE}"),
     }
 }

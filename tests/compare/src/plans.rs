@@ -4,7 +4,7 @@ use crate::cases::Records;
 use crate::job::*;
 use crate::spills::{assignment, edits};
 use reference::frame::Local;
-use reference::slots::{probe, reach, wanted};
+use reference::slots::{probe, reach, wanted, Slots};
 use rucc_base::Interner;
 use rucc_regalloc::live::{Area, Live, Range};
 use rucc_regalloc::Allocation;
@@ -48,6 +48,16 @@ pub fn areas(job: &Job) -> Areas {
 
 pub fn ranges(areas: &Areas) -> usize {
     areas.iter().flatten().map(Vec::len).sum()
+}
+
+/// The area list, and of each item whether it has an area and its part of the list.
+pub fn rows(areas: &Areas) -> [Vec<u32>; 2] {
+    let (mut ranges, mut items) = (Vec::new(), Vec::new());
+    for area in areas {
+        items.extend(area.as_ref().map_or([0, 0, 0], |area| [1, ranges.len() as u32 / 2, area.len() as u32]));
+        ranges.extend(area.iter().flatten().flat_map(|r| [r.start, r.end]));
+    }
+    [ranges, items]
 }
 
 /// Size and alignment of each item.
@@ -116,11 +126,12 @@ fn fitted(sizes: &[(u32, u32)], areas: &Areas, budget: u32) -> (Vec<Cell>, Vec<u
     (cells, of, u64::from(budget - left))
 }
 
-/// Cells as rows, the cell of each item, and cells, probes and depth.
+/// Cells as rows, the cell of each item, cells, probes and depth; and slots.rs's plan.
 pub struct Fit {
     pub cells: Vec<u32>,
     pub of: Vec<usize>,
     pub counts: [u64; 3],
+    pub slots: Slots,
 }
 
 /// What the items of those sizes are fitted to, by the plain model, which is held to slots.rs: cells, the cell of each item, the shared areas, crowded slots, cells saved.
@@ -142,17 +153,17 @@ pub fn fit(sizes: &[(u32, u32)], areas: &Areas, locals: usize, budget: u32) -> F
     assert!((locals..of.len()).filter(|&i| cells[of[i]].members > 1).map(|i| (i - locals) as u32).eq(crowded), "the model's crowded slots are not slots.rs's");
     assert_eq!(plan.saved(), of.len() - cells.len());
     let counts = [cells.len() as u64, probes, cells.iter().map(|c| u64::from(c.size)).sum()];
-    Fit { cells: cells.iter().flat_map(|c| [c.size, c.align]).collect(), of, counts }
+    Fit { cells: cells.iter().flat_map(|c| [c.size, c.align]).collect(), of, counts, slots: plan }
+}
+
+/// The plan, and slots.rs's.
+pub fn planned(job: &Job, areas: &Areas) -> (Plan, Slots) {
+    let fit = fit(&sizes(job), areas, job.count(LOCALS), job.budget);
+    let [ranges, parts] = rows(areas);
+    let items = fit.of.iter().zip(parts.chunks(3)).flat_map(|(&cell, part)| [cell as u32, part[0], part[1], part[2]]).collect();
+    (Plan { cells: fit.cells, items, areas: ranges, counts: fit.counts }, fit.slots)
 }
 
 pub fn plan(job: &Job, areas: &Areas) -> Plan {
-    let fit = fit(&sizes(job), areas, job.count(LOCALS), job.budget);
-    let mut plan = Plan { cells: fit.cells, counts: fit.counts, ..Plan::default() };
-    for (area, cell) in areas.iter().zip(fit.of) {
-        let part = area.as_ref().map_or([0, 0, 0], |area| [1, plan.areas.len() as u32 / 2, area.len() as u32]);
-        plan.items.push(cell as u32);
-        plan.items.extend(part);
-        plan.areas.extend(area.iter().flatten().flat_map(|r| [r.start, r.end]));
-    }
-    plan
+    planned(job, areas).0
 }

@@ -43,7 +43,8 @@ pub fn random(r: &mut Random, most: u32) -> Job {
     }
     wander(r, &mut code.insts);
     let count = code.blocks.len() as u32 / 3;
-    let edges: Vec<u32> = (0..r.below(2 * count + 1)).flat_map(|_| [r.below(count), r.below(count)]).collect();
+    let most_edges = if code.calm { count } else { 2 * count };
+    let edges: Vec<u32> = (0..r.below(most_edges + 1)).flat_map(|_| [r.below(count), r.below(count)]).collect();
     let slots: Vec<u32> = (0..r.below(4)).map(|_| size(r)).collect();
     let (low, high) = (code.blocks[1], code.blocks[code.blocks.len() - 1]);
     let mut pieces: Vec<u32> = (0..r.below(10)).flat_map(|_| {
@@ -113,13 +114,24 @@ fn damage(r: &mut Random, job: &mut Job, lent: &mut Lent) {
         }
         16 => job.v = if r.one_in(2) { border(r, job) % 70_000 } else { job.v.saturating_sub(1 + r.below(3)) },
         17 => job.budget = if r.one_in(2) { BUDGET + 1 + r.below(3) } else { r.number() },
-        18 => match r.below(3) {
+        18 => match r.below(4) {
             0 => lent.cells = lent.cells.saturating_sub(1 + r.below(3) as usize),
             1 => lent.items = lent.items.saturating_sub(1 + r.below(5) as usize),
+            2 => lent.counts = r.below(3) as usize,
             _ => lent.areas = lent.areas.saturating_sub(1 + r.below(3) as usize),
         },
         _ => lent.work = lent.work.saturating_sub(1 + if r.one_in(2) { 0 } else { r.below(40) as usize }),
     }
+}
+
+/// The records of a random job that an entry is lent, in two of five cases with one to three changes.
+pub fn records(r: &mut Random, most: u32, groups: &[usize], registers: bool) -> Job {
+    let mut job = random(r, most).only(groups, registers);
+    if r.below(5) < 2 {
+        let mut lent = exact(&job, 0);
+        (0..1 + r.below(3)).for_each(|_| damage(r, &mut job, &mut lent));
+    }
+    job.only(groups, registers)
 }
 
 /// One to three changes. A work space that is not the damage's is as large as the damaged job needs it, or a word more.

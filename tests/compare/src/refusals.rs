@@ -1,4 +1,4 @@
-//! The refusals of a whole job, as document 01's table has them: a number and the index of the first offending record. slots.rs has none.
+//! The refusals of a job's records, as document 01's table has them: a number and the index of the first offending record. slots.rs has none.
 use crate::job::*;
 
 /// The most records of each group.
@@ -13,10 +13,15 @@ fn first<T>(records: impl IntoIterator<Item = T>, bad: impl Fn(usize, T) -> bool
 }
 
 /// A count or the budget outside its limits, rows that are cut, operand counts that do not add up.
-fn count(job: &Job, lent: &Lent) -> bool {
-    let cut = (0..12).any(|group| job.groups[group].len() % WIDTHS[group] != 0) || lent.cells % 2 != 0 || lent.items % 4 != 0 || lent.areas % 2 != 0;
-    let over = (0..12).any(|group| job.count(group) > LIMITS[group]) || job.v > REGISTERS || lent.areas / 2 > RANGES || job.budget > BUDGET;
-    cut || over || job.count(BLOCKS) == 0 || job.rows(INSTS).map(|row| u64::from(row[8])).sum::<u64>() != job.count(OPERANDS) as u64
+fn count(job: &Job) -> bool {
+    let cut = (0..12).any(|group| job.groups[group].len() % WIDTHS[group] != 0);
+    let over = (0..12).any(|group| job.count(group) > LIMITS[group]) || job.v > REGISTERS || job.budget > BUDGET;
+    cut || over || job.rows(INSTS).map(|row| u64::from(row[8])).sum::<u64>() != job.count(OPERANDS) as u64
+}
+
+/// An area list of that many numbers is cut, or has more ranges than it may.
+pub fn area_list(numbers: usize) -> bool {
+    numbers % 2 != 0 || numbers / 2 > RANGES
 }
 
 fn line(job: &Job) -> Option<u32> {
@@ -65,9 +70,9 @@ fn piece(job: &Job) -> Option<u32> {
     first(job.rows(PIECES), |_, p| p[0] >= job.v || p[1] > p[2] || p[1] < low || p[2] > high).or_else(|| first(job.rows(ASSIGNED), |_, a| a[0] >= job.v))
 }
 
-/// Numbers 1 to 7, lowest first.
-pub fn refusal(job: &Job, lent: &Lent) -> Option<(u32, u32)> {
-    if count(job, lent) {
+/// Numbers 1 to 6 of an entry that is lent these records, and no others; `lists`: whether it has an answer list that is refused with 1. Of the lowest number the first record.
+pub fn records(job: &Job, lists: bool) -> Option<(u32, u32)> {
+    if lists || count(job) || job.count(BLOCKS) == 0 {
         return Some((1, 0));
     }
     let blocks = job.count(BLOCKS) as u32;
@@ -77,5 +82,21 @@ pub fn refusal(job: &Job, lent: &Lent) -> Option<(u32, u32)> {
         .or_else(|| at(4, inst(job)))
         .or_else(|| at(5, stray(job)))
         .or_else(|| at(6, piece(job)))
-        .or_else(|| (lent.work < space(job, lent.areas) || lent.cells / 2 < job.items() || lent.items / 4 < job.items()).then_some((7, 0)))
+}
+
+/// Numbers 1 and 6 of assignments that are lent without blocks.
+pub fn assignments(job: &Job, lists: bool) -> Option<(u32, u32)> {
+    if lists || count(job) { Some((1, 0)) } else { first(job.rows(ASSIGNED), |_, a| a[0] >= job.v).map(|index| (6, index)) }
+}
+
+/// Number 7, where any of these is so.
+pub fn space(short: &[bool]) -> Option<(u32, u32)> {
+    short.contains(&true).then_some((7, 0))
+}
+
+/// Numbers 1 to 7 of a whole job, lowest first.
+pub fn refusal(job: &Job, lent: &Lent) -> Option<(u32, u32)> {
+    let cut = lent.cells % 2 != 0 || lent.items % 4 != 0 || area_list(lent.areas);
+    let items = job.items();
+    records(job, cut).or_else(|| space(&[lent.work < crate::job::space(job, lent.areas), lent.cells / 2 < items, lent.items / 4 < items, lent.counts < 3]))
 }

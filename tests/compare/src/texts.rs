@@ -1,4 +1,5 @@
-//! Texts through the planning program: of random and damaged jobs, with damaged bytes, and of any bytes.
+//! Texts through the planning program and the entry of the static library: of random and damaged jobs, with damaged bytes, and of any bytes.
+use crate::calls::{about, code};
 use crate::cases::Random;
 use crate::grammar::{printed, write};
 use crate::job::*;
@@ -6,6 +7,28 @@ use crate::refusals::BUDGET;
 use crate::random::{any_lent, damaged, random};
 use std::io::Write;
 use std::process::{Command, Stdio};
+
+extern "C" {
+    fn slots_print_text(text: *const u8, text_len: usize, out: *mut u8, out_len: usize) -> u64;
+}
+
+/// The program's text by the entry of the static library: the number that it is refused with, or 7 where the list is shorter than the text.
+pub fn print_text(r: &mut Random) -> usize {
+    let text = text(r);
+    let (expected, number) = printed(&text);
+    let before: Vec<u8> = (0..about(r, expected.len())).map(|_| r.below(256) as u8).collect();
+    let (mut out, mut left) = (before.clone(), before);
+    let fits = expected.len() <= left.len();
+    if fits {
+        left[..expected.len()].copy_from_slice(expected.as_bytes());
+    }
+    let wanted = if fits { expected.len() as u64 } else { code(7, 0) };
+    // SAFETY: each pointer is a slice's, with that slice's length.
+    let given = unsafe { slots_print_text(text.as_ptr(), text.len(), out.as_mut_ptr(), out.len()) };
+    let (said, written) = (String::from_utf8_lossy(&text), String::from_utf8_lossy(&out));
+    assert!((given, &out) == (wanted, &left), "the entry answers {given:x}, expected {wanted:x}, and writes\n{written}expected\n{expected}on\n{said}");
+    if fits { number } else { 7 }
+}
 
 fn run(text: &[u8]) -> Vec<u8> {
     let mut child = Command::new("target/bin/plan").stdin(Stdio::piped()).stdout(Stdio::piped()).spawn().expect("the planning program is built");

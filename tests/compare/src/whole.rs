@@ -1,14 +1,17 @@
 //! Whole jobs through the entry of the static library, held to slots.rs and the models: the answer, each list and the work space, to the word.
+use crate::calls::code;
 use crate::cases::Random;
 use crate::entry::{share, Lists};
 use crate::job::*;
 use crate::plans::{areas, plan, ranges, Areas};
 use crate::refusals::refusal;
+use crate::shows::{shown, Shown, SHOWN};
 
-/// What a job must be answered, and what the lists and the work space must hold afterwards.
+/// What a job must be answered, what the lists and the work space must hold afterwards, and what its plan shows.
 pub struct Expected {
     pub answer: u64,
     pub lists: Lists,
+    pub shown: Shown,
 }
 
 pub fn put<T: Copy>(list: &mut [T], answer: &[T]) {
@@ -18,10 +21,9 @@ pub fn put<T: Copy>(list: &mut [T], answer: &[T]) {
 
 /// The lists are as they were but where a plan is written, and where the work space is cleared: after a plan, and after 9.
 pub fn expected(job: &Job, lent: &Lent, before: &Lists, known: Option<&Areas>) -> Expected {
-    let code = |(number, index): (u32, u32)| (u64::from(number) << 32) + u64::from(index);
     let mut lists = before.clone();
-    if let Some(refused) = refusal(job, lent) {
-        return Expected { answer: code(refused), lists };
+    if let Some((number, index)) = refusal(job, lent) {
+        return Expected { answer: code(number, index), lists, shown: Shown::default() };
     }
     lists.work[..space(job, lent.areas)].fill(0);
     let made;
@@ -33,7 +35,7 @@ pub fn expected(job: &Job, lent: &Lent, before: &Lists, known: Option<&Areas>) -
         }
     };
     if ranges(wanted) > lent.areas / 2 {
-        return Expected { answer: code((9, 0)), lists };
+        return Expected { answer: code(9, 0), lists, shown: Shown::default() };
     }
     let plan = plan(job, wanted);
     assert!(plan.cells.len() <= lists.cells.len() && plan.items.len() <= lists.items.len() && plan.areas.len() <= lists.areas.len());
@@ -41,7 +43,7 @@ pub fn expected(job: &Job, lent: &Lent, before: &Lists, known: Option<&Areas>) -
     put(&mut lists.items, &plan.items);
     put(&mut lists.areas, &plan.areas);
     put(&mut lists.counts, &plan.counts);
-    Expected { answer: 0, lists }
+    Expected { answer: 0, lists, shown: shown(job, wanted, &plan) }
 }
 
 /// A random job of a seed, with lists that it is planned in but for one in ten.
@@ -69,23 +71,38 @@ pub fn any_lists(r: &mut Random, lent: &Lent) -> Lists {
     Lists { cells, items, areas, counts: long(lent.counts), work: long(lent.work) }
 }
 
-/// How many jobs were answered with a plan, and how many with each refusal.
+/// How many jobs were answered with a plan and how many with each refusal; how many plans show each thing.
 #[derive(Default)]
-pub struct Tally(pub [usize; 10]);
+pub struct Tally(pub [usize; 10], pub [usize; 5]);
 
 impl Tally {
     pub fn all(&self) -> usize {
         self.0.iter().sum()
     }
 
+    pub fn count(&mut self, number: usize, shown: Shown) {
+        self.0[number] += 1;
+        self.1.iter_mut().zip(shown).for_each(|(count, shown)| *count += usize::from(shown));
+    }
+
+    pub fn told(&self) -> String {
+        SHOWN.iter().zip(self.1).map(|(what, count)| format!("{count} {what}")).collect::<Vec<_>>().join(", ")
+    }
+
     pub fn say(&self, what: &str) {
         let refused: Vec<String> = (1..10).filter(|&n| self.0[n] > 0).map(|n| format!("{n}: {}", self.0[n])).collect();
         println!("{what}: {} jobs, no difference; {} plans, refusals {}", self.all(), self.0[0], if refused.is_empty() { "none".to_string() } else { refused.join(", ") });
+        println!("  of the plans {}", self.told());
+    }
+
+    /// Of a run of some hundred plans each thing must be shown by some.
+    pub fn must_show(&self) {
+        assert!(self.0[0] < 500 || self.1.iter().all(|&count| count > 0), "of {} plans {}: such a run shows too little", self.0[0], self.told());
     }
 }
 
-/// Whether the entry answers and leaves what it must; if so, the refusal's number or 0.
-fn held(job: &Job, lent: &Lent, seed: u64, known: Option<&Areas>) -> Result<usize, String> {
+/// Whether the entry answers and leaves what it must; if so, the refusal's number or 0, and what the plan shows.
+fn held(job: &Job, lent: &Lent, seed: u64, known: Option<&Areas>) -> Result<(usize, Shown), String> {
     let before = any_lists(&mut Random::seeded(seed), lent);
     let expected = expected(job, lent, &before, known);
     let mut lists = before;
@@ -105,7 +122,7 @@ fn held(job: &Job, lent: &Lent, seed: u64, known: Option<&Areas>) -> Result<usiz
             return Err(format!("{} is answered, and word {at} of the {name} is left as {}, expected {}", told(answer), left[at], wanted[at]));
         }
     }
-    Ok((answer >> 32) as usize)
+    Ok(((answer >> 32) as usize, expected.shown))
 }
 
 /// The job with rows left out for as long as the difference stays.
@@ -141,7 +158,7 @@ fn smaller(mut job: Job, lent: &Lent, seed: u64) -> Job {
 /// Holds one job; stops with a smaller job that differs too.
 pub fn hold(job: &Job, lent: &Lent, seed: u64, known: Option<&Areas>, tally: &mut Tally) {
     match held(job, lent, seed, known) {
-        Ok(number) => tally.0[number] += 1,
+        Ok((number, shown)) => tally.count(number, shown),
         Err(said) => {
             let least = smaller(job.clone(), lent, seed);
             panic!("seed {seed}: {said}\non {job:?}\nlent {lent:?}\nand on {least:?}");

@@ -27,9 +27,10 @@ pub mod probe {
     pub fn followed(reach: &Reach) -> Vec<Option<(bool, Vec<Reg>)>> {
         reach.through.iter().map(|held| held.as_ref().map(|held| (held.escapes, held.regs.clone()))).collect()
     }
-    /// The areas of locals that are all followed: whether each escapes, the registers whose live pieces are its touches, its ends.
-    pub fn areas(func: &Func, locals: Vec<(bool, Vec<Reg>, Vec<Inst>)>, live: &Live, order: &Order) -> Vec<Option<Vec<Range>>> {
-        let through = locals.into_iter().map(|(escapes, regs, ends)| Some(Carried { regs, at: Vec::new(), ends, escapes })).collect();
+    /// The areas of locals: of each that is followed whether it escapes, the registers whose live pieces are its touches, its ends.
+    pub fn areas(func: &Func, locals: Vec<Option<(bool, Vec<Reg>, Vec<Inst>)>>, live: &Live, order: &Order) -> Vec<Option<Vec<Range>>> {
+        let carried = |(escapes, regs, ends)| Carried { regs, at: Vec::new(), ends, escapes };
+        let through = locals.into_iter().map(|local| local.map(carried)).collect();
         super::areas(func, &Reach { through }, live, order)
     }
     pub fn spilled(allocation: &Allocation, slots: usize) -> Vec<Option<Reg>> { super::spilled(allocation, slots) }

@@ -1,0 +1,22 @@
+//! What a plan shows, counted so that a run in which nothing is shared, or no budget spent, is told.
+use crate::carry::kinds;
+use crate::job::*;
+use crate::plans::{plan, Areas, Plan};
+use crate::refusals::BUDGET;
+
+pub const SHOWN: [&str; 5] = ["share a cell", "have other cells with the largest budget", "have an ending local", "have an area in a row's second word", "have a slot with moves"];
+
+pub type Shown = [bool; 5];
+
+pub fn shown(job: &Job, areas: &Areas, own: &Plan) -> Shown {
+    let (locals, slots) = (job.count(LOCALS), job.count(SLOTS));
+    let spent = own.counts[1] == u64::from(job.budget) && plan(&Job { budget: BUDGET, ..job.clone() }, areas).counts[0] != own.counts[0];
+    let moved = |slot: u32| (slot as usize) < slots && areas[locals + slot as usize].is_some();
+    [
+        (own.counts[0] as usize) < job.items(),
+        spent,
+        kinds(job).contains(&2),
+        areas[..locals].iter().skip(64).any(Option::is_some),
+        job.rows(MOVES).any(|m| moved(m[2]) || moved(m[3])),
+    ]
+}
