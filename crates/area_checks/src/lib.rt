@@ -1,6 +1,6 @@
 // The refusals that come before the areas are measured: numbers 1, 2, 3, 4 and 7, in linear time and without work space.
 ghost use mathlib.Core.Path.{_≡_};
-ghost use Rattle.area_layout.specs.Layout.{spaceFor, Counted, Small};
+ghost use Rattle.area_layout.specs.Layout.{spaceFor, Numbers, Small};
 ghost use Rattle.area_checks.specs.Checks.{rowCounts, kindsVerdict, spaceVerdict, lentVerdict};
 use area_layout::Sizes;
 use refusals::Refusal;
@@ -30,7 +30,7 @@ fn known(kinds: &[u32]) -> Verdict
 
 // W, the words of work space that are needed. No sum is too large for numbers of 32 bits.
 pub fn needed(z: Sizes) -> usize
-    requires { ⌜ Counted z ⌝ }
+    requires { ⌜ Numbers z ⌝ }
     ensures { λ r. ⌜ r ≡ spaceFor z ⌝ }
 {
     let rows = z.blocks * ((z.locals + 63) / 64);

@@ -7,7 +7,7 @@ use Rattle.words.proofs.Points.{cut}
 use Rattle.area_flow.specs.declared.Grid.{Grid}
 use Rattle.local_spots.specs.declared.Places.{Places}
 use Rattle.area_layout.specs.declared.Sizes.{Sizes}
-use Rattle.area_layout.specs.Layout.{wordsFor, spaceFor, Counted, Small, Placed, Gridded, markOf}
+use Rattle.area_layout.specs.Layout.{wordsFor, spaceFor, Numbers, Small, Placed, Gridded, markOf}
 
 -- the rows of the places are short
 pub rows-small : {z : Sizes} → Small z → z .blocks * wordsFor (z .locals) ≤ 131072
@@ -17,14 +17,14 @@ rows-small {z} S =
     omega (arith, S .few-blocks)
 
 -- W of any 32-bit numbers is far below 64 bits
-pub space-fits : {z : Sizes} → Counted z → spaceFor z < 2 ^ 62
+pub space-fits : {z : Sizes} → Numbers z → spaceFor z < 2 ^ 62
 space-fits {z} C =
     let w : wordsFor (z .locals) ≤ 67108864 = omega (arith, C .locals) in
     let a = mul-le-mul-left (z .blocks) w in
     omega (arith, C .blocks, C .edges, C .locals, C .touches, C .ends, C .ranges)
 
-pub small-counted : {z : Sizes} → Small z → Counted z
-small-counted S = record {
+pub small-numbers : {z : Sizes} → Small z → Numbers z
+small-numbers S = record {
   blocks = omega (arith, S .few-blocks);
   edges = omega (arith, S .few-edges);
   locals = omega (arith, S .few-locals);

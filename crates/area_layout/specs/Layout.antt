@@ -14,7 +14,7 @@ abbrev pub spaceFor : Sizes → ℕ
 spaceFor z = 8 * (z .blocks + z .edges + z .locals + z .touches + z .ends + z .blocks * wordsFor (z .locals) + z .room)
 
 -- each number fits 32 bits: W of any such numbers is computed
-pub record Counted (z : Sizes) : Type 0 where
+pub record Numbers (z : Sizes) : Type 0 where
   pub blocks : z .blocks < 2 ^ 32
   pub edges : z .edges < 2 ^ 32
   pub locals : z .locals < 2 ^ 32

@@ -1,13 +1,13 @@
 -- `short` meets its contract: one law for each way out.
 use native.Mathlib.Omega.{arith}
 use Prim.Native.Nat.{_-_}
-use Rattle.area_layout.proofs.FitLaws.{small-counted}
+use Rattle.area_layout.proofs.FitLaws.{small-numbers}
 use Rattle.area_checks.proofs.CheckLaws.{short-work, short-items, enough}
 use Rattle.area_checks.proofs.short.Statement.{statement}
 use Rattle.area_checks.proofs.short.Tie as tie
 
 needed-requires : tie.Need-needed-requires
-needed-requires c κs = small-counted (c .pre)
+needed-requires c κs = small-numbers (c .pre)
 
 returns : tie.Need-returns
 returns c = short-work ((c .before .before .args) .z) ((c .before .before .args) .items) ((c .before .before .args) .work) (omega (arith, (c .before .needed) .ensures))

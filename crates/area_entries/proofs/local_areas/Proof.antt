@@ -5,7 +5,7 @@ use mathlib.Core.Path.{sym, _∙_}
 use lib.ListN.{length}
 use denote.Ref.{now}
 use borrow.Author.Needs.{needs}
-use Rattle.area_layout.proofs.FitLaws.{small-counted}
+use Rattle.area_layout.proofs.FitLaws.{small-numbers}
 use Rattle.area_checks.proofs.CheckLaws.{lent}
 use Rattle.area_entries.proofs.EntryLaws.{refused-entry, answered-entry}
 use Rattle.area_entries.proofs.local_areas.Statement.{statement}
@@ -24,7 +24,7 @@ enum-told : tie.Need-enum-told
 enum-told c = search needs
 
 needed-requires : tie.Need-needed-requires
-needed-requires c κs = let a = (c .before .before .before .before .before .before .before .before .before .before .before .args) in small-counted ((lent (now (a .blocks)) (now (a .edges)) (a .points) (now (a .kinds)) (now (a .touches)) (now (a .ends)) (length (now (a .areas))) (length (now (a .items))) (now (a .work)) (sym ((c .before .before .refusal) .ensures) ∙ (c .enum-told) .given .1)) .0 .small)
+needed-requires c κs = let a = (c .before .before .before .before .before .before .before .before .before .before .before .args) in small-numbers ((lent (now (a .blocks)) (now (a .edges)) (a .points) (now (a .kinds)) (now (a .touches)) (now (a .ends)) (length (now (a .areas))) (length (now (a .items))) (now (a .work)) (sym ((c .before .before .refusal) .ensures) ∙ (c .enum-told) .given .1)) .0 .small)
 
 solve-requires : tie.Need-solve-requires
 solve-requires c κs = let a = (c .before .before .before .before .before .before .before .before .before .before .before .before .before .args) in (lent (now (a .blocks)) (now (a .edges)) (a .points) (now (a .kinds)) (now (a .touches)) (now (a .ends)) (length (now (a .areas))) (length (now (a .items))) (now (a .work)) (sym ((c .before .before .before .before .refusal) .ensures) ∙ (c .before .before .enum-told) .given .1)) .0
