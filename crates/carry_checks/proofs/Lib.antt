@@ -1,3 +1,4 @@
 pub mod CheckLaws
 pub mod LayoutLaws
 pub mod OrderLaws
+pub mod Corners

@@ -1,2 +1,3 @@
 pub mod MovedEntry
 pub mod OrderLaws
+pub mod Corners

@@ -1,2 +1,3 @@
 pub mod SpilledLaws
 pub mod OrderLaws
+pub mod Corners
