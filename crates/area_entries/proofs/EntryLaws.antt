@@ -21,7 +21,6 @@ use Rattle.item_lists.specs.declared.Answer.the-variants.{Refused}
 use Rattle.lent_areas.specs.declared.Found.{Found}
 use Rattle.lent_areas.specs.declared.Found.the-variants.{Inverted, Ranges}
 use Rattle.area_layout.specs.Layout.{spaceFor}
-use Rattle.area_tables.specs.Tables.{listVerdict}
 use Rattle.item_lists.specs.Lists.{AnsweredBy}
 use Rattle.item_lists.specs.Inner.{Held as HeldList}
 use Rattle.area_entries.specs.Entry.{areaVerdict, verdictOf, LocalAreas}
@@ -29,24 +28,25 @@ use Rattle.lent_areas.specs.Areas.{graphFor, listing, FoundAs}
 use Rattle.area_checks.specs.Checks.{sizesOf, lentVerdict}
 use Rattle.area_entries.specs.Inner.{Held}
 use Rattle.area_entries.proofs.OrderLaws.{local-verdict}
+use Rattle.areas.specs.Job.{areasVerdict}
 
 module _ (locals room : ℕ) (areas items w : List ℕ) (f : Found) where
   pub tell-inverted : f ≡ Inverted → (bad : Bool) (A : ℕ → Option (List Range)) → FoundAs bad A locals room w f
-      → AnsweredBy (first (check InvertedWord bad) (listVerdict locals A room)) locals A areas items (Refused InvertedWord 0) areas items
+      → AnsweredBy (first (check InvertedWord bad) (areasVerdict locals A room)) locals A areas items (Refused InvertedWord 0) areas items
   tell-inverted e bad A F =
       let b : bad ≡ true = subst (λ (x : Found). FoundAs bad A locals room w x) e F in
-      rw (first-bad (check InvertedWord bad) (listVerdict locals A room) InvertedWord 0 (ap (check InvertedWord) b)) (record { answer = refl; in-areas = refl; in-items = refl })
+      rw (first-bad (check InvertedWord bad) (areasVerdict locals A room) InvertedWord 0 (ap (check InvertedWord) b)) (record { answer = refl; in-areas = refl; in-items = refl })
 
   module _ {n : ℕ} (e : f ≡ Ranges n) where
     pub held-list : Held locals room w f → HeldList locals room n w
     held-list H = record { area = H .area; found = subst (λ (x : Found). FoundAs (H .bad) (H .area) locals room w x) e (H .found) .1 }
 
     pub tell-ranges : {r : Answer} {areas′ items′ : List ℕ}
-        → ((A : ℕ → Option (List Range)) → ListedBy wordOf (listing room) A locals n w → AnsweredBy (listVerdict locals A room) locals A areas items r areas′ items′)
-        → (bad : Bool) (A : ℕ → Option (List Range)) → FoundAs bad A locals room w f → AnsweredBy (first (check InvertedWord bad) (listVerdict locals A room)) locals A areas items r areas′ items′
+        → ((A : ℕ → Option (List Range)) → ListedBy wordOf (listing room) A locals n w → AnsweredBy (areasVerdict locals A room) locals A areas items r areas′ items′)
+        → (bad : Bool) (A : ℕ → Option (List Range)) → FoundAs bad A locals room w f → AnsweredBy (first (check InvertedWord bad) (areasVerdict locals A room)) locals A areas items r areas′ items′
     tell-ranges B bad A F =
         let b = subst (λ (x : Found). FoundAs bad A locals room w x) e F in
-        rw (first-fine (check InvertedWord bad) (listVerdict locals A room) (ap (check InvertedWord) (b .0))) (B A (b .1))
+        rw (first-fine (check InvertedWord bad) (areasVerdict locals A room) (ap (check InvertedWord) (b .0))) (B A (b .1))
 
 -- ---- the entry
 

@@ -10,10 +10,9 @@ use Rattle.refusals.specs.Verdicts.{numberOf, first, inOrder, check}
 use Rattle.refusals.specs.Orders.{Giving, Ordered}
 use Rattle.refusals.proofs.Orders.{check-gives, giving-append, order-two, order-append}
 use Rattle.words.specs.Rows.{tabulate}
-use Rattle.areas.specs.Job.{rangesOf}
+use Rattle.areas.specs.Job.{rangesOf, areasVerdict}
 use Rattle.local_marks.specs.Marks.{someInverted}
 use Rattle.area_measure.specs.Locals.{areaFor}
-use Rattle.area_tables.specs.Tables.{listVerdict}
 use Rattle.area_checks.specs.Checks.{lentVerdict, lentChecks, lentGive}
 use Rattle.area_checks.proofs.OrderLaws.{lent-order, lent-give}
 use Rattle.lent_areas.specs.Areas.{graphFor}
@@ -24,14 +23,14 @@ module _ (blocks edges : List ℕ) (points : ℕ) (kinds touches ends : List ℕ
   pub local-verdict : verdictOf blocks edges points kinds touches ends areas items work
       ≡ first (lentVerdict blocks edges points kinds (length touches) (length ends) areas items work) (areaVerdict (graphFor blocks edges) kinds touches (areaFor (graphFor blocks edges) kinds touches ends) (areas / 2))
   local-verdict =
-      order-append (lentChecks blocks edges points kinds (length touches) (length ends) areas items work) (check Inverted (someInverted (graphFor blocks edges) kinds touches (length kinds)) ∷ listVerdict (length kinds) (areaFor (graphFor blocks edges) kinds touches ends) (areas / 2) ∷ [])
+      order-append (lentChecks blocks edges points kinds (length touches) (length ends) areas items work) (check Inverted (someInverted (graphFor blocks edges) kinds touches (length kinds)) ∷ areasVerdict (length kinds) (areaFor (graphFor blocks edges) kinds touches ends) (areas / 2) ∷ [])
       ∙ ap (first (inOrder (lentChecks blocks edges points kinds (length touches) (length ends) areas items work))) (sym (order-two _ _))
       ∙ ap (λ (v : Verdict). first v (areaVerdict (graphFor blocks edges) kinds touches (areaFor (graphFor blocks edges) kinds touches ends) (areas / 2))) (sym (lent-order blocks edges points kinds (length touches) (length ends) areas items work))
 
   local-gives : Giving localGive (localChecks blocks edges points kinds touches ends areas items work)
   local-gives =
       giving-append lentGive (Inverted ∷ ListWord ∷ []) (lentChecks blocks edges points kinds (length touches) (length ends) areas items work)
-      (check Inverted (someInverted (graphFor blocks edges) kinds touches (length kinds)) ∷ listVerdict (length kinds) (areaFor (graphFor blocks edges) kinds touches ends) (areas / 2) ∷ [])
+      (check Inverted (someInverted (graphFor blocks edges) kinds touches (length kinds)) ∷ areasVerdict (length kinds) (areaFor (graphFor blocks edges) kinds touches ends) (areas / 2) ∷ [])
       (lent-give blocks edges points kinds (length touches) (length ends) areas items work) (
         check-gives Inverted (someInverted (graphFor blocks edges) kinds touches (length kinds)),
         (check-gives ListWord (ltb (areas / 2) (rangesOf (tabulate (length kinds) (areaFor (graphFor blocks edges) kinds touches ends)))), tt),

@@ -18,18 +18,18 @@ use Rattle.item_lists.specs.Lists.{AnsweredBy}
 use Rattle.area_layout.specs.Layout.{spaceFor}
 use Rattle.area_checks.specs.Checks.{sizesOf, lentVerdict, lentChecks, lentGive}
 use Rattle.lent_areas.specs.Areas.{graphFor}
-use Rattle.area_tables.specs.Tables.{listVerdict}
+use Rattle.areas.specs.Job.{areasVerdict}
 
 -- numbers 8 and 9: 8 of any local before 9
 abbrev pub areaVerdict : Graph → List ℕ → List ℕ → (ℕ → Option (List Range)) → ℕ → Verdict
-areaVerdict G kinds touches A room = first (check Inverted (someInverted G kinds touches (length kinds))) (listVerdict (length kinds) A room)
+areaVerdict G kinds touches A room = first (check Inverted (someInverted G kinds touches (length kinds))) (areasVerdict (length kinds) A room)
 
 -- the checks in the entry's order, "lowest number wins": 1, 2, 3, 4 and 7 of what is lent, then 8 and 9 of what is found; and the refusal that each gives
 abbrev pub localChecks : List ℕ → List ℕ → ℕ → List ℕ → List ℕ → List ℕ → ℕ → ℕ → ℕ → List Verdict
 localChecks blocks edges points kinds touches ends areas items work =
     lentChecks blocks edges points kinds (length touches) (length ends) areas items work
     ++ (check Inverted (someInverted (graphFor blocks edges) kinds touches (length kinds))
-    ∷ listVerdict (length kinds) (areaFor (graphFor blocks edges) kinds touches ends) (areas / 2) ∷ [])
+    ∷ areasVerdict (length kinds) (areaFor (graphFor blocks edges) kinds touches ends) (areas / 2) ∷ [])
 
 abbrev pub localGive : List Refusal
 localGive = lentGive ++ (Inverted ∷ ListWord ∷ [])

@@ -9,8 +9,8 @@ use Rattle.words.specs.Rows.{tabulate, flat}
 use Rattle.ranges.specs.declared.Range.{Range}
 use Rattle.ranges.specs.Points.{range}
 use Rattle.carrying.specs.Lists.{gather}
-use Rattle.areas.specs.Job.{rangesOf}
-use Rattle.area_tables.specs.Tables.{listVerdict, areaRows, listing}
+use Rattle.areas.specs.Job.{rangesOf, areasVerdict}
+use Rattle.area_tables.specs.Tables.{areaRows, listing}
 
 -- an item with two ranges, one without area, one with a range
 abbrev three : ℕ → Option (List Range)
@@ -24,6 +24,6 @@ unfolding tabulate flat gather
 rows = (refl, refl, refl)
 
 -- number 9: "all areas exceed the area list"
-pub room : (listVerdict 3 three 3 ≡ Fine) × (listVerdict 3 three 2 ≡ Bad ListWord 0)
+pub room : (areasVerdict 3 three 3 ≡ Fine) × (areasVerdict 3 three 2 ≡ Bad ListWord 0)
 unfolding tabulate rangesOf
 room = (refl, refl)

@@ -18,7 +18,7 @@ use Rattle.carrying.specs.Carried.{Piece, kindOf}
 use Rattle.areas.specs.Blocks.{Graph, holding, blockOf, bounds, between, clip, invertedVerdict, touched, until, cover, leaves, passes}
 use Rattle.areas.specs.Pieces.{through}
 use Rattle.areas.specs.Slots.{Move, assignedOf, movesOf, position, around, spilled, moveVerdict, badPiece, pieceVerdict, assignedVerdict}
-use Rattle.areas.specs.Job.{Job, localsOf, areaBy, itemCount, itemArea, rangesOf, listVerdict}
+use Rattle.areas.specs.Job.{Job, localsOf, areaBy, itemCount, itemArea, rangesOf, itemsVerdict}
 
 -- rows `L,size,align`, `P,register,slot` and `M,kind,number,to,from`
 pub rows : (localsOf (4 ∷ 5 ∷ []) ≡ record { size = 4; align = 5 } ∷ []) × (assignedOf (4 ∷ 5 ∷ []) ≡ record { register = 4; slot = 5 } ∷ [])
@@ -115,6 +115,6 @@ unfolding any keep gather placeIn insert sort join merged spilled kindOf
 items = (refl, refl, refl, refl, refl)
 
 -- number 9: "all areas, put there in item order, exceed the area list": at the room and one over
-pub room : (listVerdict job 1 ≡ Fine) × (listVerdict job 0 ≡ Bad ListWord 0) × (rangesOf (some (range 1 2 ∷ range 4 5 ∷ []) ∷ none ∷ some (range 7 8 ∷ []) ∷ []) ≡ 3)
+pub room : (itemsVerdict job 1 ≡ Fine) × (itemsVerdict job 0 ≡ Bad ListWord 0) × (rangesOf (some (range 1 2 ∷ range 4 5 ∷ []) ∷ none ∷ some (range 7 8 ∷ []) ∷ []) ≡ 3)
 unfolding tabulate any keep gather placeIn insert sort join merged spilled kindOf rangesOf
 room = (refl, refl, refl)

@@ -80,7 +80,7 @@ itemCount J = length (J .locals) + length (J .slots)
 abbrev pub itemArea : Job → ℕ → Option (List Range)
 itemArea J i = cond (ltb i (length (J .locals))) (localArea J i) (slotAreaIn J (i - length (J .locals)))
 
--- number 9: "all areas, put there in item order, exceed the area list"
+-- how many ranges areas have
 abbrev pub rangesIn : Option (List Range) → ℕ
 rangesIn none = 0
 rangesIn (some rs) = length rs
@@ -89,5 +89,9 @@ unfoldable pub rangesOf : List (Option (List Range)) → ℕ
 rangesOf [] = 0
 rangesOf (a ∷ l) = rangesIn a + rangesOf l
 
-abbrev pub listVerdict : Job → ℕ → Verdict
-listVerdict J room = check ListWord (ltb room (rangesOf (tabulate (itemCount J) (itemArea J))))
+-- number 9: "all areas, put there in item order, exceed the area list", of n items, and of a job's
+abbrev pub areasVerdict : ℕ → (ℕ → Option (List Range)) → ℕ → Verdict
+areasVerdict n A room = check ListWord (ltb room (rangesOf (tabulate n A)))
+
+abbrev pub itemsVerdict : Job → ℕ → Verdict
+itemsVerdict J room = areasVerdict (itemCount J) (itemArea J) room

@@ -9,7 +9,7 @@ use Rattle.refusals.specs.declared.Verdict.the-variants.{Fine, Bad}
 use Rattle.refusals.specs.Verdicts.{first}
 use Rattle.refusals.specs.Outcomes.{unless, after}
 use Rattle.refusals.proofs.Laws.{first-left}
-use Rattle.areas.specs.Job.{listVerdict}
+use Rattle.areas.specs.Job.{itemsVerdict}
 use Rattle.fitting.specs.Plan.{Plan}
 use Rattle.wants.specs.Entry.{tallyOf, cellRows}
 use Rattle.soundness.specs.Walks.{Step, Legal}
@@ -45,7 +45,7 @@ module _ {points v budget : ℕ} {blocks edges insts operands crossings locals s
   fine = no-refusal verdict plan (omega (arith, E .answer))
 
   measured : measuredVerdict points v budget blocks edges insts operands crossings locals slots addresses ends pieces assigned moves (length cells) (length items) (length areas) (length counts) (length work) ≡ Fine
-  measured = first-left _ (listVerdict (job points v budget blocks edges insts operands crossings locals slots addresses ends pieces assigned moves) (length areas / 2)) fine
+  measured = first-left _ (itemsVerdict (job points v budget blocks edges insts operands crossings locals slots addresses ends pieces assigned moves) (length areas / 2)) fine
 
   -- neither verdict refuses
   same-lent : measuredVerdict points v budget blocks edges insts operands crossings locals slots addresses ends pieces assigned moves (length cells) (length items) (length areas) (length counts) (length work) ≡ lent
@@ -55,7 +55,7 @@ module _ {points v budget : ℕ} {blocks edges insts operands crossings locals s
   pub shared : (c p d : ℕ) → answered (Planned c p d) ≡ tallyOf (unless Fine plan)
       → SharedAs points v budget blocks edges insts operands crossings locals slots addresses ends pieces assigned moves cells items areas work (Planned c p d) cells′ items′ areas′ work′
   shared c p d e =
-      let q = ap (λ (x : Verdict). first x (listVerdict (job points v budget blocks edges insts operands crossings locals slots addresses ends pieces assigned moves) (length areas / 2))) same-lent in
+      let q = ap (λ (x : Verdict). first x (itemsVerdict (job points v budget blocks edges insts operands crossings locals slots addresses ends pieces assigned moves) (length areas / 2))) same-lent in
       record {
         lists = record {
           answer = e ∙ ap (λ (x : Verdict). tallyOf (unless x plan)) (sym fine ∙ q);

@@ -16,8 +16,8 @@ use Rattle.components.proofs.Entries.{cleared-same}
 use Rattle.words.specs.Rows.{rowCount}
 use Rattle.words.proofs.RowLaws.{length-records}
 use Rattle.ranges.specs.declared.Range.{Range}
-use Rattle.areas.specs.Job.{itemCount, itemArea, listVerdict}
-use Rattle.area_tables.specs.Tables.{listVerdict as listVerdictOf, listing}
+use Rattle.areas.specs.Job.{itemCount, itemArea, itemsVerdict, areasVerdict}
+use Rattle.area_tables.specs.Tables.{listing}
 use Rattle.area_measure.specs.Locals.{wordOf, ListedBy}
 use Rattle.job_space.specs.declared.Sizes.{Sizes}
 use Rattle.job_space.specs.Space.{sizesOf, spaceOf}
@@ -38,12 +38,12 @@ module _ (points v : ℕ) (blocks edges insts operands crossings locals slots ad
   space = spaceOf (sizesOf v blocks edges insts operands crossings locals slots addresses ends pieces assigned moves (length areas))
 
   by-parts : inOrder (itemChecks points v blocks edges insts operands crossings locals slots addresses ends pieces assigned moves (length areas) (length items) (length work))
-      ≡ first lentV (listVerdict (jobOf points v blocks edges insts operands crossings locals slots addresses ends pieces assigned moves) (length areas / 2))
+      ≡ first lentV (itemsVerdict (jobOf points v blocks edges insts operands crossings locals slots addresses ends pieces assigned moves) (length areas / 2))
   by-parts = item-verdict points v blocks edges insts operands crossings locals slots addresses ends pieces assigned moves (length areas) (length items) (length work)
 
   pub refused-entry : (r : Refusal) (i : ℕ) → lentV ≡ Bad r i → ItemAreas points v blocks edges insts operands crossings locals slots addresses ends pieces assigned moves areas items work (Refused r i) areas items work
   refused-entry r i e = record {
-    lists = rw (by-parts ∙ first-bad lentV (listVerdict (jobOf points v blocks edges insts operands crossings locals slots addresses ends pieces assigned moves) (length areas / 2)) r i e) (record { answer = refl; in-areas = refl; in-items = refl });
+    lists = rw (by-parts ∙ first-bad lentV (itemsVerdict (jobOf points v blocks edges insts operands crossings locals slots addresses ends pieces assigned moves) (length areas / 2)) r i e) (record { answer = refl; in-areas = refl; in-items = refl });
     in-work = rw e refl;
   }
 
@@ -52,10 +52,10 @@ module _ (points v : ℕ) (blocks edges insts operands crossings locals slots ad
   many z e = ap (λ (y : Sizes). y .locals + y .slots) e ∙ ap (λ (k : ℕ). k + length slots) (sym (length-records 2 (λ f. record { size = f 0; align = f 1 }) locals))
 
   pub answered-entry : lentV ≡ Fine → {r : Answer} {areas′ items′ w work′ : List ℕ}
-      → AnsweredBy (listVerdict (jobOf points v blocks edges insts operands crossings locals slots addresses ends pieces assigned moves) (length areas / 2)) (itemCount (jobOf points v blocks edges insts operands crossings locals slots addresses ends pieces assigned moves)) (itemArea (jobOf points v blocks edges insts operands crossings locals slots addresses ends pieces assigned moves)) areas items r areas′ items′
+      → AnsweredBy (itemsVerdict (jobOf points v blocks edges insts operands crossings locals slots addresses ends pieces assigned moves) (length areas / 2)) (itemCount (jobOf points v blocks edges insts operands crossings locals slots addresses ends pieces assigned moves)) (itemArea (jobOf points v blocks edges insts operands crossings locals slots addresses ends pieces assigned moves)) areas items r areas′ items′
       → Within 0 space work w → {n : ℕ} → n ≡ space → work′ ≡ cleared n w → ItemAreas points v blocks edges insts operands crossings locals slots addresses ends pieces assigned moves areas items work r areas′ items′ work′
   answered-entry e {r} {areas′} {items′} {w} {work′} B K {n} en Z = record {
-    lists = rw (by-parts ∙ first-fine lentV (listVerdict (jobOf points v blocks edges insts operands crossings locals slots addresses ends pieces assigned moves) (length areas / 2)) e) B;
+    lists = rw (by-parts ∙ first-fine lentV (itemsVerdict (jobOf points v blocks edges insts operands crossings locals slots addresses ends pieces assigned moves) (length areas / 2)) e) B;
     in-work = rw e (Z ∙ ap (λ (k : ℕ). cleared k w) en ∙ cleared-same space work w K
         ∙ ap (λ (k : ℕ). replicate space 0 ++ drop k work) (sym (length-replicate space 0)));
   }
@@ -79,9 +79,9 @@ module _ (points v : ℕ) (blocks edges insts operands crossings locals slots ad
   pub listed-all : {w₀ w : List ℕ} {n : ℕ} (z : Sizes) → z ≡ sizesOf v blocks edges insts operands crossings locals slots addresses ends pieces assigned moves (length areas) → Solved points v blocks edges insts operands crossings locals slots addresses ends pieces assigned moves (length areas) w₀ w n
       → {r : Answer} {areas′ items′ : List ℕ}
       → ((A : ℕ → Option (List Range)) → ListedBy wordOf (listing (length areas / 2) (length areas / 2)) A (z .locals + z .slots) n w
-      → AnsweredBy (listVerdictOf (z .locals + z .slots) A (length areas / 2)) (z .locals + z .slots) A areas items r areas′ items′)
-      → AnsweredBy (listVerdict (jobOf points v blocks edges insts operands crossings locals slots addresses ends pieces assigned moves) (length areas / 2)) (itemCount (jobOf points v blocks edges insts operands crossings locals slots addresses ends pieces assigned moves)) (itemArea (jobOf points v blocks edges insts operands crossings locals slots addresses ends pieces assigned moves)) areas items r areas′ items′
+      → AnsweredBy (areasVerdict (z .locals + z .slots) A (length areas / 2)) (z .locals + z .slots) A areas items r areas′ items′)
+      → AnsweredBy (itemsVerdict (jobOf points v blocks edges insts operands crossings locals slots addresses ends pieces assigned moves) (length areas / 2)) (itemCount (jobOf points v blocks edges insts operands crossings locals slots addresses ends pieces assigned moves)) (itemArea (jobOf points v blocks edges insts operands crossings locals slots addresses ends pieces assigned moves)) areas items r areas′ items′
   listed-all {w₀} {w} {n} z e S {r} {areas′} {items′} B =
       let c = many points v blocks edges insts operands crossings locals slots addresses ends pieces assigned moves areas items w₀ z e in
-      subst (λ (k : ℕ). AnsweredBy (listVerdictOf k (itemArea (jobOf points v blocks edges insts operands crossings locals slots addresses ends pieces assigned moves)) (length areas / 2)) k (itemArea (jobOf points v blocks edges insts operands crossings locals slots addresses ends pieces assigned moves)) areas items r areas′ items′) c
+      subst (λ (k : ℕ). AnsweredBy (areasVerdict k (itemArea (jobOf points v blocks edges insts operands crossings locals slots addresses ends pieces assigned moves)) (length areas / 2)) k (itemArea (jobOf points v blocks edges insts operands crossings locals slots addresses ends pieces assigned moves)) areas items r areas′ items′) c
       (B (itemArea (jobOf points v blocks edges insts operands crossings locals slots addresses ends pieces assigned moves)) (subst (λ (k : ℕ). ListedBy wordOf (listing (length areas / 2) (length areas / 2)) (itemArea (jobOf points v blocks edges insts operands crossings locals slots addresses ends pieces assigned moves)) k n w) (sym c) (S .listed)))

@@ -11,7 +11,7 @@ use Rattle.refusals.specs.Orders.{Giving, Ordered}
 use Rattle.refusals.proofs.Laws.{first-assoc}
 use Rattle.refusals.proofs.Orders.{check-gives, giving-append, order-two, order-append}
 use Rattle.insts.specs.Counts.{badRows, rowsVerdict}
-use Rattle.areas.specs.Job.{listVerdict}
+use Rattle.areas.specs.Job.{itemsVerdict}
 use Rattle.job_space.specs.Space.{sizesOf, spaceOf}
 use Rattle.job_checks.specs.Job.{jobOf, recordsVerdict, recordsChecks, recordsGive}
 use Rattle.job_checks.proofs.OrderLaws.{records-order, records-give}
@@ -28,7 +28,7 @@ module _ (points v : ℕ) (blocks edges insts operands crossings locals slots ad
   space = spaceVerdict (sizesOf v blocks edges insts operands crossings locals slots addresses ends pieces assigned moves areas) items work
 
   abbrev list : Verdict
-  list = listVerdict (jobOf points v blocks edges insts operands crossings locals slots addresses ends pieces assigned moves) (areas / 2)
+  list = itemsVerdict (jobOf points v blocks edges insts operands crossings locals slots addresses ends pieces assigned moves) (areas / 2)
 
   records-in : inOrder (whole ∷ recordsChecks points v blocks edges insts operands crossings locals slots addresses ends pieces assigned moves areas) ≡ first whole records
   unfolding inOrder

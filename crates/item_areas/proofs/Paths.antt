@@ -11,7 +11,7 @@ use Rattle.refusals.specs.Verdicts.{inOrder}
 use Rattle.refusals.proofs.Laws.{first-left}
 use Rattle.words.specs.Rows.{tabulate, field}
 use Rattle.words.proofs.FlatLaws.{flat-length, flat-at}
-use Rattle.areas.specs.Job.{Job, itemCount, itemArea, rangesOf, listVerdict}
+use Rattle.areas.specs.Job.{Job, itemCount, itemArea, rangesOf, itemsVerdict}
 use Rattle.area_tables.specs.Tables.{areaRows}
 use Rattle.area_points.specs.Parts.{AreasTold}
 use Rattle.area_points.proofs.PartLaws.{row-tells, tells-same}
@@ -42,7 +42,7 @@ module _ {points v : ℕ} {blocks edges insts operands crossings locals slots ad
 
   lent-fine : lentV ≡ Fine
   lent-fine =
-      first-left lentV (listVerdict J (length areas / 2))
+      first-left lentV (itemsVerdict J (length areas / 2))
       (sym (item-verdict points v blocks edges insts operands crossings locals slots addresses ends pieces assigned moves (length areas) (length items) (length work)) ∙ fine)
 
   passed : Passed points v blocks edges insts operands crossings locals slots addresses ends pieces assigned moves (length areas)

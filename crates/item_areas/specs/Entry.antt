@@ -12,7 +12,7 @@ use Rattle.refusals.specs.Verdicts.{first, inOrder, check}
 use Rattle.refusals.specs.Outcomes.{unless, after}
 use Rattle.words.specs.Rows.{tabulate}
 use Rattle.insts.specs.Counts.{rowsVerdict}
-use Rattle.areas.specs.Job.{Job, itemCount, itemArea, rangesOf, listVerdict}
+use Rattle.areas.specs.Job.{Job, itemCount, itemArea, rangesOf, itemsVerdict}
 use Rattle.job_space.specs.declared.Sizes.{Sizes}
 use Rattle.job_space.specs.Space.{sizesOf, spaceOf}
 use Rattle.job_checks.specs.Job.{jobOf, recordsVerdict, recordsChecks, recordsGive}
@@ -34,7 +34,7 @@ abbrev pub itemChecks : ℕ → ℕ → List ℕ → List ℕ → List ℕ → L
 itemChecks points v blocks edges insts operands crossings locals slots addresses ends pieces assigned moves areas items work =
     (rowsVerdict 3 items items ∷ recordsChecks points v blocks edges insts operands crossings locals slots addresses ends pieces assigned moves areas)
     ++ (spaceVerdict (sizesOf v blocks edges insts operands crossings locals slots addresses ends pieces assigned moves areas) items work
-    ∷ listVerdict (jobOf points v blocks edges insts operands crossings locals slots addresses ends pieces assigned moves) (areas / 2) ∷ [])
+    ∷ itemsVerdict (jobOf points v blocks edges insts operands crossings locals slots addresses ends pieces assigned moves) (areas / 2) ∷ [])
 
 abbrev pub itemGive : List Refusal
 itemGive = (Count ∷ recordsGive) ++ (Space ∷ ListWord ∷ [])

@@ -18,10 +18,10 @@ use Rattle.words.proofs.RowLaws.{tabulate-eq}
 use Rattle.words.proofs.FlatLaws.{flat-length}
 use Rattle.ranges.specs.declared.Range.{Range}
 use Rattle.carrying.specs.Lists.{gather}
-use Rattle.areas.specs.Job.{rangesIn, rangesOf}
+use Rattle.areas.specs.Job.{rangesIn, rangesOf, areasVerdict}
 use Rattle.area_measure.specs.Locals.{listed, wordOf, ListedBy}
 use Rattle.answer_rows.specs.Rows.{rowsIn}
-use Rattle.area_tables.specs.Tables.{listVerdict, areaRows, listing}
+use Rattle.area_tables.specs.Tables.{areaRows, listing}
 use Rattle.area_tables.proofs.RowLaws.{ranges-below, rows-areas, rows-long}
 use Rattle.item_lists.specs.declared.Answer.{Answer}
 use Rattle.item_lists.specs.declared.Answer.the-variants.{Given, Refused}
@@ -42,14 +42,14 @@ row-long first none = refl
 row-long first (some rs) = refl
 
 module _ (A : ℕ → Option (List Range)) (count room n : ℕ) (w : List ℕ) (D : ListedBy wordOf (listing room room) A count n w) where
-  pub list-full : room < n → listVerdict count A room ≡ Bad ListWord 0
+  pub list-full : room < n → areasVerdict count A room ≡ Bad ListWord 0
   list-full h = ap (check ListWord) (lt-ltb room (rangesOf (tabulate count A)) (omega (arith, D .total-is)))
 
-  pub refused-list : room < n → (areas items : List ℕ) → AnsweredBy (listVerdict count A room) count A areas items (Refused ListWord 0) areas items
+  pub refused-list : room < n → (areas items : List ℕ) → AnsweredBy (areasVerdict count A room) count A areas items (Refused ListWord 0) areas items
   refused-list h areas items = rw (list-full h) (record { answer = refl; in-areas = refl; in-items = refl })
 
   module _ (fits : n ≤ room) (few : room ≤ 65536) (in-work : room + count ≤ length w) where
-    pub list-fine : listVerdict count A room ≡ Fine
+    pub list-fine : areasVerdict count A room ≡ Fine
     list-fine = ap (check ListWord) (le-ltb room (rangesOf (tabulate count A)) (omega (arith, D .total-is)))
 
     areas-are : rowsIn w 0 n 0 ≡ areaRows count A
@@ -66,7 +66,7 @@ module _ (A : ℕ → Option (List Range)) (count room n : ℕ) (w : List ℕ) (
     items-long = flat-length 3 count (λ i. itemRow (rangesOf (tabulate i A)) (A i)) (λ i h. row-long (rangesOf (tabulate i A)) (A i))
 
     pub given-list : (areas items areas′ items′ : List ℕ) → areas′ ≡ rowsIn w 0 n 0 ++ drop (2 * n) areas → items′ ≡ rowsOf w room count ++ drop (3 * count) items
-        → AnsweredBy (listVerdict count A room) count A areas items (Given n) areas′ items′
+        → AnsweredBy (areasVerdict count A room) count A areas items (Given n) areas′ items′
     given-list areas items areas′ items′ a b = rw list-fine (record {
       answer = ap (λ (k : ℕ). given k) (D .total-is);
       in-areas = a ∙ ap (λ (l : List ℕ). l ++ drop (2 * n) areas) areas-are ∙ ap (λ (k : ℕ). areaRows count A ++ drop k areas) (sym areas-long);

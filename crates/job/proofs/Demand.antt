@@ -12,7 +12,7 @@ use Rattle.refusals.specs.Outcomes.{given, unless, after}
 use Rattle.refusals.proofs.Laws.{first-left}
 use Rattle.words.specs.Rows.{tabulate, flat}
 use Rattle.ranges.specs.declared.Range.{Range}
-use Rattle.areas.specs.Job.{Job, Checked, itemCount, itemArea, rangesOf, listVerdict}
+use Rattle.areas.specs.Job.{Job, Checked, itemCount, itemArea, rangesOf, itemsVerdict}
 use Rattle.fitting.specs.Wants.{orderOf}
 use Rattle.fitting.specs.Plan.{Plan, Cell, cellAt}
 use Rattle.wants.specs.Entry.{Tally, tallyOf, cellRow, cellRows}
@@ -49,7 +49,7 @@ module _ {points v budget : ℕ} {blocks edges insts operands crossings locals s
   pub passed : Passed points v blocks edges insts operands crossings locals slots addresses ends pieces assigned moves (length areas)
   passed =
       granted points v budget blocks edges insts operands crossings locals slots addresses ends pieces assigned moves (length cells) (length items) (length areas) work
-      (first-left (lentVerdict points v budget blocks edges insts operands crossings locals slots addresses ends pieces assigned moves (length cells) (length items) (length areas) (length work)) (listVerdict J (length areas / 2)) none-refused)
+      (first-left (lentVerdict points v budget blocks edges insts operands crossings locals slots addresses ends pieces assigned moves (length cells) (length items) (length areas) (length work)) (itemsVerdict J (length areas / 2)) none-refused)
       .lent .passed
 
   checked : Checked J

@@ -19,11 +19,11 @@ use Rattle.graph.specs.Work.{Within}
 use Rattle.components.proofs.Entries.{cleared-same}
 use Rattle.ranges.specs.declared.Range.{Range}
 use Rattle.reach.specs.Prepared.{wordsOf}
-use Rattle.areas.specs.Job.{Local, localsOf, itemCount, itemArea, listVerdict}
+use Rattle.areas.specs.Job.{Local, localsOf, itemCount, itemArea, itemsVerdict, areasVerdict}
 use Rattle.areas.proofs.ApartLaws.{areas-apart}
 use Rattle.fitting.specs.Wants.{Want, orderOf}
 use Rattle.fitting.specs.Plan.{Plan, planOf}
-use Rattle.area_tables.specs.Tables.{listVerdict as listVerdictOf, listing}
+use Rattle.area_tables.specs.Tables.{listing}
 use Rattle.area_measure.specs.Locals.{wordOf, ListedBy}
 use Rattle.job_space.specs.declared.Sizes.{Sizes}
 use Rattle.job_space.specs.Space.{sizesOf, spaceOf, Small}
@@ -94,7 +94,7 @@ module _ (points v budget : ℕ) (blocks edges insts operands crossings locals s
   pub refused-entry : (r : Refusal) (i : ℕ) → lentVerdict points v budget blocks edges insts operands crossings locals slots addresses ends pieces assigned moves (length cells) (length items) (length areas) (length work) ≡ Bad r i
       → SharedAs points v budget blocks edges insts operands crossings locals slots addresses ends pieces assigned moves cells items areas work (Refused r i) cells items areas work
   refused-entry r i e = record {
-    lists = rw (first-bad (lentVerdict points v budget blocks edges insts operands crossings locals slots addresses ends pieces assigned moves (length cells) (length items) (length areas) (length work)) (listVerdict (jobOf points v blocks edges insts operands crossings locals slots addresses ends pieces assigned moves) (length areas / 2)) r i e) (record { answer = refl; in-cells = refl; in-items = refl; in-areas = refl });
+    lists = rw (first-bad (lentVerdict points v budget blocks edges insts operands crossings locals slots addresses ends pieces assigned moves (length cells) (length items) (length areas) (length work)) (itemsVerdict (jobOf points v blocks edges insts operands crossings locals slots addresses ends pieces assigned moves) (length areas / 2)) r i e) (record { answer = refl; in-cells = refl; in-items = refl; in-areas = refl });
     in-work = rw e refl;
   }
 
@@ -124,15 +124,15 @@ module _ (points v budget : ℕ) (blocks edges insts operands crossings locals s
       → Solved points v blocks edges insts operands crossings locals slots addresses ends pieces assigned moves (length areas) work w n
       → end ≡ space → Within 0 end w w′
       → ((A : ℕ → Option (List Range)) → ListedBy wordOf (listing (length areas / 2) (length areas / 2)) A (countOf locals slots) n w
-      → AnsweredBy (listVerdictOf (countOf locals slots) A (length areas / 2)) (countOf locals slots) A (planFor locals slots A budget) cells items areas r cells′ items′ areas′)
+      → AnsweredBy (areasVerdict (countOf locals slots) A (length areas / 2)) (countOf locals slots) A (planFor locals slots A budget) cells items areas r cells′ items′ areas′)
       → work′ ≡ cleared end w′ → SharedAs points v budget blocks edges insts operands crossings locals slots addresses ends pieces assigned moves cells items areas work r cells′ items′ areas′ work′
   answered-entry e {r} {cells′} {items′} {areas′} {w} {w′} {work′} {n} {end} T en K B Z = record {
-    lists = rw (first-fine (lentVerdict points v budget blocks edges insts operands crossings locals slots addresses ends pieces assigned moves (length cells) (length items) (length areas) (length work)) (listVerdict (jobOf points v blocks edges insts operands crossings locals slots addresses ends pieces assigned moves) (length areas / 2)) e) listed-all;
+    lists = rw (first-fine (lentVerdict points v budget blocks edges insts operands crossings locals slots addresses ends pieces assigned moves (length cells) (length items) (length areas) (length work)) (itemsVerdict (jobOf points v blocks edges insts operands crossings locals slots addresses ends pieces assigned moves) (length areas / 2)) e) listed-all;
     in-work = rw e (Z ∙ ap (λ (k : ℕ). cleared k w′) en ∙ cleared-same space w w′ (subst (λ (k : ℕ). Within 0 k w w′) en K) ∙ cleared-same space work w (T .kept) ∙ ap (λ (k : ℕ). replicate space 0 ++ drop k work) (sym (length-replicate space 0)));
   }
     where
-      listed-all : AnsweredBy (listVerdict (jobOf points v blocks edges insts operands crossings locals slots addresses ends pieces assigned moves) (length areas / 2)) (itemCount (jobOf points v blocks edges insts operands crossings locals slots addresses ends pieces assigned moves)) (itemArea (jobOf points v blocks edges insts operands crossings locals slots addresses ends pieces assigned moves)) (jobPlan (jobOf points v blocks edges insts operands crossings locals slots addresses ends pieces assigned moves) budget) cells items areas r cells′ items′ areas′
+      listed-all : AnsweredBy (itemsVerdict (jobOf points v blocks edges insts operands crossings locals slots addresses ends pieces assigned moves) (length areas / 2)) (itemCount (jobOf points v blocks edges insts operands crossings locals slots addresses ends pieces assigned moves)) (itemArea (jobOf points v blocks edges insts operands crossings locals slots addresses ends pieces assigned moves)) (jobPlan (jobOf points v blocks edges insts operands crossings locals slots addresses ends pieces assigned moves) budget) cells items areas r cells′ items′ areas′
       listed-all =
-          subst (λ (k : ℕ). AnsweredBy (listVerdictOf k (itemArea (jobOf points v blocks edges insts operands crossings locals slots addresses ends pieces assigned moves)) (length areas / 2)) k (itemArea (jobOf points v blocks edges insts operands crossings locals slots addresses ends pieces assigned moves)) (jobPlan (jobOf points v blocks edges insts operands crossings locals slots addresses ends pieces assigned moves) budget) cells items areas r cells′ items′ areas′) (sym (many points v blocks edges insts operands crossings locals slots addresses ends pieces assigned moves))
-          (subst (λ (p : Plan). AnsweredBy (listVerdictOf (countOf locals slots) (itemArea (jobOf points v blocks edges insts operands crossings locals slots addresses ends pieces assigned moves)) (length areas / 2)) (countOf locals slots) (itemArea (jobOf points v blocks edges insts operands crossings locals slots addresses ends pieces assigned moves)) p cells items areas r cells′ items′ areas′) (plan-is points v blocks edges insts operands crossings locals slots addresses ends pieces assigned moves budget)
+          subst (λ (k : ℕ). AnsweredBy (areasVerdict k (itemArea (jobOf points v blocks edges insts operands crossings locals slots addresses ends pieces assigned moves)) (length areas / 2)) k (itemArea (jobOf points v blocks edges insts operands crossings locals slots addresses ends pieces assigned moves)) (jobPlan (jobOf points v blocks edges insts operands crossings locals slots addresses ends pieces assigned moves) budget) cells items areas r cells′ items′ areas′) (sym (many points v blocks edges insts operands crossings locals slots addresses ends pieces assigned moves))
+          (subst (λ (p : Plan). AnsweredBy (areasVerdict (countOf locals slots) (itemArea (jobOf points v blocks edges insts operands crossings locals slots addresses ends pieces assigned moves)) (length areas / 2)) (countOf locals slots) (itemArea (jobOf points v blocks edges insts operands crossings locals slots addresses ends pieces assigned moves)) p cells items areas r cells′ items′ areas′) (plan-is points v blocks edges insts operands crossings locals slots addresses ends pieces assigned moves budget)
           (B (itemArea (jobOf points v blocks edges insts operands crossings locals slots addresses ends pieces assigned moves)) (subst (λ (k : ℕ). ListedBy wordOf (listing (length areas / 2) (length areas / 2)) (itemArea (jobOf points v blocks edges insts operands crossings locals slots addresses ends pieces assigned moves)) k n w) (many points v blocks edges insts operands crossings locals slots addresses ends pieces assigned moves) (T .listed))))

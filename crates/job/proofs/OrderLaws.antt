@@ -13,7 +13,7 @@ use Rattle.refusals.specs.Orders.{Ordered}
 use Rattle.refusals.proofs.Laws.{first-assoc, check-last}
 use Rattle.refusals.proofs.Orders.{check-gives, order-append, giving-append}
 use Rattle.words.specs.Rows.{tabulate}
-use Rattle.areas.specs.Job.{Job, checks, itemCount, itemArea, rangesOf, listVerdict}
+use Rattle.areas.specs.Job.{Job, checks, itemCount, itemArea, rangesOf, itemsVerdict}
 use Rattle.job_space.specs.declared.Sizes.{Sizes}
 use Rattle.job_space.specs.Space.{sizesOf, spaceOf, badShape}
 use Rattle.job_checks.specs.Job.{jobOf, countVerdict, recordsVerdict, recordsChecks, recordsGive}
@@ -39,17 +39,17 @@ module _ (points v budget : ℕ) (blocks edges insts operands crossings locals s
   unfolding lentVerdict recordsVerdict
   job-verdict =
       in-a-row (check Count (badShape budget cells items)) (countVerdict v blocks edges insts operands crossings locals slots addresses ends pieces assigned moves areas)
-      (spaceVerdict z cells items work) (listVerdict J (areas / 2)) (checks J)
+      (spaceVerdict z cells items work) (itemsVerdict J (areas / 2)) (checks J)
 
   pub job-ordered : Ordered numberOf (Count ∷ (recordsGive ++ (Space ∷ ListWord ∷ []))) (jobChecks points v budget blocks edges insts operands crossings locals slots addresses ends pieces assigned moves cells items areas work)
   job-ordered = record {
     gives = (
       check-gives Count (badShape budget cells items),
       giving-append recordsGive (Space ∷ ListWord ∷ []) (recordsChecks points v blocks edges insts operands crossings locals slots addresses ends pieces assigned moves areas)
-      (spaceVerdict z cells items work ∷ listVerdict J (areas / 2) ∷ []) (records-give points v blocks edges insts operands crossings locals slots addresses ends pieces assigned moves areas) (
-        check-gives Space (ltb work (spaceOf z) || (ltb (cells / 2) (z .locals + z .slots) || ltb (items / 4) (z .locals + z .slots))),
-        (check-gives ListWord (ltb (areas / 2) (rangesOf (tabulate (itemCount J) (itemArea J)))), tt),
-      ),
+          (spaceVerdict z cells items work ∷ itemsVerdict J (areas / 2) ∷ []) (records-give points v blocks edges insts operands crossings locals slots addresses ends pieces assigned moves areas) (
+            check-gives Space (ltb work (spaceOf z) || (ltb (cells / 2) (z .locals + z .slots) || ltb (items / 4) (z .locals + z .slots))),
+            (check-gives ListWord (ltb (areas / 2) (rangesOf (tabulate (itemCount J) (itemArea J)))), tt),
+          ),
     );
     rises = refl;
   }

@@ -15,7 +15,7 @@ use Rattle.refusals.proofs.Laws.{first-left, first-right, check-told}
 use Rattle.words.specs.Rows.{rowCount, field, tabulate}
 use Rattle.words.proofs.RowLaws.{length-tabulate, getD-tabulate, length-records}
 use Rattle.ranges.specs.declared.Range.{Range}
-use Rattle.areas.specs.Job.{Job, Local, itemCount, itemArea, rangesOf, listVerdict}
+use Rattle.areas.specs.Job.{Job, Local, itemCount, itemArea, rangesOf, itemsVerdict}
 use Rattle.fitting.specs.Wants.{Want, wantAt, orderOf}
 use Rattle.fitting.specs.Plan.{Plan}
 use Rattle.fitting.specs.Lowest.{PutLowest}
@@ -56,7 +56,7 @@ module _ {points v budget : ℕ} {blocks edges insts operands crossings locals s
   verdict-fine = none-refused E
 
   lent-fine : lentVerdict points v budget blocks edges insts operands crossings locals slots addresses ends pieces assigned moves (length cells) (length items) (length areas) (length work) ≡ Fine
-  lent-fine = first-left _ (listVerdict J (length areas / 2)) verdict-fine
+  lent-fine = first-left _ (itemsVerdict J (length areas / 2)) verdict-fine
 
   small : Small (sizesOf v blocks edges insts operands crossings locals slots addresses ends pieces assigned moves (length areas))
   small = granted points v budget blocks edges insts operands crossings locals slots addresses ends pieces assigned moves (length cells) (length items) (length areas) work lent-fine .lent .passed .small
@@ -68,7 +68,7 @@ module _ {points v budget : ℕ} {blocks edges insts operands crossings locals s
   ranges-fit : rangesOf (tabulate (itemCount J) (itemArea J)) ≤ length areas / 2
   ranges-fit =
       ltb-false (length areas / 2) (rangesOf (tabulate (itemCount J) (itemArea J)))
-      (check-told ListWord _ (first-right (lentVerdict points v budget blocks edges insts operands crossings locals slots addresses ends pieces assigned moves (length cells) (length items) (length areas) (length work)) (listVerdict J (length areas / 2)) verdict-fine))
+      (check-told ListWord _ (first-right (lentVerdict points v budget blocks edges insts operands crossings locals slots addresses ends pieces assigned moves (length cells) (length items) (length areas) (length work)) (itemsVerdict J (length areas / 2)) verdict-fine))
 
   -- ---- the lists, by their rows
 

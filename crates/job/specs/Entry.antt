@@ -9,7 +9,7 @@ use Rattle.refusals.specs.declared.Verdict.{Verdict}
 use Rattle.refusals.specs.declared.Refusal.the-variants.{Count, Space}
 use Rattle.refusals.specs.Verdicts.{first, check}
 use Rattle.refusals.specs.Outcomes.{unless, after}
-use Rattle.areas.specs.Job.{Job, itemCount, itemArea, listVerdict}
+use Rattle.areas.specs.Job.{Job, itemCount, itemArea, itemsVerdict}
 use Rattle.job_space.specs.declared.Sizes.{Sizes}
 use Rattle.job_space.specs.Space.{sizesOf, spaceOf, badShape}
 use Rattle.job_checks.specs.Job.{jobOf, recordsVerdict, recordsChecks}
@@ -42,14 +42,14 @@ module _ (points v budget : ℕ) (blocks edges insts operands crossings locals s
 
     -- all refusals, lowest number first
     abbrev pub verdictOf : Verdict
-    verdictOf = first lentVerdict (listVerdict job (areas / 2))
+    verdictOf = first lentVerdict (itemsVerdict job (areas / 2))
 
     -- the same as one list of checks, in their order: number 1, numbers 2 to 6 of the records, 7, 9
     abbrev pub jobChecks : List Verdict
     jobChecks =
         check Count (badShape budget cells items)
         ∷ (recordsChecks points v blocks edges insts operands crossings locals slots addresses ends pieces assigned moves areas
-        ++ (spaceVerdict (sizes areas) cells items work ∷ listVerdict job (areas / 2) ∷ []))
+        ++ (spaceVerdict (sizes areas) cells items work ∷ itemsVerdict job (areas / 2) ∷ []))
 
   -- the whole job: the plan of all items' areas, unless refused; the work space is unchanged after a refusal that comes before measuring, else its first W words are zero
   pub record SharedAs (cells items areas work : List ℕ) (r : Shared) (cells′ items′ areas′ work′ : List ℕ) : Type 0 where

@@ -17,10 +17,10 @@ use Rattle.fitting.proofs.OrderLaws.{order-names}
 use Rattle.fitting.proofs.PlanLaws.{facts}
 use Rattle.order.specs.Keys.{sizeOf, alignOf}
 use Rattle.cell_tables.specs.declared.Counts.{Counts}
-use Rattle.areas.specs.Job.{rangesOf}
+use Rattle.areas.specs.Job.{rangesOf, areasVerdict}
 use Rattle.area_measure.specs.Locals.{wordOf, ListedBy}
 use Rattle.answer_rows.specs.Rows.{rowsIn}
-use Rattle.area_tables.specs.Tables.{listVerdict, areaRows, listing}
+use Rattle.area_tables.specs.Tables.{areaRows, listing}
 use Rattle.area_tables.proofs.RowLaws.{ranges-below, rows-areas, rows-long}
 use Rattle.wants.specs.Entry.{tallied, cellRow, cellRows}
 use Rattle.want_tables.specs.Tables.{cellRowsIn}
@@ -35,7 +35,7 @@ use Rattle.job_answers.specs.Inner.{Measured}
 
 -- number 9
 pub refused-list : (A : ℕ → Option (List Range)) (p : Plan) (count room n : ℕ) (w : List ℕ) → ListedBy wordOf (listing room room) A count n w → room < n → (cells items areas : List ℕ)
-    → AnsweredBy (listVerdict count A room) count A p cells items areas (Refused ListWord 0) cells items areas
+    → AnsweredBy (areasVerdict count A room) count A p cells items areas (Refused ListWord 0) cells items areas
 refused-list A p count room n w D h cells items areas = rw (list-full A count room n w D h) (record { answer = refl; in-cells = refl; in-items = refl; in-areas = refl })
 
 -- what fitting asks
@@ -87,7 +87,7 @@ module _ (A : ℕ → Option (List Range)) (p : Plan) (n room total : ℕ) (w : 
   areas-long = ap length (sym areas-are) ∙ rows-long w 0 total 0
 
   pub given-list : (cells items areas cells′ items′ areas′ : List ℕ) → room ≡ length areas / 2 → Written cells items areas w n (r .cells) total cells′ items′ areas′
-      → AnsweredBy (listVerdict n A room) n A p cells items areas (Planned (r .cells) (r .probes) (r .depth)) cells′ items′ areas′
+      → AnsweredBy (areasVerdict n A room) n A p cells items areas (Planned (r .cells) (r .probes) (r .depth)) cells′ items′ areas′
   given-list cells items areas cells′ items′ areas′ e W = rw (list-fine A n room total w D fits short in-work) (record {
     answer = told;
     in-cells = cells-told ∙ ap (λ (l : List ℕ). l ++ drop (2 * r .cells) cells) cells-are ∙ ap (λ (k : ℕ). cellRows p ++ drop k cells) (sym cells-long);
@@ -133,7 +133,7 @@ module _ (locals slots : List ℕ) (budget total end : ℕ) (cells items areas w
 
   pub answered-list : (A : ℕ → Option (List Range)) → ListedBy wordOf (listing (length areas / 2) (length areas / 2)) A (countOf locals slots) total w₀ → {cells′ items′ areas′ : List ℕ}
       → Written cells items areas w (countOf locals slots) (r .cells) total cells′ items′ areas′
-      → AnsweredBy (listVerdict (countOf locals slots) A (length areas / 2)) (countOf locals slots) A (planFor locals slots A budget) cells items areas (Planned (r .cells) (r .probes) (r .depth)) cells′ items′ areas′
+      → AnsweredBy (areasVerdict (countOf locals slots) A (length areas / 2)) (countOf locals slots) A (planFor locals slots A budget) cells items areas (Planned (r .cells) (r .probes) (r .depth)) cells′ items′ areas′
   answered-list A D {cells′} {items′} {areas′} W =
       given-list A (planFor locals slots A budget) (countOf locals slots) (length areas / 2) total w r (F .plan A total D fits) (F .listed A total D fits) fits (M .short)
       (omega (arith, M .space, M .inside, F .kept .len)) cells items areas cells′ items′ areas′ refl W

@@ -6,10 +6,11 @@ ghost use lib.ListN.{length};
 ghost use Rattle.graph.specs.Work.{Within};
 ghost use Rattle.ranges.specs.declared.Range.{Range};
 ghost use Rattle.area_measure.specs.Locals.{wordOf, ListedBy};
-ghost use Rattle.area_tables.specs.Tables.{listVerdict, listing};
+ghost use Rattle.area_tables.specs.Tables.{listing};
 ghost use Rattle.job_fit.specs.Wants.{countOf, planFor};
 ghost use Rattle.job_answers.specs.Answers.{AnsweredBy};
 ghost use Rattle.job_answers.specs.Inner.{Measured};
+ghost use Rattle.areas.specs.Job.{areasVerdict};
 use refusals::Refusal;
 
 // A plan's cells, the probes spent and its depth, or a refusal with the index of the first offending record.
@@ -32,7 +33,7 @@ pub fn answer(
 ) -> Shared
     requires { ⌜ Measured (countOf (now locals) (now slots)) (length (now areas) / 2) total end (length (now cells)) (length (now items)) (now work) ⌝ }
     ensures { λ r. ⌜ Within 0 end (now (work .entry)) (now (work .exit)) × ((A : ℕ → Option (List Range)) → ListedBy wordOf (listing (length (now (areas .entry)) / 2) (length (now (areas .entry)) / 2)) A (countOf (now (locals .entry)) (now (slots .entry))) total (now (work .entry))
-        → AnsweredBy (listVerdict (countOf (now (locals .entry)) (now (slots .entry))) A (length (now (areas .entry)) / 2)) (countOf (now (locals .entry)) (now (slots .entry))) A (planFor (now (locals .entry)) (now (slots .entry)) A budget)
+        → AnsweredBy (areasVerdict (countOf (now (locals .entry)) (now (slots .entry))) A (length (now (areas .entry)) / 2)) (countOf (now (locals .entry)) (now (slots .entry))) A (planFor (now (locals .entry)) (now (slots .entry)) A budget)
         (now (cells .entry)) (now (items .entry)) (now (areas .entry)) r (now (cells .exit)) (now (items .exit)) (now (areas .exit))) ⌝ }
 {
     let room = areas.len() / 2;

@@ -13,7 +13,7 @@ use Rattle.refusals.specs.declared.Refusal.the-variants.{Count, Space}
 use Rattle.refusals.specs.Verdicts.{numberOf, first, check}
 use Rattle.refusals.specs.Outcomes.{Outcome, unless, after}
 use Rattle.refusals.proofs.Laws.{first-bad}
-use Rattle.areas.specs.Job.{listVerdict}
+use Rattle.areas.specs.Job.{itemsVerdict}
 use Rattle.fitting.specs.Plan.{Plan}
 use Rattle.wants.specs.Entry.{Tally, tallyOf, cellRows}
 use Rattle.job_space.specs.declared.Sizes.{Sizes}
@@ -71,7 +71,7 @@ module _ (points v budget : ℕ) (blocks edges insts operands crossings locals s
     lentNow = lentVerdict points v budget blocks edges insts operands crossings locals slots addresses ends pieces assigned moves (length cells) (length items) (length areas) (length work)
 
     abbrev listNow : Verdict
-    listNow = listVerdict (job points v budget blocks edges insts operands crossings locals slots addresses ends pieces assigned moves) (length areas / 2)
+    listNow = itemsVerdict (job points v budget blocks edges insts operands crossings locals slots addresses ends pieces assigned moves) (length areas / 2)
 
     abbrev planNow : Plan
     planNow = jobPlan (job points v budget blocks edges insts operands crossings locals slots addresses ends pieces assigned moves) budget

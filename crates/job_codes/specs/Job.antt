@@ -7,7 +7,7 @@ use Rattle.refusals.specs.declared.Verdict.{Verdict}
 use Rattle.refusals.specs.declared.Refusal.the-variants.{Space}
 use Rattle.refusals.specs.Verdicts.{first, check}
 use Rattle.refusals.specs.Outcomes.{Outcome, unless, after}
-use Rattle.areas.specs.Job.{itemCount, itemArea, listVerdict}
+use Rattle.areas.specs.Job.{itemCount, itemArea, itemsVerdict}
 use Rattle.fitting.specs.Plan.{Plan}
 use Rattle.wants.specs.Entry.{tallyOf, cellRows}
 use Rattle.area_tables.specs.Tables.{areaRows}
@@ -28,7 +28,7 @@ module _ (points v budget : ℕ) (blocks edges insts operands crossings locals s
 
     -- all refusals, lowest number first: 9 comes after every cause of 7
     abbrev pub codedVerdict : Verdict
-    codedVerdict = first measuredVerdict (listVerdict (job points v budget blocks edges insts operands crossings locals slots addresses ends pieces assigned moves) (areas / 2))
+    codedVerdict = first measuredVerdict (itemsVerdict (job points v budget blocks edges insts operands crossings locals slots addresses ends pieces assigned moves) (areas / 2))
 
     -- the job's plan, unless refused
     abbrev pub jobOutcome : Outcome Plan

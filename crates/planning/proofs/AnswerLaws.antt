@@ -18,7 +18,7 @@ use Rattle.refusals.proofs.Numbers.{numbered-same}
 use Rattle.words.specs.Regions.{part}
 use Rattle.words.proofs.RowLaws.{length-records}
 use Rattle.words.proofs.RegionLaws.{length-part}
-use Rattle.areas.specs.Job.{Job, Local, itemCount, itemArea, listVerdict}
+use Rattle.areas.specs.Job.{Job, Local, itemCount, itemArea, itemsVerdict}
 use Rattle.fitting.specs.Plan.{Plan}
 use Rattle.query_checks.specs.Checks.{sharedVerdict}
 use Rattle.wants.specs.Entry.{Tally, tallied, tallyOf, cellRows}
@@ -185,7 +185,7 @@ module _ (rows counts : List ℕ) (long : length rows ≡ rowNumbers) (F : Few c
       printable : Printable (itemCount J) (length (J .locals)) (itemArea J) P
       printable =
           job-printable J (budget group) (let a = local-count in let f = F .few 6 (lit< tt) in omega arith) (let a = slot-count in let f = F .few 7 (lit< tt) in omega arith)
-          (first-right (lentVerdict (points group) (registers group) (budget group) (group 1) (group 2) (group 3) (group 4) (group 5) (group 6) (group 7) (group 8) (group 9) (group 10) (group 11) (group 12) 256 512 128 8192) (listVerdict J 64) none-refused)
+          (first-right (lentVerdict (points group) (registers group) (budget group) (group 1) (group 2) (group 3) (group 4) (group 5) (group 6) (group 7) (group 8) (group 9) (group 10) (group 11) (group 12) 256 512 128 8192) (itemsVerdict J 64) none-refused)
 
       tally-is : record { cells = c; probes = p; depth = d } ≡ tallied P
       tally-is = ap held-tally (ap answered (sym re) ∙ answer-is ∙ ap (λ (v : Verdict). tallyOf (unless v P)) none-refused)

@@ -16,7 +16,7 @@ use Rattle.words.specs.Rows.{rowCount, field, tabulate, flat}
 use Rattle.words.proofs.Points.{cut}
 use Rattle.words.proofs.FlatLaws.{flat-at}
 use Rattle.ranges.specs.declared.Range.{Range}
-use Rattle.areas.specs.Job.{Job, Checked, itemCount, itemArea, rangesOf, listVerdict}
+use Rattle.areas.specs.Job.{Job, Checked, itemCount, itemArea, rangesOf, itemsVerdict}
 use Rattle.fitting.specs.Wants.{orderOf}
 use Rattle.fitting.specs.Plan.{Plan, Cell, cellAt, depthOf}
 use Rattle.wants.specs.Entry.{cellRow, cellRows}
@@ -142,7 +142,7 @@ module _ (text : List ℕ) (fine : first (readVerdict text) (refusal (numbersIn 
   checked =
       granted (points group) (registers group) (budget group) (group 1) (group 2) (group 3) (group 4) (group 5) (group 6) (group 7) (group 8) (group 9) (group 10) (group 11) (group 12) 256 512 128 (replicate 8192 0)
       (ap (lentVerdict (points group) (registers group) (budget group) (group 1) (group 2) (group 3) (group 4) (group 5) (group 6) (group 7) (group 8) (group 9) (group 10) (group 11) (group 12) 256 512 128) (length-replicate {A = ℕ} 8192 0)
-      ∙ first-left (lentVerdict (points group) (registers group) (budget group) (group 1) (group 2) (group 3) (group 4) (group 5) (group 6) (group 7) (group 8) (group 9) (group 10) (group 11) (group 12) 256 512 128 8192) (listVerdict J 64)
+      ∙ first-left (lentVerdict (points group) (registers group) (budget group) (group 1) (group 2) (group 3) (group 4) (group 5) (group 6) (group 7) (group 8) (group 9) (group 10) (group 11) (group 12) 256 512 128 8192) (itemsVerdict J 64)
       (first-right (readVerdict text) (refusal group) fine)) .lent .passed .checked
 
   printable : Printable (itemCount J) (length (J .locals)) (itemArea J) plan

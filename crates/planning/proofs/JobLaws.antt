@@ -9,7 +9,7 @@ use Rattle.refusals.specs.declared.Refusal.the-variants.{List as ListWord}
 use Rattle.refusals.proofs.Laws.{check-told}
 use Rattle.words.specs.Rows.{tabulate}
 use Rattle.words.proofs.RowLaws.{length-tabulate}
-use Rattle.areas.specs.Job.{Job, itemCount, itemArea, rangesOf, listVerdict}
+use Rattle.areas.specs.Job.{Job, itemCount, itemArea, rangesOf, itemsVerdict}
 use Rattle.fitting.specs.Wants.{orderOf}
 use Rattle.fitting.proofs.PlanLaws.{facts}
 use Rattle.fitting.proofs.OrderLaws.{length-ordered}
@@ -20,7 +20,7 @@ use Rattle.planning.proofs.PrintLaws.{Printable}
 
 -- ---- the plan of a job within the program's limits is printed
 
-pub job-printable : (J : Job) (budget : ℕ) → length (J .locals) ≤ 64 → length (J .slots) ≤ 64 → listVerdict J 64 ≡ Fine
+pub job-printable : (J : Job) (budget : ℕ) → length (J .locals) ≤ 64 → length (J .slots) ≤ 64 → itemsVerdict J 64 ≡ Fine
     → Printable (itemCount J) (length (J .locals)) (itemArea J) (jobPlan J budget)
 job-printable J budget l s e =
     let order = orderOf (wantsOf J) in

@@ -15,7 +15,7 @@ use Rattle.ranges.specs.Points.{range}
 use Rattle.graph.specs.Work.{sumOf}
 use Rattle.carrying.specs.Lists.{gather}
 use Rattle.insts.specs.Counts.{instCounts, codeCounts}
-use Rattle.areas.specs.Job.{Job, checks, itemArea, rangesOf, listVerdict}
+use Rattle.areas.specs.Job.{Job, checks, itemArea, rangesOf, itemsVerdict}
 use Rattle.fitting.specs.Plan.{Plan}
 use Rattle.wants.specs.Entry.{cellRows}
 use Rattle.area_tables.specs.Tables.{areaRows}
@@ -92,12 +92,12 @@ module _ (A : ℕ → Option (List Range)) (p : Plan) (one : A 0 ≡ some (range
   unfolding gather tabulate flat
   area-rows = rw (one, two) refl
 
-listed : listVerdict star-1-job 64 ≡ Fine
+listed : itemsVerdict star-1-job 64 ≡ Fine
 unfolding tabulate
 listed = rw (ranges (itemArea star-1-job) (jobPlan star-1-job 1048576) (star-1-areas .0) (star-1-areas .1)) refl
 
 none-refused : refusal rowsOf ≡ Fine
-none-refused = first-fine _ _ lent ∙ ap (λ (J : Job). listVerdict J 64) same-job ∙ listed
+none-refused = first-fine _ _ lent ∙ ap (λ (J : Job). itemsVerdict J 64) same-job ∙ listed
 
 -- ---- its plan
 

@@ -11,7 +11,7 @@ use Rattle.refusals.specs.Verdicts.{numberOf, first}
 use Rattle.refusals.specs.Outcomes.{given, unless}
 use Rattle.refusals.proofs.Laws.{first-left, first-right}
 use Rattle.words.proofs.RowLaws.{length-records}
-use Rattle.areas.specs.Job.{Job, itemCount, itemArea, listVerdict}
+use Rattle.areas.specs.Job.{Job, itemCount, itemArea, itemsVerdict}
 use Rattle.soundness.specs.Demand.{jobPlan}
 use Rattle.grammar.specs.Groups.{groupCount, rowNumbers}
 use Rattle.grammar.specs.Lines.{linesOf}
@@ -52,7 +52,7 @@ module _ (text : List ℕ) (e : first (readVerdict text) (refusal (numbersIn tex
   pub text-printable : Printable (itemCount J) (length (J .locals)) (itemArea J) (jobPlan J (budget (numbersIn text)))
   text-printable =
       job-printable J (budget (numbersIn text)) local-few slot-few
-      (first-right _ (listVerdict J 64)
+      (first-right _ (itemsVerdict J 64)
       (first-right (readVerdict text) (refusal (numbersIn text)) e))
 
   plan-short : length (jobText J (budget (numbersIn text))) ≤ roomFor
