@@ -26,11 +26,11 @@ module _ (locals slots : List ℕ) where
   abbrev count : ℕ
   count = rowCount 2 locals + length slots
 
-  abbrev itemAlone : ℕ → Item
+  abbrev pub itemAlone : ℕ → Item
   itemAlone i = record { cell = i; area = none }
 
   -- the definition's plan, by index
-  plan-is : planBy (rowCount 2 locals) count count (roomAt locals slots) itemAlone ≡ apart (localsOf locals) (widthsOf slots)
+  pub plan-is : planBy (rowCount 2 locals) count count (roomAt locals slots) itemAlone ≡ apart (localsOf locals) (widthsOf slots)
   plan-is =
       let a : length (localsOf locals) ≡ rowCount 2 locals = length-tabulate (rowCount 2 locals) (localAt locals slots) in
       let b : length (widthsOf slots) ≡ length slots = ap length (widths-are locals slots) ∙ length-tabulate (length slots) (slotAt locals slots) in
@@ -89,9 +89,14 @@ module _ (locals slots : List ℕ) {cells items cells′ items′ : List ℕ}
       ap (take (4 * many)) (E .in-items ∙ ap (λ (v : Verdict). after (unless v (apart (localsOf locals) (widthsOf slots))) loneRows items) fine ∙ ap (λ (l : List ℕ). l ++ drop (length l) items) (items-are locals slots))
       ∙ take-at (ownItems many) (drop (length (ownItems many)) items) (4 * many) (flat-length 4 many (lone locals slots) (λ i h. refl))
 
+  -- the rows that stand there hold the plan
+  pub held : (areas : List ℕ) → length areas % 2 ≡ 0 → rowCount 2 areas ≤ 65536
+      → RowsHold (take (2 * many) cells′) (take (4 * many) items′) areas (rowCount 2 locals) many many (roomAt locals slots) (itemAlone locals slots)
+  held areas w s =
+      let S = apart-passed locals slots (length cells) (length items) fine in
+      rw (cells-front, items-front) (alone-held locals slots areas w s (S .few-locals) (S .few-slots))
+
   pub apart-seen : (areas : List ℕ) → length areas % 2 ≡ 0 → rowCount 2 areas ≤ 65536
       → PlanSeen (apart (localsOf locals) (widthsOf slots)) (rowCount 2 locals) (take (2 * many) cells′) (take (4 * many) items′) areas
   apart-seen areas w s =
-      let S = apart-passed locals slots (length cells) (length items) fine in
-      rw (cells-front, items-front) (subst (λ (S : Slots). PlanSeen S (rowCount 2 locals) (ownCells locals slots) (ownItems many) areas) (plan-is locals slots)
-      (plan-seen (alone-held locals slots areas w s (S .few-locals) (S .few-slots))))
+      subst (λ (S : Slots). PlanSeen S (rowCount 2 locals) (take (2 * many) cells′) (take (4 * many) items′) areas) (plan-is locals slots) (plan-seen (held areas w s))

@@ -1,3 +1,4 @@
 pub mod Corners
 pub mod CapLaws
 pub mod OrderLaws
+pub mod SeenLaws

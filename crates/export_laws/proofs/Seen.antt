@@ -16,18 +16,23 @@ use Rattle.words.specs.Rows.{rowCount, field}
 use Rattle.fitting.specs.Wants.{orderOf}
 use Rattle.fitting.specs.Lowest.{PutLowest}
 use Rattle.fitting.specs.Queries.{Slots, areasOf, answered, apart}
+use Rattle.words.proofs.RowLaws.{length-tabulate}
 use Rattle.queries.specs.Seen.{PlanSeen}
+use Rattle.queries.proofs.SeenLaws.{answered-is}
 use Rattle.fitting.specs.Plan.{Plan}
 use Rattle.want_checks.specs.Checks.{badCount, badSpace, wantsVerdict, spaceOf, verdict}
 use Rattle.wants.specs.declared.Fitted.the-variants.{Plan as Fit}
 use Rattle.wants.specs.Entry.{wantsOf, planFor, outcome, tallyOf, answerOf, cellRows, itemRows, zeroed, FittedAlone}
-use Rattle.wants.proofs.SeenLaws.{fit-seen, fit-lowest}
+use Rattle.wants.proofs.SeenLaws.{wants-long, held as fit-held, fit-seen, fit-lowest}
 use Rattle.want_codes.specs.Plans.{fewCounts, codedVerdict, codedOutcome, PlanCoded}
 use Rattle.apart.specs.Apart.{localsOf, widthsOf, apartVerdict, apartOf, ApartBy}
-use Rattle.apart.proofs.SeenLaws.{apart-seen}
-use Rattle.soundness.specs.Demand.{wantsOf as jobWants, jobPlan}
+use Rattle.apart.proofs.SeenLaws.{plan-is, held as apart-held, apart-seen}
+use Rattle.capping.specs.Cap.{capVerdict, capRows, cappedPlan}
+use Rattle.capping.proofs.SeenLaws.{cap-passes, capped-seen}
+use Rattle.areas.specs.Job.{itemCount}
+use Rattle.soundness.specs.Demand.{wantOf, wantsOf as jobWants, jobPlan}
 use Rattle.job.specs.Entry.{job}
-use Rattle.job.proofs.Seen.{job-seen, job-lowest}
+use Rattle.job.proofs.Seen.{held as job-held, job-seen, job-lowest}
 use Rattle.codes.specs.Codes.{verdictCode}
 use Rattle.codes.proofs.CodeLaws.{refusal-no-answer}
 use Rattle.job_codes.specs.Job.{JobCoded}
@@ -44,6 +49,16 @@ module _ {points v budget : ℕ} {blocks edges insts operands crossings locals s
 
   pub export-job-lowest : PutLowest (jobWants (job points v budget blocks edges insts operands crossings locals slots addresses ends pieces assigned moves)) budget (orderOf (jobWants (job points v budget blocks edges insts operands crossings locals slots addresses ends pieces assigned moves))) (λ i. field 4 items′ i 0)
   export-job-lowest = job-lowest (shared E h _ _ _ refl)
+
+  -- `cap` of its cells is not refused either, and the queries then see the plan with its alignments lowered
+  pub export-job-cap : capVerdict (take (2 * length (jobPlan (job points v budget blocks edges insts operands crossings locals slots addresses ends pieces assigned moves) budget .cells)) cells′) (length (jobPlan (job points v budget blocks edges insts operands crossings locals slots addresses ends pieces assigned moves) budget .cells)) ≡ Fine
+  export-job-cap = cap-passes (job-held (shared E h _ _ _ refl))
+
+  pub export-job-capped : (most : ℕ) → PlanSeen (cappedPlan most (answered (jobWants (job points v budget blocks edges insts operands crossings locals slots addresses ends pieces assigned moves)) (rowCount 2 locals) (jobPlan (job points v budget blocks edges insts operands crossings locals slots addresses ends pieces assigned moves) budget))) (rowCount 2 locals)
+      (capRows (take (2 * length (jobPlan (job points v budget blocks edges insts operands crossings locals slots addresses ends pieces assigned moves) budget .cells)) cells′) (length (jobPlan (job points v budget blocks edges insts operands crossings locals slots addresses ends pieces assigned moves) budget .cells)) most) (take (4 * (rowCount 2 locals + length slots)) items′) areas′
+  export-job-capped most =
+      capped-seen (job-held (shared E h _ _ _ refl)) most (answered (jobWants (job points v budget blocks edges insts operands crossings locals slots addresses ends pieces assigned moves)) (rowCount 2 locals) (jobPlan (job points v budget blocks edges insts operands crossings locals slots addresses ends pieces assigned moves) budget))
+      (answered-is (jobWants (job points v budget blocks edges insts operands crossings locals slots addresses ends pieces assigned moves)) (jobPlan (job points v budget blocks edges insts operands crossings locals slots addresses ends pieces assigned moves) budget) (rowCount 2 locals) (itemCount (job points v budget blocks edges insts operands crossings locals slots addresses ends pieces assigned moves)) (length-tabulate (itemCount (job points v budget blocks edges insts operands crossings locals slots addresses ends pieces assigned moves)) (wantOf (job points v budget blocks edges insts operands crossings locals slots addresses ends pieces assigned moves))))
 
 -- ---- fitting alone
 
@@ -88,6 +103,15 @@ module _ (locals budget : ℕ) {wants areas cells items counts work cells′ ite
   pub export-fit-lowest : PutLowest (wantsOf (areasOf areas) wants) budget (orderOf (wantsOf (areasOf areas) wants)) (λ i. field 4 items′ i 0)
   export-fit-lowest = fit-lowest locals budget (fitted _ _ _ refl)
 
+  pub export-fit-cap : capVerdict (take (2 * length (planFor wants areas budget .cells)) cells′) (length (planFor wants areas budget .cells)) ≡ Fine
+  export-fit-cap = cap-passes (fit-held locals budget (fitted _ _ _ refl))
+
+  pub export-fit-capped : (most : ℕ) → PlanSeen (cappedPlan most (answered (wantsOf (areasOf areas) wants) locals (planFor wants areas budget))) locals
+      (capRows (take (2 * length (planFor wants areas budget .cells)) cells′) (length (planFor wants areas budget .cells)) most) (take (4 * rowCount 5 wants) items′) areas
+  export-fit-capped most =
+      capped-seen (fit-held locals budget (fitted _ _ _ refl)) most (answered (wantsOf (areasOf areas) wants) locals (planFor wants areas budget))
+      (answered-is (wantsOf (areasOf areas) wants) (planFor wants areas budget) locals (rowCount 5 wants) (wants-long wants areas locals budget))
+
 -- ---- `apart`
 
 no-code : (v : Verdict) → verdictCode v < 2 ^ 32 → v ≡ Fine
@@ -102,3 +126,11 @@ module _ (locals slots : List ℕ) {cells items cells′ items′ : List ℕ} {r
   pub export-apart-seen : (areas : List ℕ) → length areas % 2 ≡ 0 → rowCount 2 areas ≤ 65536
       → PlanSeen (apart (localsOf locals) (widthsOf slots)) (rowCount 2 locals) (take (2 * (rowCount 2 locals + length slots)) cells′) (take (4 * (rowCount 2 locals + length slots)) items′) areas
   export-apart-seen areas w s = apart-seen locals slots done areas w s
+
+  pub export-apart-cap : capVerdict (take (2 * (rowCount 2 locals + length slots)) cells′) (rowCount 2 locals + length slots) ≡ Fine
+  export-apart-cap = cap-passes (apart-held locals slots done [] refl (omega arith))
+
+  pub export-apart-capped : (most : ℕ) (areas : List ℕ) → length areas % 2 ≡ 0 → rowCount 2 areas ≤ 65536
+      → PlanSeen (cappedPlan most (apart (localsOf locals) (widthsOf slots))) (rowCount 2 locals)
+      (capRows (take (2 * (rowCount 2 locals + length slots)) cells′) (rowCount 2 locals + length slots) most) (take (4 * (rowCount 2 locals + length slots)) items′) areas
+  export-apart-capped most areas w s = capped-seen (apart-held locals slots done areas w s) most (apart (localsOf locals) (widthsOf slots)) (plan-is locals slots)

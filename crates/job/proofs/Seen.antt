@@ -96,7 +96,8 @@ module _ {points v budget : ℕ} {blocks edges insts operands crossings locals s
   area-of : (i : ℕ) → i < itemCount J → wantAt (wantsOf J) i .area ≡ itemArea J i
   area-of i h = ap (λ (w : Want). w .area) (getD-tabulate (itemCount J) (wantOf J) i (record { size = 0; align = 0; area = none }) h)
 
-  held : RowsHold (take (2 * c) cells′) (take (4 * many) items′) areas′ (rowCount 2 locals) (length (P .cells)) (itemCount J) (roomAt P) (itemOf (wantsOf J) P)
+  -- the rows that stand there hold the plan
+  pub held : RowsHold (take (2 * c) cells′) (take (4 * many) items′) areas′ (rowCount 2 locals) (length (P .cells)) (itemCount J) (roomAt P) (itemOf (wantsOf J) P)
   held =
       let w = whole-list points v budget blocks edges insts operands crossings locals slots addresses ends pieces assigned moves (length cells) (length items) (length areas) work lent-fine in
       rw (cells-front, items-front, areas-whole)

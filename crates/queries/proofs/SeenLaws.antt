@@ -260,7 +260,9 @@ rooms-are cs =
     let d : Cell = record { size = 0; align = 0; area = none } in
     sym (map-tabulate roomIn (length cs) (λ i. getD cs i d)) ∙ ap (map roomIn) (tabulate-getD cs d)
 
+pub answered-is : (ws : List Want) (p : Plan) (locals n : ℕ) → length ws ≡ n → planBy locals (length (p .cells)) n (roomAt p) (itemOf ws p) ≡ answered ws locals p
+answered-is ws p locals n e = three (rooms-are (p .cells)) refl (ap (λ (k : ℕ). tabulate (k - locals) (λ i. itemOf ws p (locals + i))) (sym e))
+
 pub answered-seen : (ws : List Want) (p : Plan) {cells items areas : List ℕ} {locals n : ℕ} → length ws ≡ n → RowsHold cells items areas locals (length (p .cells)) n (roomAt p) (itemOf ws p)
     → PlanSeen (answered ws locals p) locals cells items areas
-answered-seen ws p {cells} {items} {areas} {locals} {n} e H =
-    subst (λ (S : Slots). PlanSeen S locals cells items areas) (three (rooms-are (p .cells)) refl (ap (λ (k : ℕ). tabulate (k - locals) (λ i. itemOf ws p (locals + i))) (sym e))) (plan-seen H)
+answered-seen ws p {cells} {items} {areas} {locals} {n} e H = subst (λ (S : Slots). PlanSeen S locals cells items areas) (answered-is ws p locals n e) (plan-seen H)

@@ -74,7 +74,7 @@ module _ (wants areas : List ℕ) (locals budget : ℕ) where
   abbrev P : Plan
   P = planFor wants areas budget
 
-  wants-long : length ws ≡ rowCount 5 wants
+  pub wants-long : length ws ≡ rowCount 5 wants
   wants-long = length-records 5 (λ f. record { size = f 0; align = f 1; area = partOf (areasOf areas) (f 2) (f 3) (f 4) }) wants
 
   abbrev row : ℕ → List ℕ
@@ -174,7 +174,8 @@ module _ (locals budget : ℕ) {wants areas cells items work cells′ items′ w
   items-are : take (4 * rowCount 5 wants) items′ ≡ itemRows wants (planFor wants areas budget)
   items-are = ap (take (4 * rowCount 5 wants)) items-whole ∙ front-is (itemRows wants (planFor wants areas budget)) items (4 * rowCount 5 wants) (items-long wants areas locals budget)
 
-  held : RowsHold (take (2 * c) cells′) (take (4 * rowCount 5 wants) items′) areas locals (length (planFor wants areas budget .cells)) (rowCount 5 wants) (roomAt (planFor wants areas budget)) (itemOf (wantsOf (areasOf areas) wants) (planFor wants areas budget))
+  -- the rows that stand there hold the plan
+  pub held : RowsHold (take (2 * c) cells′) (take (4 * rowCount 5 wants) items′) areas locals (length (planFor wants areas budget .cells)) (rowCount 5 wants) (roomAt (planFor wants areas budget)) (itemOf (wantsOf (areasOf areas) wants) (planFor wants areas budget))
   held = rw (cells-are, items-are) (rows-held wants areas locals budget (length cells) (length items) (length work) fine)
 
   -- the plan that fitting alone wrote: each query of it is the definition's of the plan of these wants, and none refuses it
