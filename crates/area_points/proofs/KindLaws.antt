@@ -3,15 +3,15 @@ use Prim.Native.Nat.{ℕ}
 use mathlib.Core.Path.{_≡_, refl, sym, ap, subst, _∙_}
 use mathlib.Core.Logic.{_⊎_, inl, inr, _↔_}
 use mathlib.Core.Bool.{Bool, true, false, cond, not, _&&_, _||_, false≢true, true≢false}
-use mathlib.Core.Option.{Option, some, none, Option·some-ne-none}
-use mathlib.Core.List.{List, [], _∷_, map, List·Memᴰ, List·Memᴰ·head, List·Memᴰ·not-nil, Memᴰ·map, Memᴰ·of-map}
+use mathlib.Core.Option.{Option, some, none}
+use mathlib.Core.List.{List, [], _∷_, List·Memᴰ, List·Memᴰ·head, List·Memᴰ·not-nil, Memᴰ·map, Memᴰ·of-map}
 use lib.Dec.{eqb}
-use borrow.Author.Tests.{eqb-true, eq-eqb, not-false}
+use borrow.Author.Tests.{eqb-true, eq-eqb}
 use Rattle.words.proofs.Bools.{or-left, or-right, or-cases, or-neither, and-both, and-pair}
 use Rattle.carrying.specs.declared.Kind.{Kind}
 use Rattle.carrying.specs.declared.Kind.the-variants.{Unfollowed, Plain, Ending}
 use Rattle.carrying.specs.Lists.{any, keep}
-use Rattle.carrying.specs.Insts.{Inst, isSet, defOf, reads, addressed}
+use Rattle.carrying.specs.Insts.{Inst, isSet, reads, addressed}
 use Rattle.carrying.specs.Carried.{Mention, Code, Carries, mentions, isNone, empty, mentioned, hands, carried, undefined, stuck as isStuck, escapes, dead, escaping, endsOf, kindOf, lost as isLost}
 use Rattle.carrying.proofs.ListLaws.{any-true, any-entry, kept, of-kept}
 use Rattle.carrying.proofs.CarryLaws.{carried-least}
