@@ -1,10 +1,11 @@
-// Reads job texts and prints what is answered: the verdict, and how many records each group has. Then the text on standard input, in pieces of seven bytes, its
-// rows, and the texts of a plan and of a refusal: held to the file `stdout`.
+// Reads job texts and prints what is answered: the verdict, and how many records each group has; the texts of a plan and of a refusal; lists that are too short and
+// texts in lent lists. Then the text on standard input, in pieces of seven bytes, and its rows. Held to the file `stdout`.
 ghost use Prim.Native.Nat.{_≤_, _<_};
 ghost use mathlib.Core.Path.{_≡_};
 ghost use lib.ListN.{length};
 ghost use Rattle.grammar.specs.Groups.{groupCount, rowNumbers};
 use plan_text::Written;
+use planning::print_text;
 use refusals::Refusal;
 use refusals::Verdict;
 use refusals::number;
@@ -130,6 +131,86 @@ fn plans() {
     refusal(&mut out);
 }
 
+// How many numbers are no longer 7.
+fn changed(s: &[u32]) -> u64
+    ensures { λ n. ⌜ n ≤ length (now (s .entry)) ⌝ }
+{
+    let mut n = 0;
+    let mut k = 0;
+    while k < s.len() {
+        if s[k] != 7 {
+            n += 1;
+            k += 1;
+        } else {
+            k += 1;
+        }
+    }
+    n
+}
+
+// What is answered, and how many numbers of each list are written.
+fn lent(text: &[u8], rows: &mut [u32], counts: &mut [u32]) {
+    let v = read_text(text, rows, counts);
+    match v {
+        Verdict::Fine => say(b"fine\n"),
+        Verdict::Bad(r, i) => refused(r, i),
+    }
+    io::print_decimal(1, changed(rows));
+    say(b" ");
+    io::print_decimal(1, changed(counts));
+    say(b"\n");
+}
+
+// 11 before 1 before 7: a refusal leaves both lists as they were, and so do numbers past the answer.
+fn lists() {
+    let mut rows = [7; 2116];
+    let mut counts = [7; 14];
+    let mut short = [7; 2114];
+    let mut few = [7; 12];
+    lent(b"H,20,65,0\nQ,0\n", &mut short, &mut few);
+    lent(b"H,20,65,0\n", &mut short, &mut few);
+    lent(b"H,20,64,0\n", &mut short, &mut counts);
+    lent(b"H,20,64,0\n", &mut rows, &mut few);
+    lent(b"H,20,65,0\n", &mut rows, &mut counts);
+    lent(b"H,20,64,0\n", &mut rows, &mut counts);
+}
+
+// What `print_text` answers, and the whole list.
+fn printed(text: &[u8], out: &mut [u8]) {
+    let w = print_text(text, out);
+    match w {
+        Written::Bytes(n) => {
+            io::print_decimal(1, n as u64);
+            say(b"\n");
+        }
+        Written::Refused(r, i) => refused(r, i),
+    }
+    say(out);
+    say(b"|\n");
+}
+
+fn star(out: &mut [u8]) {
+    printed(
+        b"H,20,0,1048576\nB,0,0,19\nI,0,2,3,0,0,-,-\nI,0,6,7,0,0,-,-\nL,8,8\nL,4,4\nA,0,0\nA,1,1\n",
+        out,
+    );
+}
+
+// In a list as long as the text, in one that is a byte shorter, and in a longer one; a refused job, and a malformed line.
+fn programs() {
+    let mut exact = [b'.'; 46];
+    let mut short = [b'.'; 45];
+    let mut more = [b'.'; 50];
+    star(&mut exact);
+    star(&mut short);
+    star(&mut more);
+    let mut line = [b'.'; 7];
+    let mut less = [b'.'; 6];
+    printed(b"H,20,0,0\n\n", &mut line);
+    printed(b"H,20,0,0\n\n", &mut less);
+    printed(b"H,20,0,0\nB,1,0,19\n", &mut less);
+}
+
 // Where the piece ends that begins there: seven bytes on, or with the text.
 fn piece_end(from: usize, len: usize) -> usize
     requires { ⌜ from < len ⌝ }
@@ -168,6 +249,8 @@ fn input(text: &[u8]) {
 fn main() {
     texts();
     plans();
+    lists();
+    programs();
     let mut text = [0; 256];
     let n = io::read_full(0, &mut text);
     input(&text[0..n]);
