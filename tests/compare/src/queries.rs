@@ -239,7 +239,8 @@ fn cap(r: &mut Random, job: &Job, tally: &mut Tally) {
         _ => job.rows(LOCALS).map(|l| Local { size: l[0], align: l[1] }).collect(),
     };
     let mut plan = Slots::apart(&locals, &[]);
-    let mut cells: Vec<u32> = locals.iter().flat_map(|l| [l.size, l.align]).chain([7; 4].into_iter().take(r.below(5) as usize)).collect();
+    let behind = r.below(3) as usize;
+    let mut cells: Vec<u32> = locals.iter().flat_map(|l| [l.size, l.align]).chain(vec![7; about_rows(r, behind, 2)]).collect();
     let count = locals.len() as u32 + if r.one_in(6) { r.below(4) } else { 0 };
     let mut left = cells.clone();
     let wanted = if cells.len() % 2 != 0 || count as usize > cells.len() / 2 || count > 4096 {
