@@ -15,7 +15,7 @@ extern "C" {
     fn slots_carried(
         points: u32, v: u32, blocks: *const u32, blocks_len: usize, insts: *const u32, insts_len: usize, operands: *const u32, operands_len: usize,
         crossings: *const u32, crossings_len: usize, locals: *const u32, locals_len: usize, addresses: *const u32, addresses_len: usize,
-        ends: *const u32, ends_len: usize, local: usize, answer: *mut u32, answer_len: usize, work: *mut u64, work_len: usize,
+        ends: *const u32, ends_len: usize, local: u32, answer: *mut u32, answer_len: usize, work: *mut u64, work_len: usize,
     ) -> u64;
 }
 
@@ -54,7 +54,7 @@ pub fn carried(r: &mut Random) -> usize {
     let room = room(r, &job, most);
     let refused = refused(&job, &room, most);
     let locals = job.count(LOCALS);
-    let local = if r.one_in(40) { r.word() as usize | 1 << 40 } else { r.below(locals as u32 + 2) as usize };
+    let local = if r.one_in(40) { r.number() | 1 << 31 } else { r.below(locals as u32 + 2) };
     let g = &job.groups;
     let called = Called::new(room, |l| unsafe {
         slots_carried(
@@ -64,11 +64,11 @@ pub fn carried(r: &mut Random) -> usize {
         )
     });
     let wanted = refused.unwrap_or_else(|| {
-        if local >= locals {
+        if local as usize >= locals {
             return Wanted::Absent;
         }
         // of a local that is lost slots.rs says nothing: then only that they rise and are registers
-        let numbers = registers(&job)[local].clone().unwrap_or_else(|| {
+        let numbers = registers(&job)[local as usize].clone().unwrap_or_else(|| {
             let given = called.after.front(0, (called.answer as usize).min(most));
             assert!(given.windows(2).all(|two| two[0] < two[1]) && given.iter().all(|&n| n < job.v), "local {local}: {given:?} on {job:?}");
             given

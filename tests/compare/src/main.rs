@@ -28,11 +28,12 @@ mod small;
 mod spills;
 mod texts;
 mod whole;
+mod words;
 
 use job::{Job, Lent};
 use whole::{hold, Tally};
 
-const USAGE: &str = "parts CASES | jobs JOBS SEED | damaged JOBS SEED | small | limits JOBS | scale SECONDS SEED | entries CALLS SEED [NAME] | graphs | texts TEXTS SEED | fits CALLS SEED | ranges | queries JOBS SEED | sample | record | emit JOBS SEED [large]";
+const USAGE: &str = "parts CASES | jobs JOBS SEED | damaged JOBS SEED | small | limits JOBS | scale SECONDS SEED | entries CALLS SEED [NAME] | graphs | words CALLS SEED | texts TEXTS SEED | fits CALLS SEED | ranges | queries JOBS SEED | sample | record | emit JOBS SEED [large]";
 
 /// Jobs from a seed on, each by a seed of its own.
 fn jobs(what: &str, made: fn(u64) -> (Job, Lent), count: u64, seed: u64) {
@@ -57,6 +58,7 @@ fn main() {
         Some("scale") => scale::compare(number(1, 60), number(2, 1)),
         Some("entries") => entries::compare(number(1, 50_000), number(2, 1), given.get(3).map(String::as_str)),
         Some("graphs") => graphs::small(),
+        Some("words") => words::compare(number(1, 50_000), number(2, 1)),
         Some("texts") => texts::compare(number(1, 5_000), number(2, 1)),
         Some("fits") => fits::compare(number(1, 100_000), number(2, 1)),
         Some("ranges") => ranges::compare(),

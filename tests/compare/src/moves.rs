@@ -12,7 +12,7 @@ extern "C" {
         moves: *const u32, moves_len: usize, slot: u32, out: *mut u32, out_len: usize, work: *mut u64, work_len: usize,
     ) -> u64;
     fn slots_spilled(
-        v: u32, slots: usize, assigned: *const u32, assigned_len: usize, answer: *mut u32, answer_len: usize, work: *mut u64, work_len: usize,
+        v: u32, slots: u32, assigned: *const u32, assigned_len: usize, answer: *mut u32, answer_len: usize, work: *mut u64, work_len: usize,
     ) -> u64;
 }
 
@@ -48,16 +48,17 @@ pub fn moved(r: &mut Random) -> usize {
 
 pub fn spilled(r: &mut Random) -> usize {
     let mut job = records(r, 6, &[ASSIGNED, SLOTS], true);
-    let slots = if r.one_in(20) { [2048, 2049, usize::MAX][r.below(3) as usize] } else { job.groups[SLOTS].len() + r.below(3) as usize };
+    let slots = if r.one_in(20) { [2048, 2049, u32::MAX][r.below(3) as usize] } else { job.groups[SLOTS].len() as u32 + r.below(3) };
     job.groups[SLOTS].clear();
-    let (list, w) = (about(r, slots.min(4000)), space(&job, 0));
+    let count = slots as usize;
+    let (list, w) = (about(r, count.min(4000)), space(&job, 0));
     let work = about(r, w);
     let a = &job.groups[ASSIGNED];
     let called = Called::new(Room::any(r, &[list], 0, work), |l| unsafe {
         slots_spilled(job.v, slots, a.as_ptr(), a.len(), l.lists[0].as_mut_ptr(), l.lists[0].len(), l.work.as_mut_ptr(), l.work.len())
     });
-    let wanted = refusals::assignments(&job, slots > refusals::LIMITS[SLOTS])
-        .or_else(|| refusals::space(&[list < slots, work < w]))
-        .map_or_else(|| Wanted::Given(slots as u64, vec![held(&job, slots)], Vec::new()), refused);
+    let wanted = refusals::assignments(&job, count > refusals::LIMITS[SLOTS])
+        .or_else(|| refusals::space(&[list < count, work < w]))
+        .map_or_else(|| Wanted::Given(count as u64, vec![held(&job, count)], Vec::new()), refused);
     called.hold(wanted, w, &(&job, slots))
 }
