@@ -1,1 +1,7 @@
+pub mod Steps
+pub mod GraphBounds
+pub mod CarryBounds
+pub mod JobBounds
+pub mod PlanBounds
 pub mod QueryBounds
+pub mod RangeBounds

@@ -1,0 +1,104 @@
+-- Fitting alone and the queries of a lent plan: the index of each refusal fits its 32 bits, and so does each count.
+use Prim.Native.Nat.{ℕ, suc, _+_, _-_, _^_, _≤_, _<_}
+use native.Mathlib.Omega.{arith}
+use mathlib.Core.Path.{_≡_}
+use mathlib.Core.Bool.{Bool, true, false, cond, not, _||_}
+use mathlib.Core.List.{List, [], _∷_}
+use lib.ListN.{length, length-drop}
+use lib.Dec.{ltb}
+use borrow.Author.Tests.{ltb-false}
+use Rattle.refusals.specs.declared.Verdict.the-variants.{Fine}
+use Rattle.refusals.specs.declared.Refusal.the-variants.{Count, Space, Want as WantWord}
+use Rattle.refusals.specs.Verdicts.{inOrder, check}
+use Rattle.refusals.proofs.Laws.{check-told, first-left}
+use Rattle.words.specs.Rows.{rowCount, wholeRows}
+use Rattle.words.proofs.Bools.{or-neither}
+use Rattle.words.proofs.RowLaws.{length-tabulate}
+use Rattle.fitting.specs.Queries.{Item, Slots, areasOf, itemsOf, slotsOf, crowd, crowded, crowdedFrom}
+use Rattle.want_checks.specs.Checks.{badWant, badSpace, badCount as wantCount}
+use Rattle.want_checks.proofs.CheckLaws.{count-fine}
+use Rattle.want_codes.specs.Plans.{fewCounts, codedVerdict}
+use Rattle.query_checks.specs.Checks.{badCount, noCell, surplus, badAreas, badItem, planVerdict, sharedVerdict, crowdedVerdict}
+use Rattle.capping.specs.Cap.{capVerdict}
+use Rattle.apart.specs.Apart.{apartCount, apartSpace, apartVerdict}
+use Rattle.codes.specs.Codes.{Fits}
+use Rattle.codes.proofs.IndexLaws.{check-fits, named-fits}
+use Rattle.answer_bounds.proofs.Steps.{no-more, order-fit, next-fits, few-fits}
+
+-- fitting alone: at most 4,096 wants
+pub wants-fit : (wants areas : List ℕ) (locals budget cells items counts work : ℕ) → Fits (codedVerdict wants areas locals budget cells items counts work)
+wants-fit wants areas locals budget cells items counts work =
+    order-fit
+    (next-fits (check-fits Count (wantCount wants areas locals budget cells items))
+    (λ e. next-fits (check-fits Space (badSpace wants areas cells items work || fewCounts counts))
+    (λ _. next-fits
+    (few-fits WantWord (badWant (areasOf areas) wants) (rowCount 5 wants) (omega (arith, count-fine wants areas locals budget cells items (check-told Count (wantCount wants areas locals budget cells items) e) .0)))
+    (λ _. no-more))))
+
+-- ---- queries: at most 4,096 items
+
+few-items : (cells items : List ℕ) (locals : ℕ) → badCount cells items locals ≡ false → rowCount 4 items ≤ 4096
+few-items cells items locals c =
+    let (a, b) = or-neither (not (wholeRows 2 cells)) _ c in
+    let (d, f) = or-neither (not (wholeRows 4 items)) _ b in
+    let (g, h) = or-neither (ltb (rowCount 4 items) locals) _ f in
+    let (k, l) = or-neither (ltb 2048 locals) _ h in
+    omega (arith, ltb-false (rowCount 4 items) locals g, ltb-false 2048 locals k, ltb-false 2048 (rowCount 4 items - locals) l)
+
+module _ (cells items : List ℕ) (locals : ℕ) where
+  surplus-fits : rowCount 4 items ≤ 4096 → Fits (surplus cells items)
+  surplus-fits h = named-fits WantWord (ltb (rowCount 4 items) (rowCount 2 cells)) (rowCount 4 items) (omega arith)
+
+  -- `local`, `slot` and `saved`
+  pub plan-fits : Fits (planVerdict cells items locals)
+  unfolding planVerdict
+  plan-fits =
+      order-fit
+      (next-fits (check-fits Count (badCount cells items locals))
+      (λ e. let n = few-items cells items locals (check-told Count (badCount cells items locals) e) in
+      next-fits (few-fits WantWord (noCell cells items) (rowCount 4 items) (omega arith)) (λ _. next-fits (surplus-fits n) (λ _. no-more))))
+
+  pub shared-fits : (areas : List ℕ) → Fits (sharedVerdict cells items areas locals)
+  unfolding sharedVerdict
+  shared-fits areas =
+      order-fit
+      (next-fits (check-fits Count (badCount cells items locals || badAreas areas))
+      (λ e. let n = few-items cells items locals (or-neither (badCount cells items locals) (badAreas areas) (check-told Count (badCount cells items locals || badAreas areas) e) .0) in
+      next-fits (few-fits WantWord (badItem cells items (rowCount 2 areas)) (rowCount 4 items) (omega arith)) (λ _. next-fits (surplus-fits n) (λ _. no-more))))
+
+  pub crowded-fits : (room : ℕ) → Fits (crowdedVerdict cells items locals room)
+  unfolding crowdedVerdict
+  crowded-fits room =
+      order-fit
+      (next-fits (check-fits Count (badCount cells items locals))
+      (λ _. next-fits (check-fits Space (ltb room (rowCount 4 items - locals))) (λ _. next-fits plan-fits (λ _. no-more))))
+
+  few-slots : (room : ℕ) → crowdedVerdict cells items locals room ≡ Fine → rowCount 4 items ≤ 4096
+  unfolding crowdedVerdict inOrder
+  few-slots room e = few-items cells items locals (check-told Count (badCount cells items locals) (first-left (check Count (badCount cells items locals)) _ e))
+
+crowded-within : (S : Slots) (n : ℕ) (is : List Item) → length (crowdedFrom S n is) ≤ length is
+unfolding crowdedFrom
+crowded-within S n [] = omega arith
+crowded-within S n (i ∷ is) = go (crowd S (i .cell)) (crowded-within S (suc n) is)
+  where
+    go : (t : Bool) → length (crowdedFrom S (suc n) is) ≤ length is → length (cond t (n ∷ crowdedFrom S (suc n) is) (crowdedFrom S (suc n) is)) ≤ suc (length is)
+    go true h = omega arith
+    go false h = omega arith
+
+-- no more than there are slots
+pub crowded-few : (cells items : List ℕ) (locals room : ℕ) → crowdedVerdict cells items locals room ≡ Fine → length (crowded (slotsOf locals cells items [])) < 2 ^ 32
+crowded-few cells items locals room e =
+    let d : length (itemsOf (areasOf []) items) ≡ rowCount 4 items = length-tabulate (rowCount 4 items) _ in
+    omega (arith, d, few-slots cells items locals room e, crowded-within (slotsOf locals cells items []) 0 (slotsOf locals cells items [] .slots), length-drop locals (itemsOf (areasOf []) items))
+
+-- ---- `cap` and `apart`: every index is 0
+
+pub cap-fits : (cells : List ℕ) (count : ℕ) → Fits (capVerdict cells count)
+cap-fits cells count = check-fits Count (not (wholeRows 2 cells) || (ltb (rowCount 2 cells) count || ltb 4096 count))
+
+pub apart-fits : (locals slots : List ℕ) (cells items : ℕ) → Fits (apartVerdict locals slots cells items)
+unfolding apartVerdict
+apart-fits locals slots cells items =
+    order-fit
+    (next-fits (check-fits Count (apartCount locals slots cells items)) (λ _. next-fits (check-fits Space (apartSpace (rowCount 2 locals + length slots) cells items)) (λ _. no-more)))
