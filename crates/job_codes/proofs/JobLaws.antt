@@ -12,7 +12,7 @@ use Rattle.refusals.specs.declared.Refusal.{Refusal}
 use Rattle.refusals.specs.declared.Refusal.the-variants.{Count, Space}
 use Rattle.refusals.specs.Verdicts.{numberOf, first, check}
 use Rattle.refusals.specs.Outcomes.{Outcome, unless, after}
-use Rattle.refusals.proofs.Laws.{first-bad}
+use Rattle.refusals.proofs.Laws.{first-bad, first-last}
 use Rattle.areas.specs.Job.{itemsVerdict}
 use Rattle.fitting.specs.Plan.{Plan}
 use Rattle.wants.specs.Entry.{Tally, tallyOf, cellRows}
@@ -27,12 +27,6 @@ use Rattle.job.proofs.CheckLaws.{by-shape, by-records, by-space}
 use Rattle.codes.specs.Codes.{refusalCode, codeOf, verdictCode}
 use Rattle.want_codes.specs.Plans.{countsOf, PlanTold}
 use Rattle.job_codes.specs.Job.{measuredVerdict, itemsTold, areasTold, JobCoded}
-
--- a check that is made last and was not met
-last-fine : (v : Verdict) → first v Fine ≡ v
-unfolding first
-last-fine Fine = refl
-last-fine (Bad r i) = refl
 
 -- 7 of another cause, then 7
 space-again : (b : Bool) → first (check Space b) (Bad Space 0) ≡ Bad Space 0
@@ -84,7 +78,7 @@ module _ (points v budget : ℕ) (blocks edges insts operands crossings locals s
 
     -- room for three counts: the entry's own verdicts
     enough : 3 ≤ length counts → measuredVerdict points v budget blocks edges insts operands crossings locals slots addresses ends pieces assigned moves (length cells) (length items) (length areas) (length counts) (length work) ≡ lentNow
-    enough h = ap (λ (b : Bool). first lentNow (check Space b)) (le-ltb (length counts) 3 h) ∙ last-fine lentNow
+    enough h = ap (λ (b : Bool). first lentNow (check Space b)) (le-ltb (length counts) 3 h) ∙ first-last lentNow
 
     pub job-coded : {cells′ items′ areas′ counts′ work′ : List ℕ} {s : Shared} {r : ℕ} → 3 ≤ length counts
         → SharedAs points v budget blocks edges insts operands crossings locals slots addresses ends pieces assigned moves cells items areas work s cells′ items′ areas′ work′ → PlanTold counts (answered s) r counts′

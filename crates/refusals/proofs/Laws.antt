@@ -51,6 +51,12 @@ unfolding first
 first-right Fine w e = e
 first-right (Bad r i) w e = absurd (let z : _≡_ {A = ℕ} 0 1 = cc in omega arith)
 
+-- a check that is made last and was not met
+pub first-last : (v : Verdict) → first v Fine ≡ v
+unfolding first
+first-last Fine = refl
+first-last (Bad r i) = refl
+
 pub first-assoc : (u v w : Verdict) → first (first u v) w ≡ first u (first v w)
 unfolding first
 first-assoc Fine v w = refl
@@ -68,9 +74,8 @@ module _ (r : Refusal) (t : Bool) (vs : List Verdict) where
   check-fine e = rw e
 
 pub check-last : (v : Verdict) → inOrder (v ∷ []) ≡ v
-unfolding inOrder first
-check-last Fine = refl
-check-last (Bad r i) = refl
+unfolding inOrder
+check-last v = first-last v
 
 -- three checks: a count, the space, and the records
 module _ (r q : Refusal) (b t : Bool) (v : Verdict) where

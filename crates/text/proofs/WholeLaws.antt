@@ -16,7 +16,7 @@ use Rattle.refusals.specs.declared.Refusal.the-variants.{Count, Space, Text as 
 use Rattle.refusals.specs.Verdicts.{first, inOrder, check, rankOf}
 use Rattle.refusals.specs.Outcomes.{unless, numbered, after}
 use Rattle.refusals.specs.Orders.{Ordered}
-use Rattle.refusals.proofs.Laws.{first-fine, first-assoc, first-left, first-right, check-last, check-told}
+use Rattle.refusals.proofs.Laws.{first-fine, first-assoc, first-left, first-right, check-last, check-told, first-last}
 use Rattle.refusals.proofs.Orders.{check-gives, scan-gives, lowest-wins}
 use Rattle.refusals.proofs.Numbers.{numbered-same}
 use Rattle.words.specs.Rows.{tabulate, flat}
@@ -169,16 +169,11 @@ module _ (text : List ℕ) (fine : readVerdict text ≡ Fine) where
               ∙ ap (λ (v : Verdict). after (unless v text) countsFor counts) (sym e);
         }
 
-alone : (w : Verdict) → first w Fine ≡ w
-unfolding first
-alone Fine = refl
-alone (Bad r i) = refl
-
 -- a text that was read into lists of the reader's own lengths
 pub read-finished : {text rows counts : List ℕ} {v : Verdict} {rows′ counts′ : List ℕ} → rowNumbers ≤ length rows → groupCount ≤ length counts → TextRead text rows counts v rows′ counts′ → Finished text v rows′ counts′
 read-finished {text} {rows} {counts} {v} {rows′} {counts′} rr cr T =
     let e : inOrder (readChecks text (length rows) (length counts)) ≡ readVerdict text =
-    read-checks text (length rows) (length counts) ∙ ap (first (readVerdict text)) (sym (space-fine (length rows) (length counts) rr cr)) ∙ alone (readVerdict text) in
+    read-checks text (length rows) (length counts) ∙ ap (first (readVerdict text)) (sym (space-fine (length rows) (length counts) rr cr)) ∙ first-last (readVerdict text) in
     record {
       verdict = T .answer ∙ ap numbered e;
       records = λ fine.
