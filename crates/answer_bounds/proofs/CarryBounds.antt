@@ -26,13 +26,13 @@ use Rattle.areas.specs.Slots.{Move, movesOf, assignedOf, around, position, cove
 use Rattle.carry_checks.specs.Checks.{carrySpace, carryVerdict}
 use Rattle.carry_checks.proofs.CheckLaws.{counted}
 use Rattle.carried_registers.specs.Carried.{countOf}
-use Rattle.carried_registers.proofs.UpLaws.{below-length}
+use Rattle.carried_registers.proofs.CarriedLaws.{carried-length}
 use Rattle.moved_ranges.specs.Moved.{movedCounts, movedSpace, movedVerdict}
 use Rattle.moved_ranges.proofs.MovedEntry.{counted as moved-counted}
 use Rattle.spilled_registers.specs.Spilled.{spilledCounts, spilledSpace, spilledVerdict}
 use Rattle.codes.specs.Codes.{Fits}
-use Rattle.codes.proofs.IndexLaws.{check-fits}
-use Rattle.answer_bounds.proofs.Steps.{no-more, order-fit, then-fits, next-fits, rows-fits, most-fits, blocks-fit, insts-fit, carry-counts-fit, line-fits, inst-fits, crossing-fits, address-fits, end-fits, move-fits, assigned-fits}
+use Rattle.codes.proofs.IndexLaws.{check-fits, first-fits}
+use Rattle.answer_bounds.proofs.Steps.{no-more, order-fit, next-fits, rows-fits, most-fits, blocks-fit, insts-fit, carry-counts-fit, line-fits, inst-fits, crossing-fits, address-fits, end-fits, move-fits, assigned-fits}
 
 -- ---- `reach` and `carried`
 
@@ -64,16 +64,11 @@ module _ (points v : ℕ) (blocks insts operands crossings locals addresses ends
   pub few-registers : carryVerdict points v blocks insts operands crossings locals addresses ends lent most work ≡ Fine → v ≤ 65535
   few-registers e = carry-counted e .1
 
--- each carried register is numbered
-carried-within : (C : Code) (l : ℕ) → length (carried C l) ≤ C .numbered
-unfolding carried
-carried-within C l = below-length (C .numbered) _
-
 pub carried-few : (C : Code) (locals l c : ℕ) → C .numbered ≤ 65535 → countOf C locals l ≡ some c → c < 2 ^ 32
 carried-few C locals l c h e = go (ltb l locals) e
   where
     go : (t : Bool) → cond t (some (length (carried C l))) none ≡ some c → c < 2 ^ 32
-    go true q = let z : length (carried C l) ≡ c = Option·some-injective _ c q in omega (arith, carried-within C l)
+    go true q = let z : length (carried C l) ≡ c = Option·some-injective _ c q in omega (arith, carried-length C l)
     go false q = absurd (Option·none-ne-some c q)
 
 -- ---- `moved`
@@ -82,8 +77,8 @@ module _ (points v : ℕ) (blocks insts operands moves : List ℕ) (lent work : 
   moved-counts-fit : Fits (movedCounts v blocks insts operands moves lent)
   unfolding movedCounts
   moved-counts-fit =
-      then-fits (most-fits 65535 v)
-      (λ _. then-fits (blocks-fit blocks) (λ _. then-fits (insts-fit insts operands) (λ _. then-fits (rows-fits 4 65536 (length moves)) (λ _. check-fits Count (not (eqb (lent % 2) 0))))))
+      first-fits (most-fits 65535 v)
+      (λ _. first-fits (blocks-fit blocks) (λ _. first-fits (insts-fit insts operands) (λ _. first-fits (rows-fits 4 65536 (length moves)) (λ _. check-fits Count (not (eqb (lent % 2) 0))))))
 
   pub moved-fits : Fits (movedVerdict points v blocks insts operands moves lent work)
   unfolding movedVerdict
@@ -129,7 +124,7 @@ moved-few points v blocks insts operands moves s lent work e =
 module _ (v slots : ℕ) (assigned : List ℕ) (lent work : ℕ) where
   spilled-counts-fit : Fits (spilledCounts v slots assigned)
   unfolding spilledCounts
-  spilled-counts-fit = then-fits (most-fits 65535 v) (λ _. then-fits (most-fits 2048 slots) (λ _. rows-fits 2 65536 (length assigned)))
+  spilled-counts-fit = first-fits (most-fits 65535 v) (λ _. first-fits (most-fits 2048 slots) (λ _. rows-fits 2 65536 (length assigned)))
 
   spilled-counted : spilledCounts v slots assigned ≡ Fine → (slots ≤ 2048) × (rowCount 2 assigned ≤ 65536)
   unfolding spilledCounts

@@ -18,11 +18,11 @@ use Rattle.ranges.specs.Merged.{notAfter, insert, sort, join, joinAll, merged, 
 use Rattle.ranges.specs.Lent.{listVerdict}
 use Rattle.ranges.specs.Forms.{columns}
 use Rattle.ranges.proofs.FormLaws.{columns-length}
-use Rattle.range_checks.specs.Verdicts.{uneven, badList, pairVerdict, entryVerdict, mergedVerdict, joinedVerdict, unionVerdict, clashesVerdict}
+use Rattle.range_checks.specs.Verdicts.{uneven, badList, pairVerdict, mergedVerdict, joinedVerdict, unionVerdict, clashesVerdict}
 use Rattle.range_checks.proofs.VerdictLaws.{even-list, small-list}
 use Rattle.codes.specs.Codes.{indexOf, Fits}
-use Rattle.codes.proofs.IndexLaws.{check-fits, scan-within, counted-fits}
-use Rattle.answer_bounds.proofs.Steps.{no-more, order-fit, then-fits, next-fits, few-fits}
+use Rattle.codes.proofs.IndexLaws.{check-fits, scan-within, counted-fits, first-fits}
+use Rattle.answer_bounds.proofs.Steps.{no-more, order-fit, next-fits, few-fits}
 
 -- ---- indexes
 
@@ -36,14 +36,13 @@ list-within o rs = scan-within _ _ _
 
 pair-fits : (o : Bool) (rs ss : List Range) → length rs ≤ 65536 → length ss ≤ 65536 → Fits (pairVerdict o rs ss)
 unfolding pairVerdict
-pair-fits o rs ss h l = then-fits (list-fits o rs h) (λ _. counted-fits (length rs) (listVerdict o ss) (omega (arith, list-within o ss)))
+pair-fits o rs ss h l = first-fits (list-fits o rs h) (λ _. counted-fits (length rs) (listVerdict o ss) (omega (arith, list-within o ss)))
 
 -- a list that is no bad one
 few : (ss es : List ℕ) → badList ss es ≡ false → length (columns ss es) ≤ 65536
 few ss es e = let a = columns-length ss es (even-list ss es e) in let b = small-list ss es e in omega arith
 
-entry-fits : (count space : Bool) (v : Verdict) → (count ≡ false → Fits v) → Fits (entryVerdict count space v)
-unfolding entryVerdict
+entry-fits : (count space : Bool) (v : Verdict) → (count ≡ false → Fits v) → Fits (inOrder (check Count count ∷ check Space space ∷ v ∷ []))
 entry-fits count space v h =
     order-fit
     (next-fits (check-fits Count count) (λ e. next-fits (check-fits Space space) (λ _. next-fits (h (check-told Count count e)) (λ _. no-more))))
@@ -63,7 +62,10 @@ module _ (ss es : List ℕ) where
 
     pub clashes-fits : Fits (clashesVerdict ss es ts fs)
     clashes-fits =
-        entry-fits (badList ss es || badList ts fs) false (pairVerdict true (columns ss es) (columns ts fs)) (λ e. let (a, b) = or-neither (badList ss es) (badList ts fs) e in pair-fits true (columns ss es) (columns ts fs) (few ss es a) (few ts fs b))
+        order-fit
+        (next-fits (check-fits Count (badList ss es || badList ts fs))
+        (λ e. let (a, b) = or-neither (badList ss es) (badList ts fs) (check-told Count (badList ss es || badList ts fs) e) in
+        next-fits (pair-fits true (columns ss es) (columns ts fs) (few ss es a) (few ts fs b)) (λ _. no-more)))
 
 -- ---- counts
 
@@ -109,8 +111,8 @@ joined-few (s ∷ []) r = go (eqb (r .start) (s .end + 1))
     go false = omega arith
 joined-few (s ∷ t ∷ rs) r = let a = joined-few (t ∷ rs) r in omega arith
 
-fine-counts : (count space : Bool) (v : Verdict) → entryVerdict count space v ≡ Fine → count ≡ false
-unfolding entryVerdict inOrder
+fine-counts : (count space : Bool) (v : Verdict) → inOrder (check Count count ∷ check Space space ∷ v ∷ []) ≡ Fine → count ≡ false
+unfolding inOrder
 fine-counts count space v e = check-told Count count (first-left (check Count count) _ e)
 
 module _ (ss es : List ℕ) where

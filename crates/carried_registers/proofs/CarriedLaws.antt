@@ -40,7 +40,8 @@ carried-up : (C : Code) (l : ℕ) → Up (carried C l)
 unfolding carried
 carried-up C l = up-below (C .numbered) (carries C l)
 
-carried-length : (C : Code) (l : ℕ) → length (carried C l) ≤ C .numbered
+-- each carried register is numbered
+pub carried-length : (C : Code) (l : ℕ) → length (carried C l) ≤ C .numbered
 unfolding carried
 carried-length C l = below-length (C .numbered) (carries C l)
 
