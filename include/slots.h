@@ -11,9 +11,12 @@
  *
  * Each function answers in one number:
  *   - below 2^32: the answer. 0 where it says no more than that all is done;
- *   - SLOTS_ABSENT, of slots_local, slots_slot and slots_shared only: there is none, as for an index past the end;
+ *   - SLOTS_ABSENT, of slots_local, slots_slot, slots_shared and slots_carried only: there is none, as for an index past the end;
  *   - otherwise a refusal: its number times 2^32 plus the index of the first offending record, counted from 0 in its list.
- * A refusal changes no answer list. Entries of an answer list past the answer stay as they were. */
+ * That every answer is below 2^32 and every index whole is proved. The functions that count words of work space, whose names end in _words, are
+ * no such answers: they refuse nothing, and what they count can be 2^32 or more.
+ * A refusal changes no answer list. Entries of an answer list past the answer stay as they were. The first W words of a work space are zero after
+ * an answer, and as they were after a refusal with 1 to 7, 10 or 11; after 8 and 9 they are zero. The words past them never change. */
 #ifndef SLOTS_H
 #define SLOTS_H
 
@@ -31,14 +34,14 @@ enum slots_refusal {
     SLOTS_COUNT = 1,    /* a count or the budget outside its limits, or a list that is no whole rows */
     SLOTS_LINE = 2,     /* index: the block. Its number is repeated or too large, it is reversed, it does not start at the last end plus 1, or it ends past points */
     SLOTS_EDGE = 3,     /* index: the edge. It names no block */
-    SLOTS_INST = 4,     /* index: the instruction, or the crossing. A block, point, flag, position or register out of range */
+    SLOTS_INST = 4,     /* index: the instruction, the crossing, or the local whose kind is lent. A block, point, flag, position, register or kind out of range */
     SLOTS_STRAY = 5,    /* index: the address, the end or the move. At an absent instruction or block, or of a kind over 3; an address or move at an unplaced instruction */
     SLOTS_PIECE = 6,    /* index: the live piece, or the assignment. Reversed, not wholly in the blocks, or of a register that is not numbered */
     SLOTS_SPACE = 7,    /* work space under W, or an answer list too short */
-    SLOTS_INVERTED = 8, /* a computed range that ends before it starts: none of the functions below gives it */
+    SLOTS_INVERTED = 8, /* a computed range that ends before it starts: slots_local_areas alone gives it */
     SLOTS_LIST = 9,     /* all areas together exceed the area list */
     SLOTS_WANT = 10,    /* index: the range, the want, or the item. A range or a lent plan that is not as it has to be */
-    SLOTS_TEXT = 11     /* a malformed line of a job text: none of the functions below gives it */
+    SLOTS_TEXT = 11     /* index: the line. Malformed; slots_print_text says so in its text, and none of the functions below gives it */
 };
 
 /* There is no such local or slot, or no shared area. No refusal and no answer is this number. */
@@ -92,20 +95,31 @@ typedef struct slots_item { uint32_t cell, present, first, count; } slots_item;
 /* For fitting alone: an item's size and alignment, and its part of the area list. present: 0 for no area. */
 typedef struct slots_want { uint32_t size, align, present, first, count; } slots_want;
 
+/* An item's area, where it stands by itself: whether it has one (0 or 1), and which part of the area list that is. */
+typedef struct slots_area { uint32_t present, first, count; } slots_area;
+/* A touch of a local, from start to end; and a point at which a local ends. */
+typedef struct slots_touch { uint32_t local, start, end; } slots_touch;
+typedef struct slots_local_end { uint32_t local, point; } slots_local_end;
+/* The kinds of locals: without an area, plain, and ending. */
+#define SLOTS_UNFOLLOWED 0u
+#define SLOTS_PLAIN 1u
+#define SLOTS_ENDING 2u
+
 /* A row is its numbers and nothing else. */
 typedef char slots_rows_are_packed[sizeof(slots_block) == 12 && sizeof(slots_edge) == 8 && sizeof(slots_inst) == 36 &&
     sizeof(slots_operand) == 8 && sizeof(slots_local_size) == 8 && sizeof(slots_address) == 8 && sizeof(slots_end) == 8 &&
     sizeof(slots_piece) == 12 && sizeof(slots_assigned) == 8 && sizeof(slots_move) == 16 && sizeof(slots_range) == 8 &&
-    sizeof(slots_cell) == 8 && sizeof(slots_item) == 16 && sizeof(slots_want) == 20 ? 1 : -1];
+    sizeof(slots_cell) == 8 && sizeof(slots_item) == 16 && sizeof(slots_want) == 20 &&
+    sizeof(slots_area) == 12 && sizeof(slots_touch) == 12 && sizeof(slots_local_end) == 8 ? 1 : -1];
 
 /* ---- the whole job ---- */
 
 /* Which items of a job may share a cell. Rather than this, call slots_plan_job below, which takes the lists by name.
  * Reads: points, the last point there is; v, how many registers are numbered; budget, how many cells may be probed; and the records.
  * On 0: cells has the plan's cells, items a row for each local and then for each slot, areas the ranges of all items' areas in item order,
- * counts the number of cells, the probes spent and the depth (the sum of the cells' sizes), as many of the three as there is room for.
- * The first W words of work are zero. Cells and items need room for as many rows as there are locals and slots; work for W words.
- * Refuses with 1 to 7 and 9. After 1 to 7 the work space is as it was; after 9 its first W words are zero. */
+ * counts the number of cells, the probes spent and the depth (the sum of the cells' sizes).
+ * Cells and items need room for as many rows as there are locals and slots, counts for its three numbers, work for W words.
+ * Refuses with 1 to 7 and 9. */
 uint64_t slots_share(
     uint32_t points, uint32_t v, uint32_t budget,
     const uint32_t *blocks, size_t blocks_len, const uint32_t *edges, size_t edges_len, const uint32_t *insts, size_t insts_len,
@@ -116,7 +130,7 @@ uint64_t slots_share(
     uint64_t *counts, size_t counts_len, uint64_t *work, size_t work_len);
 
 /* W of a job, in 64-bit words, by the numbers of its records (not of their numbers), the ranges of its area list and v:
- * 8 * (all records + blocks * ceil(locals / 64) + ranges + ceil(v / 64)). Exact for any numbers; it refuses nothing. */
+ * 8 * (all records + blocks * ceil(locals / 64) + ranges + ceil(v / 64)). Exact for any numbers, 2^32 and more included. */
 uint64_t slots_work_words(
     uint32_t v, uint32_t blocks, uint32_t edges, uint32_t insts, uint32_t operands, uint32_t crossings, uint32_t locals, uint32_t slots,
     uint32_t addresses, uint32_t ends, uint32_t pieces, uint32_t assigned, uint32_t moves, uint32_t ranges);
@@ -125,12 +139,12 @@ uint64_t slots_work_words(
 
 /* Fits given wants, the first `locals` of them locals. areas: rows of slots_range. The answer lists and counts are those of slots_share;
  * an item's row is its cell, then the want's part, or 0, 0, 0 without an area. Refuses with 1, 7 and 10 (an area outside its list,
- * reversed, unsorted or overlapping itself). After a refusal the work space is as it was, else its first W words are zero. */
+ * reversed, unsorted or overlapping itself). */
 uint64_t slots_fit_wants(
     const uint32_t *wants, size_t wants_len, const uint32_t *areas, size_t areas_len, uint32_t locals, uint32_t budget,
     uint32_t *cells, size_t cells_len, uint32_t *items, size_t items_len, uint64_t *counts, size_t counts_len, uint64_t *work, size_t work_len);
 
-/* W of fitting alone: 8 * (wants + ranges). */
+/* W of fitting alone: 8 * (wants + ranges). Exact for any numbers, 2^32 and more included. */
 uint64_t slots_fit_words(uint32_t wants, uint32_t ranges);
 
 /* ---- queries of a plan ---- */
@@ -185,12 +199,24 @@ uint64_t slots_clashes(
     const uint32_t *start, size_t start_len, const uint32_t *end, size_t end_len,
     const uint32_t *other_start, size_t other_start_len, const uint32_t *other_end, size_t other_end_len);
 
-/* ---- rows of bits over blocks ---- */
+/* ---- the parts of a job ---- */
 
-/* Rows of `words` 64-bit words, one to a block, in line order. W is 8 * (blocks + edges + blocks * words). Refuse with 1, 2, 3 and 7.
+/* Over a graph: blocks and edges, the last point there is. Places are those of the line, from 0 on. They refuse with 1, 2, 3 and 7.
+ * W is slots_graph_words(blocks, edges, words), of components and settling without words. */
+
+/* How many components there are: places are in one exactly when each reaches the other. which has a number for each place, that of its component, below
+ * the answer; an edge that leaves a component enters a lower-numbered one. */
+uint64_t slots_components(
+    const uint32_t *blocks, size_t blocks_len, const uint32_t *edges, size_t edges_len, uint32_t points, uint32_t *which, size_t which_len,
+    uint64_t *work, size_t work_len);
+/* order has every place once: a place with an edge to one that does not reach it stands before that one. */
+uint64_t slots_settling(
+    const uint32_t *blocks, size_t blocks_len, const uint32_t *edges, size_t edges_len, uint32_t points, uint32_t *order, size_t order_len,
+    uint64_t *work, size_t work_len);
+/* Rows of `words` 64-bit words, one to a block, in line order.
  * slots_flowed: a bit of a block's row in out is set exactly when a block with that bit in touched is reached from it over one or more edges
  * (over other than 0), or it is reached from one (over 0). slots_spread: what arrives at a block is what leaves a predecessor, or arrives
- * there and passes it. After a refusal out and work are as they were, else the first W words of work are zero. */
+ * there and passes it. */
 uint64_t slots_flowed(
     uint32_t over, const uint32_t *blocks, size_t blocks_len, const uint32_t *edges, size_t edges_len, uint32_t points,
     const uint64_t *touched, size_t touched_len, size_t words, uint64_t *out, size_t out_len, uint64_t *work, size_t work_len);
@@ -198,6 +224,65 @@ uint64_t slots_spread(
     const uint32_t *blocks, size_t blocks_len, const uint32_t *edges, size_t edges_len, uint32_t points,
     const uint64_t *leaves, size_t leaves_len, const uint64_t *passes, size_t passes_len, size_t words,
     uint64_t *out, size_t out_len, uint64_t *work, size_t work_len);
+/* W of the four: 8 * (blocks + edges + blocks * words), 2^32 and more included; UINT64_MAX where it is more than that. */
+uint64_t slots_graph_words(uint32_t blocks, uint32_t edges, uint32_t words);
+
+/* Carried addresses, by a job's records. They refuse with 1, 2, 4, 5 and 7. */
+
+/* How many locals there are; kinds has a number for each: SLOTS_UNFOLLOWED, SLOTS_PLAIN or SLOTS_ENDING. */
+uint64_t slots_reach(
+    uint32_t points, uint32_t v, const uint32_t *blocks, size_t blocks_len, const uint32_t *insts, size_t insts_len,
+    const uint32_t *operands, size_t operands_len, const uint32_t *crossings, size_t crossings_len, const uint32_t *locals, size_t locals_len,
+    const uint32_t *addresses, size_t addresses_len, const uint32_t *ends, size_t ends_len, uint32_t *kinds, size_t kinds_len,
+    uint64_t *work, size_t work_len);
+/* How many registers carry the address of a local; registers has them, rising. SLOTS_ABSENT for a local past the end. registers needs room for v numbers, or
+ * for as many as there are instructions where these are fewer. */
+uint64_t slots_carried(
+    uint32_t points, uint32_t v, const uint32_t *blocks, size_t blocks_len, const uint32_t *insts, size_t insts_len,
+    const uint32_t *operands, size_t operands_len, const uint32_t *crossings, size_t crossings_len, const uint32_t *locals, size_t locals_len,
+    const uint32_t *addresses, size_t addresses_len, const uint32_t *ends, size_t ends_len, uint32_t local, uint32_t *registers, size_t registers_len,
+    uint64_t *work, size_t work_len);
+
+/* W of slots_reach and slots_carried, by v and the numbers of records:
+ * 8 * (all records + blocks * ceil(locals / 64) + ceil(v / 64)). Exact for any numbers, 2^32 and more included. */
+uint64_t slots_reach_words(
+    uint32_t v, uint32_t blocks, uint32_t insts, uint32_t operands, uint32_t crossings, uint32_t locals, uint32_t addresses, uint32_t ends);
+
+/* How many ranges the moves of a slot cover, in the moves' order: out has them, rows of slots_range. out needs room for two ranges to a move.
+ * Refuses with 1, 2, 4, 5 and 7. */
+uint64_t slots_moved(
+    uint32_t points, uint32_t v, const uint32_t *blocks, size_t blocks_len, const uint32_t *insts, size_t insts_len,
+    const uint32_t *operands, size_t operands_len, const uint32_t *moves, size_t moves_len, uint32_t slot, uint32_t *out, size_t out_len,
+    uint64_t *work, size_t work_len);
+
+/* W of slots_moved: 8 * (all records + ceil(v / 64)). Exact for any numbers, 2^32 and more included. */
+uint64_t slots_moved_words(uint32_t v, uint32_t blocks, uint32_t insts, uint32_t operands, uint32_t moves);
+/* How many slots there are, as said; registers has a number for each: the last register that is assigned to it, or v for none.
+ * Refuses with 1, 6 and 7. */
+uint64_t slots_spilled(
+    uint32_t v, uint32_t slots, const uint32_t *assigned, size_t assigned_len, uint32_t *registers, size_t registers_len, uint64_t *work, size_t work_len);
+/* W of slots_spilled: 8 * (assigned + ceil(v / 64)). Exact for any numbers, 2^32 and more included. */
+uint64_t slots_spilled_words(uint32_t v, uint32_t assigned);
+
+/* The areas of all items of a job: how many ranges; areas has them, rows of slots_range in item order, items a row of slots_area for each local and then
+ * for each slot. W is slots_work_words. Refuses with 1 to 7 and 9. */
+uint64_t slots_item_areas(
+    uint32_t points, uint32_t v, const uint32_t *blocks, size_t blocks_len, const uint32_t *edges, size_t edges_len,
+    const uint32_t *insts, size_t insts_len, const uint32_t *operands, size_t operands_len, const uint32_t *crossings, size_t crossings_len,
+    const uint32_t *locals, size_t locals_len, const uint32_t *slots, size_t slots_len, const uint32_t *addresses, size_t addresses_len,
+    const uint32_t *ends, size_t ends_len, const uint32_t *pieces, size_t pieces_len, const uint32_t *assigned, size_t assigned_len,
+    const uint32_t *moves, size_t moves_len, uint32_t *areas, size_t areas_len, uint32_t *items, size_t items_len, uint64_t *work, size_t work_len);
+
+/* The areas of locals by their kinds, as slots_reach numbers them, by touches (rows of slots_touch) and ends (rows of slots_local_end) that are lent by
+ * themselves; the answer and the answer lists are those of slots_item_areas. An unfollowed local has no area, and its touches and ends count for nobody, as
+ * those of a local past the end. Refuses with 1, 2, 3, 4 (index: a local whose kind is over 2), 7, 8 and 9. */
+uint64_t slots_local_areas(
+    const uint32_t *blocks, size_t blocks_len, const uint32_t *edges, size_t edges_len, uint32_t points, const uint32_t *kinds, size_t kinds_len,
+    const uint32_t *touches, size_t touches_len, const uint32_t *ends, size_t ends_len,
+    uint32_t *areas, size_t areas_len, uint32_t *items, size_t items_len, uint64_t *work, size_t work_len);
+/* W of slots_local_areas: 8 * (blocks + edges + locals + touches + ends + blocks * ceil(locals / 64) + ranges). Exact for any numbers, 2^32 and more
+ * included. */
+uint64_t slots_area_words(uint32_t blocks, uint32_t edges, uint32_t locals, uint32_t touches, uint32_t ends, uint32_t ranges);
 
 /* ---- a job by name ---- */
 

@@ -16,27 +16,40 @@ pub struct Job {
     pub v: u32,
     /// How many cells may be probed.
     pub budget: u32,
+    /// The blocks in line order.
     pub blocks: Vec<Block>,
+    /// The edges.
     pub edges: Vec<Edge>,
+    /// The instructions.
     pub insts: Vec<Inst>,
+    /// The operands of all instructions, one after another.
     pub operands: Vec<Operand>,
     /// Registers of block parameters and edge arguments.
     pub crossings: Vec<u32>,
+    /// The locals.
     pub locals: Vec<Local>,
     /// The slots' widths.
     pub slots: Vec<u32>,
+    /// Which instructions hold which addresses.
     pub addresses: Vec<Address>,
+    /// Where locals end.
     pub ends: Vec<End>,
+    /// When registers are live.
     pub pieces: Vec<Piece>,
+    /// Which registers are kept in which slots.
     pub assigned: Vec<Assigned>,
+    /// The moves of slots.
     pub moves: Vec<Move>,
 }
 
 /// What a plan in lent lists has: how many cells, the probes spent, the sum of the cells' sizes.
 #[derive(Clone, Copy, Debug, PartialEq, Eq)]
 pub struct Counts {
+    /// How many cells.
     pub cells: usize,
+    /// The probes spent.
     pub probes: u64,
+    /// The sum of the cells' sizes.
     pub depth: u64,
 }
 
@@ -47,6 +60,7 @@ fn add<T>(group: &mut Vec<T>, record: T) -> u32 {
 
 impl Job {
     /// A job without records, with the largest budget.
+    #[must_use]
     pub fn new(points: u32, v: u32) -> Job {
         Job { points, v, budget: MOST_BUDGET, ..Job::default() }
     }
@@ -56,6 +70,7 @@ impl Job {
         add(&mut self.blocks, Block { number, start, end })
     }
 
+    /// An edge, by block numbers.
     pub fn edge(&mut self, from: u32, to: u32) -> u32 {
         add(&mut self.edges, Edge { from, to })
     }
@@ -81,10 +96,12 @@ impl Job {
         add(&mut self.crossings, register)
     }
 
+    /// A local: the bytes it takes and its alignment.
     pub fn local(&mut self, size: u32, align: u32) -> u32 {
         add(&mut self.locals, Local { size, align })
     }
 
+    /// A slot of this width.
     pub fn slot(&mut self, width: u32) -> u32 {
         add(&mut self.slots, width)
     }
@@ -115,19 +132,23 @@ impl Job {
     }
 
     /// How many items there are: locals and slots.
+    #[must_use]
     pub fn items(&self) -> usize {
         self.locals.len() + self.slots.len()
     }
 
     /// How many words of work space the job needs with an area list of so many ranges.
+    #[must_use]
     pub fn work_words(&self, ranges: usize) -> u64 {
         calls::work_words(self, ranges)
     }
 
     /// The plan, its lists and the work space allocated here. The area list starts at a guess and grows, up to [`MOST_RANGES`], until all areas fit.
+    ///
+    /// # Errors
+    /// The first record that is not as it has to be, or [`Kind::List`] where all areas together have more ranges than an area list may have.
     pub fn share(&self) -> Result<Plan, Refusal> {
-        let guess = 2 * (self.pieces.len() + self.addresses.len() + self.moves.len() + self.blocks.len());
-        let mut ranges = guess.clamp(16, MOST_RANGES);
+        let mut ranges = self.first_ranges();
         loop {
             match self.share_within(ranges) {
                 Err(refusal) if refusal.kind == Kind::List && ranges < MOST_RANGES => ranges = (ranges * 4).min(MOST_RANGES),
@@ -136,7 +157,10 @@ impl Job {
         }
     }
 
-    /// The same with an area list of so many ranges: [`Kind::List`] if the areas have more.
+    /// The same with an area list of so many ranges.
+    ///
+    /// # Errors
+    /// As [`Job::share`]; [`Kind::List`] if the areas have more ranges.
     pub fn share_within(&self, ranges: usize) -> Result<Plan, Refusal> {
         let mut areas = vec![Range::default(); ranges];
         let mut work = vec![0; self.words_within_limits(ranges)];
@@ -147,10 +171,19 @@ impl Job {
 
     /// The plan into lists that are lent. A refusal changes none of `cells`, `items` and `areas`, and none but [`Kind::List`] changes `work`;
     /// a plan, and [`Kind::List`], leave the first [`Job::work_words`] words of `work` zero.
+    ///
+    /// # Errors
+    /// As [`Job::share_within`]; [`Kind::Space`] for a list under the items or a work space under [`Job::work_words`].
     pub fn share_into(&self, cells: &mut [Cell], items: &mut [Item], areas: &mut [Range], work: &mut [u64]) -> Result<Counts, Refusal> {
         let mut counts = [0; 3];
         calls::share(self, cells, items, areas, &mut counts, work)?;
         Ok(Counts { cells: counts[0] as usize, probes: counts[1], depth: counts[2] })
+    }
+
+    /// How many ranges to begin with.
+    pub(crate) fn first_ranges(&self) -> usize {
+        let guess = 2 * (self.pieces.len() + self.addresses.len() + self.moves.len() + self.blocks.len());
+        guess.clamp(16, MOST_RANGES)
     }
 
     /// W, or no words for more blocks or locals than a job may have: such a job is refused for its counts, whatever the work space.

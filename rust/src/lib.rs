@@ -20,21 +20,30 @@
 //! # Ok::<(), slots::Refusal>(())
 //! ```
 //!
+//! The parts that a plan is made of can be called by themselves: a [`Graph`]'s components, rows of bits and areas of locals, a job's [`Job::reach`],
+//! [`Job::carried`], [`Job::move_ranges`], [`Job::spilled`] and [`Job::item_areas`], and the functions of [`ranges`].
+//!
 //! The library `libslots.a` is linked from the folder that the environment variable `SLOTS_LIB` names, else from `target/staticlib` of the
 //! repository that this crate stands in.
 #![deny(unsafe_op_in_unsafe_fn)]
-#![warn(missing_debug_implementations)]
+#![warn(missing_debug_implementations, missing_docs)]
+#![warn(clippy::undocumented_unsafe_blocks)]
 
 mod calls;
+mod graph;
 mod job;
+mod part_calls;
+mod parts;
 mod plan;
 pub mod ranges;
 mod records;
 mod refusal;
 
+pub use graph::{Components, Graph, Over};
 pub use job::{Counts, Job, MOST_BUDGET, MOST_RANGES};
+pub use parts::{Areas, Followed};
 pub use plan::{Lent, Plan};
 pub use records::{
-    Address, Assigned, Block, Cell, Edge, End, Inst, Item, Local, Move, Operand, Piece, Place, Range, Want, NONE, NO_SLOT,
+    Address, Area, Assigned, Block, Cell, Edge, End, Inst, Item, Local, LocalEnd, Move, Operand, Piece, Place, Range, Touch, Want, NONE, NO_SLOT,
 };
 pub use refusal::{Kind, Refusal};

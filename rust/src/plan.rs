@@ -4,9 +4,11 @@ use crate::{calls, Cell, Item, Local, Range, Refusal, Want};
 /// A plan by its rows, as another program may lend it: each query first checks it, and may refuse it.
 #[derive(Clone, Copy, Debug)]
 pub struct Lent<'a> {
+    /// The cells.
     pub cells: &'a [Cell],
     /// The locals, then the slots.
     pub items: &'a [Item],
+    /// The ranges that items' parts are of.
     pub areas: &'a [Range],
     /// How many of the items are locals.
     pub locals: u32,
@@ -81,62 +83,74 @@ impl Plan {
     }
 
     /// The plan's rows.
+    #[must_use]
     pub fn lent(&self) -> Lent<'_> {
         Lent { cells: &self.cells, items: &self.items, areas: &self.areas, locals: self.locals }
     }
 
     /// The cells: their sizes and alignments.
+    #[must_use]
     pub fn cells(&self) -> &[Cell] {
         &self.cells
     }
 
     /// A row for each item, the locals first and then the slots.
+    #[must_use]
     pub fn items(&self) -> &[Item] {
         &self.items
     }
 
     /// The ranges that items' parts are of.
+    #[must_use]
     pub fn areas(&self) -> &[Range] {
         &self.areas
     }
 
     /// The area of an item: none if it has none, or past the end.
+    #[must_use]
     pub fn area(&self, item: usize) -> Option<&[Range]> {
         let row = self.items.get(item).filter(|row| row.present != 0)?;
         Some(&self.areas[row.first as usize..(row.first + row.count) as usize])
     }
 
     /// How many cells were probed.
+    #[must_use]
     pub fn probes(&self) -> u64 {
         self.probes
     }
 
     /// The sum of the cells' sizes.
+    #[must_use]
     pub fn depth(&self) -> u64 {
         self.depth
     }
 
     /// The cell of a local, or none past the end.
+    #[must_use]
     pub fn local(&self, i: u32) -> Option<usize> {
         self.lent().local(i).expect(OWN)
     }
 
     /// The cell of a slot, or none past the end.
+    #[must_use]
     pub fn slot(&self, i: u32) -> Option<usize> {
         self.lent().slot(i).expect(OWN)
     }
 
     /// The area of a local, only if its cell has two or more members.
+    #[must_use]
     pub fn shared(&self, i: u32) -> Option<&[Range]> {
         self.lent().shared(i).expect(OWN)
     }
 
     /// The slots whose cell has two or more members, rising.
+    #[must_use]
     pub fn crowded(&self) -> Vec<u32> {
         self.lent().crowded().expect(OWN)
     }
 
     /// Items less cells.
+    #[must_use]
     pub fn saved(&self) -> usize {
         self.lent().saved().expect(OWN)
     }

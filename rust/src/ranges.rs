@@ -17,6 +17,9 @@ impl Columns {
 }
 
 /// The ranges sorted by start, then end, those joined that share a point.
+///
+/// # Errors
+/// [`Kind::Want`](crate::Kind::Want) at a reversed range.
 pub fn merged(ranges: &[Range]) -> Result<Vec<Range>, Refusal> {
     let mut out = Columns::room(ranges.len());
     let n = calls::merged(&Columns::of(ranges), &mut out)?;
@@ -24,6 +27,9 @@ pub fn merged(ranges: &[Range]) -> Result<Vec<Range>, Refusal> {
 }
 
 /// The list with one range more: its last range lengthened if the new one starts on the point after its end, else the new one appended.
+///
+/// # Errors
+/// [`Kind::Want`](crate::Kind::Want) at a reversed range; the new one comes after the list's.
 pub fn joined(ranges: &[Range], new: Range) -> Result<Vec<Range>, Refusal> {
     let mut out = Columns::room(ranges.len() + 1);
     let n = calls::joined(&Columns::of(ranges), new, &mut out)?;
@@ -31,6 +37,9 @@ pub fn joined(ranges: &[Range], new: Range) -> Result<Vec<Range>, Refusal> {
 }
 
 /// What [`merged`] makes of two lists together; each is in order, and its ranges share no point.
+///
+/// # Errors
+/// [`Kind::Want`](crate::Kind::Want) at a range that is reversed, or starts no later than the one before it ends; the second list's are counted on.
 pub fn union(one: &[Range], other: &[Range]) -> Result<Vec<Range>, Refusal> {
     let mut out = Columns::room(one.len() + other.len());
     let n = calls::union(&Columns::of(one), &Columns::of(other), &mut out)?;
@@ -38,6 +47,9 @@ pub fn union(one: &[Range], other: &[Range]) -> Result<Vec<Range>, Refusal> {
 }
 
 /// Whether some point is in both lists; each is in order, and its ranges share no point.
+///
+/// # Errors
+/// As [`union`].
 pub fn clashes(one: &[Range], other: &[Range]) -> Result<bool, Refusal> {
     calls::clashes(&Columns::of(one), &Columns::of(other))
 }

@@ -1,7 +1,12 @@
 //! The records of a job and of a plan. Each is a row of numbers, laid out as the component reads it.
 
 /// A record that is a row of 32-bit numbers and nothing else.
-pub(crate) trait Row: Copy {
+///
+/// # Safety
+/// The type is laid out as an array of `u32` is: its size is a multiple of 4, its alignment is that of `u32`, it has no padding, and whatever the numbers
+/// are, they are one of its values.
+pub(crate) unsafe trait Row: Copy {
+    /// How many numbers a row has.
     const NUMBERS: usize = std::mem::size_of::<Self>() / 4;
 }
 
@@ -11,24 +16,41 @@ macro_rules! rows {
         #[repr(C)]
         #[derive(Clone, Copy, Debug, Default, PartialEq, Eq, Hash)]
         pub struct $name { $($(#[$field_about])* pub $field: u32),* }
-        impl Row for $name {}
+        // SAFETY: a `repr(C)` struct whose fields are all `u32` has neither padding nor values that it excludes.
+        unsafe impl Row for $name {}
     )*};
 }
 
-impl Row for u32 {}
+// SAFETY: it is one such number.
+unsafe impl Row for u32 {}
 
 rows! {
-    /// A block, by its number: its first and its last point. Blocks stand in line order, without gaps.
-    Block { number, start, end }
+    /// A block of the line; blocks stand in line order, without gaps.
+    Block {
+        /// Its number: 0 to the blocks less 1, in any order.
+        number,
+        /// Its first point.
+        start,
+        /// Its last point.
+        end
+    }
     /// An edge, by block numbers.
-    Edge { from, to }
+    Edge {
+        /// The block that it leaves.
+        from,
+        /// The block that it enters.
+        to
+    }
     /// An instruction; [`Inst::at`] and [`Inst::unplaced`] make one.
     Inst {
         /// 1, or 0 for one that stands in no block.
         placed,
         /// Its block's number.
         block,
-        early, late,
+        /// Its early point.
+        early,
+        /// Its late point.
+        late,
         /// 1 for an address computation, else 0.
         lea,
         /// 1 if it reads or writes memory by a base and an index, else 0.
@@ -40,28 +62,124 @@ rows! {
         /// How many operands are its own; [`crate::Job::operand`] counts them.
         operands
     }
-    /// An operand: `def` is 1 if it defines its register, else 0.
-    Operand { def, register }
-    /// A local: the bytes that it takes, and its alignment.
-    Local { size, align }
+    /// An operand of an instruction.
+    Operand {
+        /// 1 if it defines its register, else 0.
+        def,
+        /// The register.
+        register
+    }
+    /// A local.
+    Local {
+        /// The bytes that it takes.
+        size,
+        /// Its alignment.
+        align
+    }
     /// An instruction that holds the address of a local.
-    Address { inst, local }
+    Address {
+        /// The instruction.
+        inst,
+        /// The local; a number past the end counts for nobody.
+        local
+    }
     /// An instruction at whose early point a local ends.
-    End { inst, local }
-    /// A register is live from `start` to `end`, both included.
-    Piece { register, start, end }
+    End {
+        /// The instruction.
+        inst,
+        /// The local; a number past the end counts for nobody.
+        local
+    }
+    /// A piece of a register's life.
+    Piece {
+        /// The register.
+        register,
+        /// The first point at which it is live.
+        start,
+        /// The last.
+        end
+    }
     /// A register is kept in a slot; a slot's last one counts.
-    Assigned { register, slot }
-    /// A move to and from slots, or [`NO_SLOT`]; `kind` and `number` say where: see [`Place`].
-    Move { kind, number, to, from }
+    Assigned {
+        /// The register.
+        register,
+        /// The slot; a number past the end counts for nobody.
+        slot
+    }
+    /// A move to and from slots; [`Move::new`] makes one.
+    Move {
+        /// 0 to 3: before or after an instruction, at the start or the end of a block.
+        kind,
+        /// The instruction, or the number of the block.
+        number,
+        /// The slot that it goes to, or [`NO_SLOT`].
+        to,
+        /// The slot that it comes from, or [`NO_SLOT`].
+        from
+    }
     /// A range of points, both ends included.
-    Range { start, end }
-    /// A cell of the frame that items share: its members' largest size and largest alignment.
-    Cell { size, align }
-    /// An item's cell, whether it has an area (0 or 1), and which part of the area list that is.
-    Item { cell, present, first, count }
-    /// For fitting alone: size, alignment, and a part of the area list; `present` is 0 for no area.
-    Want { size, align, present, first, count }
+    Range {
+        /// Its first point.
+        start,
+        /// Its last point.
+        end
+    }
+    /// A cell of the frame that items share.
+    Cell {
+        /// Its members' largest size.
+        size,
+        /// Its members' largest alignment.
+        align
+    }
+    /// An item of a plan.
+    Item {
+        /// Its cell.
+        cell,
+        /// 1 if it has an area, else 0.
+        present,
+        /// The first range of its area in the area list.
+        first,
+        /// How many ranges its area has.
+        count
+    }
+    /// An item's area where it stands by itself.
+    Area {
+        /// 1 if there is one, else 0.
+        present,
+        /// Its first range in the area list.
+        first,
+        /// How many ranges it has.
+        count
+    }
+    /// A touch of a local that is lent by itself.
+    Touch {
+        /// The local; a number past the end counts for nobody.
+        local,
+        /// The first point of the touch.
+        start,
+        /// The last.
+        end
+    }
+    /// A point at which a local ends, lent by itself.
+    LocalEnd {
+        /// The local; a number past the end counts for nobody.
+        local,
+        /// The point.
+        point
+    }
+    /// An item for fitting alone.
+    Want {
+        /// The bytes that it takes.
+        size,
+        /// Its alignment.
+        align,
+        /// 0 for no area; its part is then not read.
+        present,
+        /// The first range of its area in the area list.
+        first,
+        /// How many ranges its area has.
+        count
+    }
 }
 
 /// No base or index operand.
@@ -84,27 +202,33 @@ pub enum Place {
 
 impl Inst {
     /// An instruction of a block, without base and index.
+    #[must_use]
     pub fn at(block: u32, early: u32, late: u32) -> Inst {
         Inst { placed: 1, block, early, late, base: NONE, index: NONE, ..Inst::default() }
     }
 
     /// An instruction that stands in no block.
+    #[must_use]
     pub fn unplaced() -> Inst {
         Inst { base: NONE, index: NONE, ..Inst::default() }
     }
 
     /// The same, as an address computation.
+    #[must_use]
     pub fn lea(self) -> Inst {
         Inst { lea: 1, ..self }
     }
 
     /// The same, as one that reads or writes memory by the operands at these positions.
+    #[must_use]
     pub fn memory(self, base: Option<u32>, index: Option<u32>) -> Inst {
         Inst { mem: 1, base: base.unwrap_or(NONE), index: index.unwrap_or(NONE), ..self }
     }
 }
 
 impl Move {
+    /// A move at a place, to a slot and from a slot, or none.
+    #[must_use]
     pub fn new(place: Place, to: Option<u32>, from: Option<u32>) -> Move {
         let (kind, number) = match place {
             Place::Before(inst) => (0, inst),
@@ -117,11 +241,14 @@ impl Move {
 }
 
 impl Range {
+    /// From the first point to the last.
+    #[must_use]
     pub fn new(start: u32, end: u32) -> Range {
         Range { start, end }
     }
 
     /// Whether each of the two starts no later than the other ends.
+    #[must_use]
     pub fn overlaps(self, other: Range) -> bool {
         crate::calls::overlaps(self, other)
     }

@@ -5,16 +5,27 @@ use std::fmt;
 #[derive(Clone, Copy, Debug, PartialEq, Eq, Hash)]
 #[repr(u32)]
 pub enum Kind {
+    /// A count or the budget outside its limits, or a list that is no whole rows.
     Count = 1,
+    /// A block out of line.
     Line = 2,
+    /// An edge that names no block.
     Edge = 3,
+    /// An instruction, a crossing or a local's kind out of range.
     Inst = 4,
+    /// An address, an end or a move at no instruction or block.
     Stray = 5,
+    /// A live piece or an assignment out of range.
     Piece = 6,
+    /// A work space or an answer list that is too short.
     Space = 7,
+    /// A computed range that ends before it starts.
     Inverted = 8,
+    /// More ranges than the area list holds.
     List = 9,
+    /// A range or a lent plan that is not as it has to be.
     Want = 10,
+    /// A malformed line of a job text.
     Text = 11,
 }
 
@@ -26,17 +37,21 @@ const KINDS: [Kind; 11] = [
 /// A refusal: what is wrong, and the index of the first offending record of its group.
 #[derive(Clone, Copy, Debug, PartialEq, Eq, Hash)]
 pub struct Refusal {
+    /// What is wrong.
     pub kind: Kind,
+    /// The record, counted from 0 in its group; 0 where none is named.
     pub index: u32,
 }
 
 impl Refusal {
     /// The number in the table of refusals.
+    #[must_use]
     pub fn number(self) -> u32 {
         self.kind as u32
     }
 
     /// The word in the table of refusals.
+    #[must_use]
     pub fn word(self) -> &'static str {
         match self.kind {
             Kind::Count => "count",
@@ -54,6 +69,7 @@ impl Refusal {
     }
 
     /// What it means, in a sentence.
+    #[must_use]
     pub fn sentence(self) -> &'static str {
         match self.kind {
             Kind::Count => "a count or the budget is outside its limits, or a list is no whole rows",

@@ -126,20 +126,33 @@ static void refusals_of_a_job(void) {
     done_with(&plan);
 }
 
-/* slots_share itself: as many counts as there is room for. */
-static void counts_in_less_room(void) {
+/* slots_share itself on the first job, with room for so many counts; the other lists are `plan`'s. */
+static uint64_t share_with(uint32_t budget, uint64_t *counts, size_t room, slots_plan *plan) {
     const uint32_t none = 0;
+    return slots_share(20, 0, budget, (const uint32_t *)line, 3, &none, 0, (const uint32_t *)code, 18, &none, 0, &none, 0, (const uint32_t *)sizes, 4, &none, 0,
+        (const uint32_t *)held, 4, &none, 0, &none, 0, &none, 0, &none, 0, (uint32_t *)plan->cells, 2 * plan->cells_room, (uint32_t *)plan->items, 4 * plan->items_room,
+        (uint32_t *)plan->areas, 2 * plan->areas_room, counts, room, plan->work, plan->work_room);
+}
+
+/* Counts under three numbers are refused with 7: after 1, before 9, and nothing is written. */
+static void counts_in_less_room(void) {
     for (size_t room = 0; room <= 4; room++) {
-        slots_plan plan = room_for(2, 2, 64, 576);
         uint64_t *counts = malloc(room ? room * 8 : 1);
         memset(counts, 0x5a, room * 8);
-        HOLDS(slots_share(20, 0, 9, (const uint32_t *)line, 3, &none, 0, (const uint32_t *)code, 18, &none, 0, &none, 0, (const uint32_t *)sizes, 4, &none, 0,
-            (const uint32_t *)held, 4, &none, 0, &none, 0, &none, 0, &none, 0, (uint32_t *)plan.cells, 4, (uint32_t *)plan.items, 8, (uint32_t *)plan.areas, 128,
-            counts, room, plan.work, 576) == 0);
-        const uint64_t told[] = {1, 1, 8, 0x5a5a5a5a5a5a5a5aULL};
-        HOLDS(memcmp(counts, told, room * 8) == 0);
+        slots_plan plan = room_for(2, 2, 64, 576), narrow = room_for(2, 2, 1, 72);
+        if (room < 3) {
+            REFUSED(share_with(9, counts, room, &plan), SLOTS_SPACE, 0);
+            REFUSED(share_with(9, counts, room, &narrow), SLOTS_SPACE, 0);
+            REFUSED(share_with(SLOTS_MOST_BUDGET + 1, counts, room, &plan), SLOTS_COUNT, 0);
+            HOLDS(lists_unchanged(&plan) && lists_unchanged(&narrow) && all_are(plan.work, 576 * 8, 0x5a) && all_are(counts, room * 8, 0x5a));
+        } else {
+            HOLDS(share_with(9, counts, room, &plan) == 0);
+            const uint64_t told[] = {1, 1, 8, 0x5a5a5a5a5a5a5a5aULL};
+            HOLDS(memcmp(counts, told, room * 8) == 0);
+        }
         free(counts);
         done_with(&plan);
+        done_with(&narrow);
     }
 }
 
@@ -150,6 +163,15 @@ static void words_needed(void) {
     HOLDS(slots_work_words(UINT32_MAX, UINT32_MAX, UINT32_MAX, UINT32_MAX, UINT32_MAX, UINT32_MAX, UINT32_MAX, UINT32_MAX, UINT32_MAX, UINT32_MAX,
         UINT32_MAX, UINT32_MAX, UINT32_MAX, UINT32_MAX) == 8 * (12 * most + most * words + most + words));
     HOLDS(slots_fit_words(3, 4) == 56 && slots_fit_words(UINT32_MAX, UINT32_MAX) == 16 * most);
+    HOLDS(slots_graph_words(3, 2, 0) == 40 && slots_graph_words(3, 2, 5) == 160 && slots_graph_words(0, 0, UINT32_MAX) == 0);
+    HOLDS(slots_graph_words(1u << 29, 0, UINT32_MAX) == UINT64_MAX && slots_graph_words(1u << 29, 0, UINT32_MAX - 1) == UINT64_MAX - ((uint64_t)1 << 32) + 1);
+    HOLDS(slots_graph_words(UINT32_MAX, UINT32_MAX, UINT32_MAX) == UINT64_MAX);
+    HOLDS(slots_reach_words(65, 3, 1, 1, 1, 129, 1, 1) == 8 * (3 + 5 + 129 + 3 * 3 + 2) && slots_reach_words(0, 1, 0, 0, 0, 1, 0, 0) == 24);
+    HOLDS(slots_reach_words(UINT32_MAX, UINT32_MAX, UINT32_MAX, UINT32_MAX, UINT32_MAX, UINT32_MAX, UINT32_MAX, UINT32_MAX) == 8 * (7 * most + most * words + words));
+    HOLDS(slots_moved_words(1, 1, 0, 0, 0) == 16 && slots_moved_words(UINT32_MAX, UINT32_MAX, UINT32_MAX, UINT32_MAX, UINT32_MAX) == 8 * (4 * most + words));
+    HOLDS(slots_spilled_words(65, 3) == 40 && slots_spilled_words(UINT32_MAX, UINT32_MAX) == 8 * (most + words));
+    HOLDS(slots_area_words(3, 2, 65, 4, 5, 6) == 8 * (3 + 2 + 65 + 4 + 5 + 3 * 2 + 6));
+    HOLDS(slots_area_words(UINT32_MAX, UINT32_MAX, UINT32_MAX, UINT32_MAX, UINT32_MAX, UINT32_MAX) == 8 * (6 * most + most * words));
 }
 
 static void fitting_alone(void) {
@@ -166,7 +188,12 @@ static void fitting_alone(void) {
     memset(items, 0x5a, sizeof items);
     REFUSED(slots_fit_wants((const uint32_t *)wants, 20, (const uint32_t *)areas, 4, 2, 1, (uint32_t *)cells, 8, (uint32_t *)items, 16, counts, 3, work, 56), SLOTS_WANT, 2);
     REFUSED(slots_fit_wants((const uint32_t *)wants, 20, (const uint32_t *)areas, 6, 2, 1, (uint32_t *)cells, 8, (uint32_t *)items, 16, counts, 3, work, 55), SLOTS_SPACE, 0);
-    HOLDS(all_are(items, sizeof items, 0x5a) && counts[0] == 3);
+    for (size_t room = 0; room < 3; room++) { /* before 10, and after 1; also where no word of work space is needed */
+        REFUSED(slots_fit_wants((const uint32_t *)wants, 20, (const uint32_t *)areas, 4, 2, 1, (uint32_t *)cells, 8, (uint32_t *)items, 16, counts, room, work, 56), SLOTS_SPACE, 0);
+        REFUSED(slots_fit_wants((const uint32_t *)wants, 19, (const uint32_t *)areas, 6, 2, 1, (uint32_t *)cells, 8, (uint32_t *)items, 16, counts, room, work, 56), SLOTS_COUNT, 0);
+        REFUSED(slots_fit_wants((const uint32_t *)wants, 0, (const uint32_t *)areas, 0, 0, 1, (uint32_t *)cells, 8, (uint32_t *)items, 16, counts, room, work, 56), SLOTS_SPACE, 0);
+    }
+    HOLDS(all_are(items, sizeof items, 0x5a) && counts[0] == 3 && counts[1] == 1 && counts[2] == 14);
 }
 
 /* A plan of two locals and three slots in three cells: local 0 with slot 0, local 1 alone, slots 1 and 2. */
@@ -254,6 +281,101 @@ static void rows_of_bits(void) {
     HOLDS(out[1] == 3 && out[2] == 2);
 }
 
+static void components_and_order(void) {
+    const uint32_t blocks[] = {0, 0, 9, 1, 10, 19, 2, 20, 29}, edges[] = {0, 1, 1, 0, 1, 2};
+    uint32_t which[4] = {77, 77, 77, 77}, order[4] = {77, 77, 77, 77};
+    uint64_t work[49];
+    memset(work, 0x5a, sizeof work);
+    HOLDS(slots_graph_words(3, 3, 0) == 48);
+    HOLDS(slots_components(blocks, 9, edges, 6, 29, which, 4, work, 49) == 2 && which[0] == 1 && which[1] == 1 && which[2] == 0 && which[3] == 77);
+    HOLDS(all_are(work, 48 * 8, 0) && all_are(work + 48, 8, 0x5a));
+    HOLDS(slots_settling(blocks, 9, edges, 6, 29, order, 4, work, 48) == 0 && order[2] == 2 && order[0] + order[1] == 1 && order[3] == 77);
+    which[0] = order[0] = 77;
+    REFUSED(slots_components(blocks, 9, edges, 6, 29, which, 2, work, 48), SLOTS_SPACE, 0);
+    REFUSED(slots_settling(blocks, 9, edges, 6, 29, order, 3, work, 47), SLOTS_SPACE, 0);
+    REFUSED(slots_components(blocks, 8, edges, 6, 29, which, 3, work, 48), SLOTS_COUNT, 0);
+    const uint32_t nowhere[] = {0, 1, 1, 3};
+    REFUSED(slots_settling(blocks, 9, nowhere, 4, 29, order, 3, work, 48), SLOTS_EDGE, 1);
+    HOLDS(which[0] == 77 && order[0] == 77);
+}
+
+/* Local 0 is held by register 0, local 1 by none, and local 2 by register 1, which escapes; it ends. */
+static const slots_inst five[] = {{1, 0, 2, 3, 1, 0, SLOTS_NONE, SLOTS_NONE, 1}, {1, 0, 4, 5, 0, 1, 0, SLOTS_NONE, 1}, {1, 0, 6, 7, 1, 0, SLOTS_NONE, SLOTS_NONE, 1},
+    {1, 0, 8, 9, 0, 0, SLOTS_NONE, SLOTS_NONE, 1}, {1, 0, 12, 13, 0, 0, SLOTS_NONE, SLOTS_NONE, 0}};
+static const slots_operand four[] = {{1, 0}, {0, 0}, {1, 1}, {0, 1}};
+
+static void carried_addresses(void) {
+    const uint32_t none = 0, three[] = {8, 8, 8, 8, 4, 4}, addresses[] = {0, 0, 2, 2}, ends[] = {4, 2}, stray[] = {5, 2};
+    uint32_t kinds[4] = {77, 77, 77, 77}, registers[2] = {77, 77};
+    uint64_t work[145];
+    memset(work, 0x5a, sizeof work);
+    HOLDS(slots_reach_words(2, 1, 5, 4, 0, 3, 2, 1) == 144);
+    HOLDS(slots_reach(20, 2, (const uint32_t *)line, 3, (const uint32_t *)five, 45, (const uint32_t *)four, 8, &none, 0, three, 6, addresses, 4, ends, 2, kinds, 4, work, 145) == 3);
+    HOLDS(kinds[0] == SLOTS_PLAIN && kinds[1] == SLOTS_UNFOLLOWED && kinds[2] == SLOTS_ENDING && kinds[3] == 77);
+    HOLDS(all_are(work, 144 * 8, 0) && all_are(work + 144, 8, 0x5a));
+    REFUSED(slots_reach(20, 2, (const uint32_t *)line, 3, (const uint32_t *)five, 45, (const uint32_t *)four, 8, &none, 0, three, 6, addresses, 4, stray, 2, kinds, 4, work, 145), SLOTS_STRAY, 0);
+    REFUSED(slots_reach(20, 2, (const uint32_t *)line, 3, (const uint32_t *)five, 45, (const uint32_t *)four, 8, &none, 0, three, 6, addresses, 4, ends, 2, kinds, 4, work, 143), SLOTS_SPACE, 0);
+    for (uint32_t local = 0; local < 4; local++) {
+        const uint64_t told[] = {1, 0, 1, SLOTS_ABSENT};
+        HOLDS(slots_carried(20, 2, (const uint32_t *)line, 3, (const uint32_t *)five, 45, (const uint32_t *)four, 8, &none, 0, three, 6, addresses, 4, ends, 2, local, registers, 2, work, 144) == told[local]);
+        HOLDS(registers[0] == (local == 0 ? 0 : local == 1 ? 0 : 1) && registers[1] == 77);
+    }
+    REFUSED(slots_carried(20, 2, (const uint32_t *)line, 3, (const uint32_t *)five, 45, (const uint32_t *)four, 8, &none, 0, three, 6, addresses, 4, ends, 2, 0, registers, 1, work, 144), SLOTS_SPACE, 0);
+}
+
+static void slots_and_moves(void) {
+    const slots_move moves[] = {{0, 1, 0, SLOTS_NO_SLOT}, {3, 0, SLOTS_NO_SLOT, 0}}, strays[] = {{0, 1, 0, 1}, {4, 0, 0, 1}};
+    slots_range out[4];
+    uint64_t work[104];
+    memset(out, 0x5a, sizeof out);
+    HOLDS(slots_moved_words(2, 1, 5, 4, 2) == 104);
+    HOLDS(slots_moved(20, 2, (const uint32_t *)line, 3, (const uint32_t *)five, 45, (const uint32_t *)four, 8, (const uint32_t *)moves, 8, 0, (uint32_t *)out, 8, work, 104) == 2);
+    HOLDS(out[0].start == 3 && out[0].end == 5 && out[1].start == 18 && out[1].end == 20 && all_are(out + 2, 2 * sizeof *out, 0x5a));
+    HOLDS(slots_moved(20, 2, (const uint32_t *)line, 3, (const uint32_t *)five, 45, (const uint32_t *)four, 8, (const uint32_t *)moves, 8, 1, (uint32_t *)out, 8, work, 104) == 0);
+    REFUSED(slots_moved(20, 2, (const uint32_t *)line, 3, (const uint32_t *)five, 45, (const uint32_t *)four, 8, (const uint32_t *)strays, 8, 0, (uint32_t *)out, 8, work, 104), SLOTS_STRAY, 1);
+    REFUSED(slots_moved(20, 2, (const uint32_t *)line, 3, (const uint32_t *)five, 45, (const uint32_t *)four, 8, (const uint32_t *)moves, 8, 0, (uint32_t *)out, 7, work, 104), SLOTS_COUNT, 0);
+    REFUSED(slots_moved(20, 2, (const uint32_t *)line, 3, (const uint32_t *)five, 45, (const uint32_t *)four, 8, (const uint32_t *)moves, 8, 0, (uint32_t *)out, 6, work, 104), SLOTS_SPACE, 0);
+    HOLDS(out[0].start == 3);
+
+    const slots_assigned assigned[] = {{0, 1}, {1, 1}, {0, 9}};
+    uint32_t registers[3] = {77, 77, 77};
+    HOLDS(slots_spilled_words(2, 3) == 32);
+    HOLDS(slots_spilled(2, 2, (const uint32_t *)assigned, 6, registers, 3, work, 32) == 2 && registers[0] == 2 && registers[1] == 1 && registers[2] == 77);
+    REFUSED(slots_spilled(1, 2, (const uint32_t *)assigned, 6, registers, 3, work, 32), SLOTS_PIECE, 1);
+    REFUSED(slots_spilled(2, 2, (const uint32_t *)assigned, 6, registers, 3, work, 31), SLOTS_SPACE, 0);
+    REFUSED(slots_spilled(2, 2049, (const uint32_t *)assigned, 6, registers, 3, work, 32), SLOTS_COUNT, 0);
+}
+
+static void areas_of_items(void) {
+    const uint32_t none = 0;
+    slots_range areas[3];
+    slots_area items[3];
+    uint64_t work[90];
+    memset(areas, 0x5a, sizeof areas), memset(items, 0x5a, sizeof items);
+    const size_t words = (size_t)slots_work_words(0, 1, 0, 2, 0, 0, 2, 0, 2, 0, 0, 0, 0, 3);
+    HOLDS(slots_item_areas(20, 0, (const uint32_t *)line, 3, &none, 0, (const uint32_t *)code, 18, &none, 0, &none, 0, (const uint32_t *)sizes, 4, &none, 0, (const uint32_t *)held, 4,
+        &none, 0, &none, 0, &none, 0, &none, 0, (uint32_t *)areas, 6, (uint32_t *)items, 9, work, words) == 2);
+    HOLDS(areas[0].start == 2 && areas[0].end == 3 && areas[1].start == 6 && areas[1].end == 7 && all_are(areas + 2, sizeof *areas, 0x5a));
+    HOLDS(items[0].present == 1 && items[0].first == 0 && items[0].count == 1 && items[1].first == 1 && items[1].count == 1 && all_are(items + 2, sizeof *items, 0x5a));
+    REFUSED(slots_item_areas(20, 0, (const uint32_t *)line, 3, &none, 0, (const uint32_t *)code, 18, &none, 0, &none, 0, (const uint32_t *)sizes, 4, &none, 0, (const uint32_t *)held, 4,
+        &none, 0, &none, 0, &none, 0, &none, 0, (uint32_t *)areas, 2, (uint32_t *)items, 9, work, words), SLOTS_LIST, 0);
+
+    const uint32_t blocks[] = {0, 0, 9, 1, 10, 19, 2, 20, 29}, edges[] = {0, 1, 1, 2};
+    const uint32_t touches[] = {0, 12, 13, 1, 12, 13, 2, 12, 13, 9, 3, 1}, ends[] = {1, 15}, kinds[] = {SLOTS_PLAIN, SLOTS_ENDING, SLOTS_UNFOLLOWED}, over[] = {0, 3, 0};
+    slots_range ranges[4];
+    uint64_t room[200];
+    const size_t needed = (size_t)slots_area_words(3, 2, 3, 4, 1, 4);
+    memset(ranges, 0x5a, sizeof ranges);
+    HOLDS(slots_local_areas(blocks, 9, edges, 4, 29, kinds, 3, touches, 12, ends, 2, (uint32_t *)ranges, 8, (uint32_t *)items, 9, room, needed) == 2);
+    HOLDS(ranges[0].start == 12 && ranges[0].end == 13 && ranges[1].start == 12 && ranges[1].end == 15 && all_are(ranges + 2, 2 * sizeof *ranges, 0x5a));
+    HOLDS(items[0].present == 1 && items[1].present == 1 && items[1].first == 1 && items[1].count == 1 && items[2].present == 0 && items[2].first == 0 && items[2].count == 0);
+    REFUSED(slots_local_areas(blocks, 9, edges, 4, 29, over, 3, touches, 12, ends, 2, (uint32_t *)ranges, 8, (uint32_t *)items, 9, room, needed), SLOTS_INST, 1);
+    REFUSED(slots_local_areas(blocks, 9, edges, 4, 29, kinds, 3, touches, 12, ends, 2, (uint32_t *)ranges, 8, (uint32_t *)items, 9, room, needed - 1), SLOTS_SPACE, 0);
+    const uint32_t reversed[] = {0, 13, 12};
+    REFUSED(slots_local_areas(blocks, 9, edges, 4, 29, kinds, 3, reversed, 3, ends, 2, (uint32_t *)ranges, 8, (uint32_t *)items, 9, room, needed), SLOTS_INVERTED, 0);
+    HOLDS(ranges[1].end == 15);
+}
+
 int main(void) {
     the_first_job();
     refusals_of_a_job();
@@ -263,5 +385,9 @@ int main(void) {
     queries();
     ranges();
     rows_of_bits();
+    components_and_order();
+    carried_addresses();
+    slots_and_moves();
+    areas_of_items();
     return failed;
 }

@@ -1,4 +1,4 @@
-// Calls the library from C++: a job by vectors, its plan and its queries, on jobs of many sizes.
+// Calls every function of slots.h from C++: a job by vectors, its plan, its queries and its parts, on jobs of many sizes.
 #include <cstdio>
 #include <vector>
 
@@ -41,6 +41,106 @@ void holds(bool fact, const char *what) {
     if (!fact) std::fprintf(stderr, "calls.cpp: not so: %s\n", what), failed = 1;
 }
 
+// A list of rows for writing.
+template <class T> uint32_t *numbers(std::vector<T> &rows) { return reinterpret_cast<uint32_t *>(rows.data()); }
+
+// slots_share by vectors, and what the parts say of the same job: the areas, the kinds, what carries an address, what moves cover and what is spilled.
+void by_parts(const slots_job &job, const Planned &plan, const std::vector<slots_block> &blocks, const std::vector<slots_inst> &insts,
+    const std::vector<slots_local_size> &locals, const std::vector<slots_address> &addresses, const std::vector<uint32_t> &widths,
+    const std::vector<slots_piece> &pieces, const std::vector<slots_assigned> &assigned) {
+    const size_t items = locals.size() + widths.size(), ranges = plan.areas.size();
+    const uint32_t v = job.v, b = uint32_t(blocks.size()), l = uint32_t(locals.size());
+    std::vector<uint64_t> work(size_t(slots_work_words(v, b, 0, uint32_t(insts.size()), 0, 0, l, uint32_t(widths.size()), uint32_t(addresses.size()), 0,
+        uint32_t(pieces.size()), uint32_t(assigned.size()), 0, uint32_t(ranges))));
+    std::vector<slots_cell> cells(items + 1);
+    std::vector<slots_item> rows(items + 1);
+    std::vector<slots_range> areas(ranges + 1);
+    uint64_t counts[3] = {0, 0, 0};
+    holds(slots_share(job.points, v, job.budget, numbers(blocks), 3 * blocks.size(), &none, 0, numbers(insts), 9 * insts.size(), &none, 0, &none, 0,
+        numbers(locals), 2 * locals.size(), numbers(widths), widths.size(), numbers(addresses), 2 * addresses.size(), &none, 0, numbers(pieces), 3 * pieces.size(),
+        numbers(assigned), 2 * assigned.size(), &none, 0, numbers(cells), 2 * items, numbers(rows), 4 * items, numbers(areas), 2 * ranges, counts, 3, work.data(), work.size()) == plan.code
+        && counts[0] == plan.plan.cells_used && counts[2] == plan.plan.depth, "the same job by vectors");
+    std::vector<slots_area> own(items + 1);
+    holds(slots_item_areas(job.points, v, numbers(blocks), 3 * blocks.size(), &none, 0, numbers(insts), 9 * insts.size(), &none, 0, &none, 0,
+        numbers(locals), 2 * locals.size(), numbers(widths), widths.size(), numbers(addresses), 2 * addresses.size(), &none, 0, numbers(pieces), 3 * pieces.size(),
+        numbers(assigned), 2 * assigned.size(), &none, 0, numbers(areas), 2 * ranges, numbers(own), 3 * items, work.data(), work.size()) == ranges, "as many ranges as the areas have");
+    for (size_t i = 0; i < items; i++)
+        holds(own[i].present == plan.items[i].present && own[i].first == plan.items[i].first && own[i].count == plan.items[i].count, "the plan's areas");
+    std::vector<uint32_t> kinds(l + 1, 77), registers(widths.size() + insts.size() + 1, 77);
+    std::vector<uint64_t> carrying(size_t(slots_reach_words(v, b, uint32_t(insts.size()), 0, 0, l, uint32_t(addresses.size()), 0)));
+    holds(slots_reach(job.points, v, numbers(blocks), 3 * blocks.size(), numbers(insts), 9 * insts.size(), &none, 0, &none, 0, numbers(locals), 2 * locals.size(),
+        numbers(addresses), 2 * addresses.size(), &none, 0, kinds.data(), kinds.size(), carrying.data(), carrying.size()) == l && kinds[l] == 77, "a kind for each local");
+    holds(slots_carried(job.points, v, numbers(blocks), 3 * blocks.size(), numbers(insts), 9 * insts.size(), &none, 0, &none, 0, numbers(locals), 2 * locals.size(),
+        numbers(addresses), 2 * addresses.size(), &none, 0, 0, registers.data(), registers.size(), carrying.data(), carrying.size()) == (l ? 0 : SLOTS_ABSENT), "nothing carries it");
+    std::vector<uint64_t> moving(size_t(slots_moved_words(v, b, uint32_t(insts.size()), 0, 0)));
+    holds(slots_moved(job.points, v, numbers(blocks), 3 * blocks.size(), numbers(insts), 9 * insts.size(), &none, 0, &none, 0, 0, numbers(areas), 0,
+        moving.data(), moving.size()) == 0, "no moves");
+    std::vector<uint64_t> spilling(size_t(slots_spilled_words(v, uint32_t(assigned.size())) + 1));
+    holds(slots_spilled(v, uint32_t(widths.size()), numbers(assigned), 2 * assigned.size(), registers.data(), registers.size(), spilling.data(), spilling.size()) == widths.size(), "each slot");
+    for (uint32_t i = 0; i < widths.size(); i++) holds(registers[i] == i, "its register");
+}
+
+// n blocks in a ring, or in a line: one component or n.
+void over_graphs(uint32_t n) {
+    std::vector<slots_block> blocks;
+    std::vector<slots_edge> edges;
+    for (uint32_t i = 0; i < n; i++) {
+        blocks.push_back({i, 2 * i, 2 * i + 1});
+        edges.push_back({i, (i + 1) % n});
+    }
+    std::vector<uint32_t> which(n), order(n);
+    std::vector<uint64_t> work(size_t(slots_graph_words(n, n, 1))), touched(n), out(n);
+    touched[0] = 1;
+    for (size_t e : {n, n - 1}) {
+        holds(slots_components(numbers(blocks), 3 * n, numbers(edges), 2 * e, 2 * n, which.data(), n, work.data(), work.size()) == (e == n ? 1 : n), "components");
+        holds(slots_settling(numbers(blocks), 3 * n, numbers(edges), 2 * e, 2 * n, order.data(), n, work.data(), work.size()) == 0, "settling");
+        if (e < n) for (uint32_t i = 0; i < n; i++) holds(which[i] == n - 1 - i && order[i] == i, "a line's components and order");
+        holds(slots_flowed(0, numbers(blocks), 3 * n, numbers(edges), 2 * e, 2 * n, touched.data(), n, 1, out.data(), n, work.data(), work.size()) == 0, "flowed");
+        for (uint32_t i = 0; i < n; i++) holds(out[i] == (e == n || i > 0 ? 1u : 0u), "reached from the first");
+        holds(slots_spread(numbers(blocks), 3 * n, numbers(edges), 2 * e, 2 * n, touched.data(), n, std::vector<uint64_t>(n).data(), n, 1, out.data(), n, work.data(), work.size()) == 0, "spread");
+        for (uint32_t i = 0; i < n; i++) holds(out[i] == (i == 1 % n && (e == n || n > 1) ? 1u : 0u), "arrives at the next");
+    }
+    const std::vector<uint32_t> kinds = {SLOTS_PLAIN};
+    const std::vector<slots_touch> touches = {{0, 0, 0}, {0, 2 * n - 1, 2 * n - 1}};
+    std::vector<slots_range> ranges(n + 2);
+    std::vector<slots_area> areas(1);
+    std::vector<uint64_t> space(size_t(slots_area_words(n, n, 1, 2, 0, n + 2)));
+    holds(slots_local_areas(numbers(blocks), 3 * n, numbers(edges), 2 * n, 2 * n, kinds.data(), 1, numbers(touches), 6, &none, 0, numbers(ranges), 2 * ranges.size(),
+        numbers(areas), 3, space.data(), space.size()) == 1 && ranges[0].start == 0 && ranges[0].end == 2 * n - 1, "a ring is all one area");
+}
+
+// Wants one after another, their plan and its queries; the plan in which nothing is shared.
+void wants_and_ranges(uint32_t n) {
+    std::vector<slots_want> wants;
+    std::vector<slots_range> areas;
+    std::vector<uint32_t> start, end;
+    for (uint32_t i = 0; i < n; i++) {
+        wants.push_back({8, 8, 1, i, 1});
+        areas.push_back({3 * i, 3 * i + 1});
+        start.push_back(3 * (n - 1 - i)), end.push_back(3 * (n - 1 - i) + 1);
+    }
+    std::vector<slots_cell> cells(n + 1);
+    std::vector<slots_item> items(n + 1);
+    std::vector<uint64_t> work(size_t(slots_fit_words(n, n)) + 1);
+    uint64_t counts[3], part[2] = {77, 77};
+    holds(slots_fit_wants(numbers(wants), 5 * n, numbers(areas), 2 * n, n, SLOTS_MOST_BUDGET, numbers(cells), 2 * n, numbers(items), 4 * n, counts, 3, work.data(), work.size()) == 0
+        && counts[0] == (n ? 1u : 0u), "wants that do not meet share one cell");
+    const std::vector<slots_cell> &told = cells;
+    const std::vector<slots_item> &rows = items;
+    holds(slots_local(numbers(told), 2 * counts[0], numbers(rows), 4 * n, n, 0) == (n ? 0 : SLOTS_ABSENT), "a local's cell");
+    holds(slots_shared(numbers(told), 2 * counts[0], numbers(rows), 4 * n, numbers(areas), 2 * n, n, 1, part, 2) == (n > 1 ? 0 : SLOTS_ABSENT) && part[0] == (n > 1 ? 1u : 77u), "its area");
+    holds(slots_cap(numbers(cells), 2 * n, uint32_t(counts[0]), 4) == 0 && (n == 0 || cells[0].align == 4), "cap");
+    const std::vector<uint32_t> widths(n, 8);
+    holds(slots_apart(&none, 0, numbers(widths), n, numbers(cells), 2 * n, numbers(items), 4 * n) == 0 && (n == 0 || items[n - 1].cell == n - 1), "apart");
+    std::vector<uint32_t> out_start(2 * n + 1), out_end(2 * n + 1), sorted_start, sorted_end;
+    holds(slots_merged(numbers(start), n, numbers(end), n, out_start.data(), n + 1, out_end.data(), n + 1) == n && (n == 0 || out_start[0] == 0), "merged");
+    sorted_start.assign(out_start.begin(), out_start.begin() + n), sorted_end.assign(out_end.begin(), out_end.begin() + n);
+    holds(slots_joined(numbers(sorted_start), n, numbers(sorted_end), n, 3 * n - 1, 3 * n, out_start.data(), n + 1, out_end.data(), n + 1) == (n ? n : 1) || n == 0, "joined");
+    holds(slots_union(numbers(sorted_start), n, numbers(sorted_end), n, numbers(sorted_start), n, numbers(sorted_end), n, out_start.data(), 2 * n, out_end.data(), 2 * n) == n, "union");
+    holds(slots_clashes(numbers(sorted_start), n, numbers(sorted_end), n, numbers(sorted_start), n, numbers(sorted_end), n) == (n ? 1u : 0u), "clashes");
+    holds(slots_overlaps(n, n + 1, n + 1, n + 2) == 1 && slots_overlaps(n, n, n + 1, n + 1) == 0, "overlaps");
+}
+
 // n locals, each held by an instruction of its own, one after another in one block: all in one cell.
 void in_a_row(uint32_t n) {
     std::vector<slots_inst> insts;
@@ -64,6 +164,7 @@ void in_a_row(uint32_t n) {
     const uint64_t saved = slots_saved(numbers(p.cells), 2 * p.plan.cells_used, numbers(p.items), 4 * p.items.size(), n);
     holds(saved == (n ? n - 1 : 0), "items less cells");
     if (n > 0) holds(plan_of(job, n - 1).code == (uint64_t)SLOTS_LIST << 32, "one range too few");
+    by_parts(job, p, blocks, insts, locals, addresses, {}, {}, {});
 }
 
 // n slots that are all live at once: a cell for each.
@@ -89,6 +190,7 @@ void at_once(uint32_t n) {
     holds(slots_crowded(numbers(p.cells), 2 * p.plan.cells_used, numbers(p.items), 4 * p.items.size(), 0, out.data(), out.size()) == 0 && out[0] == 77, "none is crowded");
     for (uint32_t i = 0; i <= n; i++)
         holds(slots_slot(numbers(p.cells), 2 * p.plan.cells_used, numbers(p.items), 4 * p.items.size(), 0, i) == (i < n ? p.items[i].cell : SLOTS_ABSENT), "a slot's cell");
+    by_parts(job, p, blocks, {}, {}, {}, widths, pieces, assigned);
 }
 
 } // namespace
@@ -97,6 +199,8 @@ int main() {
     for (uint32_t n : {0, 1, 2, 63, 64, 65, 300, 2048}) {
         in_a_row(n);
         at_once(n);
+        wants_and_ranges(n);
+        if (n > 0) over_graphs(n);
     }
     slots_job more = slots_job();
     const std::vector<slots_local_size> locals(2049);
