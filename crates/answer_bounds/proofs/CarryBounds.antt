@@ -77,8 +77,8 @@ module _ (points v : ℕ) (blocks insts operands moves : List ℕ) (lent work : 
   moved-counts-fit : Fits (movedCounts v blocks insts operands moves lent)
   unfolding movedCounts
   moved-counts-fit =
-      first-fits (most-fits 65535 v)
-      (λ _. first-fits (blocks-fit blocks) (λ _. first-fits (insts-fit insts operands) (λ _. first-fits (rows-fits 4 65536 (length moves)) (λ _. check-fits Count (not (eqb (lent % 2) 0))))))
+      first-fits _ _ (most-fits 65535 v)
+      (λ _. first-fits _ _ (blocks-fit blocks) (λ _. first-fits _ _ (insts-fit insts operands) (λ _. first-fits _ _ (rows-fits 4 65536 (length moves)) (λ _. check-fits Count (not (eqb (lent % 2) 0))))))
 
   pub moved-fits : Fits (movedVerdict points v blocks insts operands moves lent work)
   unfolding movedVerdict
@@ -124,7 +124,7 @@ moved-few points v blocks insts operands moves s lent work e =
 module _ (v slots : ℕ) (assigned : List ℕ) (lent work : ℕ) where
   spilled-counts-fit : Fits (spilledCounts v slots assigned)
   unfolding spilledCounts
-  spilled-counts-fit = first-fits (most-fits 65535 v) (λ _. first-fits (most-fits 2048 slots) (λ _. rows-fits 2 65536 (length assigned)))
+  spilled-counts-fit = first-fits _ _ (most-fits 65535 v) (λ _. first-fits _ _ (most-fits 2048 slots) (λ _. rows-fits 2 65536 (length assigned)))
 
   spilled-counted : spilledCounts v slots assigned ≡ Fine → (slots ≤ 2048) × (rowCount 2 assigned ≤ 65536)
   unfolding spilledCounts

@@ -39,12 +39,12 @@ module _ (points v : ℕ) (blocks edges insts operands crossings locals slots ad
   counts-fit : Fits (countVerdict v blocks edges insts operands crossings locals slots addresses ends pieces assigned moves areas)
   unfolding countVerdict otherCounts
   counts-fit =
-      first-fits (carry-counts-fit v blocks insts operands crossings locals addresses ends)
-      (λ _. first-fits (rows-fits 2 16384 (length edges))
-      (λ _. first-fits (most-fits 2048 (length slots))
-      (λ _. first-fits (rows-fits 3 65536 (length pieces))
-      (λ _. first-fits (rows-fits 2 65536 (length assigned))
-      (λ _. first-fits (rows-fits 4 65536 (length moves))
+      first-fits _ _ (carry-counts-fit v blocks insts operands crossings locals addresses ends)
+      (λ _. first-fits _ _ (rows-fits 2 16384 (length edges))
+      (λ _. first-fits _ _ (most-fits 2048 (length slots))
+      (λ _. first-fits _ _ (rows-fits 3 65536 (length pieces))
+      (λ _. first-fits _ _ (rows-fits 2 65536 (length assigned))
+      (λ _. first-fits _ _ (rows-fits 4 65536 (length moves))
       (λ _. rows-fits 2 65536 areas))))))
 
   -- numbers 2 to 6, after number 1 passed, and what is checked behind them
@@ -70,7 +70,7 @@ module _ (points v : ℕ) (blocks edges insts operands crossings locals slots ad
   -- numbers 1 to 6
   pub records-fits : Fits (recordsVerdict points v blocks edges insts operands crossings locals slots addresses ends pieces assigned moves areas)
   unfolding recordsVerdict
-  records-fits = first-fits counts-fit (λ e. order-fit (checks-fit [] e no-more))
+  records-fits = first-fits _ _ counts-fit (λ e. order-fit (checks-fit [] e no-more))
 
   abbrev own : Job
   own = jobOf points v blocks edges insts operands crossings locals slots addresses ends pieces assigned moves
@@ -112,11 +112,11 @@ module _ (points v budget : ℕ) (blocks edges insts operands crossings locals s
   lent-fits : Fits (lentVerdict points v budget blocks edges insts operands crossings locals slots addresses ends pieces assigned moves cells items areas work)
   unfolding lentVerdict
   lent-fits =
-      first-fits (check-fits Count (badShape budget cells items))
-      (λ _. first-fits (records-fits points v blocks edges insts operands crossings locals slots addresses ends pieces assigned moves areas)
+      first-fits _ _ (check-fits Count (badShape budget cells items))
+      (λ _. first-fits _ _ (records-fits points v blocks edges insts operands crossings locals slots addresses ends pieces assigned moves areas)
       (λ _. check-fits Space (ltb work (spaceOf y) || (ltb (cells / 2) (y .locals + y .slots) || ltb (items / 4) (y .locals + y .slots)))))
 
   pub job-fits : Fits (codedVerdict points v budget blocks edges insts operands crossings locals slots addresses ends pieces assigned moves cells items areas counts work)
   job-fits =
-      first-fits (first-fits lent-fits (λ _. check-fits Space (fewCounts counts)))
+      first-fits _ _ (first-fits _ _ lent-fits (λ _. check-fits Space (fewCounts counts)))
       (λ _. check-fits ListWord (ltb (areas / 2) (rangesOf (tabulate (itemCount (job points v budget blocks edges insts operands crossings locals slots addresses ends pieces assigned moves)) (itemArea (job points v budget blocks edges insts operands crossings locals slots addresses ends pieces assigned moves))))))

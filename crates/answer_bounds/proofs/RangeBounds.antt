@@ -36,7 +36,7 @@ list-within o rs = scan-within _ _ _
 
 pair-fits : (o : Bool) (rs ss : List Range) → length rs ≤ 65536 → length ss ≤ 65536 → Fits (pairVerdict o rs ss)
 unfolding pairVerdict
-pair-fits o rs ss h l = first-fits (list-fits o rs h) (λ _. counted-fits (length rs) (listVerdict o ss) (omega (arith, list-within o ss)))
+pair-fits o rs ss h l = first-fits _ _ (list-fits o rs h) (λ _. counted-fits (length rs) (listVerdict o ss) (omega (arith, list-within o ss)))
 
 -- a list that is no bad one
 few : (ss es : List ℕ) → badList ss es ≡ false → length (columns ss es) ≤ 65536

@@ -28,14 +28,14 @@ pub check-fits : (r : Refusal) (b : Bool) → Fits (check r b)
 check-fits r b = named-fits r b 0 (omega arith)
 
 -- checks one after the other: the second is made where the first is fine
-pub first-fits : {v w : Verdict} → Fits v → (v ≡ Fine → Fits w) → Fits (first v w)
+pub first-fits : (v w : Verdict) → Fits v → (v ≡ Fine → Fits w) → Fits (first v w)
 unfolding first
-first-fits {Fine} {w} a b = b refl
-first-fits {Bad r i} {w} a b = a
+first-fits Fine w a b = b refl
+first-fits (Bad r i) w a b = a
 
 pub order-fits : (v : Verdict) (vs : List Verdict) → Fits v → (v ≡ Fine → Fits (inOrder vs)) → Fits (inOrder (v ∷ vs))
 unfolding inOrder
-order-fits v vs a b = first-fits a b
+order-fits v vs a b = first-fits v (inOrder vs) a b
 
 pub none-fits : Fits (inOrder [])
 unfolding inOrder
@@ -45,7 +45,7 @@ none-fits = fine-fits
 pub scan-fits : (r : Refusal) (t : ℕ → Bool) (n : ℕ) → n < 2 ^ 32 → Fits (scan r t n)
 unfolding scan
 scan-fits r t zero h = fine-fits
-scan-fits r t (suc n) h = first-fits (scan-fits r t n (omega arith)) (λ _. named-fits r (t n) n (omega arith))
+scan-fits r t (suc n) h = first-fits (scan r t n) (cond (t n) (Bad r n) Fine) (scan-fits r t n (omega arith)) (λ _. named-fits r (t n) n (omega arith))
 
 -- an index within the records of a group
 pub scan-within : (r : Refusal) (t : ℕ → Bool) (n : ℕ) → indexOf (scan r t n) ≤ n
