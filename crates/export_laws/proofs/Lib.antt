@@ -1,3 +1,4 @@
 pub mod Demand
 pub mod Paths
 pub mod Seen
+pub mod ReadBack
