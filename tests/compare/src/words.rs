@@ -43,7 +43,8 @@ pub fn compare(count: u64, seed: u64) {
             ]
         };
         for (at, (given, wanted)) in told.into_iter().enumerate() {
-            assert_eq!(u128::from(given), wanted, "seed {own}: function {at} of {n:?}");
+            // of a graph with very many words to a row it is more than 64 bits hold: then the largest number
+            assert_eq!(u128::from(given), wanted.min(u128::from(u64::MAX)), "seed {own}: function {at} of {n:?}");
         }
     }
     println!("W, seeds {seed} to {}: {} calls, no difference", seed + count - 1, 7 * count);
