@@ -1,4 +1,6 @@
 // Exported: the areas of items.
+ghost use mathlib.Core.Path.{_≡_};
+ghost use Rattle.area_layout.specs.Layout.{spaceFor};
 ghost use Rattle.slots.specs.Exports.{ItemAreasCoded, LocalAreasCoded};
 
 // `item_areas::item_areas`.
@@ -73,4 +75,19 @@ pub extern "C" fn slots_local_areas(
         items,
         work,
     ))
+}
+
+// W of `local_areas`, by the numbers of records and of ranges of the area list. That of `item_areas` is the whole job's.
+#[no_mangle]
+pub extern "C" fn slots_area_words(
+    blocks: u32,
+    edges: u32,
+    locals: u32,
+    touches: u32,
+    ends: u32,
+    ranges: u32,
+) -> u64
+    ensures { λ r. ⌜ r ≡ spaceFor (record { blocks = blocks; edges = edges; locals = locals; touches = touches; ends = ends; room = ranges }) ⌝ }
+{
+    area_checks::words(blocks, edges, locals, touches, ends, ranges)
 }
