@@ -18,7 +18,7 @@ use Rattle.fitting.specs.Queries.{Item, Slots, areasOf, itemsOf, slotsOf, crowd
 use Rattle.want_checks.specs.Checks.{badWant, badSpace, badCount as wantCount}
 use Rattle.want_checks.proofs.CheckLaws.{count-fine}
 use Rattle.want_codes.specs.Plans.{fewCounts, codedVerdict}
-use Rattle.query_checks.specs.Checks.{badCount, noCell, surplus, badAreas, badItem, planVerdict, sharedVerdict, crowdedVerdict}
+use Rattle.query_checks.specs.Checks.{badCount, noCell, surplus, badAreas, badItem, planVerdict, crowdedVerdict, toldVerdict}
 use Rattle.capping.specs.Cap.{capVerdict}
 use Rattle.apart.specs.Apart.{apartCount, apartSpace, apartVerdict}
 use Rattle.codes.specs.Codes.{Fits}
@@ -58,20 +58,24 @@ module _ (cells items : List ℕ) (locals : ℕ) where
       (λ e. let n = few-items cells items locals (check-told Count (badCount cells items locals) e) in
       next-fits (few-fits WantWord (noCell cells items) (rowCount 4 items) (omega arith)) (λ _. next-fits (surplus-fits n) (λ _. no-more))))
 
-  pub shared-fits : (areas : List ℕ) → Fits (sharedVerdict cells items areas locals)
-  unfolding sharedVerdict
-  shared-fits areas =
+  -- `shared`, its part told in a list
+  pub told-fits : (areas : List ℕ) (room : ℕ) → Fits (toldVerdict cells items areas locals room)
+  unfolding toldVerdict
+  told-fits areas room =
       order-fit
       (next-fits (check-fits Count (badCount cells items locals || badAreas areas))
       (λ e. let n = few-items cells items locals (or-neither (badCount cells items locals) (badAreas areas) (check-told Count (badCount cells items locals || badAreas areas) e) .0) in
-      next-fits (few-fits WantWord (badItem cells items (rowCount 2 areas)) (rowCount 4 items) (omega arith)) (λ _. next-fits (surplus-fits n) (λ _. no-more))))
+      next-fits (check-fits Space (ltb room 2))
+      (λ _. next-fits (few-fits WantWord (badItem cells items (rowCount 2 areas)) (rowCount 4 items) (omega arith)) (λ _. next-fits (surplus-fits n) (λ _. no-more)))))
 
   pub crowded-fits : (room : ℕ) → Fits (crowdedVerdict cells items locals room)
   unfolding crowdedVerdict
   crowded-fits room =
       order-fit
       (next-fits (check-fits Count (badCount cells items locals))
-      (λ _. next-fits (check-fits Space (ltb room (rowCount 4 items - locals))) (λ _. next-fits plan-fits (λ _. no-more))))
+      (λ e. let n = few-items cells items locals (check-told Count (badCount cells items locals) e) in
+      next-fits (check-fits Space (ltb room (rowCount 4 items - locals)))
+      (λ _. next-fits (few-fits WantWord (noCell cells items) (rowCount 4 items) (omega arith)) (λ _. next-fits (surplus-fits n) (λ _. no-more)))))
 
   few-slots : (room : ℕ) → crowdedVerdict cells items locals room ≡ Fine → rowCount 4 items ≤ 4096
   unfolding crowdedVerdict inOrder

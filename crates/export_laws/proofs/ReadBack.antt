@@ -1,8 +1,9 @@
 -- What a caller reads in a code, by the promise of each exported function: an answer below 2 to the 32, or the refusal's number and its whole index.
 use Prim.Native.Nat.{ℕ, _^_, _<_}
 use native.Mathlib.Omega.{arith}
-use mathlib.Core.Path.{_≡_, ap, _∙_}
-use mathlib.Core.Option.{some}
+use mathlib.Core.Path.{_≡_, refl, sym, ap, subst, _∙_}
+use mathlib.Core.Logic.{inl, inr}
+use mathlib.Core.Option.{Option, some, none}
 use mathlib.Core.List.{List, []}
 use lib.ListN.{length}
 use Rattle.refusals.specs.declared.Verdict.{Verdict}
@@ -18,9 +19,10 @@ use Rattle.range_entries.specs.Entries.{size, mergedOf, joinedOf, unionOf, clas
 use Rattle.fitting.specs.Plan.{Plan}
 use Rattle.fitting.specs.Queries.{slotsOf, local, slot, saved, crowded}
 use Rattle.wants.specs.Entry.{tallyOf, planFor}
-use Rattle.query_checks.specs.Checks.{planVerdict, crowdedVerdict}
+use Rattle.query_checks.specs.Checks.{planVerdict, toldVerdict, crowdedVerdict}
 use Rattle.queries.specs.Entry.{localOf, slotOf, savedBy}
-use Rattle.queries.specs.Shares.{crowdedOf, counted}
+use Rattle.queries.specs.Shares.{Stretch, sharedPart, crowdedOf, counted}
+use Rattle.query_codes.specs.Codes.{toldOf, partCode, PartTold}
 use Rattle.capping.specs.Cap.{capVerdict}
 use Rattle.apart.specs.Apart.{apartVerdict, apartOf}
 use Rattle.flow.specs.Entry.{verdictOf as flowVerdict}
@@ -42,7 +44,7 @@ use Rattle.job_codes.specs.Job.{codedVerdict, JobCoded}
 use Rattle.answer_bounds.proofs.GraphBounds.{components-fits, flowed-fits, spread-fits}
 use Rattle.answer_bounds.proofs.CarryBounds.{carry-fits, few-locals, few-registers, carried-few, moved-fits, moved-few, spilled-fits, spilled-few}
 use Rattle.answer_bounds.proofs.JobBounds.{job-fits, item-areas-fits, item-areas-few}
-use Rattle.answer_bounds.proofs.PlanBounds.{wants-fit, plan-fits, crowded-fits, crowded-few, cap-fits, apart-fits}
+use Rattle.answer_bounds.proofs.PlanBounds.{wants-fit, plan-fits, told-fits, crowded-fits, crowded-few, cap-fits, apart-fits}
 use Rattle.answer_bounds.proofs.QueryBounds.{local-small, slot-small, saved-small}
 use Rattle.answer_bounds.proofs.RangeBounds.{merged-fits, merged-count, joined-fits, joined-count, union-fits, union-count, clashes-fits}
 use Rattle.slots.specs.Exports.{FlowCoded, SpreadCoded, SettlingCoded, ReachCoded, CarriedCoded, MovedCoded, SpilledCoded, ItemAreasCoded, ListCoded, CrowdCoded, CapCoded, ApartCoded}
@@ -90,6 +92,22 @@ module _ (cells items : List ℕ) (locals : ℕ) {out out′ : List ℕ} {r : �
       (λ e. let z : r ≡ length (crowded (slotsOf locals cells items [])) = E .answer ∙ ap (λ (w : Verdict). countCode (counted (unless w (crowded (slotsOf locals cells items []))))) e in
       omega (arith, z, crowded-few cells items locals (length out) e))
       (λ k i e. E .answer ∙ ap (λ (w : Verdict). countCode (counted (unless w (crowded (slotsOf locals cells items []))))) e)
+
+part-small : (o : Option Stretch) → SmallOrAbsent (partCode (given o))
+part-small (some s) = inl (omega arith)
+part-small none = inr refl
+
+module _ (cells items areas : List ℕ) (locals i : ℕ) {part part′ : List ℕ} {r : ℕ} where
+  pub shared-read : PartTold (toldOf cells items areas locals i (length part)) part r part′ → Read SmallOrAbsent (toldVerdict cells items areas locals (length part)) r
+  shared-read E =
+      read-back _ (told-fits cells items locals areas (length part))
+      (λ e. subst SmallOrAbsent (sym (E .answer ∙ ap (λ (w : Verdict). partCode (unless w (sharedPart cells items locals i))) e)) (part-small (sharedPart cells items locals i)))
+      (λ k n e. E .answer ∙ ap (λ (w : Verdict). partCode (unless w (sharedPart cells items locals i))) e)
+
+module _ (locals slots : List ℕ) {cells items cells′ items′ : List ℕ} {r : ℕ} where
+  pub apart-read : ApartCoded (apartVerdict locals slots (length cells) (length items)) (apartOf locals slots (length cells) (length items)) cells items r cells′ items′
+      → Read Small (apartVerdict locals slots (length cells) (length items)) r
+  apart-read E = read-verdict (apartVerdict locals slots (length cells) (length items)) (apart-fits locals slots (length cells) (length items)) (E .answer)
 
 pub cap-read : {cells cells′ : List ℕ} {count most r : ℕ} → CapCoded cells count most r cells′ → Read Small (capVerdict cells count) r
 cap-read {cells = cells} {count = count} E = read-verdict (capVerdict cells count) (cap-fits cells count) (E .answer)
