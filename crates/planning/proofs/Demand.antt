@@ -34,7 +34,9 @@ use Rattle.printing.specs.Lines.{lineText}
 use Rattle.row_plans.specs.Groups.{points, registers, budget}
 use Rattle.planning.specs.Program.{told, textOf, jobText, job, refusal, printedFor, numbersIn, programText}
 use Rattle.planning.specs.Named.{Listed, Named, ReadsThrough}
-use Rattle.planning.proofs.PrintLaws.{Printable, cells-long, items-long}
+use Rattle.wants.proofs.SeenLaws.{cells-long}
+use Rattle.job_answers.proofs.SeenLaws.{items-long}
+use Rattle.planning.proofs.PrintLaws.{Printable}
 use Rattle.planning.proofs.TextLaws.{text-printable}
 use Rattle.planning.proofs.SizeLaws.{sizes-small}
 use Rattle.planning.proofs.LineLaws.{same-two, cell-in, local-in, slot-in, cell-line, local-line, slot-line}
@@ -57,10 +59,10 @@ module _ {n locals : ℕ} {A : ℕ → Option (List Range)} {p : Plan} (P : Prin
   item-cell i h = flat-at 4 n (λ j. p .cell j ∷ itemRow (rangesOf (tabulate j A)) (A j)) (λ j q. ap (λ (k : ℕ). suc k) (row-long (rangesOf (tabulate j A)) (A j))) i 0 h (omega arith)
 
   item-count : rowCount 4 (itemRows n A p) ≡ n
-  item-count = let l = items-long n A p in omega arith
+  item-count = let l = items-long A n p in omega arith
 
   cell-count : rowCount 2 (cellRows p) ≡ length (p .cells)
-  cell-count = let l = cells-long (p .cells) in omega arith
+  cell-count = let l = cells-long p in omega arith
 
   few-items : n ≤ 128
   few-items = omega (arith, P .locals-in, P .few-locals, P .few-slots)
