@@ -1,4 +1,4 @@
--- A column by value: an array of 65,536 numbers.
+-- A column by value: an array of k numbers.
 use Prim.Native.Nat.{ℕ}
 use mathlib.Core.List.{List, [], _∷_}
 use lib.Dec.{T}
@@ -14,14 +14,11 @@ use denote.Plain.{uint-lawful}
 use denote.Builtin.{u32}
 use denote.Array.{Array, array-lawful}
 
-abbrev pub limit : ℕ
-limit = 65536
+abbrev pub Arr : ℕ → RattleType
+Arr k = Array u32 k
 
-abbrev pub Arr : RattleType
-Arr = Array u32 limit
+abbrev pub arr : ℕ → Ty
+arr k = tyArray (tyInt w32) k
 
-abbrev pub arr : Ty
-arr = tyArray (tyInt w32) limit
-
-pub array-typed : {M : Type 1} (𝓤 : URA M) (H : Heap 𝓤) (A : Atoms 𝓤) (W : Given 𝓤 H A) (ys : List ℕ) (w : Val) → Is Arr ys (w ∷ []) → T (hasTy arr w) × WT w
-array-typed 𝓤 H A W ys w is = array-lawful 𝓤 H A W u32 (uint-lawful 𝓤 H A W w32) limit .typed ys (w ∷ []) is .0
+pub array-typed : {M : Type 1} (𝓤 : URA M) (H : Heap 𝓤) (A : Atoms 𝓤) (W : Given 𝓤 H A) (k : ℕ) (ys : List ℕ) (w : Val) → Is (Arr k) ys (w ∷ []) → T (hasTy (arr k) w) × WT w
+array-typed 𝓤 H A W k ys w is = array-lawful 𝓤 H A W u32 (uint-lawful 𝓤 H A W w32) k .typed ys (w ∷ []) is .0

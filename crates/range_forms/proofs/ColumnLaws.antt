@@ -21,7 +21,7 @@ use Rattle.range_checks.specs.Verdicts.{badList, pairVerdict}
 use Rattle.range_checks.proofs.VerdictLaws.{entry-count}
 use Rattle.range_entries.specs.Entries.{clashesOf as columnsClash}
 use Rattle.range_forms.specs.Lent.{overLimit, clashesOf}
-use Rattle.range_forms.specs.Inner.{pointOf, Filled, Column, clashesOver}
+use Rattle.range_forms.specs.Inner.{pointOf, Filled, Column, clashesOver, clashesWithin}
 
 module _ (t : Bool) (rs : List Range) (c : List ℕ) where
   pub filled-none : Filled t rs c 0
@@ -34,18 +34,31 @@ module _ (t : Bool) (rs : List Range) (c : List ℕ) where
 
 -- ---- the test over columns
 
-module _ (s e : List ℕ) (n : ℕ) (t f : List ℕ) (m : ℕ) where
-  pub over-first : 65536 < n → refused 1 0 ≡ clashesOver s e n t f m
+module _ (k : ℕ) (s e : List ℕ) (n : ℕ) (t f : List ℕ) (m : ℕ) where
+  pub over-first : k < n → refused 1 0 ≡ clashesOver k s e n t f m
   unfolding clashesOver
-  over-first h = sym (rw (lt-ltb 65536 n h))
+  over-first h = sym (rw (lt-ltb k n h))
 
-  pub over-second : n ≤ 65536 → 65536 < m → refused 1 0 ≡ clashesOver s e n t f m
+  pub over-second : n ≤ k → k < m → refused 1 0 ≡ clashesOver k s e n t f m
   unfolding clashesOver
-  over-second h l = sym (rw (le-ltb 65536 n h, lt-ltb 65536 m l))
+  over-second h l = sym (rw (le-ltb k n h, lt-ltb k m l))
 
-  pub over-fine : n ≤ 65536 → m ≤ 65536 → columnsClash (take n s) (take n e) (take m t) (take m f) ≡ clashesOver s e n t f m
+  pub over-fine : n ≤ k → m ≤ k → columnsClash (take n s) (take n e) (take m t) (take m f) ≡ clashesOver k s e n t f m
   unfolding clashesOver
-  over-fine h l = sym (rw (le-ltb 65536 n h, le-ltb 65536 m l))
+  over-fine h l = sym (rw (le-ltb k n h, le-ltb k m l))
+
+module _ (k : ℕ) (rs ss : List Range) where
+  within-first : k < length rs → refused 1 0 ≡ clashesWithin k rs ss
+  unfolding clashesWithin
+  within-first h = sym (rw (lt-ltb k (length rs) h))
+
+  within-second : length rs ≤ k → k < length ss → refused 1 0 ≡ clashesWithin k rs ss
+  unfolding clashesWithin
+  within-second h l = sym (rw (le-ltb k (length rs) h, lt-ltb k (length ss) l))
+
+  pub within-both : length rs ≤ k → length ss ≤ k → clashesWithin k rs ss ≡ clashesOf rs ss
+  unfolding clashesWithin
+  within-both h l = rw (le-ltb k (length rs) h, le-ltb k (length ss) l)
 
 -- a column whose numbers are those of the ranges
 taken : (t : Bool) (rs : List Range) (c : List ℕ) → length rs ≤ length c → ((i : ℕ) → i < length rs → getD c i 0 ≡ pointOf t (rangeAt rs i)) → take (length rs) c ≡ map (pointOf t) rs
@@ -53,9 +66,9 @@ taken t [] c l f = refl
 taken t (r ∷ rs) [] l f = absurd (omega arith)
 taken t (r ∷ rs) (x ∷ c) l f = ap (λ (y : ℕ). y ∷ take (length rs) c) (f 0 (omega arith)) ∙ ap (λ (k : List ℕ). pointOf t r ∷ k) (taken t rs c (omega arith) (λ i h. f (suc i) (omega arith)))
 
-column-is : (t : Bool) (rs : List Range) (c : List ℕ) → length c ≡ 65536 → length rs ≤ 65536 → Column t rs c → take (length rs) c ≡ map (pointOf t) rs
+column-is : (k : ℕ) (t : Bool) (rs : List Range) (c : List ℕ) → length c ≡ k → length rs ≤ k → Column k t rs c → take (length rs) c ≡ map (pointOf t) rs
 unfolding Filled
-column-is t rs c len l f = taken t rs c (omega arith) (λ i h. f i (subst (λ (k : ℕ). i < k) (sym (min-eq-left l)) h))
+column-is k t rs c len l f = taken t rs c (omega arith) (λ i h. f i (subst (λ (j : ℕ). i < j) (sym (min-eq-left l)) h))
 
 -- a list over the limit
 counted-out : (c d : Bool) (v : Verdict) → c ≡ true → refused 1 0 ≡ unless (inOrder (check Count c ∷ v ∷ [])) d
@@ -93,20 +106,27 @@ module _ (rs ss : List Range) where
   unfolding clashesOf
   second-over h = counted-out (overLimit rs || overLimit ss) (clashes rs ss) (pairVerdict true rs ss) (or-right (overLimit rs) (overLimit ss) (lt-ltb 65536 (length ss) h))
 
--- what is taken of a list by `column`
-pub record Apart (rs : List Range) (s e : List ℕ) : Type 0 where
-  pub starts-long : length s ≡ 65536
-  pub ends-long : length e ≡ 65536
-  pub in-starts : Column false rs s
-  pub in-ends : Column true rs e
-
-module _ (rs ss : List Range) (s e t f : List ℕ) (a : Apart rs s e) (b : Apart ss t f) where
-  both-within : length rs ≤ 65536 → length ss ≤ 65536 → columnsClash (take (length rs) s) (take (length rs) e) (take (length ss) t) (take (length ss) f) ≡ clashesOf rs ss
-  both-within h l =
-      rw (column-is false rs s (a .starts-long) h (a .in-starts), column-is true rs e (a .ends-long) h (a .in-ends), column-is false ss t (b .starts-long) l (b .in-starts), column-is true ss f (b .ends-long) l (b .in-ends)) (by-columns rs ss)
-
-  pub over-lists : clashesOver s e (length rs) t f (length ss) ≡ clashesOf rs ss
-  over-lists =
+  -- the limit's refusal is the entry's own
+  pub within-limit : clashesWithin 65536 rs ss ≡ clashesOf rs ss
+  within-limit =
       cut (length rs) 65536
-      (λ h. cut (length ss) 65536 (λ l. sym (over-fine s e (length rs) t f (length ss) h l) ∙ both-within h l) (λ l. sym (over-second s e (length rs) t f (length ss) h l) ∙ second-over rs ss l))
-      (λ h. sym (over-first s e (length rs) t f (length ss) h) ∙ first-over rs ss h)
+      (λ h. cut (length ss) 65536 (λ l. within-both 65536 rs ss h l) (λ l. sym (within-second 65536 rs ss h l) ∙ second-over l))
+      (λ h. sym (within-first 65536 rs ss h) ∙ first-over h)
+
+-- what is taken of a list into columns of k numbers
+pub record Apart (k : ℕ) (rs : List Range) (s e : List ℕ) : Type 0 where
+  pub starts-long : length s ≡ k
+  pub ends-long : length e ≡ k
+  pub in-starts : Column k false rs s
+  pub in-ends : Column k true rs e
+
+module _ (k : ℕ) (rs ss : List Range) (s e t f : List ℕ) (a : Apart k rs s e) (b : Apart k ss t f) where
+  both-taken : length rs ≤ k → length ss ≤ k → columnsClash (take (length rs) s) (take (length rs) e) (take (length ss) t) (take (length ss) f) ≡ clashesOf rs ss
+  both-taken h l =
+      rw (column-is k false rs s (a .starts-long) h (a .in-starts), column-is k true rs e (a .ends-long) h (a .in-ends), column-is k false ss t (b .starts-long) l (b .in-starts), column-is k true ss f (b .ends-long) l (b .in-ends)) (by-columns rs ss)
+
+  pub over-lists : clashesOver k s e (length rs) t f (length ss) ≡ clashesWithin k rs ss
+  over-lists =
+      cut (length rs) k
+      (λ h. cut (length ss) k (λ l. sym (over-fine k s e (length rs) t f (length ss) h l) ∙ both-taken h l ∙ sym (within-both k rs ss h l)) (λ l. sym (over-second k s e (length rs) t f (length ss) h l) ∙ within-second k rs ss h l))
+      (λ h. sym (over-first k s e (length rs) t f (length ss) h) ∙ within-first k rs ss h)

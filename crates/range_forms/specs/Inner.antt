@@ -8,7 +8,8 @@ use lib.Dec.{ltb}
 use Rattle.refusals.specs.Outcomes.{Outcome, refused}
 use Rattle.ranges.specs.declared.Range.{Range}
 use Rattle.ranges.specs.Points.{rangeAt}
-use Rattle.range_entries.specs.Entries.{clashesOf}
+use Rattle.range_entries.specs.Entries.{clashesOf as columnsClash}
+use Rattle.range_forms.specs.Lent.{clashesOf}
 
 -- a range's start or its end
 abbrev pub pointOf : Bool → Range → ℕ
@@ -19,10 +20,14 @@ pointOf true r = r .end
 unfoldable pub Filled : Bool → List Range → List ℕ → ℕ → Type 0
 Filled ends rs c n = (i : ℕ) → i < n → getD c i 0 ≡ pointOf ends (rangeAt rs i)
 
--- a whole column, up to the limit
-abbrev pub Column : Bool → List Range → List ℕ → Type 0
-Column ends rs c = Filled ends rs c (min (length rs) 65536)
+-- a whole column, up to k ranges
+abbrev pub Column : ℕ → Bool → List Range → List ℕ → Type 0
+Column k ends rs c = Filled ends rs c (min (length rs) k)
 
--- the test over the first n and the first m of the columns, each within the limit
-unfoldable pub clashesOver : List ℕ → List ℕ → ℕ → List ℕ → List ℕ → ℕ → Outcome Bool
-clashesOver s e n t f m = cond (ltb 65536 n || ltb 65536 m) (refused 1 0) (clashesOf (take n s) (take n e) (take m t) (take m f))
+-- the test over the first n and the first m of the columns, each of at most k
+unfoldable pub clashesOver : ℕ → List ℕ → List ℕ → ℕ → List ℕ → List ℕ → ℕ → Outcome Bool
+clashesOver k s e n t f m = cond (ltb k n || ltb k m) (refused 1 0) (columnsClash (take n s) (take n e) (take m t) (take m f))
+
+-- the test over two lists, each of at most k ranges
+unfoldable pub clashesWithin : ℕ → List Range → List Range → Outcome Bool
+clashesWithin k rs ss = cond (ltb k (length rs) || ltb k (length ss)) (refused 1 0) (clashesOf rs ss)

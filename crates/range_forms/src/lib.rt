@@ -4,7 +4,7 @@ ghost use mathlib.Core.Path.{_≡_};
 ghost use Prim.Native.Nat.{min};
 ghost use Rattle.range_entries.specs.Entries.{clashing};
 ghost use Rattle.range_forms.specs.Lent.{joinedOf, takenUp, lastAfter, taking, Joins, clashesOf};
-ghost use Rattle.range_forms.specs.Inner.{pointOf, Column, clashesOver};
+ghost use Rattle.range_forms.specs.Inner.{pointOf, Column, clashesOver, clashesWithin};
 use range_entries::Clash;
 use ranges::Range;
 use refusals::Refusal;
@@ -54,14 +54,30 @@ pub fn joined(last: &mut Range, new: Range) -> TakenUp
     taken_up(was, new)
 }
 
-// The most ranges in a list that is lent.
+// The most ranges in a list that is lent, and in one whose columns are short arrays.
 const LIMIT: usize = 65536;
 
-// Whether some point is in both of two lists of ranges, which are in order and apart: the lists are taken apart into columns, arrays by value up to the limit,
-// and the test over columns is called once. Refuses as that does: more than 65,536 ranges (1), a range that is reversed or starts no later than the one before
-// ends (10), the second list's counted on from the first's.
+const FEW: usize = 256;
+
+// Whether some point is in both of two lists of ranges, which are in order and apart: the lists are taken apart into columns, arrays by value of 256 numbers or, where
+// a list is longer, up to the limit, and the test over columns is called once. Refuses as that does: more than 65,536 ranges (1), a range that is reversed or starts
+// no later than the one before ends (10), the second list's counted on from the first's.
+// `many` is called from two places: a function that is called from one is put into its caller, and the large arrays would then stand in this function's frame.
 pub fn clashes(a: &[Range], b: &[Range]) -> Clash
     ensures { λ r. ⌜ clashing r ≡ clashesOf (now (a .entry)) (now (b .entry)) ⌝ }
+{
+    if FEW < a.len() {
+        return many(a, b);
+    }
+    if FEW < b.len() {
+        return many(a, b);
+    }
+    few(a, b)
+}
+
+// The lists by way of long columns, up to the limit, and of short ones.
+fn many(a: &[Range], b: &[Range]) -> Clash
+    ensures { λ r. ⌜ clashing r ≡ clashesWithin 65536 (now (a .entry)) (now (b .entry)) ⌝ }
 {
     let s = column(a, false);
     let e = column(a, true);
@@ -70,9 +86,19 @@ pub fn clashes(a: &[Range], b: &[Range]) -> Clash
     over(s, e, a.len(), t, f, b.len())
 }
 
+fn few(a: &[Range], b: &[Range]) -> Clash
+    ensures { λ r. ⌜ clashing r ≡ clashesWithin 256 (now (a .entry)) (now (b .entry)) ⌝ }
+{
+    let s = short_column(a, false);
+    let e = short_column(a, true);
+    let t = short_column(b, false);
+    let f = short_column(b, true);
+    short_over(s, e, a.len(), t, f, b.len())
+}
+
 // The starts or the ends of a list's ranges, as far as the limit; zeros past them.
 fn column(list: &[Range], ends: bool) -> [u32; 65536]
-    ensures { λ r. ⌜ Column ends (now (list .entry)) r ⌝ }
+    ensures { λ r. ⌜ Column 65536 ends (now (list .entry)) r ⌝ }
 {
     let mut out = blank();
     let n = within(list.len());
@@ -115,12 +141,58 @@ fn over(
     f: [u32; 65536],
     m: usize,
 ) -> Clash
-    ensures { λ r. ⌜ clashing r ≡ clashesOver s e n t f m ⌝ }
+    ensures { λ r. ⌜ clashing r ≡ clashesOver 65536 s e n t f m ⌝ }
 {
     if LIMIT < n {
         return Clash::Refused(Refusal::Count, 0);
     }
     if LIMIT < m {
+        return Clash::Refused(Refusal::Count, 0);
+    }
+    range_entries::clashes(&s[..n], &e[..n], &t[..m], &f[..m])
+}
+
+// The same with short arrays: a column, what it needs, and the test.
+fn short_column(list: &[Range], ends: bool) -> [u32; 256]
+    ensures { λ r. ⌜ Column 256 ends (now (list .entry)) r ⌝ }
+{
+    let mut out = short_blank();
+    let n = short_within(list.len());
+    let mut i = 0;
+    while i < n {
+        out[i] = point(list[i], ends);
+        i += 1;
+    }
+    out
+}
+
+fn short_blank() -> [u32; 256] {
+    [0u32; 256]
+}
+
+fn short_within(n: usize) -> usize
+    ensures { λ r. ⌜ r ≡ min n 256 ⌝ }
+{
+    if FEW < n {
+        return FEW;
+    }
+    n
+}
+
+fn short_over(
+    s: [u32; 256],
+    e: [u32; 256],
+    n: usize,
+    t: [u32; 256],
+    f: [u32; 256],
+    m: usize,
+) -> Clash
+    ensures { λ r. ⌜ clashing r ≡ clashesOver 256 s e n t f m ⌝ }
+{
+    if FEW < n {
+        return Clash::Refused(Refusal::Count, 0);
+    }
+    if FEW < m {
         return Clash::Refused(Refusal::Count, 0);
     }
     range_entries::clashes(&s[..n], &e[..n], &t[..m], &f[..m])

@@ -55,7 +55,7 @@ use Rattle.ranges.specs.Points.{range, rangeAt}
 use Rattle.ranges.proofs.Range as T
 use Rattle.ranges.proofs.Range.Laws as T′
 use Rattle.range_forms.specs.Inner.{pointOf, Filled, Column}
-use Rattle.range_forms.proofs.Arrays.{limit, Arr, arr, array-typed}
+use Rattle.range_forms.proofs.Arrays.{Arr, arr, array-typed}
 use Rattle.range_forms.proofs.ColumnLaws.{filled-none, filled-more}
 use Rattle.range_forms.proofs.blank as bl
 use Rattle.range_forms.proofs.blank.Symbol as bl-def
@@ -77,6 +77,10 @@ use Rattle.range_forms.proofs.column.Code.Mir as body
 
 abbrev R : RattleType
 R = T.the-row
+
+-- how many numbers a column has
+abbrev limit : ℕ
+limit = 65536
 
 abbrev none : Range
 none = range 0 0
@@ -135,23 +139,23 @@ module _ {M : Type 1} (𝓤 : URA M) (H : Heap 𝓤) (A : Atoms 𝓤) (mem : Mem
 
 module _ {M : Type 1} (𝓤 : URA M) (H : Heap 𝓤) (A : Atoms 𝓤) (W : Given 𝓤 H A) where
   -- an array in memory is its numbers, side by side
-  taken-apart : (ys : List ℕ) (l : ℕ) (w : Val) → ent 𝓤 (sep 𝓤 (sem 𝓤 H A (fat fullShare arr l 0 w)) (sem 𝓤 H A (Arr .own ys (w ∷ [])))) (sem 𝓤 H A (fsep (feq ℕ (length ys) limit) (row u32 fullShare ys l 0)))
+  taken-apart : (ys : List ℕ) (l : ℕ) (w : Val) → ent 𝓤 (sep 𝓤 (sem 𝓤 H A (fat fullShare (arr limit) l 0 w)) (sem 𝓤 H A ((Arr limit) .own ys (w ∷ [])))) (sem 𝓤 H A (fsep (feq ℕ (length ys) limit) (row u32 fullShare ys l 0)))
   unfolding partOf
   taken-apart ys l w =
-      qed W (‵ (fat fullShare arr l 0 w) ∷ ‵ (Arr .own ys (w ∷ [])) ∷ []) ∵ fjoin ! $ fpack ! (List Val) (λ us. fsep (cellAt fullShare (Arr .mir) us l 0) (Arr .own ys us)) (w ∷ []) $
+      qed W (‵ (fat fullShare (arr limit) l 0 w) ∷ ‵ ((Arr limit) .own ys (w ∷ [])) ∷ []) ∵ fjoin ! $ fpack ! (List Val) (λ us. fsep (cellAt fullShare ((Arr limit) .mir) us l 0) ((Arr limit) .own ys us)) (w ∷ []) $
       use1 W (‵ (arr-parts (shares u32) limit .part fullShare ys l 0)) (array-apart 𝓤 H A W u32 fullShare tt limit ys l 0) $ done !
 
   abbrev machA : List ℕ → Val
   machA ys = only (array-vals (uint-vals w32) ys)
 
   -- and back
-  whole-again : (ys : List ℕ) (l : ℕ) → length ys ≡ limit → ent 𝓤 (sem 𝓤 H A (row u32 fullShare ys l 0)) (ex 𝓤 (λ (w : Val). sep 𝓤 (sem 𝓤 H A (fat fullShare arr l 0 w)) (sem 𝓤 H A (Arr .own ys (w ∷ [])))))
+  whole-again : (ys : List ℕ) (l : ℕ) → length ys ≡ limit → ent 𝓤 (sem 𝓤 H A (row u32 fullShare ys l 0)) (ex 𝓤 (λ (w : Val). sep 𝓤 (sem 𝓤 H A (fat fullShare (arr limit) l 0 w)) (sem 𝓤 H A ((Arr limit) .own ys (w ∷ [])))))
   unfolding partOf
   whole-again ys l len =
       qed W (‵ (row u32 fullShare ys l 0) ∷ []) ∵ feqI ! ℕ (length ys) limit len $ fjoin ! $
-      use1 W (‵ (partAt Arr fullShare ys l 0)) (array-whole 𝓤 H A W u32 fullShare limit ys l 0) $ fpick ! (λ us. fsplit ! $
-      spelt ! Arr (Is Arr) (shows 𝓤 H A Arr) (array-vals (uint-vals w32)) (array-tells u32 (uint-vals w32) (uint-tells w32) limit) fullShare ys us l 0 $
-      show ! (λ (w : Val). sep 𝓤 (sem 𝓤 H A (fat fullShare arr l 0 w)) (sem 𝓤 H A (Arr .own ys (w ∷ [])))) (machA ys) $ done !)
+      use1 W (‵ (partAt (Arr limit) fullShare ys l 0)) (array-whole 𝓤 H A W u32 fullShare limit ys l 0) $ fpick ! (λ us. fsplit ! $
+      spelt ! (Arr limit) (Is (Arr limit)) (shows 𝓤 H A (Arr limit)) (array-vals (uint-vals w32)) (array-tells u32 (uint-vals w32) (uint-tells w32) limit) fullShare ys us l 0 $
+      show ! (λ (w : Val). sep 𝓤 (sem 𝓤 H A (fat fullShare (arr limit) l 0 w)) (sem 𝓤 H A ((Arr limit) .own ys (w ∷ [])))) (machA ys) $ done !)
 
 module _ {M : Type 1} (𝓤 : URA M) (H : Heap 𝓤) (A : Atoms 𝓤) (W : Given 𝓤 H A) (mem : Memory → SProp 𝓤) (run : Routine → Fun 𝓤) (κ : Lft) (q : Share) (b o : ℕ) (γ : GName) (xs : List Range) (t : Bool) where
   abbrev X : Slice
@@ -176,9 +180,9 @@ module _ {M : Type 1} (𝓤 : URA M) (H : Heap 𝓤) (A : Atoms 𝓤) (W : Given
   abbrev OwnX : Fml
   OwnX = ShrSlice (named 0) κ R .own X (at .0)
 
-  exits : (ys : List ℕ) (w : Val) → Column t xs ys → ent 𝓤 (⋆ 𝓤 H A (‵ (Arr .own ys (w ∷ [])) ∷ ‵ OwnX ∷ ‵ (flft κ q) ∷ [])) (Post w)
+  exits : (ys : List ℕ) (w : Val) → Column limit t xs ys → ent 𝓤 (⋆ 𝓤 H A (‵ ((Arr limit) .own ys (w ∷ [])) ∷ ‵ OwnX ∷ ‵ (flft κ q) ∷ [])) (Post w)
   exits ys w e =
-      qed W (‵ (Arr .own ys (w ∷ [])) ∷ ‵ OwnX ∷ ‵ (flft κ q) ∷ []) ∵
+      qed W (‵ ((Arr limit) .own ys (w ∷ [])) ∷ ‵ OwnX ∷ ‵ (flft κ q) ∷ []) ∵
       suffices ! _ (ends-at 𝓤 H A f.ended stayed (f.clauses 𝓤 H A mem run) W bound w ys (tt, (tt, tt)) (tt, (tt, tt))) $ says ! e $
       nothing ! $ move ! (3 ∷ 0 ∷ []) $ join ! $
       nothing ! $ owned ! bool (Is bool) (bool-makes 𝓤 H A W) t _ refl $ fjoin ! $ move ! (3 ∷ 0 ∷ []) $ fjoin ! $ move ! (1 ∷ 0 ∷ []) $ frame ! $ frame ! $ done !
@@ -210,13 +214,13 @@ module _ {M : Type 1} (𝓤 : URA M) (H : Heap 𝓤) (A : Atoms 𝓤) (W : Given
     Λ = 𝓣 .Λ
 
     abbrev En : Env 𝓤 H
-    En = (arr, l₀) ∷ (sl, l₁) ∷ (tyBool, l₂) ∷ (arr, l₃) ∷ (word, l₄) ∷ (word, l₅) ∷ (arr, l₆) ∷ (word, l₇) ∷ (tyBool, l₈) ∷ (half, l₉) ∷ (word, l₁₀) ∷ (tyPtr, l₁₁) ∷ (T′.mir, l₁₂) ∷ (word, l₁₃) ∷ (tyPtr, l₁₄) ∷ (tyPtr, l₁₅) ∷ []
+    En = ((arr limit), l₀) ∷ (sl, l₁) ∷ (tyBool, l₂) ∷ ((arr limit), l₃) ∷ (word, l₄) ∷ (word, l₅) ∷ ((arr limit), l₆) ∷ (word, l₇) ∷ (tyBool, l₈) ∷ (half, l₉) ∷ (word, l₁₀) ∷ (tyPtr, l₁₁) ∷ (T′.mir, l₁₂) ∷ (word, l₁₃) ∷ (tyPtr, l₁₄) ∷ (tyPtr, l₁₅) ∷ []
 
     -- the place i and the numbers ys of the column: _5, _4, _8, _10, _11, _12, _9, _13, _14, _15, _2, _1, the column, the list with its token, _0, _6, _7, and that each local dies
     abbrev Ctx : ℕ → List ℕ → List (Item 𝓤)
     Ctx i ys = ‵ (fat fullShare word l₅ 0 (vint w64 i)) ∷ ‵ (fat fullShare word l₄ 0 (vint w64 n)) ∷ ‵ (froom tyBool l₈ 0) ∷ ‵ (froom word l₁₀ 0) ∷ ‵ (froom tyPtr l₁₁ 0) ∷ ‵ (froom T′.mir l₁₂ 0) ∷ ‵ (froom half l₉ 0) ∷ ‵ (froom word l₁₃ 0) ∷ ‵ (froom tyPtr l₁₄ 0) ∷ ‵ (froom tyPtr l₁₅ 0) ∷ ‵ (fat fullShare tyBool l₂ 0 (vbool t)) ∷ ‵ (fat fullShare sl l₁ 0 (sliceVal (b, o) (length xs)))
-        ∷ ‵ (row u32 fullShare ys l₃ 0) ∷ ‵ OwnX ∷ ‵ (flft κ q) ∷ ‵ (froom arr l₀ 0) ∷ ‵ (froom arr l₆ 0) ∷ ‵ (froom word l₇ 0)
-        ∷ ‵ (fdies arr l₀) ∷ ‵ (fdies sl l₁) ∷ ‵ (fdies tyBool l₂) ∷ ‵ (fdies arr l₃) ∷ ‵ (fdies word l₄) ∷ ‵ (fdies word l₅) ∷ ‵ (fdies arr l₆) ∷ ‵ (fdies word l₇) ∷ ‵ (fdies tyBool l₈) ∷ ‵ (fdies half l₉) ∷ ‵ (fdies word l₁₀) ∷ ‵ (fdies tyPtr l₁₁) ∷ ‵ (fdies T′.mir l₁₂) ∷ ‵ (fdies word l₁₃) ∷ ‵ (fdies tyPtr l₁₄) ∷ ‵ (fdies tyPtr l₁₅) ∷ []
+        ∷ ‵ (row u32 fullShare ys l₃ 0) ∷ ‵ OwnX ∷ ‵ (flft κ q) ∷ ‵ (froom (arr limit) l₀ 0) ∷ ‵ (froom (arr limit) l₆ 0) ∷ ‵ (froom word l₇ 0)
+        ∷ ‵ (fdies (arr limit) l₀) ∷ ‵ (fdies sl l₁) ∷ ‵ (fdies tyBool l₂) ∷ ‵ (fdies (arr limit) l₃) ∷ ‵ (fdies word l₄) ∷ ‵ (fdies word l₅) ∷ ‵ (fdies (arr limit) l₆) ∷ ‵ (fdies word l₇) ∷ ‵ (fdies tyBool l₈) ∷ ‵ (fdies half l₉) ∷ ‵ (fdies word l₁₀) ∷ ‵ (fdies tyPtr l₁₁) ∷ ‵ (fdies T′.mir l₁₂) ∷ ‵ (fdies word l₁₃) ∷ ‵ (fdies tyPtr l₁₄) ∷ ‵ (fdies tyPtr l₁₅) ∷ []
 
     abbrev At : Type 0
     At = ℕ × List ℕ
@@ -279,7 +283,7 @@ module _ {M : Type 1} (𝓤 : URA M) (H : Heap 𝓤) (A : Atoms 𝓤) (W : Given
         by ! (k p e))))))))
 
     -- the turn that leaves the loop, and the rest of the body
-    ends : (i : ℕ) (ys : List ℕ) (Z : SProp 𝓤) → ltb i n ≡ false → length ys ≡ limit → Column t xs ys → ent 𝓤 (⋆ 𝓤 H A (Ctx i ys)) (Wp 𝓤 H C Λ En body.turn-1 (afterTurn 𝓤 H Z Left))
+    ends : (i : ℕ) (ys : List ℕ) (Z : SProp 𝓤) → ltb i n ≡ false → length ys ≡ limit → Column limit t xs ys → ent 𝓤 (⋆ 𝓤 H A (Ctx i ys)) (Wp 𝓤 H C Λ En body.turn-1 (afterTurn 𝓤 H Z Left))
     unfolding afterTurn
     ends i ys Z g len filled =
         qed W (Ctx i ys) ∵ exec ! C Λ En body.turn-1 (anyQ (afterTurn 𝓤 H Z Left)) $
@@ -287,9 +291,9 @@ module _ {M : Type 1} (𝓤 : URA M) (H : Heap 𝓤) (A : Atoms 𝓤) (W : Given
         rewrite ! 2 (λ (z : Bool). ‵ (fat fullShare tyBool l₈ 0 (vbool z))) g refl $
         leaves-loop ! (load ! (from ! (stop !)) (look ! 2 refl)) $ exec ! C Λ En body.t-7 (atRet En Post) $
         -- the column is an array again
-        move ! (12 ∷ []) $ use1 W (some (λ (w : Val). ‵ (fat fullShare arr l₃ 0 w) ⊛ ‵ (Arr .own ys (w ∷ [])))) (whole-again 𝓤 H A W ys l₃ len) $ pick ! (λ w. split ! $ move ! (1 ∷ []) $
-        peeks ! Arr (Is Arr) (shows 𝓤 H A Arr) ys (w ∷ []) (λ is.
-        assigns ! (of-opd ! (load ! (from ! (stop !)) (look ! 1 refl))) (from ! (stop !)) (init ! 16 refl (array-typed 𝓤 H A W ys w is)) $
+        move ! (12 ∷ []) $ use1 W (some (λ (w : Val). ‵ (fat fullShare (arr limit) l₃ 0 w) ⊛ ‵ ((Arr limit) .own ys (w ∷ [])))) (whole-again 𝓤 H A W ys l₃ len) $ pick ! (λ w. split ! $ move ! (1 ∷ []) $
+        peeks ! (Arr limit) (Is (Arr limit)) (shows 𝓤 H A (Arr limit)) ys (w ∷ []) (λ is.
+        assigns ! (of-opd ! (load ! (from ! (stop !)) (look ! 1 refl))) (from ! (stop !)) (init ! 16 refl (array-typed 𝓤 H A W limit ys w is)) $
         returns ! (look ! 16 refl) $ forget ! 1 refl $ forget ! 2 refl $ forget ! 3 refl $ forget ! 4 refl $ forget ! 12 refl $ forget ! 13 refl $ forget ! 16 refl $
         move ! (16 ∷ 19 ∷ []) $ free1 ! $ move ! (13 ∷ 18 ∷ []) $ free1 ! $ move ! (12 ∷ 17 ∷ []) $ free1 ! $ move ! (1 ∷ 16 ∷ []) $ free1 ! $ move ! (2 ∷ 15 ∷ []) $ free1 ! $ move ! (1 ∷ 14 ∷ []) $ free1 ! $ move ! (11 ∷ 13 ∷ []) $ free1 ! $ move ! (11 ∷ 12 ∷ []) $ free1 ! $ move ! (1 ∷ 11 ∷ []) $ free1 ! $ move ! (4 ∷ 10 ∷ []) $ free1 ! $ move ! (1 ∷ 9 ∷ []) $ free1 ! $ move ! (1 ∷ 8 ∷ []) $ free1 ! $ move ! (1 ∷ 7 ∷ []) $ free1 ! $ move ! (1 ∷ 6 ∷ []) $ free1 ! $ move ! (1 ∷ 5 ∷ []) $ free1 ! $ move ! (1 ∷ 4 ∷ []) $ free1 ! $ free0 ! $
         keep ! (0 ∷ 1 ∷ 2 ∷ []) $ by ! (exits ys w filled)))
@@ -324,11 +328,11 @@ module _ {M : Type 1} (𝓤 : URA M) (H : Heap 𝓤) (A : Atoms 𝓤) (W : Given
       -- a blank column
       nothing ! $ use1 W (raw (Blank 𝓤 H A mem run .pre to-blank)) asks-blank $
       calls-at ! (fmOf 𝓤 H (W .laws) 𝓣) (Blank 𝓤 H A mem run) known-blank to-blank (no-more !) (λ v.
-      use1 W (later (some (λ (ys : List ℕ). (‵ ftrue ⊛ ‵ (Arr .own ys (v ∷ []))) ⊛ raw (ensured 𝓤 H A bl.ended (bl.clauses 𝓤 H A mem run) tt tt tt ys)))) (id⊢ 𝓤 _) $ await ! tt $ pick ! (λ ys.
+      use1 W (later (some (λ (ys : List ℕ). (‵ ftrue ⊛ ‵ ((Arr limit) .own ys (v ∷ []))) ⊛ raw (ensured 𝓤 H A bl.ended (bl.clauses 𝓤 H A mem run) tt tt tt ys)))) (id⊢ 𝓤 _) $ await ! tt $ pick ! (λ ys.
       split ! $ move ! (1 ∷ []) $ drop ! $ split ! $ drop ! $
-      peeks ! Arr (Is Arr) (shows 𝓤 H A Arr) ys (v ∷ []) (λ is.
-      land ! (from ! (stop !)) (init ! 19 refl (array-typed 𝓤 H A W ys v is)) $
-      assigns ! (of-opd ! (load ! (from ! (stop !)) (look ! 19 refl))) (from ! (stop !)) (init ! 25 refl (array-typed 𝓤 H A W ys v is)) $
+      peeks ! (Arr limit) (Is (Arr limit)) (shows 𝓤 H A (Arr limit)) ys (v ∷ []) (λ is.
+      land ! (from ! (stop !)) (init ! 19 refl (array-typed 𝓤 H A W limit ys v is)) $
+      assigns ! (of-opd ! (load ! (from ! (stop !)) (look ! 19 refl))) (from ! (stop !)) (init ! 25 refl (array-typed 𝓤 H A W limit ys v is)) $
       move ! (25 ∷ 0 ∷ []) $ use2 W (‵ (fsep (feq ℕ (length ys) limit) (row u32 fullShare ys l₃ 0))) (taken-apart 𝓤 H A W ys l₃ v) $ fsplit ! $ feqL ! (λ len.
       -- how many ranges are taken
       assigns ! (of-opd ! (load ! (from ! (fld ! refl (stop !))) (look-in ! 28 (sub ! 1 refl (whole !))))) (from ! (stop !)) (init ! 17 refl (tt, record { fits = gn .0 })) $

@@ -9,11 +9,11 @@ use Rattle.range_forms.proofs.over.Tie as tie
 
 -- src/lib.rt:122:9
 returns : tie.Need-returns
-returns c = over-first _ _ _ _ _ _ (omega arith)
+returns c = over-first _ _ _ _ _ _ _ (omega arith)
 
 -- src/lib.rt:125:9
 returns-2 : tie.Need-returns-2
-returns-2 c = over-second _ _ _ _ _ _ (omega arith) (omega arith)
+returns-2 c = over-second _ _ _ _ _ _ _ (omega arith) (omega arith)
 
 -- src/lib.rt:127:28
 array-share-prefix-s : tie.Need-array-share-prefix-s
@@ -53,7 +53,7 @@ clashes-requires c κs = search needs
 
 -- src/lib.rt:111:1
 returns-3 : tie.Need-returns-3
-returns-3 c = (c .clashes) .ensures ∙ over-fine _ _ _ _ _ _ (omega arith) (omega arith)
+returns-3 c = (c .clashes) .ensures ∙ over-fine _ _ _ _ _ _ _ (omega arith) (omega arith)
 
 pub over-spec : {M : Type 1} → statement M
 over-spec =
