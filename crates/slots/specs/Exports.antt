@@ -18,6 +18,8 @@ use Rattle.spilled_registers.specs.Spilled.{SpilledTo}
 use Rattle.item_lists.specs.Lists.{answered as areasOutcome}
 use Rattle.area_entries.specs.Entry.{LocalAreas}
 use Rattle.item_areas.specs.Entry.{ItemAreas}
+use Rattle.plan_text.specs.Printed.{writtenOf}
+use Rattle.planning.specs.Answer.{TextPrinted}
 use Rattle.fitting.specs.Queries.{Slots}
 use Rattle.queries.specs.Shares.{counted}
 use Rattle.capping.specs.Cap.{capVerdict, capRows}
@@ -68,6 +70,11 @@ LocalAreasCoded blocks edges points kinds touches ends areas₀ items₀ work₀
 abbrev pub ItemAreasCoded : ℕ → ℕ → List ℕ → List ℕ → List ℕ → List ℕ → List ℕ → List ℕ → List ℕ → List ℕ → List ℕ → List ℕ → List ℕ → List ℕ → List ℕ → List ℕ → List ℕ → ℕ → List ℕ → List ℕ → List ℕ → Type 0
 ItemAreasCoded points v blocks edges insts operands crossings locals slots addresses ends pieces assigned moves areas₀ items₀ work₀ r areas items work =
     Coded (λ a. countCode (areasOutcome a)) (λ a. ItemAreas points v blocks edges insts operands crossings locals slots addresses ends pieces assigned moves areas₀ items₀ work₀ a areas items work) r
+
+-- ---- text
+
+abbrev pub TextCoded : List ℕ → List ℕ → ℕ → List ℕ → Type 0
+TextCoded text out₀ r out = Coded (λ a. countCode (writtenOf a)) (λ a. TextPrinted text out₀ a out) r
 
 -- ---- fitting, queries and ranges
 

@@ -16,6 +16,7 @@ ghost use Rattle.job_codes.specs.Job.{JobCoded};
 mod area_exports; // area_exports.rt: areas of items
 mod carry_exports; // carry_exports.rt: carried addresses, moves and slots
 mod graph_exports; // graph_exports.rt: components and an order
+mod text_exports; // text_exports.rt: a text in, a text out
 
 // `flow::flowed`: over predecessors for 0, else over successors.
 #[no_mangle]
