@@ -1,17 +1,17 @@
 //! The recorded sample that the program `job_tests` replays: jobs and damaged jobs by their seeds, with what slots.rs and the models answer. Lists and work space have 7s at first.
 use crate::cases::{list, Case};
 use crate::entry::Lists;
-use crate::job::{Job, Lent};
+use crate::job::{Job, Lent, LOCALS, MOVES, SLOTS};
 use crate::shows::Shown;
-use crate::whole::{damaged, expected, random, Tally};
+use crate::whole::{damaged, expected, random};
 use std::fs;
 
-/// What the program has room for, the bytes of text that it reads, and the longest line that is taken.
-const ROOM: Lent = Lent { cells: 128, items: 256, areas: 128, counts: 3, work: 4096 };
+/// What the program has room for, the bytes of text that it reads, and the longest line that is taken: of a job with at most 64 locals, and of one with more.
+const ROOM: Lent = Lent { cells: 160, items: 320, areas: 128, counts: 3, work: 4096 };
 const TEXT: usize = 98_304;
-const LONGEST: usize = 360;
-/// How many plans are taken that show each thing, and that show none; and how many jobs with each refusal. The program's lists have no room for over 64 locals.
-const SHOWING: [usize; 5] = [60, 30, 30, 0, 30];
+const LONGEST: [usize; 2] = [340, 760];
+/// How many plans are taken that show each thing, and that show none; and how many jobs with each refusal.
+const SHOWING: [usize; 5] = [50, 24, 24, 16, 24];
 const PLAIN: usize = 12;
 const REFUSED: usize = 18;
 
@@ -22,8 +22,8 @@ fn line(name: &str, job: &Job, lent: &Lent) -> String {
     Case::write(name, &columns)
 }
 
-/// The refusal's number or 0, what a plan shows, and its line.
-fn answer(name: &str, job: &Job, lent: &Lent) -> (usize, Shown, String) {
+/// The refusal's number or 0, what a plan shows, what the program counts of it, and its line.
+fn answer(name: &str, job: &Job, lent: &Lent) -> (usize, Shown, [bool; 6], String) {
     let before = Lists { cells: vec![7; lent.cells], items: vec![7; lent.items], areas: vec![7; lent.areas], counts: vec![7; 3], work: vec![7; lent.work] };
     let expected = expected(job, lent, &before, None);
     let (number, l) = ((expected.answer >> 32) as usize, expected.lists);
@@ -33,7 +33,14 @@ fn answer(name: &str, job: &Job, lent: &Lent) -> (usize, Shown, String) {
     };
     let zeros = l.work.iter().take_while(|&&word| word == 0).count();
     let kept = l.work.iter().filter(|&&word| word == 7).count();
-    (number, expected.shown, format!("{name} {told}: {kept} |{} |{} |{} | {zeros}\n", list(&l.cells, 0), list(&l.items, 0), list(&l.areas, 0)))
+    let counted = if number == 0 { counted(job, expected.shown, l.counts[1]) } else { Default::default() };
+    (number, expected.shown, counted, format!("{name} {told}: {kept} |{} |{} |{} | {zeros}\n", list(&l.cells, 0), list(&l.items, 0), list(&l.areas, 0)))
+}
+
+/// What the program counts of a plan with so many probes: the plan, a shared cell, the budget spent, an ending local, over 64 locals, a move that names a slot.
+fn counted(job: &Job, shown: Shown, probes: u64) -> [bool; 6] {
+    let slot = |slot: u32| (slot as usize) < job.count(SLOTS);
+    [true, shown[0], probes == u64::from(job.budget), shown[2], job.count(LOCALS) > 64, job.rows(MOVES).any(|m| slot(m[2]) || slot(m[3]))]
 }
 
 /// How many are still wanted of what a job shows: of a plan that shows nothing, of each thing, of each refusal.
@@ -62,8 +69,8 @@ impl Left {
     }
 }
 
-fn sample() -> (String, String, Tally) {
-    let (mut jobs, mut answers, mut tally) = (String::new(), String::new(), Tally::default());
+fn sample() -> (String, String) {
+    let (mut jobs, mut answers, mut counts) = (String::new(), String::new(), [0; 6]);
     // number 8 has no input in a job
     let mut left = Left { plain: PLAIN, showing: SHOWING, refused: std::array::from_fn(|number| if number == 0 || number == 8 { 0 } else { REFUSED }) };
     for seed in 1.. {
@@ -72,28 +79,31 @@ fn sample() -> (String, String, Tally) {
             let lent = Lent { counts: 3, ..lent };
             let name = format!("{kind}_{seed}");
             let own = line(&name, &job, &lent);
-            if own.len() > LONGEST || lent.cells > ROOM.cells || lent.items > ROOM.items || lent.areas > ROOM.areas || lent.work > ROOM.work {
+            let longest = LONGEST[usize::from(job.count(LOCALS) > 64)];
+            if own.len() > longest || lent.cells > ROOM.cells || lent.items > ROOM.items || lent.areas > ROOM.areas || lent.work > ROOM.work {
                 continue;
             }
-            let (number, shown, said) = answer(&name, &job, &lent);
+            let (number, shown, counted, said) = answer(&name, &job, &lent);
             if left.takes(number, shown) {
                 jobs += &own;
                 answers += &said;
-                tally.count(number, shown);
+                counts.iter_mut().zip(counted).for_each(|(count, so)| *count += usize::from(so));
             }
         }
         if left.done() {
             break;
         }
     }
+    let [plans, sharing, spent, ending, wide, moves] = counts;
+    answers += &format!("plans {plans}: a shared cell {sharing}, the budget spent {spent}, an ending local {ending}, over 64 locals {wide}, a move of a slot {moves}\n");
     assert!(jobs.len() < TEXT, "the program does not read {} bytes", jobs.len());
-    (jobs, answers, tally)
+    (jobs, answers)
 }
 
 /// Writes the sample, or says whether what is stored differs from it.
 pub fn record(write: bool) {
-    let (jobs, answers, tally) = sample();
-    let count = jobs.lines().count();
+    let (jobs, answers) = sample();
+    let (count, last) = (jobs.lines().count(), answers.lines().last().unwrap_or(""));
     for (name, text) in [("stdin", &jobs), ("stdout", &answers)] {
         let path = format!("crates/job_tests/{name}");
         if write {
@@ -102,5 +112,5 @@ pub fn record(write: bool) {
             assert!(fs::read_to_string(&path).expect("run in the repository's root") == *text, "{path} is not what is recorded now");
         }
     }
-    println!("recorded sample: {count} jobs, {}; of {} plans {}", if write { "written" } else { "as stored" }, tally.0[0], tally.told());
+    println!("recorded sample: {count} jobs, {}; {last}", if write { "written" } else { "as stored" });
 }

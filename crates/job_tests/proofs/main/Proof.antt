@@ -7,10 +7,10 @@ use Rattle.job_tests.proofs.main.Statement.{statement}
 use Rattle.job_tests.proofs.main.Tie as tie
 
 abbrev Inv-loop : tie.InvT-loop
-Inv-loop text n₀ len i₀ n i = length n ≡ 1024
+Inv-loop text n₀ len t₀ i₀ n t i = length n ≡ 1024
 
 abbrev μ-loop : tie.MeasureT-loop
-μ-loop text n₀ len i₀ n i = len - i
+μ-loop text n₀ len t₀ i₀ n t i = len - i
 
 slice-aggregate-read-full : tie.Need-slice-aggregate-read-full Inv-loop μ-loop
 slice-aggregate-read-full c = refl
@@ -34,13 +34,16 @@ slice-aggregate-run : tie.Need-slice-aggregate-run Inv-loop μ-loop
 slice-aggregate-run c = omega arith
 
 run-requires : tie.Need-run-requires Inv-loop μ-loop
-run-requires c κs = (omega arith, c .before .before .case .ensures .0)
+run-requires c κs = (omega arith, (c .before .before .case) .ensures .0)
 
 loop-less : tie.Need-loop-less Inv-loop μ-loop
 loop-less c = omega arith
 
 loop-again : tie.Need-loop-again Inv-loop μ-loop
 loop-again c = omega arith
+
+summed-requires : tie.Need-summed-requires Inv-loop μ-loop
+summed-requires c κs = tt
 
 returns : tie.Need-returns Inv-loop μ-loop
 returns c = tt
@@ -61,4 +64,5 @@ main-spec =
     run-requires
     loop-less
     loop-again
+    summed-requires
     returns)
