@@ -6,8 +6,10 @@ use mathlib.Core.Logic.{inl, inr}
 use mathlib.Core.Option.{Option, some, none}
 use mathlib.Core.List.{List, []}
 use lib.ListN.{length}
+use lib.Dec.{ltb}
 use Rattle.refusals.specs.declared.Verdict.{Verdict}
 use Rattle.refusals.specs.declared.Verdict.the-variants.{Fine, Bad}
+use Rattle.refusals.specs.declared.Refusal.the-variants.{Space}
 use Rattle.refusals.specs.Verdicts.{inOrder}
 use Rattle.refusals.specs.Outcomes.{given, unless}
 use Rattle.words.specs.Rows.{rowCount}
@@ -37,17 +39,21 @@ use Rattle.soundness.specs.Demand.{jobPlan}
 use Rattle.job.specs.Entry.{job}
 use Rattle.job_checks.specs.Job.{jobOf}
 use Rattle.item_areas.specs.Entry.{itemChecks, total}
+use Rattle.plan_text.specs.Printed.{roomChecks, counted as bytesOf}
+use Rattle.planning.specs.Program.{programText}
+use Rattle.planning.proofs.TextLaws.{program-short}
 use Rattle.codes.specs.Codes.{codeOf, countCode, optionCode, truthCode, verdictCode, Small, SmallOrAbsent, Read}
-use Rattle.codes.proofs.IndexLaws.{read-back, read-verdict, read-count, read-truth, read-option}
+use Rattle.codes.proofs.IndexLaws.{check-fits, read-back, read-verdict, read-count, read-truth, read-option}
 use Rattle.want_codes.specs.Plans.{codedVerdict as fitVerdict, codedOutcome, PlanCoded}
 use Rattle.job_codes.specs.Job.{codedVerdict, JobCoded}
+use Rattle.answer_bounds.proofs.Steps.{no-more, order-fit, next-fits}
 use Rattle.answer_bounds.proofs.GraphBounds.{components-fits, flowed-fits, spread-fits}
 use Rattle.answer_bounds.proofs.CarryBounds.{carry-fits, few-locals, few-registers, carried-few, moved-fits, moved-few, spilled-fits, spilled-few}
 use Rattle.answer_bounds.proofs.JobBounds.{job-fits, item-areas-fits, item-areas-few}
 use Rattle.answer_bounds.proofs.PlanBounds.{wants-fit, plan-fits, told-fits, crowded-fits, crowded-few, cap-fits, apart-fits}
 use Rattle.answer_bounds.proofs.QueryBounds.{local-small, slot-small, saved-small}
 use Rattle.answer_bounds.proofs.RangeBounds.{merged-fits, merged-count, joined-fits, joined-count, union-fits, union-count, clashes-fits}
-use Rattle.slots.specs.Exports.{FlowCoded, SpreadCoded, SettlingCoded, ReachCoded, CarriedCoded, MovedCoded, SpilledCoded, ItemAreasCoded, ListCoded, CrowdCoded, CapCoded, ApartCoded}
+use Rattle.slots.specs.Exports.{FlowCoded, SpreadCoded, SettlingCoded, ReachCoded, CarriedCoded, MovedCoded, SpilledCoded, ItemAreasCoded, TextCoded, ListCoded, CrowdCoded, CapCoded, ApartCoded}
 
 -- ---- the whole job and fitting alone
 
@@ -197,3 +203,12 @@ pub item-areas-read : {points v r : ℕ} {blocks edges insts operands crossings 
 item-areas-read {points} {v} {r} {blocks} {edges} {insts} {operands} {crossings} {locals} {slots} {addresses} {ends} {pieces} {assigned} {moves} {areas} {items} {work} E =
     read-count _ (item-areas-fits points v blocks edges insts operands crossings locals slots addresses ends pieces assigned moves (length areas) (length items) (length work)) (total (jobOf points v blocks edges insts operands crossings locals slots addresses ends pieces assigned moves)) (E .answer ∙ ap countCode (E .holds .lists .answer))
     (λ e. item-areas-few points v blocks edges insts operands crossings locals slots addresses ends pieces assigned moves (length areas) (length items) (length work) e)
+
+-- ---- text
+
+pub print-text-read : (text : List ℕ) {out out′ : List ℕ} {r : ℕ} → TextCoded text out r out′ → Read Small (inOrder (roomChecks (programText text) (length out))) r
+print-text-read text {out} {out′} {r} E =
+    read-back _ (order-fit (next-fits (check-fits Space (ltb (length out) (length (programText text)))) (λ _. no-more)))
+    (λ e. let z : r ≡ length (programText text) = E .answer ∙ ap countCode (E .holds .answer ∙ ap (λ (w : Verdict). bytesOf (unless w (programText text))) e) in
+    omega (arith, z, program-short text))
+    (λ k i e. E .answer ∙ ap countCode (E .holds .answer ∙ ap (λ (w : Verdict). bytesOf (unless w (programText text))) e))
