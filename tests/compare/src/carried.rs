@@ -10,12 +10,12 @@ extern "C" {
     fn slots_reach(
         points: u32, v: u32, blocks: *const u32, blocks_len: usize, insts: *const u32, insts_len: usize, operands: *const u32, operands_len: usize,
         crossings: *const u32, crossings_len: usize, locals: *const u32, locals_len: usize, addresses: *const u32, addresses_len: usize,
-        ends: *const u32, ends_len: usize, answer: *mut u32, answer_len: usize, work: *mut u64, work_len: usize,
+        ends: *const u32, ends_len: usize, kinds: *mut u32, kinds_len: usize, work: *mut u64, work_len: usize,
     ) -> u64;
     fn slots_carried(
         points: u32, v: u32, blocks: *const u32, blocks_len: usize, insts: *const u32, insts_len: usize, operands: *const u32, operands_len: usize,
         crossings: *const u32, crossings_len: usize, locals: *const u32, locals_len: usize, addresses: *const u32, addresses_len: usize,
-        ends: *const u32, ends_len: usize, local: u32, answer: *mut u32, answer_len: usize, work: *mut u64, work_len: usize,
+        ends: *const u32, ends_len: usize, local: u32, registers: *mut u32, registers_len: usize, work: *mut u64, work_len: usize,
     ) -> u64;
 }
 

@@ -12,7 +12,7 @@ extern "C" {
         moves: *const u32, moves_len: usize, slot: u32, out: *mut u32, out_len: usize, work: *mut u64, work_len: usize,
     ) -> u64;
     fn slots_spilled(
-        v: u32, slots: u32, assigned: *const u32, assigned_len: usize, answer: *mut u32, answer_len: usize, work: *mut u64, work_len: usize,
+        v: u32, slots: u32, assigned: *const u32, assigned_len: usize, registers: *mut u32, registers_len: usize, work: *mut u64, work_len: usize,
     ) -> u64;
 }
 
