@@ -284,6 +284,14 @@ uint64_t slots_local_areas(
  * included. */
 uint64_t slots_area_words(uint32_t blocks, uint32_t edges, uint32_t locals, uint32_t touches, uint32_t ends, uint32_t ranges);
 
+/* ---- a job's text ---- */
+
+/* A job as text in, its plan as text out: how many bytes; out has them, without a zero behind them. The text of a job that is refused, or that has a
+ * malformed line, is `N,number,index` on a line of its own, and that too is an answer. A list is counted in bytes here. SLOTS_TEXT_ROOM bytes are enough
+ * for any text. Refuses only an out that is shorter than the text it would hold (7), and leaves it as it was. Needs no work space; takes some 80 KiB of stack. */
+uint64_t slots_print_text(const uint8_t *text, size_t text_len, uint8_t *out, size_t out_len);
+#define SLOTS_TEXT_ROOM 65536u
+
 /* ---- a job by name ---- */
 
 /* A job. Each list has its number of records beside it; a list of none may be NULL. With all fields 0 it is a job without records. */
