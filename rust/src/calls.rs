@@ -56,6 +56,7 @@ extern "C" {
         other_start: *const u32, other_start_len: usize, other_end: *const u32, other_end_len: usize,
         out_start: *mut u32, out_start_len: usize, out_end: *mut u32, out_end_len: usize,
     ) -> u64;
+    fn slots_print_text(text: *const u8, text_len: usize, out: *mut u8, out_len: usize) -> u64;
     fn slots_clashes(
         start: *const u32, start_len: usize, end: *const u32, end_len: usize,
         other_start: *const u32, other_start_len: usize, other_end: *const u32, other_end_len: usize,
@@ -318,4 +319,9 @@ pub(crate) fn clashes(one: &Columns, other: &Columns) -> Result<bool, Refusal> {
         )
     };
     Ok(answer(code)? != 0)
+}
+
+pub(crate) fn print_text(text: &[u8], out: &mut [u8]) -> Result<u64, Refusal> {
+    // SAFETY: slices with their lengths, the second exclusive.
+    answer(unsafe { slots_print_text(text.as_ptr(), text.len(), out.as_mut_ptr(), out.len()) })
 }

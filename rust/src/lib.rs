@@ -23,6 +23,8 @@
 //! The parts that a plan is made of can be called by themselves: a [`Graph`]'s components, rows of bits and areas of locals, a job's [`Job::reach`],
 //! [`Job::carried`], [`Job::move_ranges`], [`Job::spilled`] and [`Job::item_areas`], and the functions of [`ranges`].
 //!
+//! [`print_text`] takes a job as text and gives its plan, or its refusal, as text.
+//!
 //! The library `libslots.a` is linked from the folder that the environment variable `SLOTS_LIB` names, else from `target/staticlib` of the
 //! repository that this crate stands in.
 #![deny(unsafe_op_in_unsafe_fn)]
@@ -38,6 +40,7 @@ mod plan;
 pub mod ranges;
 mod records;
 mod refusal;
+mod text;
 
 pub use graph::{Components, Graph, Over};
 pub use job::{Counts, Job, MOST_BUDGET, MOST_RANGES};
@@ -47,3 +50,4 @@ pub use records::{
     Address, Area, Assigned, Block, Cell, Edge, End, Inst, Item, Local, LocalEnd, Move, Operand, Piece, Place, Range, Touch, Want, NONE, NO_SLOT,
 };
 pub use refusal::{Kind, Refusal};
+pub use text::{print_text, print_text_in, MOST_TEXT};
