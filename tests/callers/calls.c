@@ -376,6 +376,36 @@ static void areas_of_items(void) {
     HOLDS(ranges[1].end == 15);
 }
 
+/* out is exactly as long as the text, one byte short, and longer; the heap's, so that a sanitizer sees a step past an end. */
+static void text_in_text_out(const char *job, const char *wanted) {
+    const size_t n = strlen(wanted);
+    for (size_t room = n - 1; room <= n + 1; room++) {
+        uint8_t *text = malloc(strlen(job) + 1), *out = malloc(room);
+        memcpy(text, job, strlen(job));
+        memset(out, 0x5a, room);
+        const uint64_t code = slots_print_text(text, strlen(job), out, room);
+        if (room < n) {
+            REFUSED(code, SLOTS_SPACE, 0);
+            HOLDS(all_are(out, room, 0x5a));
+        } else {
+            HOLDS(code == n && memcmp(out, wanted, n) == 0 && all_are(out + n, room - n, 0x5a));
+        }
+        HOLDS(memcmp(text, job, strlen(job)) == 0);
+        free(text), free(out);
+    }
+    uint8_t none = 0x5a;
+    REFUSED(slots_print_text((const uint8_t *)job, strlen(job), &none, 0), SLOTS_SPACE, 0);
+    HOLDS(none == 0x5a);
+}
+
+static void texts(void) {
+    text_in_text_out("H,20,0,1048576\nB,0,0,19\nI,0,2,3,0,0,-,-\nI,0,6,7,0,0,-,-\nL,8,8\nL,4,4\nA,0,0\nA,1,1\n",
+        "C,0,8,8\nL,0,0\nL,1,0\nG,0,2,3\nG,1,6,7\nT,1,1,1,8\n");
+    text_in_text_out("H,20,0,1\nB,0,0,19\nE,0,0\nE,0,1\n", "N,3,1\n"); /* the second edge names no block */
+    text_in_text_out("H,20,0,1048577\nB,0,0,19\n", "N,1,0\n");
+    text_in_text_out("H,20,0,1\nB,0,0\n", "N,11,1\n"); /* a malformed line */
+}
+
 int main(void) {
     the_first_job();
     refusals_of_a_job();
@@ -389,5 +419,6 @@ int main(void) {
     carried_addresses();
     slots_and_moves();
     areas_of_items();
+    texts();
     return failed;
 }

@@ -1,5 +1,7 @@
 // Calls every function of slots.h from C++: a job by vectors, its plan, its queries and its parts, on jobs of many sizes.
+#include <algorithm>
 #include <cstdio>
+#include <string>
 #include <vector>
 
 #include "slots.h"
@@ -193,9 +195,32 @@ void at_once(uint32_t n) {
     by_parts(job, p, blocks, {}, {}, {}, widths, pieces, assigned);
 }
 
+// n locals as text, each held by an instruction of its own, with room for any text; then with as much as it took, and with a byte less.
+void by_text(uint32_t n) {
+    std::string job = "H," + std::to_string(2 * n) + ",0,1048576\nB,0,0," + std::to_string(2 * n) + "\n", locals, held, wanted = n ? "C,0,8,8\n" : "", areas;
+    for (uint32_t i = 0; i < n; i++) {
+        const std::string k = std::to_string(i), at = std::to_string(2 * i) + "," + std::to_string(2 * i + 1);
+        job += "I,0," + at + ",0,0,-,-\n";
+        locals += "L,8,8\n", held += "A," + k + "," + k + "\n";
+        wanted += "L," + k + ",0\n";
+        if (n > 1) areas += "G," + k + "," + at + "\n";
+    }
+    job += locals + held;
+    wanted += areas + (n ? "T,1," + std::to_string(n - 1) + "," + std::to_string(n - 1) + ",8\n" : "T,0,0,0,0\n");
+    std::vector<uint8_t> text(job.begin(), job.end()), out(SLOTS_TEXT_ROOM, 77);
+    const uint64_t bytes = slots_print_text(text.data(), text.size(), out.data(), out.size());
+    holds(bytes == wanted.size() && std::equal(wanted.begin(), wanted.end(), out.begin()) && out[wanted.size()] == 77, "a plan as text");
+    std::vector<uint8_t> exact(wanted.size(), 77), less(wanted.size() - 1, 77);
+    holds(slots_print_text(text.data(), text.size(), exact.data(), exact.size()) == bytes && std::equal(exact.begin(), exact.end(), wanted.begin()), "a list as long as the text");
+    holds(slots_print_text(text.data(), text.size(), less.data(), less.size()) == (uint64_t)SLOTS_SPACE << 32 && less == std::vector<uint8_t>(less.size(), 77), "a byte less");
+    text[0] = 'h';
+    holds(slots_print_text(text.data(), text.size(), out.data(), out.size()) == 7 && std::string(out.begin(), out.begin() + 7) == "N,11,0\n", "a malformed line");
+}
+
 } // namespace
 
 int main() {
+    for (uint32_t n : {0, 1, 2, 3}) by_text(n);
     for (uint32_t n : {0, 1, 2, 63, 64, 65, 300, 2048}) {
         in_a_row(n);
         at_once(n);

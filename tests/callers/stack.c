@@ -1,4 +1,5 @@
-/* Range functions on a thread with little stack: lists of up to 256 ranges, and every refusal, take a small frame. Without an argument on 64 KiB. */
+/* Range functions on a thread with little stack: lists of up to 256 ranges, and every refusal, take a small frame. Without an argument on 64 KiB.
+ * And a job's text on a thread of 128 KiB. */
 #define _POSIX_C_SOURCE 200809L
 #include <pthread.h>
 #include <stdint.h>
@@ -34,15 +35,27 @@ static void *calls(void *unused) {
     return NULL;
 }
 
-int main(int count, char **arguments) {
-    size_t bytes = count > 1 ? (size_t)strtoul(arguments[1], NULL, 10) * 1024 : 64 * 1024;
+static void *a_text(void *unused) {
+    static const char job[] = "H,20,0,1048576\nB,0,0,19\nI,0,2,3,0,0,-,-\nI,0,6,7,0,0,-,-\nL,8,8\nL,4,4\nA,0,0\nA,1,1\n";
+    static uint8_t out[SLOTS_TEXT_ROOM];
+    (void)unused;
+    expect("a job's text", slots_print_text((const uint8_t *)job, sizeof job - 1, out, sizeof out), 46);
+    return NULL;
+}
+
+static int on_a_thread(size_t bytes, void *(*function)(void *)) {
     pthread_attr_t attributes;
     pthread_t thread;
+    return pthread_attr_init(&attributes) || pthread_attr_setstacksize(&attributes, bytes) || pthread_create(&thread, &attributes, function, NULL) || pthread_join(thread, NULL);
+}
+
+int main(int count, char **arguments) {
+    size_t bytes = count > 1 ? (size_t)strtoul(arguments[1], NULL, 10) * 1024 : 64 * 1024;
     for (uint32_t i = 0; i <= MOST; i++) {
         start[i] = 4 * i;
         end[i] = 4 * i + 1;
     }
-    if (pthread_attr_init(&attributes) || pthread_attr_setstacksize(&attributes, bytes) || pthread_create(&thread, &attributes, calls, NULL) || pthread_join(thread, NULL)) {
+    if (on_a_thread(bytes, calls) || on_a_thread(128 * 1024, a_text)) {
         printf("no thread\n");
         return 1;
     }
