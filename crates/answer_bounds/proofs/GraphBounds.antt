@@ -1,12 +1,16 @@
 -- The entries over a graph: the index of each refusal fits its 32 bits.
 use Prim.Native.Nat.{ℕ, _*_, _≤_}
 use native.Mathlib.Omega.{arith}
+use mathlib.Core.Path.{_≡_}
 use mathlib.Core.Bool.{not, _||_}
 use mathlib.Core.List.{List, _++_}
 use lib.ListN.{length}
 use lib.Dec.{eqb, ltb}
 use Rattle.refusals.specs.declared.Refusal.the-variants.{Count, Space}
 use Rattle.refusals.specs.declared.Verdict.{Verdict}
+use Rattle.refusals.specs.declared.Verdict.the-variants.{Fine}
+use Rattle.refusals.specs.Verdicts.{inOrder, check}
+use Rattle.refusals.proofs.Laws.{first-left}
 use Rattle.words.specs.Rows.{rowCount}
 use Rattle.graph.specs.Line.{blocksOf, jumpsOf}
 use Rattle.graph.specs.Checks.{badCount, graphChecks, spaceOf}
@@ -21,7 +25,7 @@ use Rattle.answer_bounds.proofs.Steps.{AllFit, no-more, order-fit, next
 
 module _ (blocks edges : List ℕ) (points : ℕ) where
   -- numbers 1, 2 and 3, and checks behind them: after 1 passed there are at most 4,096 blocks and 16,384 edges
-  graph-fit : (rest : List Verdict) → AllFit rest → AllFit (graphChecks blocks edges points ++ rest)
+  pub graph-fit : (rest : List Verdict) → AllFit rest → AllFit (graphChecks blocks edges points ++ rest)
   graph-fit rest r =
       next-fits (check-fits Count (badCount blocks edges))
       (λ e. let c = counts blocks edges e in
@@ -33,6 +37,11 @@ module _ (blocks edges : List ℕ) (points : ℕ) where
   unfolding orderVerdict
   components-fits answer work =
       order-fit (graph-fit _ (next-fits (check-fits Space (ltb answer (rowCount 3 blocks) || ltb work (spaceOf (rowCount 3 blocks) (rowCount 2 edges) 0))) (λ _. no-more)))
+
+  -- there are no more components than blocks
+  pub few-blocks : (answer work : ℕ) → orderVerdict blocks edges points answer work ≡ Fine → rowCount 3 blocks ≤ 4096
+  unfolding orderVerdict inOrder
+  few-blocks answer work e = counts blocks edges (first-left (check Count (badCount blocks edges)) _ e) .few
 
   -- `flowed` and `spread`
   rows-fit : (lent words answer work : ℕ) → AllFit (flowedChecks blocks edges points lent words answer work)

@@ -1,5 +1,6 @@
 pub mod Steps
 pub mod GraphBounds
+pub mod AreaBounds
 pub mod CarryBounds
 pub mod JobBounds
 pub mod PlanBounds

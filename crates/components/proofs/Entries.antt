@@ -120,6 +120,7 @@ module _ (blocks edges : List ℕ) (points : ℕ) (which₀ which work₀ work�
     answered = λ _. record {
       count = count;
       outcome = refl;
+      few = S .few;
       components = numbers-as (S .components);
       length-kept = R .len;
       past = λ i h. R .after i (omega arith);

@@ -38,6 +38,7 @@ edgesIn blocks edges = edgesOf (blocksOf blocks) (jumpsOf edges)
 pub record Numbered (blocks edges which₀ work₀ : List ℕ) (r : Answer) (which work : List ℕ) : Type 0 where
   pub count : ℕ
   pub outcome : outcomeOf r ≡ given count
+  pub few : count ≤ rowCount 3 blocks
   pub components : Components (edgesIn blocks edges) (rowCount 3 blocks) (λ v. getD which v 0) count
   pub length-kept : length which ≡ length which₀
   pub past : (i : ℕ) → rowCount 3 blocks ≤ i → getD which i 0 ≡ getD which₀ i 0

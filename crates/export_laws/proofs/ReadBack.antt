@@ -12,7 +12,7 @@ use Rattle.refusals.specs.declared.Verdict.the-variants.{Fine, Bad}
 use Rattle.refusals.specs.declared.Refusal.the-variants.{Space}
 use Rattle.refusals.specs.Verdicts.{inOrder}
 use Rattle.refusals.specs.Outcomes.{given, unless}
-use Rattle.words.specs.Rows.{rowCount}
+use Rattle.words.specs.Rows.{rowCount, tabulate}
 use Rattle.ranges.specs.declared.Range.{Range}
 use Rattle.ranges.specs.Merged.{merged, joined, union, clashes}
 use Rattle.ranges.specs.Forms.{columns}
@@ -47,13 +47,18 @@ use Rattle.codes.proofs.IndexLaws.{check-fits, read-back, read-verdict, read-co
 use Rattle.want_codes.specs.Plans.{codedVerdict as fitVerdict, codedOutcome, PlanCoded}
 use Rattle.job_codes.specs.Job.{codedVerdict, JobCoded}
 use Rattle.answer_bounds.proofs.Steps.{no-more, order-fit, next-fits}
-use Rattle.answer_bounds.proofs.GraphBounds.{components-fits, flowed-fits, spread-fits}
+use Rattle.answer_bounds.proofs.GraphBounds.{components-fits, few-blocks, flowed-fits, spread-fits}
+use Rattle.answer_bounds.proofs.AreaBounds.{local-areas-fits, local-areas-few}
+use Rattle.areas.specs.Job.{rangesOf}
+use Rattle.area_measure.specs.Locals.{areaFor}
+use Rattle.lent_areas.specs.Areas.{graphFor}
+use Rattle.area_entries.specs.Entry.{verdictOf as localVerdict}
 use Rattle.answer_bounds.proofs.CarryBounds.{carry-fits, few-locals, few-registers, carried-few, moved-fits, moved-few, spilled-fits, spilled-few}
 use Rattle.answer_bounds.proofs.JobBounds.{job-fits, item-areas-fits, item-areas-few}
 use Rattle.answer_bounds.proofs.PlanBounds.{wants-fit, plan-fits, told-fits, crowded-fits, crowded-few, cap-fits, apart-fits}
 use Rattle.answer_bounds.proofs.QueryBounds.{local-small, slot-small, saved-small}
 use Rattle.answer_bounds.proofs.RangeBounds.{merged-fits, merged-count, joined-fits, joined-count, union-fits, union-count, clashes-fits}
-use Rattle.slots.specs.Exports.{FlowCoded, SpreadCoded, SettlingCoded, ReachCoded, CarriedCoded, MovedCoded, SpilledCoded, ItemAreasCoded, TextCoded, ListCoded, CrowdCoded, CapCoded, ApartCoded}
+use Rattle.slots.specs.Exports.{FlowCoded, SpreadCoded, ComponentsCoded, SettlingCoded, ReachCoded, CarriedCoded, MovedCoded, SpilledCoded, LocalAreasCoded, ItemAreasCoded, TextCoded, ListCoded, CrowdCoded, CapCoded, ApartCoded}
 
 -- ---- the whole job and fitting alone
 
@@ -149,6 +154,14 @@ clashes-read ss es ts fs q = read-truth (clashesVerdict ss es ts fs) (clashes-fi
 -- ---- over a graph
 
 module _ {blocks edges : List ℕ} {points r : ℕ} where
+  pub components-read : {which work which′ work′ : List ℕ} → ComponentsCoded blocks edges points which work r which′ work′ → Read Small (orderVerdict blocks edges points (length which) (length work)) r
+  components-read {which} {work} E =
+      read-back _ (components-fits blocks edges points (length which) (length work))
+      (λ e. let n = E .holds .answered e in
+      let z : r ≡ n .count = E .answer ∙ ap countCode (n .outcome) in
+      omega (arith, z, n .few, few-blocks blocks edges points (length which) (length work) e))
+      (λ k i e. E .answer ∙ ap countCode (E .holds .turned k i e .outcome))
+
   pub settling-read : {order work order′ work′ : List ℕ} → SettlingCoded blocks edges points order work r order′ work′ → Read Small (orderVerdict blocks edges points (length order) (length work)) r
   settling-read {order} {work} E =
       read-back _ (components-fits blocks edges points (length order) (length work))
@@ -197,6 +210,13 @@ spilled-read {v} {slots} {r} {assigned} {registers} {work} E =
     (λ e. spilled-few v slots assigned (length registers) (length work) e)
 
 -- ---- areas
+
+pub local-areas-read : {points r : ℕ} {blocks edges kinds touches ends areas items work areas′ items′ work′ : List ℕ}
+    → LocalAreasCoded blocks edges points kinds touches ends areas items work r areas′ items′ work′
+    → Read Small (localVerdict blocks edges points kinds touches ends (length areas) (length items) (length work)) r
+local-areas-read {points} {r} {blocks} {edges} {kinds} {touches} {ends} {areas} {items} {work} E =
+    read-count _ (local-areas-fits blocks edges points kinds touches ends (length areas) (length items) (length work)) (rangesOf (tabulate (length kinds) (areaFor (graphFor blocks edges) kinds touches ends)))
+    (E .answer ∙ ap countCode (E .holds .lists .answer)) (λ e. local-areas-few blocks edges points kinds touches ends (length areas) (length items) (length work) e)
 
 pub item-areas-read : {points v r : ℕ} {blocks edges insts operands crossings locals slots addresses ends pieces assigned moves areas items work areas′ items′ work′ : List ℕ}
     → ItemAreasCoded points v blocks edges insts operands crossings locals slots addresses ends pieces assigned moves areas items work r areas′ items′ work′ → Read Small (inOrder (itemChecks points v blocks edges insts operands crossings locals slots addresses ends pieces assigned moves (length areas) (length items) (length work))) r
