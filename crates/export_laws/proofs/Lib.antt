@@ -2,3 +2,4 @@ pub mod Demand
 pub mod Paths
 pub mod Seen
 pub mod ReadBack
+pub mod Orders
