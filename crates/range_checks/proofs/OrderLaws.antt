@@ -19,7 +19,7 @@ list-gives : (o : Bool) (rs : List Range) → Gives Want (listVerdict o rs)
 unfolding listVerdict
 list-gives o rs = scan-gives Want (wrongAt o rs) (length rs)
 
-pair-gives : (o : Bool) (rs ss : List Range) → Gives Want (pairVerdict o rs ss)
+pub pair-gives : (o : Bool) (rs ss : List Range) → Gives Want (pairVerdict o rs ss)
 unfolding pairVerdict
 pair-gives o rs ss = first-gives Want (listVerdict o rs) (countedOn (length rs) (listVerdict o ss)) (list-gives o rs) (counted-gives Want (length rs) (listVerdict o ss) (list-gives o ss))
 
@@ -36,5 +36,9 @@ pub union-ordered : (ss es ts fs : List ℕ) (n m : ℕ) → Ordered numberOf (C
 union-ordered ss es ts fs n m =
     entry-ordered (badList ss es || (badList ts fs || uneven n m)) (ltb n (length ss + length ts)) (pairVerdict true (columns ss es) (columns ts fs)) (pair-gives true (columns ss es) (columns ts fs))
 
+-- a count and two lists, in columns or as structs
+pub pair-ordered : (count : Bool) (rs ss : List Range) → Ordered numberOf (Count ∷ Want ∷ []) (check Count count ∷ pairVerdict true rs ss ∷ [])
+pair-ordered count rs ss = record { gives = (check-gives Count count, (pair-gives true rs ss, tt)); rises = refl }
+
 pub clashes-ordered : (ss es ts fs : List ℕ) → Ordered numberOf (Count ∷ Want ∷ []) (clashesChecks ss es ts fs)
-clashes-ordered ss es ts fs = record { gives = (check-gives Count (badList ss es || badList ts fs), (pair-gives true (columns ss es) (columns ts fs), tt)); rises = refl }
+clashes-ordered ss es ts fs = pair-ordered (badList ss es || badList ts fs) (columns ss es) (columns ts fs)
