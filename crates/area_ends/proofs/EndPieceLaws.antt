@@ -9,8 +9,7 @@ use lib.ListN.{length}
 use borrow.Author.Tests.{eq-eqb, ne-eqb}
 use Rattle.words.proofs.Points.{cut, same}
 use Rattle.ranges.specs.declared.Range.{Range}
-use Rattle.ranges.specs.Merged.{merged}
-use Rattle.ranges.specs.Inner.{Permuted}
+use Rattle.ranges.specs.Merged.{merged, Permuted}
 use Rattle.ranges.proofs.MergeLaws.{merged-permuted}
 use Rattle.ranges.proofs.FormLaws.{map-append}
 use Rattle.graph.specs.Line.{Sound}

@@ -9,7 +9,7 @@ use lib.ListN.{length}
 use lib.Dec.{leb}
 use Rattle.ranges.specs.declared.Range.{Range}
 use Rattle.ranges.specs.Points.{range, overlaps}
-use Rattle.ranges.specs.Inner.{Permuted}
+use Rattle.ranges.specs.Merged.{Permuted}
 use Rattle.ranges.proofs.MergeLaws.{merged-permuted}
 use Rattle.graph.specs.Rounds.{reachedRow, reachingRow, arrivingRow}
 use Rattle.carrying.specs.Lists.{any, keep, gather}

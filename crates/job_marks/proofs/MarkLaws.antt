@@ -7,7 +7,7 @@ use mathlib.Core.Bool.{Bool, true≢false}
 use mathlib.Core.List.{List, []}
 use Rattle.words.specs.Rows.{rowCount}
 use Rattle.ranges.specs.declared.Range.{Range}
-use Rattle.ranges.specs.Inner.{Permuted}
+use Rattle.ranges.specs.Merged.{Permuted}
 use Rattle.graph.specs.Paths.{Edge}
 use Rattle.graph.specs.Work.{Within}
 use Rattle.graph.proofs.Within.{within-trans, within-wider}

@@ -15,7 +15,7 @@ use Rattle.words.proofs.RegionLaws.{row-before}
 use Rattle.bits.specs.Bits.{bit, bitOf}
 use Rattle.ranges.specs.declared.Range.{Range}
 use Rattle.ranges.specs.Forms.{unpacked}
-use Rattle.ranges.specs.Inner.{Permuted}
+use Rattle.ranges.specs.Merged.{Permuted}
 use Rattle.graph.specs.Paths.{Edge}
 use Rattle.graph.specs.Rounds.{reachedRow, reachingRow, arrivingRow}
 use Rattle.graph.proofs.Line.{blocks-length}

@@ -11,7 +11,7 @@ use Rattle.words.specs.Regions.{part, Kept}
 use Rattle.words.specs.Sort.{Distinct}
 use Rattle.words.proofs.RegionLaws.{kept-part-list}
 use Rattle.ranges.specs.Forms.{unpacked}
-use Rattle.ranges.specs.Inner.{Permuted}
+use Rattle.ranges.specs.Merged.{Permuted}
 use Rattle.graph.specs.Work.{Within}
 use Rattle.graph.proofs.Within.{within-trans, within-wider}
 use Rattle.carrying.specs.declared.Kind.{Kind}

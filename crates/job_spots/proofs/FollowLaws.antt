@@ -13,7 +13,7 @@ use Rattle.words.proofs.RowLaws.{length-tabulate, getD-tabulate}
 use Rattle.words.proofs.RegionLaws.{length-part, getD-part, part-is}
 use Rattle.sorting.proofs.RankLaws.{distinct-tabulate}
 use Rattle.ranges.specs.Forms.{unpacked}
-use Rattle.ranges.specs.Inner.{Permuted}
+use Rattle.ranges.specs.Merged.{Permuted}
 use Rattle.graph.proofs.Line.{mem-at, at-mem}
 use Rattle.carrying.specs.declared.Kind.the-variants.{Unfollowed}
 use Rattle.carrying.specs.Carried.{Code, Carries, piecesOf, touchesOf, endsOf}

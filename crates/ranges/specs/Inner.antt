@@ -39,10 +39,3 @@ pub record Galloped (f : ℕ → ℕ) (n point bound : ℕ) : Type 0 where
   pub some : 0 < bound
   pub passed : (bound / 2 ≡ 0) ⊎ ((bound / 2 < n) × (f (bound / 2) < point))
   pub stops : bound < n → point ≤ f bound
-
--- one list is the other in another order
-pub data Permuted : List Range → List Range → Type 0 where
-  none : Permuted [] []
-  keep : (r : Range) {rs ss : List Range} → Permuted rs ss → Permuted (r ∷ rs) (r ∷ ss)
-  swap : (r s : Range) (rs : List Range) → Permuted (r ∷ s ∷ rs) (s ∷ r ∷ rs)
-  then : {rs ss ts : List Range} → Permuted rs ss → Permuted ss ts → Permuted rs ts

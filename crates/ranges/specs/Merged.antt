@@ -49,3 +49,10 @@ meets r (s ∷ ss) = overlaps r s || meets r ss
 unfoldable pub clashes : List Range → List Range → Bool
 clashes [] ss = false
 clashes (r ∷ rs) ss = meets r ss || clashes rs ss
+
+-- one list is the other in another order
+pub data Permuted : List Range → List Range → Type 0 where
+  none : Permuted [] []
+  keep : (r : Range) {rs ss : List Range} → Permuted rs ss → Permuted (r ∷ rs) (r ∷ ss)
+  swap : (r s : Range) (rs : List Range) → Permuted (r ∷ s ∷ rs) (s ∷ r ∷ rs)
+  then : {rs ss ts : List Range} → Permuted rs ss → Permuted ss ts → Permuted rs ts

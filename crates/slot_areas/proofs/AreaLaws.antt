@@ -9,9 +9,8 @@ use Rattle.words.specs.Rows.{rowCount}
 use Rattle.words.specs.Regions.{part, Kept}
 use Rattle.words.proofs.RegionLaws.{length-part, kept-part-list}
 use Rattle.ranges.specs.declared.Range.{Range}
-use Rattle.ranges.specs.Merged.{merged}
+use Rattle.ranges.specs.Merged.{merged, Permuted}
 use Rattle.ranges.specs.Forms.{unpacked}
-use Rattle.ranges.specs.Inner.{Permuted}
 use Rattle.ranges.proofs.MergeLaws.{merged-permuted}
 use Rattle.ranges.proofs.FormLaws.{unpacked-length}
 use Rattle.packed.specs.Work.{MergedIn}

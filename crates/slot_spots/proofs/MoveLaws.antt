@@ -15,7 +15,7 @@ use Rattle.ranges.specs.declared.Range.{Range}
 use Rattle.ranges.specs.Points.{range}
 use Rattle.ranges.specs.Forms.{pack, unpack, unpacked}
 use Rattle.ranges.proofs.FormLaws.{map-append, unpack-pack}
-use Rattle.ranges.specs.Inner.{Permuted}
+use Rattle.ranges.specs.Merged.{Permuted}
 use Rattle.graph.specs.Line.{Stretch, blocksOf}
 use Rattle.graph.specs.Work.{Within, Table}
 use Rattle.graph.proofs.Line.{blocks-length}

@@ -13,7 +13,7 @@ use Rattle.words.proofs.RowLaws.{tabulate-suc}
 use Rattle.words.proofs.SortLaws.{sort-append-comm, sort-append-left}
 use Rattle.ranges.specs.declared.Range.{Range}
 use Rattle.ranges.specs.Points.{range}
-use Rattle.ranges.specs.Inner.{Permuted}
+use Rattle.ranges.specs.Merged.{Permuted}
 use Rattle.ranges.specs.Forms.{unpack, unpacked}
 use Rattle.ranges.proofs.FormLaws.{map-append, unpack-pack}
 use Rattle.carrying.specs.Lists.{keep, gather, below}
