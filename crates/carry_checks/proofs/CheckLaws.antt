@@ -86,35 +86,31 @@ module _ (v : ℕ) (blocks insts operands crossings locals addresses ends : List
         adds = i .adds;
       }
 
--- ---- numbers 4 and 5
+-- ---- number 5
 
-module _ (v : ℕ) (insts operands crossings addresses ends : List ℕ) where
-  pub stray-chain : {a b c d r : Verdict} → a ≡ crossingVerdict v crossings → b ≡ addressVerdict (instsOf insts []) (mentionsOf addresses)
-      → c ≡ endVerdict (instsOf insts []) (mentionsOf ends) → d ≡ first b c → r ≡ first a d → r ≡ strayVerdict v insts [] crossings addresses ends
-  stray-chain ea eb ec ed er = cc
-
-  pub stray-whatever : strayVerdict v insts [] crossings addresses ends ≡ strayVerdict v insts operands crossings addresses ends
+module _ (insts operands addresses ends : List ℕ) where
+  pub stray-whatever : strayVerdict insts [] addresses ends ≡ strayVerdict insts operands addresses ends
   stray-whatever =
-      ap (λ (x : Verdict). first (crossingVerdict v crossings) (first x (endVerdict (instsOf insts []) (mentionsOf ends)))) (address-whatever insts operands addresses)
-      ∙ ap (λ (x : Verdict). first (crossingVerdict v crossings) (first (addressVerdict (instsOf insts operands) (mentionsOf addresses)) x)) (end-whatever insts operands ends)
+      ap (λ (x : Verdict). first x (endVerdict (instsOf insts []) (mentionsOf ends))) (address-whatever insts operands addresses)
+      ∙ ap (first (addressVerdict (instsOf insts operands) (mentionsOf addresses))) (end-whatever insts operands ends)
 
   present : (n : ℕ) → absent (instsOf insts operands) n ≡ false → n < length insts / 9
   present n e = cut (length insts / 9) n
       (λ h. absurd (true≢false (sym (le-leb (length (instsOf insts operands)) n (let q = insts-length insts operands in omega arith)) ∙ e)))
       (λ h. h)
 
-  pub addresses-found : strayVerdict v insts operands crossings addresses ends ≡ Fine → (a : ℕ) → a < length addresses / 2 → getD addresses (2 * a) 0 < length insts / 9
+  pub addresses-found : strayVerdict insts operands addresses ends ≡ Fine → (a : ℕ) → a < length addresses / 2 → getD addresses (2 * a) 0 < length insts / 9
   addresses-found e a h =
-      let f = first-left (addressVerdict (instsOf insts operands) (mentionsOf addresses)) _ (first-right (crossingVerdict v crossings) _ e) in
+      let f = first-left (addressVerdict (instsOf insts operands) (mentionsOf addresses)) _ e in
       let t = scan-fine Stray (λ n. absent (instsOf insts operands) (mentionAt (mentionsOf addresses) n .inst) || not (isSet (instAt (instsOf insts operands) (mentionAt (mentionsOf addresses) n .inst) .placed)))
       (length (mentionsOf addresses)) f a (let q = mentions-count addresses in omega arith) in
       let z = inst-is insts operands addresses a h in
       let g = present (mentionAt (mentionsOf addresses) a .inst) (or-neither _ _ t .0) in
       omega arith
 
-  pub ends-found : strayVerdict v insts operands crossings addresses ends ≡ Fine → (k : ℕ) → k < length ends / 2 → getD ends (2 * k) 0 < length insts / 9
+  pub ends-found : strayVerdict insts operands addresses ends ≡ Fine → (k : ℕ) → k < length ends / 2 → getD ends (2 * k) 0 < length insts / 9
   ends-found e k h =
-      let f = first-right (addressVerdict (instsOf insts operands) (mentionsOf addresses)) _ (first-right (crossingVerdict v crossings) _ e) in
+      let f = first-right (addressVerdict (instsOf insts operands) (mentionsOf addresses)) _ e in
       let t = scan-fine Stray (λ n. absent (instsOf insts operands) (mentionAt (mentionsOf ends) n .inst)) (length (mentionsOf ends)) f k (let q = mentions-count ends in omega arith) in
       let z = inst-is insts operands ends k h in
       let g = present (mentionAt (mentionsOf ends) k .inst) t in
@@ -123,16 +119,16 @@ module _ (v : ℕ) (insts operands crossings addresses ends : List ℕ) where
 -- ---- in order
 
 -- the checks in the order in which the code joins them
-joined : (c l i x a k r : Verdict) → inOrder (c ∷ l ∷ i ∷ x ∷ a ∷ k ∷ r ∷ []) ≡ first c (first (first l i) (first (first x (first a k)) r))
+joined : (c l i x a k r : Verdict) → inOrder (c ∷ l ∷ i ∷ x ∷ a ∷ k ∷ r ∷ []) ≡ first c (first (first l i) (first x (first (first a k) r)))
 unfolding inOrder
 joined c l i x a k r =
     ap (first c) (ap (λ (z : Verdict). first l (first i (first x (first a (first k z))))) (check-last r)
-    ∙ sym (first-assoc l i (first x (first a (first k r)))) ∙ ap (first (first l i)) (ap (first x) (sym (first-assoc a k r)) ∙ sym (first-assoc x (first a k) r)))
+    ∙ sym (first-assoc l i (first x (first a (first k r)))) ∙ ap (first (first l i)) (ap (first x) (sym (first-assoc a k r))))
 
 module _ (points v : ℕ) (blocks insts operands crossings locals addresses ends : List ℕ) (lent most work : ℕ) where
   all-checks : carryVerdict points v blocks insts operands crossings locals addresses ends lent most work
       ≡ first (carryCounts v blocks insts operands crossings locals addresses ends) (first (placeVerdict points v blocks insts operands)
-      (first (strayVerdict v insts operands crossings addresses ends) (roomVerdict lent most work (carrySpace v blocks insts operands crossings locals addresses ends))))
+      (first (crossingVerdict v crossings) (first (strayVerdict insts operands addresses ends) (roomVerdict lent most work (carrySpace v blocks insts operands crossings locals addresses ends)))))
   unfolding carryVerdict
   all-checks = joined _ _ _ _ _ _ _
 
@@ -144,13 +140,13 @@ module _ (points v : ℕ) (blocks insts operands crossings locals addresses ends
       → Bad r i ≡ carryVerdict points v blocks insts operands crossings locals addresses ends lent most work
   by-place r i e f = sym (all-checks ∙ first-fine _ _ e ∙ first-bad _ _ r i f)
 
-  pub by-rest : {a b r : Verdict} → carryCounts v blocks insts operands crossings locals addresses ends ≡ Fine → placeVerdict points v blocks insts operands ≡ Fine
-      → a ≡ strayVerdict v insts [] crossings addresses ends → b ≡ roomVerdict lent most work (carrySpace v blocks insts operands crossings locals addresses ends)
-      → r ≡ first a b → r ≡ carryVerdict points v blocks insts operands crossings locals addresses ends lent most work
-  by-rest {a} {b} {r} e f p q z =
-      z ∙ ap (λ (x : Verdict). first x b) (p ∙ stray-whatever v insts operands crossings addresses ends)
-      ∙ ap (first (strayVerdict v insts operands crossings addresses ends)) q
-      ∙ sym (all-checks ∙ first-fine _ _ e ∙ first-fine _ _ f)
+  pub by-rest : {x a b s r : Verdict} → carryCounts v blocks insts operands crossings locals addresses ends ≡ Fine → placeVerdict points v blocks insts operands ≡ Fine
+      → x ≡ crossingVerdict v crossings → a ≡ strayVerdict insts [] addresses ends → b ≡ roomVerdict lent most work (carrySpace v blocks insts operands crossings locals addresses ends)
+      → s ≡ first a b → r ≡ first x s → r ≡ carryVerdict points v blocks insts operands crossings locals addresses ends lent most work
+  by-rest {x} {a} {b} {s} {r} e f k p q y z =
+      let w = p ∙ stray-whatever insts operands addresses ends in
+      let u : r ≡ first (crossingVerdict v crossings) (first (strayVerdict insts operands addresses ends) (roomVerdict lent most work (carrySpace v blocks insts operands crossings locals addresses ends))) = cc in
+      u ∙ sym (all-checks ∙ first-fine _ _ e ∙ first-fine _ _ f)
 
   pub record Fit : Type 0 where
     pub counts : Counted v blocks insts operands crossings locals addresses ends
@@ -164,8 +160,9 @@ module _ (points v : ℕ) (blocks insts operands crossings locals addresses ends
       let b = first-right (carryCounts v blocks insts operands crossings locals addresses ends) _ (sym all-checks ∙ e) in
       let d = first-right (placeVerdict points v blocks insts operands) _ b in
       let k = counted v blocks insts operands crossings locals addresses ends a in
-      let s = first-left (strayVerdict v insts operands crossings addresses ends) _ d in
-      let r = room-told lent most work (carrySpace v blocks insts operands crossings locals addresses ends) (first-right (strayVerdict v insts operands crossings addresses ends) _ d) in
+      let x = first-right (crossingVerdict v crossings) _ d in
+      let s = first-left (strayVerdict insts operands addresses ends) _ x in
+      let r = room-told lent most work (carrySpace v blocks insts operands crossings locals addresses ends) (first-right (strayVerdict insts operands addresses ends) _ x) in
       record {
         counts = k;
         checked = record {
@@ -175,8 +172,8 @@ module _ (points v : ℕ) (blocks insts operands crossings locals addresses ends
           few-locals = k .few-locals;
           few-addresses = k .few-addresses;
           registers = k .registers;
-          found = addresses-found v insts operands crossings addresses ends s;
-          ended = ends-found v insts operands crossings addresses ends s;
+          found = addresses-found insts operands addresses ends s;
+          ended = ends-found insts operands addresses ends s;
           room = (let q = r .1 in omega arith);
         };
         answer = r .0;

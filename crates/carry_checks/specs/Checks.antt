@@ -23,10 +23,9 @@ carryCounts v blocks insts operands crossings locals addresses ends = first (blo
 abbrev pub placeVerdict : ℕ → ℕ → List ℕ → List ℕ → List ℕ → Verdict
 placeVerdict points v blocks insts operands = first (lineVerdict (blocksOf blocks) points) (instVerdict (blocksOf blocks) v (instsOf insts operands))
 
--- number 4 of the crossings, number 5 of the addresses and the ends
-abbrev pub strayVerdict : ℕ → List ℕ → List ℕ → List ℕ → List ℕ → List ℕ → Verdict
-strayVerdict v insts operands crossings addresses ends =
-    first (crossingVerdict v crossings) (first (addressVerdict (instsOf insts operands) (mentionsOf addresses)) (endVerdict (instsOf insts operands) (mentionsOf ends)))
+-- number 5 of the addresses and the ends
+abbrev pub strayVerdict : List ℕ → List ℕ → List ℕ → List ℕ → Verdict
+strayVerdict insts operands addresses ends = first (addressVerdict (instsOf insts operands) (mentionsOf addresses)) (endVerdict (instsOf insts operands) (mentionsOf ends))
 
 -- W = 8 × (the records lent + blocks × ⌈locals/64⌉ + ⌈V/64⌉): "other entries count what they are lent"
 abbrev pub carryWords : ℕ → ℕ → ℕ → ℕ → ℕ → ℕ → ℕ → ℕ → ℕ

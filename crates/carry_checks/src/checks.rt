@@ -24,15 +24,13 @@ pub fn counts(
     refusals::earlier(a, b)
 }
 
-// Refusal 4 of the crossings, refusal 5 of the addresses and the ends, whatever the operands.
-pub fn stray(v: u32, insts: &[u32], crossings: &[u32], addresses: &[u32], ends: &[u32]) -> Verdict
-    requires { ⌜ v ≤ 65535 ⌝ }
-    ensures { λ r. ⌜ r ≡ strayVerdict v (now (insts .entry)) [] (now (crossings .entry)) (now (addresses .entry)) (now (ends .entry)) ⌝ }
+// Refusal 5 of the addresses and the ends, whatever the operands.
+pub fn stray(insts: &[u32], addresses: &[u32], ends: &[u32]) -> Verdict
+    ensures { λ r. ⌜ r ≡ strayVerdict (now (insts .entry)) [] (now (addresses .entry)) (now (ends .entry)) ⌝ }
 {
-    let a = insts::checks::crossing(v, crossings);
-    let b = insts::checks::address(insts, addresses);
-    let c = insts::checks::end(insts, ends);
-    refusals::earlier(a, refusals::earlier(b, c))
+    let a = insts::checks::address(insts, addresses);
+    let b = insts::checks::end(insts, ends);
+    refusals::earlier(a, b)
 }
 
 // W of `reach` and `carried` by numbers of records, for any numbers: 8 words for each record lent, for each 64 locals of each block, and for each 64 registers.
@@ -112,7 +110,8 @@ pub fn refusal(
     if let Verdict::Bad(r, i) = place {
         return Verdict::Bad(r, i);
     }
-    let astray = stray(v, insts, crossings, addresses, ends);
+    let crossed = insts::checks::crossing(v, crossings);
+    let astray = stray(insts, addresses, ends);
     let w = needed(
         v,
         blocks,
@@ -124,5 +123,5 @@ pub fn refusal(
         ends,
     );
     let short = rooms::room(lent, most, work, w);
-    refusals::earlier(astray, short)
+    refusals::earlier(crossed, refusals::earlier(astray, short))
 }

@@ -16,56 +16,59 @@ use Rattle.soundness.specs.Walks.{Step, Legal}
 use Rattle.soundness.specs.Demand.{frameOf, jobPlan}
 use Rattle.job_answers.specs.declared.Shared.the-variants.{Plan as Planned}
 use Rattle.job_answers.specs.Answers.{answered}
-use Rattle.job_space.specs.Space.{spaceOf}
-use Rattle.job.specs.Entry.{job, sizes, lentVerdict, SharedAs}
+use Rattle.job_space.specs.Space.{spaceOf, sizesOf}
+use Rattle.job.specs.Entry.{lentVerdict, SharedAs}
 use Rattle.job.specs.Reads.{ReadsAsPrivate}
 use Rattle.job.proofs.Demand.{reads-as-private}
 use Rattle.codes.specs.Codes.{codeOf}
 use Rattle.codes.proofs.CodeLaws.{refusal-no-answer}
 use Rattle.job_codes.specs.Job.{measuredVerdict, codedVerdict, itemsTold, areasTold, JobCoded}
+use Rattle.job_space.specs.Rows.{Rows}
+use Rattle.fitting.specs.declared.Terms.{Terms}
+use Rattle.job_checks.specs.Job.{jobOf}
 
 -- a number below 2 to the 32 is no refusal's
 pub no-refusal : (v : Verdict) (p : Plan) → codeOf (tallyOf (unless v p)) < 2 ^ 32 → v ≡ Fine
 no-refusal Fine p h = refl
 no-refusal (Bad r i) p h = absurd (omega (arith, refusal-no-answer r i _ h))
 
-module _ {points v budget : ℕ} {blocks edges insts operands crossings locals slots addresses ends pieces assigned moves cells items areas counts work cells′ items′ areas′ counts′ work′ : List ℕ} {r : ℕ}
-    (E : JobCoded points v budget blocks edges insts operands crossings locals slots addresses ends pieces assigned moves cells items areas counts work r cells′ items′ areas′ counts′ work′) (h : r < 2 ^ 32) where
+module _ {R : Rows} {t : Terms} {cells items areas counts work cells′ items′ areas′ counts′ work′ : List ℕ} {r : ℕ}
+    (E : JobCoded R t cells items areas counts work r cells′ items′ areas′ counts′ work′) (h : r < 2 ^ 32) where
   -- the entry's own verdict, and with the room for the counts
   abbrev lent : Verdict
-  lent = lentVerdict points v budget blocks edges insts operands crossings locals slots addresses ends pieces assigned moves (length cells) (length items) (length areas) (length work)
+  lent = lentVerdict R t (length cells) (length items) (length areas) (length work)
 
   abbrev verdict : Verdict
-  verdict = codedVerdict points v budget blocks edges insts operands crossings locals slots addresses ends pieces assigned moves (length cells) (length items) (length areas) (length counts) (length work)
+  verdict = codedVerdict R t (length cells) (length items) (length areas) (length counts) (length work)
 
   abbrev plan : Plan
-  plan = jobPlan (job points v budget blocks edges insts operands crossings locals slots addresses ends pieces assigned moves) budget
+  plan = jobPlan (jobOf R) (t .budget)
 
   fine : verdict ≡ Fine
   fine = no-refusal verdict plan (omega (arith, E .answer))
 
-  measured : measuredVerdict points v budget blocks edges insts operands crossings locals slots addresses ends pieces assigned moves (length cells) (length items) (length areas) (length counts) (length work) ≡ Fine
-  measured = first-left _ (itemsVerdict (job points v budget blocks edges insts operands crossings locals slots addresses ends pieces assigned moves) (length areas / 2)) fine
+  measured : measuredVerdict R t (length cells) (length items) (length areas) (length counts) (length work) ≡ Fine
+  measured = first-left _ (itemsVerdict (jobOf R) (length areas / 2)) fine
 
   -- neither verdict refuses
-  same-lent : measuredVerdict points v budget blocks edges insts operands crossings locals slots addresses ends pieces assigned moves (length cells) (length items) (length areas) (length counts) (length work) ≡ lent
+  same-lent : measuredVerdict R t (length cells) (length items) (length areas) (length counts) (length work) ≡ lent
   same-lent = measured ∙ sym (first-left lent _ measured)
 
   -- the lists are those that `job::share` leaves with a plan
   pub shared : (c p d : ℕ) → answered (Planned c p d) ≡ tallyOf (unless Fine plan)
-      → SharedAs points v budget blocks edges insts operands crossings locals slots addresses ends pieces assigned moves cells items areas work (Planned c p d) cells′ items′ areas′ work′
+      → SharedAs R t cells items areas work (Planned c p d) cells′ items′ areas′ work′
   shared c p d e =
-      let q = ap (λ (x : Verdict). first x (itemsVerdict (job points v budget blocks edges insts operands crossings locals slots addresses ends pieces assigned moves) (length areas / 2))) same-lent in
+      let q = ap (λ (x : Verdict). first x (itemsVerdict (jobOf R) (length areas / 2))) same-lent in
       record {
         lists = record {
           answer = e ∙ ap (λ (x : Verdict). tallyOf (unless x plan)) (sym fine ∙ q);
           in-cells = E .in-cells ∙ ap (λ (x : Verdict). after (unless x plan) cellRows cells) q;
-          in-items = E .in-items ∙ ap (λ (x : Verdict). after (unless x plan) (itemsTold points v budget blocks edges insts operands crossings locals slots addresses ends pieces assigned moves) items) q;
-          in-areas = E .in-areas ∙ ap (λ (x : Verdict). after (unless x plan) (areasTold points v budget blocks edges insts operands crossings locals slots addresses ends pieces assigned moves) areas) q;
+          in-items = E .in-items ∙ ap (λ (x : Verdict). after (unless x plan) (itemsTold R) items) q;
+          in-areas = E .in-areas ∙ ap (λ (x : Verdict). after (unless x plan) (areasTold R) areas) q;
         };
-        in-work = E .in-work ∙ ap (λ (x : Verdict). after (unless x (spaceOf (sizes points v budget blocks edges insts operands crossings locals slots addresses ends pieces assigned moves (length areas)))) (λ n. replicate n 0) work) same-lent;
+        in-work = E .in-work ∙ ap (λ (x : Verdict). after (unless x (spaceOf (sizesOf R (length areas)))) (λ n. replicate n 0) work) same-lent;
       }
 
-  pub export-reads-as-private : (start : ℕ) (w : List Step) → Legal (frameOf (job points v budget blocks edges insts operands crossings locals slots addresses ends pieces assigned moves)) start w
-      → ReadsAsPrivate (job points v budget blocks edges insts operands crossings locals slots addresses ends pieces assigned moves) cells′ items′ start w
+  pub export-reads-as-private : (start : ℕ) (w : List Step) → Legal (frameOf (jobOf R)) start w
+      → ReadsAsPrivate (jobOf R) cells′ items′ start w
   export-reads-as-private = reads-as-private (shared _ _ _ refl)

@@ -8,7 +8,6 @@ use mathlib.Core.List.{List, []}
 use lib.ListN.{length}
 use lib.Dec.{ltb}
 use Rattle.refusals.specs.declared.Verdict.{Verdict}
-use Rattle.refusals.specs.declared.Verdict.the-variants.{Fine, Bad}
 use Rattle.refusals.specs.declared.Refusal.the-variants.{Space}
 use Rattle.refusals.specs.Verdicts.{inOrder}
 use Rattle.refusals.specs.Outcomes.{given, unless}
@@ -18,7 +17,6 @@ use Rattle.ranges.specs.Merged.{merged, joined, union, clashes}
 use Rattle.ranges.specs.Forms.{columns}
 use Rattle.range_checks.specs.Verdicts.{mergedVerdict, joinedVerdict, unionVerdict, clashesVerdict}
 use Rattle.range_entries.specs.Entries.{size, mergedOf, joinedOf, unionOf, clashesOf}
-use Rattle.fitting.specs.Plan.{Plan}
 use Rattle.fitting.specs.Queries.{slotsOf, local, slot, saved, crowded}
 use Rattle.wants.specs.Entry.{tallyOf, planFor}
 use Rattle.query_checks.specs.Checks.{planVerdict, toldVerdict, crowdedVerdict}
@@ -36,13 +34,12 @@ use Rattle.carried_registers.specs.Carried.{mostOf, countOf}
 use Rattle.moved_ranges.specs.Moved.{movedVerdict, movedOf}
 use Rattle.spilled_registers.specs.Spilled.{spilledVerdict}
 use Rattle.soundness.specs.Demand.{jobPlan}
-use Rattle.job.specs.Entry.{job}
 use Rattle.job_checks.specs.Job.{jobOf}
 use Rattle.item_areas.specs.Entry.{itemChecks, total}
 use Rattle.plan_text.specs.Printed.{roomChecks, counted as bytesOf}
 use Rattle.planning.specs.Program.{programText}
 use Rattle.planning.proofs.TextLaws.{program-short}
-use Rattle.codes.specs.Codes.{codeOf, countCode, optionCode, truthCode, verdictCode, Small, SmallOrAbsent, Read}
+use Rattle.codes.specs.Codes.{codeOf, countCode, optionCode, truthCode, Small, SmallOrAbsent, Read}
 use Rattle.codes.proofs.IndexLaws.{check-fits, read-back, read-verdict, read-count, read-truth, read-option}
 use Rattle.want_codes.specs.Plans.{codedVerdict as fitVerdict, codedOutcome, PlanCoded}
 use Rattle.job_codes.specs.Job.{codedVerdict, JobCoded}
@@ -59,16 +56,18 @@ use Rattle.answer_bounds.proofs.PlanBounds.{wants-fit, plan-fits, told-fits, cr
 use Rattle.answer_bounds.proofs.QueryBounds.{local-small, slot-small, saved-small}
 use Rattle.answer_bounds.proofs.RangeBounds.{merged-fits, merged-count, joined-fits, joined-count, union-fits, union-count, clashes-fits}
 use Rattle.slots.specs.Exports.{FlowCoded, SpreadCoded, ComponentsCoded, SettlingCoded, ReachCoded, CarriedCoded, MovedCoded, SpilledCoded, LocalAreasCoded, ItemAreasCoded, TextCoded, ListCoded, CrowdCoded, CapCoded, ApartCoded}
+use Rattle.job_space.specs.Rows.{Rows}
+use Rattle.fitting.specs.declared.Terms.{Terms}
 
 -- ---- the whole job and fitting alone
 
-module _ {points v budget : ℕ} {blocks edges insts operands crossings locals slots addresses ends pieces assigned moves cells items areas counts work cells′ items′ areas′ counts′ work′ : List ℕ} {r : ℕ} where
-  pub share-read : JobCoded points v budget blocks edges insts operands crossings locals slots addresses ends pieces assigned moves cells items areas counts work r cells′ items′ areas′ counts′ work′
-      → Read Small (codedVerdict points v budget blocks edges insts operands crossings locals slots addresses ends pieces assigned moves (length cells) (length items) (length areas) (length counts) (length work)) r
+module _ {R : Rows} {t : Terms} {cells items areas counts work cells′ items′ areas′ counts′ work′ : List ℕ} {r : ℕ} where
+  pub share-read : JobCoded R t cells items areas counts work r cells′ items′ areas′ counts′ work′
+      → Read Small (codedVerdict R t (length cells) (length items) (length areas) (length counts) (length work)) r
   share-read E =
-      read-back _ (job-fits points v budget blocks edges insts operands crossings locals slots addresses ends pieces assigned moves (length cells) (length items) (length areas) (length counts) (length work))
-      (λ e. let z : r ≡ 0 = E .answer ∙ ap (λ (w : Verdict). codeOf (tallyOf (unless w (jobPlan (job points v budget blocks edges insts operands crossings locals slots addresses ends pieces assigned moves) budget)))) e in omega arith)
-      (λ k i e. E .answer ∙ ap (λ (w : Verdict). codeOf (tallyOf (unless w (jobPlan (job points v budget blocks edges insts operands crossings locals slots addresses ends pieces assigned moves) budget)))) e)
+      read-back _ (job-fits R t (length cells) (length items) (length areas) (length counts) (length work))
+      (λ e. let z : r ≡ 0 = E .answer ∙ ap (λ (w : Verdict). codeOf (tallyOf (unless w (jobPlan (jobOf R) (t .budget))))) e in omega arith)
+      (λ k i e. E .answer ∙ ap (λ (w : Verdict). codeOf (tallyOf (unless w (jobPlan (jobOf R) (t .budget))))) e)
 
 module _ (wants areas : List ℕ) (locals budget : ℕ) {cells items counts work cells′ items′ counts′ work′ : List ℕ} {r : ℕ} where
   pub fit-wants-read : PlanCoded wants areas (codedOutcome wants areas locals budget (length cells) (length items) (length counts) (length work)) cells items counts work r cells′ items′ counts′ work′
@@ -218,11 +217,11 @@ local-areas-read {points} {r} {blocks} {edges} {kinds} {touches} {ends} {areas} 
     read-count _ (local-areas-fits blocks edges points kinds touches ends (length areas) (length items) (length work)) (rangesOf (tabulate (length kinds) (areaFor (graphFor blocks edges) kinds touches ends)))
     (E .answer ∙ ap countCode (E .holds .lists .answer)) (λ e. local-areas-few blocks edges points kinds touches ends (length areas) (length items) (length work) e)
 
-pub item-areas-read : {points v r : ℕ} {blocks edges insts operands crossings locals slots addresses ends pieces assigned moves areas items work areas′ items′ work′ : List ℕ}
-    → ItemAreasCoded points v blocks edges insts operands crossings locals slots addresses ends pieces assigned moves areas items work r areas′ items′ work′ → Read Small (inOrder (itemChecks points v blocks edges insts operands crossings locals slots addresses ends pieces assigned moves (length areas) (length items) (length work))) r
-item-areas-read {points} {v} {r} {blocks} {edges} {insts} {operands} {crossings} {locals} {slots} {addresses} {ends} {pieces} {assigned} {moves} {areas} {items} {work} E =
-    read-count _ (item-areas-fits points v blocks edges insts operands crossings locals slots addresses ends pieces assigned moves (length areas) (length items) (length work)) (total (jobOf points v blocks edges insts operands crossings locals slots addresses ends pieces assigned moves)) (E .answer ∙ ap countCode (E .holds .lists .answer))
-    (λ e. item-areas-few points v blocks edges insts operands crossings locals slots addresses ends pieces assigned moves (length areas) (length items) (length work) e)
+pub item-areas-read : {R : Rows} {r : ℕ} {areas items work areas′ items′ work′ : List ℕ}
+    → ItemAreasCoded R areas items work r areas′ items′ work′ → Read Small (inOrder (itemChecks R (length areas) (length items) (length work))) r
+item-areas-read {R} {r} {areas} {items} {work} E =
+    read-count _ (item-areas-fits R (length areas) (length items) (length work)) (total (jobOf R)) (E .answer ∙ ap countCode (E .holds .lists .answer))
+    (λ e. item-areas-few R (length areas) (length items) (length work) e)
 
 -- ---- text
 

@@ -8,14 +8,14 @@ use lib.ListN.{length, take}
 use Rattle.refusals.specs.declared.Verdict.{Verdict}
 use Rattle.refusals.specs.declared.Verdict.the-variants.{Fine, Bad}
 use Rattle.refusals.specs.declared.Refusal.the-variants.{Count, Space}
-use Rattle.refusals.specs.Verdicts.{inOrder, first, check}
+use Rattle.refusals.specs.Verdicts.{inOrder, check}
 use Rattle.refusals.specs.Outcomes.{Outcome, unless, after, numbered}
 use Rattle.refusals.proofs.Laws.{first-left, first-right, check-told}
 use Rattle.words.proofs.Bools.{or-neither}
 use Rattle.words.specs.Rows.{rowCount, field}
 use Rattle.fitting.specs.Wants.{orderOf}
 use Rattle.fitting.specs.Lowest.{PutLowest}
-use Rattle.fitting.specs.Queries.{Slots, areasOf, answered, apart}
+use Rattle.fitting.specs.Queries.{areasOf, answered, apart}
 use Rattle.words.proofs.RowLaws.{length-tabulate}
 use Rattle.queries.specs.Seen.{PlanSeen}
 use Rattle.queries.proofs.SeenLaws.{answered-is}
@@ -31,34 +31,36 @@ use Rattle.capping.specs.Cap.{capVerdict, capRows, cappedPlan}
 use Rattle.capping.proofs.SeenLaws.{cap-passes, capped-seen}
 use Rattle.areas.specs.Job.{itemCount}
 use Rattle.soundness.specs.Demand.{wantOf, wantsOf as jobWants, jobPlan}
-use Rattle.job.specs.Entry.{job}
 use Rattle.job.proofs.Seen.{held as job-held, job-seen, job-lowest}
 use Rattle.codes.specs.Codes.{verdictCode}
 use Rattle.codes.proofs.CodeLaws.{refusal-no-answer}
 use Rattle.job_codes.specs.Job.{JobCoded}
 use Rattle.slots.specs.Exports.{ApartCoded}
 use Rattle.export_laws.proofs.Demand.{no-refusal, shared}
+use Rattle.job_space.specs.Rows.{Rows}
+use Rattle.fitting.specs.declared.Terms.{Terms}
+use Rattle.job_checks.specs.Job.{jobOf}
 
 -- ---- the whole job: its rows, as many cells as the plan has
 
-module _ {points v budget : ℕ} {blocks edges insts operands crossings locals slots addresses ends pieces assigned moves cells items areas counts work cells′ items′ areas′ counts′ work′ : List ℕ} {r : ℕ}
-    (E : JobCoded points v budget blocks edges insts operands crossings locals slots addresses ends pieces assigned moves cells items areas counts work r cells′ items′ areas′ counts′ work′) (h : r < 2 ^ 32) where
-  pub export-job-seen : PlanSeen (answered (jobWants (job points v budget blocks edges insts operands crossings locals slots addresses ends pieces assigned moves)) (rowCount 2 locals) (jobPlan (job points v budget blocks edges insts operands crossings locals slots addresses ends pieces assigned moves) budget)) (rowCount 2 locals)
-      (take (2 * length (jobPlan (job points v budget blocks edges insts operands crossings locals slots addresses ends pieces assigned moves) budget .cells)) cells′) (take (4 * (rowCount 2 locals + length slots)) items′) areas′
+module _ {R : Rows} {t : Terms} {cells items areas counts work cells′ items′ areas′ counts′ work′ : List ℕ} {r : ℕ}
+    (E : JobCoded R t cells items areas counts work r cells′ items′ areas′ counts′ work′) (h : r < 2 ^ 32) where
+  pub export-job-seen : PlanSeen (answered (jobWants (jobOf R)) (rowCount 2 (R .locals)) (jobPlan (jobOf R) (t .budget))) (rowCount 2 (R .locals))
+      (take (2 * length (jobPlan (jobOf R) (t .budget) .cells)) cells′) (take (4 * (rowCount 2 (R .locals) + length (R .slots))) items′) areas′
   export-job-seen = job-seen (shared E h _ _ _ refl)
 
-  pub export-job-lowest : PutLowest (jobWants (job points v budget blocks edges insts operands crossings locals slots addresses ends pieces assigned moves)) budget (orderOf (jobWants (job points v budget blocks edges insts operands crossings locals slots addresses ends pieces assigned moves))) (λ i. field 4 items′ i 0)
+  pub export-job-lowest : PutLowest (jobWants (jobOf R)) (t .budget) (orderOf (jobWants (jobOf R))) (λ i. field 4 items′ i 0)
   export-job-lowest = job-lowest (shared E h _ _ _ refl)
 
   -- `cap` of its cells is not refused either, and the queries then see the plan with its alignments lowered
-  pub export-job-cap : capVerdict (take (2 * length (jobPlan (job points v budget blocks edges insts operands crossings locals slots addresses ends pieces assigned moves) budget .cells)) cells′) (length (jobPlan (job points v budget blocks edges insts operands crossings locals slots addresses ends pieces assigned moves) budget .cells)) ≡ Fine
+  pub export-job-cap : capVerdict (take (2 * length (jobPlan (jobOf R) (t .budget) .cells)) cells′) (length (jobPlan (jobOf R) (t .budget) .cells)) ≡ Fine
   export-job-cap = cap-passes (job-held (shared E h _ _ _ refl))
 
-  pub export-job-capped : (most : ℕ) → PlanSeen (cappedPlan most (answered (jobWants (job points v budget blocks edges insts operands crossings locals slots addresses ends pieces assigned moves)) (rowCount 2 locals) (jobPlan (job points v budget blocks edges insts operands crossings locals slots addresses ends pieces assigned moves) budget))) (rowCount 2 locals)
-      (capRows (take (2 * length (jobPlan (job points v budget blocks edges insts operands crossings locals slots addresses ends pieces assigned moves) budget .cells)) cells′) (length (jobPlan (job points v budget blocks edges insts operands crossings locals slots addresses ends pieces assigned moves) budget .cells)) most) (take (4 * (rowCount 2 locals + length slots)) items′) areas′
+  pub export-job-capped : (most : ℕ) → PlanSeen (cappedPlan most (answered (jobWants (jobOf R)) (rowCount 2 (R .locals)) (jobPlan (jobOf R) (t .budget)))) (rowCount 2 (R .locals))
+      (capRows (take (2 * length (jobPlan (jobOf R) (t .budget) .cells)) cells′) (length (jobPlan (jobOf R) (t .budget) .cells)) most) (take (4 * (rowCount 2 (R .locals) + length (R .slots))) items′) areas′
   export-job-capped most =
-      capped-seen (job-held (shared E h _ _ _ refl)) most (answered (jobWants (job points v budget blocks edges insts operands crossings locals slots addresses ends pieces assigned moves)) (rowCount 2 locals) (jobPlan (job points v budget blocks edges insts operands crossings locals slots addresses ends pieces assigned moves) budget))
-      (answered-is (jobWants (job points v budget blocks edges insts operands crossings locals slots addresses ends pieces assigned moves)) (jobPlan (job points v budget blocks edges insts operands crossings locals slots addresses ends pieces assigned moves) budget) (rowCount 2 locals) (itemCount (job points v budget blocks edges insts operands crossings locals slots addresses ends pieces assigned moves)) (length-tabulate (itemCount (job points v budget blocks edges insts operands crossings locals slots addresses ends pieces assigned moves)) (wantOf (job points v budget blocks edges insts operands crossings locals slots addresses ends pieces assigned moves))))
+      capped-seen (job-held (shared E h _ _ _ refl)) most (answered (jobWants (jobOf R)) (rowCount 2 (R .locals)) (jobPlan (jobOf R) (t .budget)))
+      (answered-is (jobWants (jobOf R)) (jobPlan (jobOf R) (t .budget)) (rowCount 2 (R .locals)) (itemCount (jobOf R)) (length-tabulate (itemCount (jobOf R)) (wantOf (jobOf R))))
 
 -- ---- fitting alone
 

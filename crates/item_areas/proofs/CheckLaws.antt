@@ -16,10 +16,12 @@ use Rattle.refusals.proofs.Laws.{first-fine, first-bad, first-left, first-right
 use Rattle.insts.specs.Counts.{rowsVerdict}
 use Rattle.job_space.specs.declared.Sizes.{Sizes}
 use Rattle.job_space.specs.Space.{sizesOf, spaceOf, Small}
-use Rattle.job_checks.specs.Job.{recordsVerdict}
-use Rattle.job_checks.proofs.CheckLaws.{records-checked}
+use Rattle.job_checks.proofs.CheckLaws.{placedOf, by-own, by-counts as records-counts, by-placed as records-placed, by-space as records-space, lent-passed, lent-space}
 use Rattle.job_areas.specs.Areas.{Lent}
 use Rattle.item_areas.specs.Entry.{spaceVerdict, lentVerdict}
+use Rattle.job_space.specs.Rows.{Rows}
+use Rattle.job_checks.specs.Job.{countVerdict}
+use Rattle.areas.specs.Job.{checks}
 
 -- ---- number 7
 
@@ -35,36 +37,40 @@ module _ (z : Sizes) (items work : ℕ) where
 
 -- ---- all of them
 
-module _ (points v : ℕ) (blocks edges insts operands crossings locals slots addresses ends pieces assigned moves : List ℕ) (areas items work : ℕ) where
-  pub by-whole : (r : Refusal) (i : ℕ) → rowsVerdict 3 items items ≡ Bad r i → Bad r i ≡ lentVerdict points v blocks edges insts operands crossings locals slots addresses ends pieces assigned moves areas items work
-  unfolding lentVerdict
-  by-whole r i e = sym (first-bad _ _ r i e)
+module _ (R : Rows) (areas items work : ℕ) where
+  abbrev whole : Verdict
+  whole = rowsVerdict 3 items items
 
-  pub by-records : (r : Refusal) (i : ℕ) → rowsVerdict 3 items items ≡ Fine → recordsVerdict points v blocks edges insts operands crossings locals slots addresses ends pieces assigned moves areas ≡ Bad r i
-      → Bad r i ≡ lentVerdict points v blocks edges insts operands crossings locals slots addresses ends pieces assigned moves areas items work
-  unfolding lentVerdict
-  by-records r i e f = sym (first-fine (rowsVerdict 3 items items) _ e ∙ first-bad _ _ r i f)
+  abbrev space : Verdict
+  space = spaceVerdict (sizesOf R areas) items work
 
-  pub small : recordsVerdict points v blocks edges insts operands crossings locals slots addresses ends pieces assigned moves areas ≡ Fine → Small (sizesOf v blocks edges insts operands crossings locals slots addresses ends pieces assigned moves areas)
-  small e = records-checked points v blocks edges insts operands crossings locals slots addresses ends pieces assigned moves areas e .small
-
-  pub by-space : {x : Verdict} (z : Sizes) → rowsVerdict 3 items items ≡ Fine → recordsVerdict points v blocks edges insts operands crossings locals slots addresses ends pieces assigned moves areas ≡ Fine
-      → z ≡ sizesOf v blocks edges insts operands crossings locals slots addresses ends pieces assigned moves areas → x ≡ spaceVerdict z items work → x ≡ lentVerdict points v blocks edges insts operands crossings locals slots addresses ends pieces assigned moves areas items work
+  pub by-whole : (r : Refusal) (i : ℕ) → whole ≡ Bad r i → Bad r i ≡ lentVerdict R areas items work
   unfolding lentVerdict
-  by-space z e f s h =
-      h ∙ ap (λ (y : Sizes). spaceVerdict y items work) s
-      ∙ sym (first-fine (rowsVerdict 3 items items) _ e ∙ first-fine (recordsVerdict points v blocks edges insts operands crossings locals slots addresses ends pieces assigned moves areas) _ f)
+  by-whole r i e = by-own R areas whole space r i e
+
+  pub by-counts : (r : Refusal) (i : ℕ) → whole ≡ Fine → countVerdict R areas ≡ Bad r i → Bad r i ≡ lentVerdict R areas items work
+  unfolding lentVerdict
+  by-counts r i e f = records-counts R areas whole space r i e f
+
+  pub by-placed : (r : Refusal) (i : ℕ) → whole ≡ Fine → countVerdict R areas ≡ Fine → placedOf R ≡ Bad r i → Bad r i ≡ lentVerdict R areas items work
+  unfolding lentVerdict
+  by-placed r i e f g = records-placed R areas whole space r i e f g
+
+  pub by-space : {x : Verdict} (z : Sizes) → whole ≡ Fine → countVerdict R areas ≡ Fine → placedOf R ≡ Fine → z ≡ sizesOf R areas
+      → x ≡ spaceVerdict z items work → x ≡ lentVerdict R areas items work
+  unfolding lentVerdict
+  by-space z e f g s h = records-space R areas whole space e f g (h ∙ ap (λ (y : Sizes). spaceVerdict y items work) s)
 
 -- where nothing is refused
-module _ (points v : ℕ) (blocks edges insts operands crossings locals slots addresses ends pieces assigned moves : List ℕ) (areas items : ℕ) (w : List ℕ) where
-  pub lent : lentVerdict points v blocks edges insts operands crossings locals slots addresses ends pieces assigned moves areas items (length w) ≡ Fine
-      → Lent points v blocks edges insts operands crossings locals slots addresses ends pieces assigned moves areas w × (3 * (sizesOf v blocks edges insts operands crossings locals slots addresses ends pieces assigned moves areas .locals + sizesOf v blocks edges insts operands crossings locals slots addresses ends pieces assigned moves areas .slots) ≤ items)
+module _ (R : Rows) (areas items : ℕ) (w : List ℕ) where
+  pub lent : lentVerdict R areas items (length w) ≡ Fine → Lent R areas w × (3 * (sizesOf R areas .locals + sizesOf R areas .slots) ≤ items)
   unfolding lentVerdict
   lent e =
-      let f = first-right (rowsVerdict 3 items items) _ e in
-      let p = records-checked points v blocks edges insts operands crossings locals slots addresses ends pieces assigned moves areas (first-left (recordsVerdict points v blocks edges insts operands crossings locals slots addresses ends pieces assigned moves areas) _ f) in
-      let z = sizesOf v blocks edges insts operands crossings locals slots addresses ends pieces assigned moves areas in
-      let (a, b) = or-neither (ltb (length w) (spaceOf z)) _ (check-told Space (ltb (length w) (spaceOf z) || ltb (items / 3) (z .locals + z .slots)) (first-right (recordsVerdict points v blocks edges insts operands crossings locals slots addresses ends pieces assigned moves areas) _ f)) in (
-        record { passed = p; space = ltb-false (length w) (spaceOf z) a },
+      let z = sizesOf R areas in
+      let whole = rowsVerdict 3 items items in
+      let space = spaceVerdict z items (length w) in
+      let s = check-told Space (ltb (length w) (spaceOf z) || ltb (items / 3) (z .locals + z .slots)) (lent-space R areas whole space e) in
+      let (a, b) = or-neither (ltb (length w) (spaceOf z)) _ s in (
+        record { passed = lent-passed R areas whole space e; space = ltb-false (length w) (spaceOf z) a },
         (let q = ltb-false (items / 3) (z .locals + z .slots) b in omega arith),
       )

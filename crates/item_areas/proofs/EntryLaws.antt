@@ -29,59 +29,60 @@ use Rattle.item_areas.specs.Entry.{lentVerdict, itemChecks, ItemAreas}
 use Rattle.item_areas.proofs.OrderLaws.{item-verdict}
 use Rattle.item_lists.specs.Lists.{AnsweredBy}
 use Rattle.item_lists.specs.Inner.{Held}
+use Rattle.job_space.specs.Rows.{Rows}
 
-module _ (points v : ℕ) (blocks edges insts operands crossings locals slots addresses ends pieces assigned moves areas items work : List ℕ) where
+module _ (R : Rows) (areas items work : List ℕ) where
   abbrev lentV : Verdict
-  lentV = lentVerdict points v blocks edges insts operands crossings locals slots addresses ends pieces assigned moves (length areas) (length items) (length work)
+  lentV = lentVerdict R (length areas) (length items) (length work)
 
   abbrev space : ℕ
-  space = spaceOf (sizesOf v blocks edges insts operands crossings locals slots addresses ends pieces assigned moves (length areas))
+  space = spaceOf (sizesOf R (length areas))
 
-  by-parts : inOrder (itemChecks points v blocks edges insts operands crossings locals slots addresses ends pieces assigned moves (length areas) (length items) (length work))
-      ≡ first lentV (itemsVerdict (jobOf points v blocks edges insts operands crossings locals slots addresses ends pieces assigned moves) (length areas / 2))
-  by-parts = item-verdict points v blocks edges insts operands crossings locals slots addresses ends pieces assigned moves (length areas) (length items) (length work)
+  by-parts : inOrder (itemChecks R (length areas) (length items) (length work))
+      ≡ first lentV (itemsVerdict (jobOf R) (length areas / 2))
+  by-parts = item-verdict R (length areas) (length items) (length work)
 
-  pub refused-entry : (r : Refusal) (i : ℕ) → lentV ≡ Bad r i → ItemAreas points v blocks edges insts operands crossings locals slots addresses ends pieces assigned moves areas items work (Refused r i) areas items work
+  pub refused-entry : (r : Refusal) (i : ℕ) → lentV ≡ Bad r i → ItemAreas R areas items work (Refused r i) areas items work
   refused-entry r i e = record {
-    lists = rw (by-parts ∙ first-bad lentV (itemsVerdict (jobOf points v blocks edges insts operands crossings locals slots addresses ends pieces assigned moves) (length areas / 2)) r i e) (record { answer = refl; in-areas = refl; in-items = refl });
+    lists = rw (by-parts ∙ first-bad lentV (itemsVerdict (jobOf R) (length areas / 2)) r i e) (record { answer = refl; in-areas = refl; in-items = refl });
     in-work = rw e refl;
   }
 
   -- the counts are those of the items
-  many : (z : Sizes) → z ≡ sizesOf v blocks edges insts operands crossings locals slots addresses ends pieces assigned moves (length areas) → z .locals + z .slots ≡ itemCount (jobOf points v blocks edges insts operands crossings locals slots addresses ends pieces assigned moves)
-  many z e = ap (λ (y : Sizes). y .locals + y .slots) e ∙ ap (λ (k : ℕ). k + length slots) (sym (length-records 2 (λ f. record { size = f 0; align = f 1 }) locals))
+  many : (z : Sizes) → z ≡ sizesOf R (length areas) → z .locals + z .slots ≡ itemCount (jobOf R)
+  many z e = ap (λ (y : Sizes). y .locals + y .slots) e ∙ ap (λ (k : ℕ). k + length (R .slots)) (sym (length-records 2 (λ f. record { size = f 0; align = f 1 }) (R .locals)))
 
   pub answered-entry : lentV ≡ Fine → {r : Answer} {areas′ items′ w work′ : List ℕ}
-      → AnsweredBy (itemsVerdict (jobOf points v blocks edges insts operands crossings locals slots addresses ends pieces assigned moves) (length areas / 2)) (itemCount (jobOf points v blocks edges insts operands crossings locals slots addresses ends pieces assigned moves)) (itemArea (jobOf points v blocks edges insts operands crossings locals slots addresses ends pieces assigned moves)) areas items r areas′ items′
-      → Within 0 space work w → {n : ℕ} → n ≡ space → work′ ≡ cleared n w → ItemAreas points v blocks edges insts operands crossings locals slots addresses ends pieces assigned moves areas items work r areas′ items′ work′
+      → AnsweredBy (itemsVerdict (jobOf R) (length areas / 2)) (itemCount (jobOf R)) (itemArea (jobOf R)) areas items r areas′ items′
+      → Within 0 space work w → {n : ℕ} → n ≡ space → work′ ≡ cleared n w → ItemAreas R areas items work r areas′ items′ work′
   answered-entry e {r} {areas′} {items′} {w} {work′} B K {n} en Z = record {
-    lists = rw (by-parts ∙ first-fine lentV (itemsVerdict (jobOf points v blocks edges insts operands crossings locals slots addresses ends pieces assigned moves) (length areas / 2)) e) B;
+    lists = rw (by-parts ∙ first-fine lentV (itemsVerdict (jobOf R) (length areas / 2)) e) B;
     in-work = rw e (Z ∙ ap (λ (k : ℕ). cleared k w) en ∙ cleared-same space work w K
         ∙ ap (λ (k : ℕ). replicate space 0 ++ drop k work) (sym (length-replicate space 0)));
   }
 
-module _ (points v : ℕ) (blocks edges insts operands crossings locals slots addresses ends pieces assigned moves areas items : List ℕ) where
+module _ (R : Rows) (areas items : List ℕ) where
   -- what listing asks
-  pub list-asked : {w₀ w : List ℕ} {n : ℕ} → Lent points v blocks edges insts operands crossings locals slots addresses ends pieces assigned moves (length areas) w₀
-      → 3 * (sizesOf v blocks edges insts operands crossings locals slots addresses ends pieces assigned moves (length areas) .locals + sizesOf v blocks edges insts operands crossings locals slots addresses ends pieces assigned moves (length areas) .slots) ≤ length items
-      → (z : Sizes) → z ≡ sizesOf v blocks edges insts operands crossings locals slots addresses ends pieces assigned moves (length areas) → Solved points v blocks edges insts operands crossings locals slots addresses ends pieces assigned moves (length areas) w₀ w n
+  pub list-asked : {w₀ w : List ℕ} {n : ℕ} → Lent R (length areas) w₀
+      → 3 * (sizesOf R (length areas) .locals + sizesOf R (length areas) .slots) ≤ length items
+      → (z : Sizes) → z ≡ sizesOf R (length areas) → Solved R (length areas) w₀ w n
       → Held (z .locals + z .slots) (length areas / 2) n w × (3 * (z .locals + z .slots) ≤ length items) × (length areas / 2 ≤ 65536) × (length areas / 2 + (z .locals + z .slots) ≤ length w)
   list-asked {w₀} {w} {n} N many-items z e S =
-      let c = many points v blocks edges insts operands crossings locals slots addresses ends pieces assigned moves areas items w₀ z e in
-      let y : z .locals + z .slots ≡ rowCount 2 locals + length slots = ap (λ (x : Sizes). x .locals + x .slots) e in (
-        record { area = itemArea (jobOf points v blocks edges insts operands crossings locals slots addresses ends pieces assigned moves); found = subst (λ (k : ℕ). ListedBy wordOf (listing (length areas / 2) (length areas / 2)) (itemArea (jobOf points v blocks edges insts operands crossings locals slots addresses ends pieces assigned moves)) k n w) (sym c) (S .listed) },
+      let c = many R areas items w₀ z e in
+      let y : z .locals + z .slots ≡ rowCount 2 (R .locals) + length (R .slots) = ap (λ (x : Sizes). x .locals + x .slots) e in (
+        record { area = itemArea (jobOf R); found = subst (λ (k : ℕ). ListedBy wordOf (listing (length areas / 2) (length areas / 2)) (itemArea (jobOf R)) k n w) (sym c) (S .listed) },
         omega (arith, many-items, y),
         N .passed .small .few-ranges,
         omega (arith, N .space, S .kept .len, y),
       )
 
   -- what was listed is the job's
-  pub listed-all : {w₀ w : List ℕ} {n : ℕ} (z : Sizes) → z ≡ sizesOf v blocks edges insts operands crossings locals slots addresses ends pieces assigned moves (length areas) → Solved points v blocks edges insts operands crossings locals slots addresses ends pieces assigned moves (length areas) w₀ w n
+  pub listed-all : {w₀ w : List ℕ} {n : ℕ} (z : Sizes) → z ≡ sizesOf R (length areas) → Solved R (length areas) w₀ w n
       → {r : Answer} {areas′ items′ : List ℕ}
       → ((A : ℕ → Option (List Range)) → ListedBy wordOf (listing (length areas / 2) (length areas / 2)) A (z .locals + z .slots) n w
       → AnsweredBy (areasVerdict (z .locals + z .slots) A (length areas / 2)) (z .locals + z .slots) A areas items r areas′ items′)
-      → AnsweredBy (itemsVerdict (jobOf points v blocks edges insts operands crossings locals slots addresses ends pieces assigned moves) (length areas / 2)) (itemCount (jobOf points v blocks edges insts operands crossings locals slots addresses ends pieces assigned moves)) (itemArea (jobOf points v blocks edges insts operands crossings locals slots addresses ends pieces assigned moves)) areas items r areas′ items′
+      → AnsweredBy (itemsVerdict (jobOf R) (length areas / 2)) (itemCount (jobOf R)) (itemArea (jobOf R)) areas items r areas′ items′
   listed-all {w₀} {w} {n} z e S {r} {areas′} {items′} B =
-      let c = many points v blocks edges insts operands crossings locals slots addresses ends pieces assigned moves areas items w₀ z e in
-      subst (λ (k : ℕ). AnsweredBy (areasVerdict k (itemArea (jobOf points v blocks edges insts operands crossings locals slots addresses ends pieces assigned moves)) (length areas / 2)) k (itemArea (jobOf points v blocks edges insts operands crossings locals slots addresses ends pieces assigned moves)) areas items r areas′ items′) c
-      (B (itemArea (jobOf points v blocks edges insts operands crossings locals slots addresses ends pieces assigned moves)) (subst (λ (k : ℕ). ListedBy wordOf (listing (length areas / 2) (length areas / 2)) (itemArea (jobOf points v blocks edges insts operands crossings locals slots addresses ends pieces assigned moves)) k n w) (sym c) (S .listed)))
+      let c = many R areas items w₀ z e in
+      subst (λ (k : ℕ). AnsweredBy (areasVerdict k (itemArea (jobOf R)) (length areas / 2)) k (itemArea (jobOf R)) areas items r areas′ items′) c
+      (B (itemArea (jobOf R)) (subst (λ (k : ℕ). ListedBy wordOf (listing (length areas / 2) (length areas / 2)) (itemArea (jobOf R)) k n w) (sym c) (S .listed)))

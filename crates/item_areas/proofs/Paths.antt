@@ -22,32 +22,33 @@ use Rattle.job_checks.specs.Job.{jobOf, Passed}
 use Rattle.item_areas.specs.Entry.{lentVerdict, itemChecks, total, ItemAreas}
 use Rattle.item_areas.proofs.CheckLaws.{lent}
 use Rattle.item_areas.proofs.OrderLaws.{item-verdict}
+use Rattle.job_space.specs.Rows.{Rows}
 
 -- an answer is no refusal
 told : (v : Verdict) (n k : ℕ) → given k ≡ unless v n → v ≡ Fine
 told Fine n k e = refl
 told (Bad r i) n k e = absurd (let z : _≡_ {A = ℕ} 0 1 = cc in omega arith)
 
-module _ {points v : ℕ} {blocks edges insts operands crossings locals slots addresses ends pieces assigned moves areas items work areas′ items′ work′ : List ℕ} {n : ℕ}
-    (E : ItemAreas points v blocks edges insts operands crossings locals slots addresses ends pieces assigned moves areas items work (Given n) areas′ items′ work′) where
+module _ {R : Rows} {areas items work areas′ items′ work′ : List ℕ} {n : ℕ}
+    (E : ItemAreas R areas items work (Given n) areas′ items′ work′) where
   -- the job's records
   abbrev J : Job
-  J = jobOf points v blocks edges insts operands crossings locals slots addresses ends pieces assigned moves
+  J = jobOf R
 
   abbrev lentV : Verdict
-  lentV = lentVerdict points v blocks edges insts operands crossings locals slots addresses ends pieces assigned moves (length areas) (length items) (length work)
+  lentV = lentVerdict R (length areas) (length items) (length work)
 
-  fine : inOrder (itemChecks points v blocks edges insts operands crossings locals slots addresses ends pieces assigned moves (length areas) (length items) (length work)) ≡ Fine
+  fine : inOrder (itemChecks R (length areas) (length items) (length work)) ≡ Fine
   fine = told _ (total J) n (E .lists .answer)
 
   lent-fine : lentV ≡ Fine
   lent-fine =
       first-left lentV (itemsVerdict J (length areas / 2))
-      (sym (item-verdict points v blocks edges insts operands crossings locals slots addresses ends pieces assigned moves (length areas) (length items) (length work)) ∙ fine)
+      (sym (item-verdict R (length areas) (length items) (length work)) ∙ fine)
 
-  passed : Passed points v blocks edges insts operands crossings locals slots addresses ends pieces assigned moves (length areas)
+  passed : Passed R (length areas)
   passed =
-      lent points v blocks edges insts operands crossings locals slots addresses ends pieces assigned moves (length areas) (length items) work
+      lent R (length areas) (length items) work
       lent-fine .0 .passed
 
   areas-written : areas′ ≡ areaRows (itemCount J) (itemArea J) ++ drop (length (areaRows (itemCount J) (itemArea J))) areas

@@ -8,14 +8,15 @@ use lib.Dec.{ltb}
 use Rattle.refusals.specs.declared.Verdict.{Verdict}
 use Rattle.refusals.specs.declared.Refusal.{Refusal}
 use Rattle.refusals.specs.declared.Refusal.the-variants.{Count, Space, List as ListWord}
-use Rattle.refusals.specs.Verdicts.{first, inOrder, check}
+use Rattle.refusals.specs.Verdicts.{inOrder, check}
 use Rattle.refusals.specs.Outcomes.{unless, after}
 use Rattle.words.specs.Rows.{tabulate}
 use Rattle.insts.specs.Counts.{rowsVerdict}
-use Rattle.areas.specs.Job.{Job, itemCount, itemArea, rangesOf, itemsVerdict}
+use Rattle.areas.specs.Job.{Job, checks, itemCount, itemArea, rangesOf, itemsVerdict}
 use Rattle.job_space.specs.declared.Sizes.{Sizes}
+use Rattle.job_space.specs.Rows.{Rows}
 use Rattle.job_space.specs.Space.{sizesOf, spaceOf}
-use Rattle.job_checks.specs.Job.{jobOf, recordsVerdict, recordsChecks, recordsGive}
+use Rattle.job_checks.specs.Job.{jobOf, countVerdict, checksGive}
 use Rattle.item_lists.specs.declared.Answer.{Answer}
 use Rattle.item_lists.specs.Lists.{AnsweredBy}
 
@@ -23,30 +24,25 @@ use Rattle.item_lists.specs.Lists.{AnsweredBy}
 abbrev pub spaceVerdict : Sizes → ℕ → ℕ → Verdict
 spaceVerdict z items work = check Space (ltb work (spaceOf z) || ltb (items / 3) (z .locals + z .slots))
 
--- numbers 1 to 7: what is refused before anything is measured; an item list that is no whole rows is no count
-unfoldable pub lentVerdict : ℕ → ℕ → List ℕ → List ℕ → List ℕ → List ℕ → List ℕ → List ℕ → List ℕ → List ℕ → List ℕ → List ℕ → List ℕ → List ℕ → ℕ → ℕ → ℕ → Verdict
-lentVerdict points v blocks edges insts operands crossings locals slots addresses ends pieces assigned moves areas items work =
-    first (rowsVerdict 3 items items) (first (recordsVerdict points v blocks edges insts operands crossings locals slots addresses ends pieces assigned moves areas)
-    (spaceVerdict (sizesOf v blocks edges insts operands crossings locals slots addresses ends pieces assigned moves areas) items work))
+-- numbers 1 to 7 in the entry's order, "lowest number wins", what is refused before anything is measured: an item list that is no whole rows is no count; the records; the space
+abbrev pub lentChecks : Rows → ℕ → ℕ → ℕ → List Verdict
+lentChecks R areas items work = rowsVerdict 3 items items ∷ countVerdict R areas ∷ (checks (jobOf R) ++ (spaceVerdict (sizesOf R areas) items work ∷ []))
 
--- the checks in the entry's order, "lowest number wins": 1 of the item list, 1 to 6 of the records, 7, then 9 of what is found; and the refusal that each gives
-abbrev pub itemChecks : ℕ → ℕ → List ℕ → List ℕ → List ℕ → List ℕ → List ℕ → List ℕ → List ℕ → List ℕ → List ℕ → List ℕ → List ℕ → List ℕ → ℕ → ℕ → ℕ → List Verdict
-itemChecks points v blocks edges insts operands crossings locals slots addresses ends pieces assigned moves areas items work =
-    (rowsVerdict 3 items items ∷ recordsChecks points v blocks edges insts operands crossings locals slots addresses ends pieces assigned moves areas)
-    ++ (spaceVerdict (sizesOf v blocks edges insts operands crossings locals slots addresses ends pieces assigned moves areas) items work
-    ∷ itemsVerdict (jobOf points v blocks edges insts operands crossings locals slots addresses ends pieces assigned moves) (areas / 2) ∷ [])
+unfoldable pub lentVerdict : Rows → ℕ → ℕ → ℕ → Verdict
+lentVerdict R areas items work = inOrder (lentChecks R areas items work)
+
+-- all checks: 9 of what is found comes last; and the refusal that each gives
+abbrev pub itemChecks : Rows → ℕ → ℕ → ℕ → List Verdict
+itemChecks R areas items work = lentChecks R areas items work ++ (itemsVerdict (jobOf R) (areas / 2) ∷ [])
 
 abbrev pub itemGive : List Refusal
-itemGive = (Count ∷ recordsGive) ++ (Space ∷ ListWord ∷ [])
+itemGive = (Count ∷ Count ∷ (checksGive ++ (Space ∷ []))) ++ (ListWord ∷ [])
 
 -- how many ranges all areas have
 abbrev pub total : Job → ℕ
 total J = rangesOf (tabulate (itemCount J) (itemArea J))
 
--- the areas of all items: number 9 comes last, and the work space is unchanged after a refusal that comes before measuring, else its first W words are zero
-pub record ItemAreas (points v : ℕ) (blocks edges insts operands crossings locals slots addresses ends pieces assigned moves areas items work : List ℕ) (r : Answer) (areas′ items′ work′ : List ℕ) : Type 0 where
-  pub lists : AnsweredBy
-      (inOrder (itemChecks points v blocks edges insts operands crossings locals slots addresses ends pieces assigned moves (length areas) (length items) (length work)))
-      (itemCount (jobOf points v blocks edges insts operands crossings locals slots addresses ends pieces assigned moves)) (itemArea (jobOf points v blocks edges insts operands crossings locals slots addresses ends pieces assigned moves)) areas items r areas′ items′
-  pub in-work : work′ ≡ after (unless (lentVerdict points v blocks edges insts operands crossings locals slots addresses ends pieces assigned moves (length areas) (length items) (length work))
-      (spaceOf (sizesOf v blocks edges insts operands crossings locals slots addresses ends pieces assigned moves (length areas)))) (λ n. replicate n 0) work
+-- the areas of all items: the work space is unchanged after a refusal that comes before measuring, else its first W words are zero
+pub record ItemAreas (R : Rows) (areas items work : List ℕ) (r : Answer) (areas′ items′ work′ : List ℕ) : Type 0 where
+  pub lists : AnsweredBy (inOrder (itemChecks R (length areas) (length items) (length work))) (itemCount (jobOf R)) (itemArea (jobOf R)) areas items r areas′ items′
+  pub in-work : work′ ≡ after (unless (lentVerdict R (length areas) (length items) (length work)) (spaceOf (sizesOf R (length areas)))) (λ n. replicate n 0) work

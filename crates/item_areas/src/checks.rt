@@ -1,5 +1,6 @@
 // The refusals that come before the areas are measured: numbers 1 to 7, in linear time and without work space.
 ghost use mathlib.Core.Path.{_≡_};
+ghost use Rattle.job_space.specs.Rows.{lentRows};
 ghost use Rattle.job_space.specs.Space.{Small};
 ghost use Rattle.item_areas.specs.Entry.{spaceVerdict, lentVerdict};
 use job_space::Sizes;
@@ -40,14 +41,13 @@ pub fn refusal(
     items: usize,
     work: usize,
 ) -> Verdict
-    ensures { λ r. ⌜ r ≡ lentVerdict points v (now (blocks .entry)) (now (edges .entry)) (now (insts .entry)) (now (operands .entry)) (now (crossings .entry)) (now (locals .entry)) (now (slots .entry)) (now (addresses .entry)) (now (ends .entry)) (now (pieces .entry)) (now (assigned .entry)) (now (moves .entry)) areas items work ⌝ }
+    ensures { λ r. ⌜ r ≡ lentVerdict (lentRows points v blocks edges insts operands crossings locals slots addresses ends pieces assigned moves) areas items work ⌝ }
 {
     let whole = insts::counts::rows(items, 3, items);
     if let Verdict::Bad(r, i) = whole {
         return Verdict::Bad(r, i);
     }
-    let lent = job_checks::checks::records(
-        points,
+    let count = job_checks::checks::counts(
         v,
         blocks,
         edges,
@@ -63,7 +63,24 @@ pub fn refusal(
         moves,
         areas,
     );
-    if let Verdict::Bad(r, i) = lent {
+    if let Verdict::Bad(r, i) = count {
+        return Verdict::Bad(r, i);
+    }
+    let place = job_checks::checks::placed(
+        points,
+        v,
+        blocks,
+        edges,
+        insts,
+        operands,
+        crossings,
+        addresses,
+        ends,
+        pieces,
+        assigned,
+        moves,
+    );
+    if let Verdict::Bad(r, i) = place {
         return Verdict::Bad(r, i);
     }
     let z = job_space::records::sizes(

@@ -1,4 +1,5 @@
 // The areas of all items of a job's records.
+ghost use Rattle.job_space.specs.Rows.{lentRows};
 ghost use Rattle.item_areas.specs.Entry.{ItemAreas};
 use refusals::Verdict;
 
@@ -28,7 +29,7 @@ pub fn item_areas(
     items: &mut [u32],
     work: &mut [u64],
 ) -> Answer
-    ensures { λ r. ⌜ ItemAreas points v (now (blocks .entry)) (now (edges .entry)) (now (insts .entry)) (now (operands .entry)) (now (crossings .entry)) (now (locals .entry)) (now (slots .entry)) (now (addresses .entry)) (now (ends .entry)) (now (pieces .entry)) (now (assigned .entry)) (now (moves .entry))
+    ensures { λ r. ⌜ ItemAreas (lentRows points v blocks edges insts operands crossings locals slots addresses ends pieces assigned moves)
         (now (areas .entry)) (now (items .entry)) (now (work .entry)) r (now (areas .exit)) (now (items .exit)) (now (work .exit)) ⌝ }
 {
     let verdict = checks::refusal(

@@ -16,10 +16,13 @@ use Rattle.refusals.specs.Verdicts.{check}
 use Rattle.refusals.proofs.Laws.{first-fine, first-bad, first-left, first-right, check-told}
 use Rattle.job_space.specs.declared.Sizes.{Sizes}
 use Rattle.job_space.specs.Space.{sizesOf, spaceOf, Small, badShape}
-use Rattle.job_checks.specs.Job.{countVerdict, recordsVerdict}
-use Rattle.job_checks.proofs.CheckLaws.{records-checked, whole-areas}
+use Rattle.job_checks.specs.Job.{countVerdict}
+use Rattle.job_checks.proofs.CheckLaws.{whole-areas, placedOf, by-own, by-counts as records-counts, by-placed as records-placed, by-space as records-space, lent-counted, lent-passed, lent-space}
 use Rattle.job_areas.specs.Areas.{Lent}
 use Rattle.job.specs.Entry.{spaceVerdict, lentVerdict}
+use Rattle.job_space.specs.Rows.{Rows}
+use Rattle.fitting.specs.declared.Terms.{Terms}
+use Rattle.areas.specs.Job.{checks}
 
 -- ---- number 7
 
@@ -38,46 +41,51 @@ module _ (z : Sizes) (cells items work : ℕ) where
 
 -- ---- all of them
 
-module _ (points v budget : ℕ) (blocks edges insts operands crossings locals slots addresses ends pieces assigned moves : List ℕ) (cells items areas work : ℕ) where
-  pub by-shape : badShape budget cells items ≡ true → Bad Count 0 ≡ lentVerdict points v budget blocks edges insts operands crossings locals slots addresses ends pieces assigned moves cells items areas work
-  unfolding lentVerdict
-  by-shape e = sym (first-bad _ _ Count 0 (ap (check Count) e))
+module _ (R : Rows) (t : Terms) (cells items areas work : ℕ) where
+  abbrev shape : Verdict
+  shape = check Count (badShape t cells items)
 
-  pub by-records : (r : Refusal) (i : ℕ) → badShape budget cells items ≡ false → recordsVerdict points v blocks edges insts operands crossings locals slots addresses ends pieces assigned moves areas ≡ Bad r i → Bad r i ≡ lentVerdict points v budget blocks edges insts operands crossings locals slots addresses ends pieces assigned moves cells items areas work
-  unfolding lentVerdict
-  by-records r i e f = sym (first-fine (check Count (badShape budget cells items)) _ (ap (check Count) e) ∙ first-bad _ _ r i f)
+  abbrev space : Verdict
+  space = spaceVerdict (sizesOf R areas) cells items work
 
-  pub small : recordsVerdict points v blocks edges insts operands crossings locals slots addresses ends pieces assigned moves areas ≡ Fine → Small (sizesOf v blocks edges insts operands crossings locals slots addresses ends pieces assigned moves areas)
-  small e = records-checked points v blocks edges insts operands crossings locals slots addresses ends pieces assigned moves areas e .small
-
-  pub by-space : {x : Verdict} (z : Sizes) → badShape budget cells items ≡ false → recordsVerdict points v blocks edges insts operands crossings locals slots addresses ends pieces assigned moves areas ≡ Fine → z ≡ sizesOf v blocks edges insts operands crossings locals slots addresses ends pieces assigned moves areas → x ≡ spaceVerdict z cells items work → x ≡ lentVerdict points v budget blocks edges insts operands crossings locals slots addresses ends pieces assigned moves cells items areas work
+  pub by-shape : badShape t cells items ≡ true → Bad Count 0 ≡ lentVerdict R t cells items areas work
   unfolding lentVerdict
-  by-space z e f s h =
-      h ∙ ap (λ (y : Sizes). spaceVerdict y cells items work) s
-      ∙ sym (first-fine (check Count (badShape budget cells items)) _ (ap (check Count) e) ∙ first-fine (recordsVerdict points v blocks edges insts operands crossings locals slots addresses ends pieces assigned moves areas) _ f)
+  by-shape e = by-own R areas shape space Count 0 (ap (check Count) e)
+
+  pub by-counts : (r : Refusal) (i : ℕ) → badShape t cells items ≡ false → countVerdict R areas ≡ Bad r i → Bad r i ≡ lentVerdict R t cells items areas work
+  unfolding lentVerdict
+  by-counts r i e f = records-counts R areas shape space r i (ap (check Count) e) f
+
+  pub by-placed : (r : Refusal) (i : ℕ) → badShape t cells items ≡ false → countVerdict R areas ≡ Fine → placedOf R ≡ Bad r i → Bad r i ≡ lentVerdict R t cells items areas work
+  unfolding lentVerdict
+  by-placed r i e f g = records-placed R areas shape space r i (ap (check Count) e) f g
+
+  pub by-space : {x : Verdict} (z : Sizes) → badShape t cells items ≡ false → countVerdict R areas ≡ Fine → placedOf R ≡ Fine → z ≡ sizesOf R areas
+      → x ≡ spaceVerdict z cells items work → x ≡ lentVerdict R t cells items areas work
+  unfolding lentVerdict
+  by-space z e f g s h = records-space R areas shape space (ap (check Count) e) f g (h ∙ ap (λ (y : Sizes). spaceVerdict y cells items work) s)
 
 -- where nothing is refused: what measuring asks, and room in the cell and the item list
-pub record Granted (points v : ℕ) (blocks edges insts operands crossings locals slots addresses ends pieces assigned moves : List ℕ) (cells items areas : ℕ) (w : List ℕ) : Type 0 where
-  pub lent : Lent points v blocks edges insts operands crossings locals slots addresses ends pieces assigned moves areas w
-  pub in-cells : 2 * (sizesOf v blocks edges insts operands crossings locals slots addresses ends pieces assigned moves areas .locals + sizesOf v blocks edges insts operands crossings locals slots addresses ends pieces assigned moves areas .slots) ≤ cells
-  pub in-items : 4 * (sizesOf v blocks edges insts operands crossings locals slots addresses ends pieces assigned moves areas .locals + sizesOf v blocks edges insts operands crossings locals slots addresses ends pieces assigned moves areas .slots) ≤ items
+pub record Granted (R : Rows) (cells items areas : ℕ) (w : List ℕ) : Type 0 where
+  pub lent : Lent R areas w
+  pub in-cells : 2 * (sizesOf R areas .locals + sizesOf R areas .slots) ≤ cells
+  pub in-items : 4 * (sizesOf R areas .locals + sizesOf R areas .slots) ≤ items
 
-module _ (points v budget : ℕ) (blocks edges insts operands crossings locals slots addresses ends pieces assigned moves : List ℕ) (cells items areas : ℕ) (w : List ℕ) where
-  pub granted : lentVerdict points v budget blocks edges insts operands crossings locals slots addresses ends pieces assigned moves cells items areas (length w) ≡ Fine → Granted points v blocks edges insts operands crossings locals slots addresses ends pieces assigned moves cells items areas w
+module _ (R : Rows) (t : Terms) (cells items areas : ℕ) (w : List ℕ) where
+  pub granted : lentVerdict R t cells items areas (length w) ≡ Fine → Granted R cells items areas w
   unfolding lentVerdict
   granted e =
-      let f = first-right (check Count (badShape budget cells items)) _ e in
-      let p = records-checked points v blocks edges insts operands crossings locals slots addresses ends pieces assigned moves areas (first-left (recordsVerdict points v blocks edges insts operands crossings locals slots addresses ends pieces assigned moves areas) _ f) in
-      let z = sizesOf v blocks edges insts operands crossings locals slots addresses ends pieces assigned moves areas in
-      let (a, b) = or-neither (ltb (length w) (spaceOf z)) _ (check-told Space (ltb (length w) (spaceOf z) || (ltb (cells / 2) (z .locals + z .slots) || ltb (items / 4) (z .locals + z .slots))) (first-right (recordsVerdict points v blocks edges insts operands crossings locals slots addresses ends pieces assigned moves areas) _ f)) in
+      let shape = check Count (badShape t cells items) in
+      let z = sizesOf R areas in
+      let space = spaceVerdict z cells items (length w) in
+      let s = check-told Space (ltb (length w) (spaceOf z) || (ltb (cells / 2) (z .locals + z .slots) || ltb (items / 4) (z .locals + z .slots))) (lent-space R areas shape space e) in
+      let (a, b) = or-neither (ltb (length w) (spaceOf z)) _ s in
       let (c, d) = or-neither (ltb (cells / 2) (z .locals + z .slots)) _ b in
       let q = ltb-false (cells / 2) (z .locals + z .slots) c in
-      let s = ltb-false (items / 4) (z .locals + z .slots) d in
-      record { lent = record { passed = p; space = ltb-false (length w) (spaceOf z) a }; in-cells = omega arith; in-items = omega arith }
+      let u = ltb-false (items / 4) (z .locals + z .slots) d in
+      record { lent = record { passed = lent-passed R areas shape space e; space = ltb-false (length w) (spaceOf z) a }; in-cells = omega arith; in-items = omega arith }
 
   -- the area list is whole rows
-  pub whole-list : lentVerdict points v budget blocks edges insts operands crossings locals slots addresses ends pieces assigned moves cells items areas (length w) ≡ Fine → areas % 2 ≡ 0
-  unfolding lentVerdict recordsVerdict
-  whole-list e =
-      let f = first-left _ _ (first-right (check Count (badShape budget cells items)) _ e) in
-      whole-areas v blocks edges insts operands crossings locals slots addresses ends pieces assigned moves areas (first-left (countVerdict v blocks edges insts operands crossings locals slots addresses ends pieces assigned moves areas) _ f)
+  pub whole-list : lentVerdict R t cells items areas (length w) ≡ Fine → areas % 2 ≡ 0
+  unfolding lentVerdict
+  whole-list e = whole-areas R areas (lent-counted R areas (check Count (badShape t cells items)) (spaceVerdict (sizesOf R areas) cells items (length w)) e)

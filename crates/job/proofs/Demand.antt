@@ -7,15 +7,14 @@ use mathlib.Core.Option.{Option}
 use mathlib.Core.List.{List, [], _∷_, _++_, map}
 use lib.ListN.{length, getD, drop, List·getD-append}
 use Rattle.refusals.specs.declared.Verdict.{Verdict}
-use Rattle.refusals.specs.declared.Verdict.the-variants.{Fine, Bad}
-use Rattle.refusals.specs.Outcomes.{given, unless, after}
+use Rattle.refusals.specs.declared.Verdict.the-variants.{Fine}
+use Rattle.refusals.specs.Outcomes.{unless, after}
 use Rattle.refusals.proofs.Laws.{first-left}
-use Rattle.words.specs.Rows.{tabulate, flat}
-use Rattle.ranges.specs.declared.Range.{Range}
-use Rattle.areas.specs.Job.{Job, Checked, itemCount, itemArea, rangesOf, itemsVerdict}
+use Rattle.words.specs.Rows.{flat}
+use Rattle.areas.specs.Job.{Job, Checked, itemCount, itemArea, itemsVerdict}
 use Rattle.fitting.specs.Wants.{orderOf}
-use Rattle.fitting.specs.Plan.{Plan, Cell, cellAt}
-use Rattle.wants.specs.Entry.{Tally, tallyOf, cellRow, cellRows}
+use Rattle.fitting.specs.Plan.{Cell, cellAt}
+use Rattle.wants.specs.Entry.{cellRow, cellRows}
 use Rattle.job_checks.specs.Job.{jobOf, Passed}
 use Rattle.soundness.specs.Walks.{Step, Legal, Separate}
 use Rattle.soundness.specs.Demand.{wantsOf, frameOf, jobPlan}
@@ -27,6 +26,8 @@ use Rattle.wants.proofs.TallyLaws.{not-refused}
 use Rattle.job.specs.Entry.{lentVerdict, verdictOf, SharedAs}
 use Rattle.job.specs.Reads.{cellIn, sizeIn, ReadsAsPrivate}
 use Rattle.job.proofs.CheckLaws.{granted}
+use Rattle.job_space.specs.Rows.{Rows}
+use Rattle.fitting.specs.declared.Terms.{Terms}
 
 -- number 2·c of the cell list is cell c's size
 listed-size : (cs : List Cell) (old : List ℕ) (c b : ℕ) → b < cellAt cs c .size → b < getD (flat (map cellRow cs) ++ old) (2 * c) 0
@@ -37,43 +38,43 @@ listed-size (x ∷ cs) old (suc c) b h =
     let e : 2 * suc c ≡ suc (suc (2 * c)) = omega arith in
     rw e (listed-size cs old c b h)
 
-module _ {points v budget : ℕ} {blocks edges insts operands crossings locals slots addresses ends pieces assigned moves cells items areas work cells′ items′ areas′ work′ : List ℕ} {c p d : ℕ}
-    (E : SharedAs points v budget blocks edges insts operands crossings locals slots addresses ends pieces assigned moves cells items areas work (Planned c p d) cells′ items′ areas′ work′) where
+module _ {R : Rows} {t : Terms} {cells items areas work cells′ items′ areas′ work′ : List ℕ} {c p d : ℕ}
+    (E : SharedAs R t cells items areas work (Planned c p d) cells′ items′ areas′ work′) where
   -- the job's records
   abbrev J : Job
-  J = jobOf points v blocks edges insts operands crossings locals slots addresses ends pieces assigned moves
+  J = jobOf R
 
-  pub none-refused : verdictOf points v budget blocks edges insts operands crossings locals slots addresses ends pieces assigned moves (length cells) (length items) (length areas) (length work) ≡ Fine
-  none-refused = not-refused _ (jobPlan J budget) _ (E .lists .answer)
+  pub none-refused : verdictOf R t (length cells) (length items) (length areas) (length work) ≡ Fine
+  none-refused = not-refused _ (jobPlan J (t .budget)) _ (E .lists .answer)
 
-  pub passed : Passed points v blocks edges insts operands crossings locals slots addresses ends pieces assigned moves (length areas)
+  pub passed : Passed R (length areas)
   passed =
-      granted points v budget blocks edges insts operands crossings locals slots addresses ends pieces assigned moves (length cells) (length items) (length areas) work
-      (first-left (lentVerdict points v budget blocks edges insts operands crossings locals slots addresses ends pieces assigned moves (length cells) (length items) (length areas) (length work)) (itemsVerdict J (length areas / 2)) none-refused)
+      granted R t (length cells) (length items) (length areas) work
+      (first-left (lentVerdict R t (length cells) (length items) (length areas) (length work)) (itemsVerdict J (length areas / 2)) none-refused)
       .lent .passed
 
   checked : Checked J
   checked = passed .checked
 
   -- the item list, with what stood behind the items' rows
-  pub items-written : items′ ≡ itemRows (itemCount J) (itemArea J) (jobPlan J budget) ++ drop (length (itemRows (itemCount J) (itemArea J) (jobPlan J budget))) items
-  items-written = E .lists .in-items ∙ ap (λ (x : Verdict). after (unless x (jobPlan J budget)) (itemRows (itemCount J) (itemArea J)) items) none-refused
+  pub items-written : items′ ≡ itemRows (itemCount J) (itemArea J) (jobPlan J (t .budget)) ++ drop (length (itemRows (itemCount J) (itemArea J) (jobPlan J (t .budget)))) items
+  items-written = E .lists .in-items ∙ ap (λ (x : Verdict). after (unless x (jobPlan J (t .budget))) (itemRows (itemCount J) (itemArea J)) items) none-refused
 
   -- the cells that stand in the item list are the plan's
-  pub cells-listed : (i : ℕ) → i < itemCount J → cellIn items′ i ≡ jobPlan J budget .cell i
+  pub cells-listed : (i : ℕ) → i < itemCount J → cellIn items′ i ≡ jobPlan J (t .budget) .cell i
   cells-listed i h =
       ap (λ (l : List ℕ). getD l (4 * i) 0) items-written
-      ∙ ap (λ (k : ℕ). getD (itemRows (itemCount J) (itemArea J) (jobPlan J budget) ++ drop (length (itemRows (itemCount J) (itemArea J) (jobPlan J budget))) items) k 0) (sym (add-zero (4 * i)))
-      ∙ cell-listed (itemArea J) (itemCount J) (jobPlan J budget) i h _
+      ∙ ap (λ (k : ℕ). getD (itemRows (itemCount J) (itemArea J) (jobPlan J (t .budget)) ++ drop (length (itemRows (itemCount J) (itemArea J) (jobPlan J (t .budget)))) items) k 0) (sym (add-zero (4 * i)))
+      ∙ cell-listed (itemArea J) (itemCount J) (jobPlan J (t .budget)) i h _
 
-  sizes-listed : (c b : ℕ) → b < cellAt (jobPlan J budget .cells) c .size → b < sizeIn cells′ c
+  sizes-listed : (c b : ℕ) → b < cellAt (jobPlan J (t .budget) .cells) c .size → b < sizeIn cells′ c
   sizes-listed c b h =
-      let e : cells′ ≡ cellRows (jobPlan J budget) ++ drop (length (cellRows (jobPlan J budget))) cells =
-      E .lists .in-cells ∙ ap (λ (x : Verdict). after (unless x (jobPlan J budget)) cellRows cells) none-refused in
-      rw e (listed-size (jobPlan J budget .cells) _ c b h)
+      let e : cells′ ≡ cellRows (jobPlan J (t .budget)) ++ drop (length (cellRows (jobPlan J (t .budget)))) cells =
+      E .lists .in-cells ∙ ap (λ (x : Verdict). after (unless x (jobPlan J (t .budget))) cellRows cells) none-refused in
+      rw e (listed-size (jobPlan J (t .budget) .cells) _ c b h)
 
   listed-separate : Separate (frameOf J) (cellIn items′)
-  listed-separate i j h k d e = separate J budget (orderOf (wantsOf J)) (job-order J) i j h k d (sym (cells-listed i h) ∙ e ∙ cells-listed j k)
+  listed-separate i j h k d e = separate J (t .budget) (orderOf (wantsOf J)) (job-order J) i j h k d (sym (cells-listed i h) ∙ e ∙ cells-listed j k)
 
   -- Demand 3: whenever the answer is a plan, every walk over the job's records reads through the cells in the answer lists as through private ones
   pub reads-as-private : (start : ℕ) (w : List Step) → Legal (frameOf J) start w → ReadsAsPrivate J cells′ items′ start w
@@ -81,7 +82,7 @@ module _ {points v budget : ℕ} {blocks edges insts operands crossings locals s
     alike = any-cells J checked (cellIn items′) listed-separate start w L .0;
     runs = any-cells J checked (cellIn items′) listed-separate start w L .1;
     below = λ n i b u.
-        let a = demand-3 J checked budget start w L .below n i b u in
+        let a = demand-3 J checked (t .budget) start w L .below n i b u in
         let k = cells-listed i (uses (frameOf J) start w L n i b u .item) in
-        rw k (sizes-listed (jobPlan J budget .cell i) b a);
+        rw k (sizes-listed (jobPlan J (t .budget) .cell i) b a);
   }

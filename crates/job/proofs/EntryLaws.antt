@@ -37,41 +37,43 @@ use Rattle.job.specs.Entry.{lentVerdict, SharedAs}
 use Rattle.job_answers.specs.Answers.{AnsweredBy}
 use Rattle.job_answers.specs.Inner.{Measured}
 use Rattle.job.proofs.CheckLaws.{Granted}
+use Rattle.job_space.specs.Rows.{Rows}
+use Rattle.fitting.specs.declared.Terms.{Terms}
 
 -- ---- the wants are the job's
 
 abbrev makeLocal : (ℕ → ℕ) → Local
 makeLocal f = record { size = f 0; align = f 1 }
 
-module _ (points v : ℕ) (blocks edges insts operands crossings locals slots addresses ends pieces assigned moves : List ℕ) where
-  many : itemCount (jobOf points v blocks edges insts operands crossings locals slots addresses ends pieces assigned moves) ≡ countOf locals slots
-  many = ap (λ (k : ℕ). k + length slots) (length-records 2 makeLocal locals)
+module _ (R : Rows) where
+  many : itemCount (jobOf R) ≡ countOf (R .locals) (R .slots)
+  many = ap (λ (k : ℕ). k + length (R .slots)) (length-records 2 makeLocal (R .locals))
 
-  want-is : (i : ℕ) → wantFor locals slots (itemArea (jobOf points v blocks edges insts operands crossings locals slots addresses ends pieces assigned moves)) i ≡ wantOf (jobOf points v blocks edges insts operands crossings locals slots addresses ends pieces assigned moves) i
-  want-is i = cut (rowCount 2 locals) i
+  want-is : (i : ℕ) → wantFor (R .locals) (R .slots) (itemArea (jobOf R)) i ≡ wantOf (jobOf R) i
+  want-is i = cut (rowCount 2 (R .locals)) i
       (λ h.
-      let l = length-records 2 makeLocal locals in
-      let a = le-ltb i (rowCount 2 locals) h in
-      let b = le-ltb i (length (localsOf locals)) (omega arith) in
-      let s : sizeAt locals slots i ≡ wantOf (jobOf points v blocks edges insts operands crossings locals slots addresses ends pieces assigned moves) i .size = ap (λ (t : Bool). cond t (field 2 locals i 0) (getD slots (i - rowCount 2 locals) 0)) a ∙ ap (λ (k : ℕ). getD slots (i - k) 0) (sym l) ∙ sym (ap (λ (t : Bool). cond t (getD (localsOf locals) i (record { size = 0; align = 0 }) .size) (getD slots (i - length (localsOf locals)) 0)) b) in
-      let t : alignAt locals slots i ≡ wantOf (jobOf points v blocks edges insts operands crossings locals slots addresses ends pieces assigned moves) i .align = ap (λ (t : Bool). cond t (field 2 locals i 1) (getD slots (i - rowCount 2 locals) 0)) a ∙ ap (λ (k : ℕ). getD slots (i - k) 0) (sym l) ∙ sym (ap (λ (t : Bool). cond t (getD (localsOf locals) i (record { size = 0; align = 0 }) .align) (getD slots (i - length (localsOf locals)) 0)) b) in
+      let l = length-records 2 makeLocal (R .locals) in
+      let a = le-ltb i (rowCount 2 (R .locals)) h in
+      let b = le-ltb i (length (localsOf (R .locals))) (omega arith) in
+      let s : sizeAt (R .locals) (R .slots) i ≡ wantOf (jobOf R) i .size = ap (λ (t : Bool). cond t (field 2 (R .locals) i 0) (getD (R .slots) (i - rowCount 2 (R .locals)) 0)) a ∙ ap (λ (k : ℕ). getD (R .slots) (i - k) 0) (sym l) ∙ sym (ap (λ (t : Bool). cond t (getD (localsOf (R .locals)) i (record { size = 0; align = 0 }) .size) (getD (R .slots) (i - length (localsOf (R .locals))) 0)) b) in
+      let t : alignAt (R .locals) (R .slots) i ≡ wantOf (jobOf R) i .align = ap (λ (t : Bool). cond t (field 2 (R .locals) i 1) (getD (R .slots) (i - rowCount 2 (R .locals)) 0)) a ∙ ap (λ (k : ℕ). getD (R .slots) (i - k) 0) (sym l) ∙ sym (ap (λ (t : Bool). cond t (getD (localsOf (R .locals)) i (record { size = 0; align = 0 }) .align) (getD (R .slots) (i - length (localsOf (R .locals))) 0)) b) in
       both s t)
       (λ h.
-      let l = length-records 2 makeLocal locals in
-      let a = lt-ltb i (rowCount 2 locals) h in
-      let b = lt-ltb i (length (localsOf locals)) (omega arith) in
-      let g = getD-records 2 makeLocal locals i (record { size = 0; align = 0 }) h in
-      let s : sizeAt locals slots i ≡ wantOf (jobOf points v blocks edges insts operands crossings locals slots addresses ends pieces assigned moves) i .size = ap (λ (t : Bool). cond t (field 2 locals i 0) (getD slots (i - rowCount 2 locals) 0)) a ∙ ap (λ (k : Local). k .size) (sym g) ∙ sym (ap (λ (t : Bool). cond t (getD (localsOf locals) i (record { size = 0; align = 0 }) .size) (getD slots (i - length (localsOf locals)) 0)) b) in
-      let t : alignAt locals slots i ≡ wantOf (jobOf points v blocks edges insts operands crossings locals slots addresses ends pieces assigned moves) i .align = ap (λ (t : Bool). cond t (field 2 locals i 1) (getD slots (i - rowCount 2 locals) 0)) a ∙ ap (λ (k : Local). k .align) (sym g) ∙ sym (ap (λ (t : Bool). cond t (getD (localsOf locals) i (record { size = 0; align = 0 }) .align) (getD slots (i - length (localsOf locals)) 0)) b) in
+      let l = length-records 2 makeLocal (R .locals) in
+      let a = lt-ltb i (rowCount 2 (R .locals)) h in
+      let b = lt-ltb i (length (localsOf (R .locals))) (omega arith) in
+      let g = getD-records 2 makeLocal (R .locals) i (record { size = 0; align = 0 }) h in
+      let s : sizeAt (R .locals) (R .slots) i ≡ wantOf (jobOf R) i .size = ap (λ (t : Bool). cond t (field 2 (R .locals) i 0) (getD (R .slots) (i - rowCount 2 (R .locals)) 0)) a ∙ ap (λ (k : Local). k .size) (sym g) ∙ sym (ap (λ (t : Bool). cond t (getD (localsOf (R .locals)) i (record { size = 0; align = 0 }) .size) (getD (R .slots) (i - length (localsOf (R .locals))) 0)) b) in
+      let t : alignAt (R .locals) (R .slots) i ≡ wantOf (jobOf R) i .align = ap (λ (t : Bool). cond t (field 2 (R .locals) i 1) (getD (R .slots) (i - rowCount 2 (R .locals)) 0)) a ∙ ap (λ (k : Local). k .align) (sym g) ∙ sym (ap (λ (t : Bool). cond t (getD (localsOf (R .locals)) i (record { size = 0; align = 0 }) .align) (getD (R .slots) (i - length (localsOf (R .locals))) 0)) b) in
       both s t)
     where
       both : {x y z u : ℕ} {o : Option (List Range)} → x ≡ y → z ≡ u → _≡_ {A = Want} (record { size = x; align = z; area = o }) (record { size = y; align = u; area = o })
       both e f = rw (e, f) refl
 
-  plan-is : (budget : ℕ) → planFor locals slots (itemArea (jobOf points v blocks edges insts operands crossings locals slots addresses ends pieces assigned moves)) budget ≡ jobPlan (jobOf points v blocks edges insts operands crossings locals slots addresses ends pieces assigned moves) budget
+  plan-is : (budget : ℕ) → planFor (R .locals) (R .slots) (itemArea (jobOf R)) budget ≡ jobPlan (jobOf R) budget
   plan-is budget =
       ap (λ (ws : List Want). planOf ws budget (orderOf ws))
-      (tabulate-eq (countOf locals slots) (wantFor locals slots (itemArea (jobOf points v blocks edges insts operands crossings locals slots addresses ends pieces assigned moves))) (wantOf (jobOf points v blocks edges insts operands crossings locals slots addresses ends pieces assigned moves)) (λ i h. want-is i) ∙ ap (λ (k : ℕ). tabulate k (wantOf (jobOf points v blocks edges insts operands crossings locals slots addresses ends pieces assigned moves))) (sym many))
+      (tabulate-eq (countOf (R .locals) (R .slots)) (wantFor (R .locals) (R .slots) (itemArea (jobOf R))) (wantOf (jobOf R)) (λ i h. want-is i) ∙ ap (λ (k : ℕ). tabulate k (wantOf (jobOf R))) (sym many))
 
 -- ---- W is small
 
@@ -87,27 +89,27 @@ space-small z s =
 
 -- ---- the entry
 
-module _ (points v budget : ℕ) (blocks edges insts operands crossings locals slots addresses ends pieces assigned moves cells items areas work : List ℕ) where
+module _ (R : Rows) (t : Terms) (cells items areas work : List ℕ) where
   abbrev space : ℕ
-  space = spaceOf (sizesOf v blocks edges insts operands crossings locals slots addresses ends pieces assigned moves (length areas))
+  space = spaceOf (sizesOf R (length areas))
 
-  pub refused-entry : (r : Refusal) (i : ℕ) → lentVerdict points v budget blocks edges insts operands crossings locals slots addresses ends pieces assigned moves (length cells) (length items) (length areas) (length work) ≡ Bad r i
-      → SharedAs points v budget blocks edges insts operands crossings locals slots addresses ends pieces assigned moves cells items areas work (Refused r i) cells items areas work
+  pub refused-entry : (r : Refusal) (i : ℕ) → lentVerdict R t (length cells) (length items) (length areas) (length work) ≡ Bad r i
+      → SharedAs R t cells items areas work (Refused r i) cells items areas work
   refused-entry r i e = record {
-    lists = rw (first-bad (lentVerdict points v budget blocks edges insts operands crossings locals slots addresses ends pieces assigned moves (length cells) (length items) (length areas) (length work)) (itemsVerdict (jobOf points v blocks edges insts operands crossings locals slots addresses ends pieces assigned moves) (length areas / 2)) r i e) (record { answer = refl; in-cells = refl; in-items = refl; in-areas = refl });
+    lists = rw (first-bad (lentVerdict R t (length cells) (length items) (length areas) (length work)) (itemsVerdict (jobOf R) (length areas / 2)) r i e) (record { answer = refl; in-cells = refl; in-items = refl; in-areas = refl });
     in-work = rw e refl;
   }
 
   -- what the answer asks
-  pub asked : {w : List ℕ} {n end : ℕ} → Granted points v blocks edges insts operands crossings locals slots addresses ends pieces assigned moves (length cells) (length items) (length areas) work → Solved points v blocks edges insts operands crossings locals slots addresses ends pieces assigned moves (length areas) work w n → end ≡ space
-      → Measured (countOf locals slots) (length areas / 2) n end (length cells) (length items) w
+  pub asked : {w : List ℕ} {n end : ℕ} → Granted R (length cells) (length items) (length areas) work → Solved R (length areas) work w n → end ≡ space
+      → Measured (countOf (R .locals) (R .slots)) (length areas / 2) n end (length cells) (length items) w
   asked {w} {n} {end} G T e =
       let P = G .lent .passed in
-      let q = space-small (sizesOf v blocks edges insts operands crossings locals slots addresses ends pieces assigned moves (length areas)) (P .small) in
+      let q = space-small (sizesOf R (length areas)) (P .small) in
       record {
-        area = itemArea (jobOf points v blocks edges insts operands crossings locals slots addresses ends pieces assigned moves);
-        listed = subst (λ (k : ℕ). ListedBy wordOf (listing (length areas / 2) (length areas / 2)) (itemArea (jobOf points v blocks edges insts operands crossings locals slots addresses ends pieces assigned moves)) k n w) (many points v blocks edges insts operands crossings locals slots addresses ends pieces assigned moves) (T .listed);
-        apart = areas-apart (jobOf points v blocks edges insts operands crossings locals slots addresses ends pieces assigned moves) (P .checked) (some-block (P .small .some-block));
+        area = itemArea (jobOf R);
+        listed = subst (λ (k : ℕ). ListedBy wordOf (listing (length areas / 2) (length areas / 2)) (itemArea (jobOf R)) k n w) (many R) (T .listed);
+        apart = areas-apart (jobOf R) (P .checked) (some-block (P .small .some-block));
         few = omega (arith, P .small .few-locals, P .small .few-slots);
         short = P .small .few-ranges;
         in-cells = G .in-cells;
@@ -117,22 +119,22 @@ module _ (points v budget : ℕ) (blocks edges insts operands crossings locals s
         small = rw e (q .1);
       }
     where
-      some-block : 0 < rowCount 3 blocks → 0 < length ((jobOf points v blocks edges insts operands crossings locals slots addresses ends pieces assigned moves) .blocks)
-      some-block h = rw (length-records 3 _ blocks) h
+      some-block : 0 < rowCount 3 (R .blocks) → 0 < length ((jobOf R) .blocks)
+      some-block h = rw (length-records 3 _ (R .blocks)) h
 
-  pub answered-entry : lentVerdict points v budget blocks edges insts operands crossings locals slots addresses ends pieces assigned moves (length cells) (length items) (length areas) (length work) ≡ Fine → {r : Shared} {cells′ items′ areas′ w w′ work′ : List ℕ} {n end : ℕ}
-      → Solved points v blocks edges insts operands crossings locals slots addresses ends pieces assigned moves (length areas) work w n
+  pub answered-entry : lentVerdict R t (length cells) (length items) (length areas) (length work) ≡ Fine → {r : Shared} {cells′ items′ areas′ w w′ work′ : List ℕ} {n end : ℕ}
+      → Solved R (length areas) work w n
       → end ≡ space → Within 0 end w w′
-      → ((A : ℕ → Option (List Range)) → ListedBy wordOf (listing (length areas / 2) (length areas / 2)) A (countOf locals slots) n w
-      → AnsweredBy (areasVerdict (countOf locals slots) A (length areas / 2)) (countOf locals slots) A (planFor locals slots A budget) cells items areas r cells′ items′ areas′)
-      → work′ ≡ cleared end w′ → SharedAs points v budget blocks edges insts operands crossings locals slots addresses ends pieces assigned moves cells items areas work r cells′ items′ areas′ work′
+      → ((A : ℕ → Option (List Range)) → ListedBy wordOf (listing (length areas / 2) (length areas / 2)) A (countOf (R .locals) (R .slots)) n w
+      → AnsweredBy (areasVerdict (countOf (R .locals) (R .slots)) A (length areas / 2)) (countOf (R .locals) (R .slots)) A (planFor (R .locals) (R .slots) A (t .budget)) cells items areas r cells′ items′ areas′)
+      → work′ ≡ cleared end w′ → SharedAs R t cells items areas work r cells′ items′ areas′ work′
   answered-entry e {r} {cells′} {items′} {areas′} {w} {w′} {work′} {n} {end} T en K B Z = record {
-    lists = rw (first-fine (lentVerdict points v budget blocks edges insts operands crossings locals slots addresses ends pieces assigned moves (length cells) (length items) (length areas) (length work)) (itemsVerdict (jobOf points v blocks edges insts operands crossings locals slots addresses ends pieces assigned moves) (length areas / 2)) e) listed-all;
+    lists = rw (first-fine (lentVerdict R t (length cells) (length items) (length areas) (length work)) (itemsVerdict (jobOf R) (length areas / 2)) e) listed-all;
     in-work = rw e (Z ∙ ap (λ (k : ℕ). cleared k w′) en ∙ cleared-same space w w′ (subst (λ (k : ℕ). Within 0 k w w′) en K) ∙ cleared-same space work w (T .kept) ∙ ap (λ (k : ℕ). replicate space 0 ++ drop k work) (sym (length-replicate space 0)));
   }
     where
-      listed-all : AnsweredBy (itemsVerdict (jobOf points v blocks edges insts operands crossings locals slots addresses ends pieces assigned moves) (length areas / 2)) (itemCount (jobOf points v blocks edges insts operands crossings locals slots addresses ends pieces assigned moves)) (itemArea (jobOf points v blocks edges insts operands crossings locals slots addresses ends pieces assigned moves)) (jobPlan (jobOf points v blocks edges insts operands crossings locals slots addresses ends pieces assigned moves) budget) cells items areas r cells′ items′ areas′
+      listed-all : AnsweredBy (itemsVerdict (jobOf R) (length areas / 2)) (itemCount (jobOf R)) (itemArea (jobOf R)) (jobPlan (jobOf R) (t .budget)) cells items areas r cells′ items′ areas′
       listed-all =
-          subst (λ (k : ℕ). AnsweredBy (areasVerdict k (itemArea (jobOf points v blocks edges insts operands crossings locals slots addresses ends pieces assigned moves)) (length areas / 2)) k (itemArea (jobOf points v blocks edges insts operands crossings locals slots addresses ends pieces assigned moves)) (jobPlan (jobOf points v blocks edges insts operands crossings locals slots addresses ends pieces assigned moves) budget) cells items areas r cells′ items′ areas′) (sym (many points v blocks edges insts operands crossings locals slots addresses ends pieces assigned moves))
-          (subst (λ (p : Plan). AnsweredBy (areasVerdict (countOf locals slots) (itemArea (jobOf points v blocks edges insts operands crossings locals slots addresses ends pieces assigned moves)) (length areas / 2)) (countOf locals slots) (itemArea (jobOf points v blocks edges insts operands crossings locals slots addresses ends pieces assigned moves)) p cells items areas r cells′ items′ areas′) (plan-is points v blocks edges insts operands crossings locals slots addresses ends pieces assigned moves budget)
-          (B (itemArea (jobOf points v blocks edges insts operands crossings locals slots addresses ends pieces assigned moves)) (subst (λ (k : ℕ). ListedBy wordOf (listing (length areas / 2) (length areas / 2)) (itemArea (jobOf points v blocks edges insts operands crossings locals slots addresses ends pieces assigned moves)) k n w) (many points v blocks edges insts operands crossings locals slots addresses ends pieces assigned moves) (T .listed))))
+          subst (λ (k : ℕ). AnsweredBy (areasVerdict k (itemArea (jobOf R)) (length areas / 2)) k (itemArea (jobOf R)) (jobPlan (jobOf R) (t .budget)) cells items areas r cells′ items′ areas′) (sym (many R))
+          (subst (λ (p : Plan). AnsweredBy (areasVerdict (countOf (R .locals) (R .slots)) (itemArea (jobOf R)) (length areas / 2)) (countOf (R .locals) (R .slots)) (itemArea (jobOf R)) p cells items areas r cells′ items′ areas′) (plan-is R (t .budget))
+          (B (itemArea (jobOf R)) (subst (λ (k : ℕ). ListedBy wordOf (listing (length areas / 2) (length areas / 2)) (itemArea (jobOf R)) k n w) (many R) (T .listed))))

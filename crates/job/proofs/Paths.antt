@@ -19,15 +19,17 @@ use Rattle.job_answers.specs.declared.Shared.the-variants.{Plan as Planned}
 use Rattle.job.specs.Entry.{SharedAs}
 use Rattle.job_answers.proofs.SeenLaws.{field-listed}
 use Rattle.job.proofs.Demand.{none-refused, passed, items-written}
+use Rattle.job_space.specs.Rows.{Rows}
+use Rattle.fitting.specs.declared.Terms.{Terms}
 
-module _ {points v budget : ℕ} {blocks edges insts operands crossings locals slots addresses ends pieces assigned moves cells items areas work cells′ items′ areas′ work′ : List ℕ} {c p d : ℕ}
-    (E : SharedAs points v budget blocks edges insts operands crossings locals slots addresses ends pieces assigned moves cells items areas work (Planned c p d) cells′ items′ areas′ work′) where
+module _ {R : Rows} {t : Terms} {cells items areas work cells′ items′ areas′ work′ : List ℕ} {c p d : ℕ}
+    (E : SharedAs R t cells items areas work (Planned c p d) cells′ items′ areas′ work′) where
   -- the job's records
   abbrev J : Job
-  J = jobOf points v blocks edges insts operands crossings locals slots addresses ends pieces assigned moves
+  J = jobOf R
 
   abbrev plan : Plan
-  plan = jobPlan J budget
+  plan = jobPlan J (t .budget)
 
   areas-written : areas′ ≡ areaRows (itemCount J) (itemArea J) ++ drop (length (areaRows (itemCount J) (itemArea J))) areas
   areas-written = E .lists .in-areas ∙ ap (λ (x : Verdict). after (unless x plan) (λ _. areaRows (itemCount J) (itemArea J)) areas) (none-refused E)

@@ -14,8 +14,7 @@ use Rattle.refusals.specs.Outcomes.{unless, after}
 use Rattle.refusals.proofs.Laws.{first-left, first-right, check-told}
 use Rattle.words.specs.Rows.{rowCount, field, tabulate}
 use Rattle.words.proofs.RowLaws.{length-tabulate, getD-tabulate, length-records}
-use Rattle.ranges.specs.declared.Range.{Range}
-use Rattle.areas.specs.Job.{Job, Local, itemCount, itemArea, rangesOf, itemsVerdict}
+use Rattle.areas.specs.Job.{Job, itemCount, itemArea, rangesOf, itemsVerdict}
 use Rattle.fitting.specs.Wants.{Want, wantAt, orderOf}
 use Rattle.fitting.specs.Plan.{Plan}
 use Rattle.fitting.specs.Lowest.{PutLowest}
@@ -39,43 +38,45 @@ use Rattle.job_space.specs.Space.{sizesOf, Small}
 use Rattle.job.specs.Entry.{lentVerdict, verdictOf, SharedAs}
 use Rattle.job.proofs.CheckLaws.{granted, whole-list}
 use Rattle.job.proofs.Demand.{none-refused}
+use Rattle.job_space.specs.Rows.{Rows}
+use Rattle.fitting.specs.declared.Terms.{Terms}
 
-module _ {points v budget : ℕ} {blocks edges insts operands crossings locals slots addresses ends pieces assigned moves cells items areas work cells′ items′ areas′ work′ : List ℕ} {c p d : ℕ}
-    (E : SharedAs points v budget blocks edges insts operands crossings locals slots addresses ends pieces assigned moves cells items areas work (Planned c p d) cells′ items′ areas′ work′) where
+module _ {R : Rows} {t : Terms} {cells items areas work cells′ items′ areas′ work′ : List ℕ} {c p d : ℕ}
+    (E : SharedAs R t cells items areas work (Planned c p d) cells′ items′ areas′ work′) where
   -- the job's records, its plan, and how many locals and items it has
   abbrev J : Job
-  J = jobOf points v blocks edges insts operands crossings locals slots addresses ends pieces assigned moves
+  J = jobOf R
 
   abbrev P : Plan
-  P = jobPlan J budget
+  P = jobPlan J (t .budget)
 
   abbrev many : ℕ
-  many = rowCount 2 locals + length slots
+  many = rowCount 2 (R .locals) + length (R .slots)
 
-  verdict-fine : verdictOf points v budget blocks edges insts operands crossings locals slots addresses ends pieces assigned moves (length cells) (length items) (length areas) (length work) ≡ Fine
+  verdict-fine : verdictOf R t (length cells) (length items) (length areas) (length work) ≡ Fine
   verdict-fine = none-refused E
 
-  lent-fine : lentVerdict points v budget blocks edges insts operands crossings locals slots addresses ends pieces assigned moves (length cells) (length items) (length areas) (length work) ≡ Fine
+  lent-fine : lentVerdict R t (length cells) (length items) (length areas) (length work) ≡ Fine
   lent-fine = first-left _ (itemsVerdict J (length areas / 2)) verdict-fine
 
-  small : Small (sizesOf v blocks edges insts operands crossings locals slots addresses ends pieces assigned moves (length areas))
-  small = granted points v budget blocks edges insts operands crossings locals slots addresses ends pieces assigned moves (length cells) (length items) (length areas) work lent-fine .lent .passed .small
+  small : Small (sizesOf R (length areas))
+  small = granted R t (length cells) (length items) (length areas) work lent-fine .lent .passed .small
 
   count-is : itemCount J ≡ many
-  count-is = ap (λ (k : ℕ). k + length slots) (length-records 2 (λ f. record { size = f 0; align = f 1 }) locals)
+  count-is = ap (λ (k : ℕ). k + length (R .slots)) (length-records 2 (λ f. record { size = f 0; align = f 1 }) (R .locals))
 
   -- all areas have room in the area list
   ranges-fit : rangesOf (tabulate (itemCount J) (itemArea J)) ≤ length areas / 2
   ranges-fit =
       ltb-false (length areas / 2) (rangesOf (tabulate (itemCount J) (itemArea J)))
-      (check-told ListWord _ (first-right (lentVerdict points v budget blocks edges insts operands crossings locals slots addresses ends pieces assigned moves (length cells) (length items) (length areas) (length work)) (itemsVerdict J (length areas / 2)) verdict-fine))
+      (check-told ListWord _ (first-right (lentVerdict R t (length cells) (length items) (length areas) (length work)) (itemsVerdict J (length areas / 2)) verdict-fine))
 
   -- ---- the lists, by their rows
 
   cells-front : take (2 * c) cells′ ≡ cellRows P
   cells-front =
       ap (take (2 * c)) (E .lists .in-cells ∙ ap (λ (x : Verdict). after (unless x P) cellRows cells) verdict-fine)
-      ∙ front-is (cellRows P) cells (2 * c) (omega (arith, cells-long P, told-cells (verdictOf points v budget blocks edges insts operands crossings locals slots addresses ends pieces assigned moves (length cells) (length items) (length areas) (length work)) P c p d (E .lists .answer)))
+      ∙ front-is (cellRows P) cells (2 * c) (omega (arith, cells-long P, told-cells (verdictOf R t (length cells) (length items) (length areas) (length work)) P c p d (E .lists .answer)))
 
   items-whole : items′ ≡ itemRows (itemCount J) (itemArea J) P ++ drop (length (itemRows (itemCount J) (itemArea J) P)) items
   items-whole = E .lists .in-items ∙ ap (λ (x : Verdict). after (unless x P) (itemRows (itemCount J) (itemArea J)) items) verdict-fine
@@ -97,27 +98,27 @@ module _ {points v budget : ℕ} {blocks edges insts operands crossings locals s
   area-of i h = ap (λ (w : Want). w .area) (getD-tabulate (itemCount J) (wantOf J) i (record { size = 0; align = 0; area = none }) h)
 
   -- the rows that stand there hold the plan
-  pub held : RowsHold (take (2 * c) cells′) (take (4 * many) items′) areas′ (rowCount 2 locals) (length (P .cells)) (itemCount J) (roomAt P) (itemOf (wantsOf J) P)
+  pub held : RowsHold (take (2 * c) cells′) (take (4 * many) items′) areas′ (rowCount 2 (R .locals)) (length (P .cells)) (itemCount J) (roomAt P) (itemOf (wantsOf J) P)
   held =
-      let w = whole-list points v budget blocks edges insts operands crossings locals slots addresses ends pieces assigned moves (length cells) (length items) (length areas) work lent-fine in
+      let w = whole-list R t (length cells) (length items) (length areas) work lent-fine in
       rw (cells-front, items-front, areas-whole)
       (rows-held (itemArea J) (itemCount J) P (wantsOf J) area-of
-      (facts (wantsOf J) budget (itemCount J) (orderOf (wantsOf J)) (job-order J) .known)
-      (omega (arith, plan-few (wantsOf J) budget (orderOf (wantsOf J)), length-ordered (wantsOf J) (length (wantsOf J)), length-tabulate (itemCount J) (wantOf J)))
-      (rowCount 2 locals) (omega (arith, count-is)) (small .few-locals) (omega (arith, count-is, small .few-slots)) behind
+      (facts (wantsOf J) (t .budget) (itemCount J) (orderOf (wantsOf J)) (job-order J) .known)
+      (omega (arith, plan-few (wantsOf J) (t .budget) (orderOf (wantsOf J)), length-ordered (wantsOf J) (length (wantsOf J)), length-tabulate (itemCount J) (wantOf J)))
+      (rowCount 2 (R .locals)) (omega (arith, count-is)) (small .few-locals) (omega (arith, count-is, small .few-slots)) behind
       (omega (arith, areas-kept)) (omega (arith, areas-kept, small .few-ranges)))
 
   -- ---- what the queries say
 
   -- the plan that the job wrote: each query of it is the definition's of the job's plan, and none refuses it
-  pub job-seen : PlanSeen (answered (wantsOf J) (rowCount 2 locals) P) (rowCount 2 locals) (take (2 * c) cells′) (take (4 * many) items′) areas′
+  pub job-seen : PlanSeen (answered (wantsOf J) (rowCount 2 (R .locals)) P) (rowCount 2 (R .locals)) (take (2 * c) cells′) (take (4 * many) items′) areas′
   job-seen = answered-seen (wantsOf J) P (length-tabulate (itemCount J) (wantOf J)) held
 
   -- and with the area list cut behind the last part
   pub job-seen-cut : (k : ℕ) → k ≤ rowCount 2 areas′
       → ((i : ℕ) → i < itemCount J → (field 4 (take (4 * many) items′) i 1 ≡ 0 → ⊥) → field 4 (take (4 * many) items′) i 2 + field 4 (take (4 * many) items′) i 3 ≤ k)
-      → PlanSeen (answered (wantsOf J) (rowCount 2 locals) P) (rowCount 2 locals) (take (2 * c) cells′) (take (4 * many) items′) (take (2 * k) areas′)
-  job-seen-cut k h ends = answered-seen (wantsOf J) P (length-tabulate (itemCount J) (wantOf J)) (cut-held held k h ends)
+      → PlanSeen (answered (wantsOf J) (rowCount 2 (R .locals)) P) (rowCount 2 (R .locals)) (take (2 * c) cells′) (take (4 * many) items′) (take (2 * k) areas′)
+  job-seen-cut k h l = answered-seen (wantsOf J) P (length-tabulate (itemCount J) (wantOf J)) (cut-held held k h l)
 
   module _ (i : ℕ) (h : i < itemCount J) where
     listed-at : (f : ℕ) → f < 4 → field 4 items′ i f ≡ field 4 (itemRows (itemCount J) (itemArea J) P) i f
@@ -135,7 +136,7 @@ module _ {points v budget : ℕ} {blocks edges insts operands crossings locals s
         ∙ area-listed (itemArea J) (itemCount J) P i h behind (itemArea J i) refl
 
   -- each item's row names the lowest fitting cell of those that there were when it was put in
-  pub job-lowest : PutLowest (wantsOf J) budget (orderOf (wantsOf J)) (λ i. field 4 items′ i 0)
+  pub job-lowest : PutLowest (wantsOf J) (t .budget) (orderOf (wantsOf J)) (λ i. field 4 items′ i 0)
   job-lowest =
-      put-lowest (wantsOf J) budget (itemCount J) (orderOf (wantsOf J)) (job-order J) (λ i. field 4 items′ i 0)
+      put-lowest (wantsOf J) (t .budget) (itemCount J) (orderOf (wantsOf J)) (job-order J) (λ i. field 4 items′ i 0)
       (λ i h. ap (λ (l : List ℕ). field 4 l i 0) items-whole ∙ cell-listed (itemArea J) (itemCount J) P i h _)

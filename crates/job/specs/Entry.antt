@@ -7,12 +7,14 @@ use lib.ListN.{length, replicate}
 use lib.Dec.{ltb}
 use Rattle.refusals.specs.declared.Verdict.{Verdict}
 use Rattle.refusals.specs.declared.Refusal.the-variants.{Count, Space}
-use Rattle.refusals.specs.Verdicts.{first, check}
+use Rattle.refusals.specs.Verdicts.{first, inOrder, check}
 use Rattle.refusals.specs.Outcomes.{unless, after}
-use Rattle.areas.specs.Job.{Job, itemCount, itemArea, itemsVerdict}
+use Rattle.areas.specs.Job.{checks, itemCount, itemArea, itemsVerdict}
+use Rattle.fitting.specs.declared.Terms.{Terms}
 use Rattle.job_space.specs.declared.Sizes.{Sizes}
+use Rattle.job_space.specs.Rows.{Rows}
 use Rattle.job_space.specs.Space.{sizesOf, spaceOf, badShape}
-use Rattle.job_checks.specs.Job.{jobOf, recordsVerdict, recordsChecks}
+use Rattle.job_checks.specs.Job.{jobOf, countVerdict}
 use Rattle.soundness.specs.Demand.{jobPlan}
 use Rattle.job_answers.specs.declared.Shared.{Shared}
 use Rattle.job_answers.specs.Answers.{AnsweredBy}
@@ -21,38 +23,25 @@ use Rattle.job_answers.specs.Answers.{AnsweredBy}
 abbrev pub spaceVerdict : Sizes → ℕ → ℕ → ℕ → Verdict
 spaceVerdict z cells items work = check Space (ltb work (spaceOf z) || (ltb (cells / 2) (z .locals + z .slots) || ltb (items / 4) (z .locals + z .slots)))
 
--- what a call is lent: `H`'s numbers and the rows of each group
-module _ (points v budget : ℕ) (blocks edges insts operands crossings locals slots addresses ends pieces assigned moves : List ℕ) where
-  -- the records of the rows
-  abbrev pub job : Job
-  job = jobOf points v blocks edges insts operands crossings locals slots addresses ends pieces assigned moves
+-- what a call is lent: the rows, what fitting has to keep to, and the answer lists and the work space by their lengths
+module _ (R : Rows) (t : Terms) (cells items areas work : ℕ) where
+  -- numbers 1 to 7 in the entry's order, what is refused before anything is measured: 1 of what only fitting takes, 1 of the records, their checks, 7
+  abbrev pub lentChecks : List Verdict
+  lentChecks = check Count (badShape t cells items) ∷ countVerdict R areas ∷ (checks (jobOf R) ++ (spaceVerdict (sizesOf R areas) cells items work ∷ []))
 
-  -- how many they are, with an area list of so many numbers
-  abbrev pub sizes : ℕ → Sizes
-  sizes areas = sizesOf v blocks edges insts operands crossings locals slots addresses ends pieces assigned moves areas
+  unfoldable pub lentVerdict : Verdict
+  lentVerdict = inOrder lentChecks
 
-  -- the answer lists and the work space are given by their lengths
-  module _ (cells items areas work : ℕ) where
-    -- numbers 1 to 7: what is refused before anything is measured
-    unfoldable pub lentVerdict : Verdict
-    lentVerdict =
-        first (check Count (badShape budget cells items))
-        (first (recordsVerdict points v blocks edges insts operands crossings locals slots addresses ends pieces assigned moves areas)
-        (spaceVerdict (sizes areas) cells items work))
+  -- all refusals, lowest number first: 9 comes last
+  abbrev pub verdictOf : Verdict
+  verdictOf = first lentVerdict (itemsVerdict (jobOf R) (areas / 2))
 
-    -- all refusals, lowest number first
-    abbrev pub verdictOf : Verdict
-    verdictOf = first lentVerdict (itemsVerdict job (areas / 2))
+  -- the same as one list of checks
+  abbrev pub jobChecks : List Verdict
+  jobChecks = lentChecks ++ (itemsVerdict (jobOf R) (areas / 2) ∷ [])
 
-    -- the same as one list of checks, in their order: number 1, numbers 2 to 6 of the records, 7, 9
-    abbrev pub jobChecks : List Verdict
-    jobChecks =
-        check Count (badShape budget cells items)
-        ∷ (recordsChecks points v blocks edges insts operands crossings locals slots addresses ends pieces assigned moves areas
-        ++ (spaceVerdict (sizes areas) cells items work ∷ itemsVerdict job (areas / 2) ∷ []))
-
-  -- the whole job: the plan of all items' areas, unless refused; the work space is unchanged after a refusal that comes before measuring, else its first W words are zero
-  pub record SharedAs (cells items areas work : List ℕ) (r : Shared) (cells′ items′ areas′ work′ : List ℕ) : Type 0 where
-    pub lists : AnsweredBy (verdictOf (length cells) (length items) (length areas) (length work)) (itemCount job) (itemArea job) (jobPlan job budget)
-        cells items areas r cells′ items′ areas′
-    pub in-work : work′ ≡ after (unless (lentVerdict (length cells) (length items) (length areas) (length work)) (spaceOf (sizes (length areas)))) (λ n. replicate n 0) work
+-- the whole job: the plan of all items' areas, unless refused; the work space is unchanged after a refusal that comes before measuring, else its first W words are zero
+pub record SharedAs (R : Rows) (t : Terms) (cells items areas work : List ℕ) (r : Shared) (cells′ items′ areas′ work′ : List ℕ) : Type 0 where
+  pub lists : AnsweredBy (verdictOf R t (length cells) (length items) (length areas) (length work)) (itemCount (jobOf R)) (itemArea (jobOf R)) (jobPlan (jobOf R) (t .budget))
+      cells items areas r cells′ items′ areas′
+  pub in-work : work′ ≡ after (unless (lentVerdict R t (length cells) (length items) (length areas) (length work)) (spaceOf (sizesOf R (length areas)))) (λ n. replicate n 0) work

@@ -1,7 +1,9 @@
 // The refusals that come before the areas are measured: numbers 1 to 7, in linear time and without work space.
 ghost use mathlib.Core.Path.{_≡_};
+ghost use Rattle.job_space.specs.Rows.{lentRows};
 ghost use Rattle.job_space.specs.Space.{Small};
 ghost use Rattle.job.specs.Entry.{spaceVerdict, lentVerdict};
+use job_space::Head;
 use job_space::Sizes;
 use refusals::Refusal;
 use refusals::Verdict;
@@ -25,9 +27,7 @@ fn short(z: Sizes, cells: usize, items: usize, work: usize) -> Verdict
 
 // Of the entry, by the lent records and the lengths of the answer lists and the work space.
 pub fn refusal(
-    points: u32,
-    v: u32,
-    budget: u32,
+    head: Head,
     blocks: &[u32],
     edges: &[u32],
     insts: &[u32],
@@ -45,14 +45,14 @@ pub fn refusal(
     areas: usize,
     work: usize,
 ) -> Verdict
-    ensures { λ r. ⌜ r ≡ lentVerdict points v budget (now (blocks .entry)) (now (edges .entry)) (now (insts .entry)) (now (operands .entry)) (now (crossings .entry)) (now (locals .entry)) (now (slots .entry)) (now (addresses .entry)) (now (ends .entry)) (now (pieces .entry)) (now (assigned .entry)) (now (moves .entry)) cells items areas work ⌝ }
+    ensures { λ r. ⌜ r ≡ lentVerdict (lentRows (head .points) (head .v) blocks edges insts operands crossings locals slots addresses ends pieces assigned moves)
+        (head .terms) cells items areas work ⌝ }
 {
-    if job_space::bad_shape(budget, cells, items) {
+    if job_space::bad_shape(head.terms, cells, items) {
         return Verdict::Bad(Refusal::Count, 0);
     }
-    let lent = job_checks::checks::records(
-        points,
-        v,
+    let count = job_checks::checks::counts(
+        head.v,
         blocks,
         edges,
         insts,
@@ -67,11 +67,28 @@ pub fn refusal(
         moves,
         areas,
     );
-    if let Verdict::Bad(r, i) = lent {
+    if let Verdict::Bad(r, i) = count {
+        return Verdict::Bad(r, i);
+    }
+    let place = job_checks::checks::placed(
+        head.points,
+        head.v,
+        blocks,
+        edges,
+        insts,
+        operands,
+        crossings,
+        addresses,
+        ends,
+        pieces,
+        assigned,
+        moves,
+    );
+    if let Verdict::Bad(r, i) = place {
         return Verdict::Bad(r, i);
     }
     let z = job_space::records::sizes(
-        v,
+        head.v,
         blocks,
         edges,
         insts,

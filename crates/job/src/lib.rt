@@ -1,19 +1,19 @@
 // The whole job: from its records to the cells of its items.
+ghost use Rattle.job_space.specs.Rows.{lentRows};
 ghost use Rattle.job.specs.Entry.{SharedAs};
 use refusals::Verdict;
 
-mod checks; // checks.rt: refusals 1 to 7
+pub mod checks; // checks.rt: refusals 1 to 7
 
 pub use job_answers::Shared;
+pub use job_space::Head;
 
 // Which items of a job may share a cell: the area of each local and slot by the job's records, and for each item the lowest cell that has an area and doesn't clash
 // with it, while budget is left. Cells come back as rows of size and alignment, items as rows of cell, present, first and count, areas as rows of start and end.
 // Refuses what document 01's table says of the records (1 to 6), a budget over its limit (1), a cell or an item list under the items or a work space under
 // W = 8 × (all records + blocks × ⌈locals/64⌉ + ranges of the area list + ⌈v/64⌉) (7), and more ranges than the area list holds (9).
 pub fn share(
-    points: u32,
-    v: u32,
-    budget: u32,
+    head: Head,
     blocks: &[u32],
     edges: &[u32],
     insts: &[u32],
@@ -31,13 +31,11 @@ pub fn share(
     areas: &mut [u32],
     work: &mut [u64],
 ) -> Shared
-    ensures { λ r. ⌜ SharedAs points v budget (now (blocks .entry)) (now (edges .entry)) (now (insts .entry)) (now (operands .entry)) (now (crossings .entry)) (now (locals .entry)) (now (slots .entry)) (now (addresses .entry)) (now (ends .entry)) (now (pieces .entry)) (now (assigned .entry)) (now (moves .entry))
+    ensures { λ r. ⌜ SharedAs (lentRows (head .points) (head .v) blocks edges insts operands crossings locals slots addresses ends pieces assigned moves) (head .terms)
         (now (cells .entry)) (now (items .entry)) (now (areas .entry)) (now (work .entry)) r (now (cells .exit)) (now (items .exit)) (now (areas .exit)) (now (work .exit)) ⌝ }
 {
     let verdict = checks::refusal(
-        points,
-        v,
-        budget,
+        head,
         blocks,
         edges,
         insts,
@@ -59,7 +57,7 @@ pub fn share(
         return Shared::Refused(r, i);
     }
     let z = job_space::records::sizes(
-        v,
+        head.v,
         blocks,
         edges,
         insts,
@@ -76,8 +74,8 @@ pub fn share(
     );
     let w = job_space::needed(z);
     let n = job_areas::solve(
-        points,
-        v,
+        head.points,
+        head.v,
         blocks,
         edges,
         insts,
@@ -93,7 +91,7 @@ pub fn share(
         areas.len(),
         work,
     );
-    let r = job_answers::answer(locals, slots, budget, n, w, cells, items, areas, work);
+    let r = job_answers::answer(locals, slots, head.terms, n, w, cells, items, areas, work);
     words::clear(work, w);
     r
 }

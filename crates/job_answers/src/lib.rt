@@ -11,6 +11,7 @@ ghost use Rattle.job_fit.specs.Wants.{countOf, planFor};
 ghost use Rattle.job_answers.specs.Answers.{AnsweredBy};
 ghost use Rattle.job_answers.specs.Inner.{Measured};
 ghost use Rattle.areas.specs.Job.{areasVerdict};
+use fitting::Terms;
 use refusals::Refusal;
 
 // A plan's cells, the probes spent and its depth, or a refusal with the index of the first offending record.
@@ -23,7 +24,7 @@ pub enum Shared {
 pub fn answer(
     locals: &[u32],
     slots: &[u32],
-    budget: u32,
+    terms: Terms,
     total: usize,
     end: usize,
     cells: &mut [u32],
@@ -33,14 +34,14 @@ pub fn answer(
 ) -> Shared
     requires { ⌜ Measured (countOf (now locals) (now slots)) (length (now areas) / 2) total end (length (now cells)) (length (now items)) (now work) ⌝ }
     ensures { λ r. ⌜ Within 0 end (now (work .entry)) (now (work .exit)) × ((A : ℕ → Option (List Range)) → ListedBy wordOf (listing (length (now (areas .entry)) / 2) (length (now (areas .entry)) / 2)) A (countOf (now (locals .entry)) (now (slots .entry))) total (now (work .entry))
-        → AnsweredBy (areasVerdict (countOf (now (locals .entry)) (now (slots .entry))) A (length (now (areas .entry)) / 2)) (countOf (now (locals .entry)) (now (slots .entry))) A (planFor (now (locals .entry)) (now (slots .entry)) A budget)
+        → AnsweredBy (areasVerdict (countOf (now (locals .entry)) (now (slots .entry))) A (length (now (areas .entry)) / 2)) (countOf (now (locals .entry)) (now (slots .entry))) A (planFor (now (locals .entry)) (now (slots .entry)) A (terms .budget))
         (now (cells .entry)) (now (items .entry)) (now (areas .entry)) r (now (cells .exit)) (now (items .exit)) (now (areas .exit))) ⌝ }
 {
     let room = areas.len() / 2;
     if room < total {
         return Shared::Refused(Refusal::List, 0);
     }
-    let f = job_fit::fitted(locals, slots, budget, work, room, end);
+    let f = job_fit::fitted(locals, slots, terms.budget, work, room, end);
     job_tables::write(
         cells,
         items,

@@ -37,6 +37,7 @@ use Rattle.job_layout.specs.Layout.{gridSizes, Placed, LaidFrom, SlotsFrom, mos
 use Rattle.job_layout.proofs.FitLaws.{ranges-small, locals-laid, layout-fits}
 use Rattle.area_tables.specs.Tables.{listing}
 use Rattle.job_areas.specs.Areas.{Lent, LocalsDone}
+use Rattle.job_space.specs.Rows.{Rows}
 
 same-inverted : (blocks : List ℕ) (d e : List Edge) (t : Range) → inverted (lineOf blocks d) t ≡ inverted (lineOf blocks e) t
 same-inverted blocks d e t =
@@ -63,19 +64,19 @@ slots-from z from = record { slots-are = refl; table-at = refl; heads-at = refl;
 abbrev pub placesIn : Regions → Places
 placesIn r = record { keys = r .keys; heads = r .heads; nexts = r .nexts; at = r .at; ends = r .ends }
 
-module _ (points v : ℕ) (blocks edges insts operands crossings locals slots addresses ends pieces assigned moves : List ℕ) (areas : ℕ) (r : Regions) {w₀ : List ℕ}
-    (N : Lent points v blocks edges insts operands crossings locals slots addresses ends pieces assigned moves areas w₀)
-    (P : Placed (sizesOf v blocks edges insts operands crossings locals slots addresses ends pieces assigned moves areas) r) where
+module _ (R : Rows) (areas : ℕ) (r : Regions) {w₀ : List ℕ}
+    (N : Lent R areas w₀)
+    (P : Placed (sizesOf R areas) r) where
   abbrev z : Sizes
-  z = sizesOf v blocks edges insts operands crossings locals slots addresses ends pieces assigned moves areas
+  z = sizesOf R areas
 
-  upright : (l : ℕ) → Upright blocks (touchesOf (codeOf v insts operands crossings addresses ends) (piecesOf pieces) l)
-  upright l es = false-any (inverted (lineOf blocks es)) (touchesOf (codeOf v insts operands crossings addresses ends) (piecesOf pieces) l)
-      (λ t m. same-inverted blocks es (edgesIn blocks edges) t
-      ∙ touches-fine (jobOf points v blocks edges insts operands crossings locals slots addresses ends pieces assigned moves) (N .passed .checked) (let q = blocks-length blocks in let b = N .passed .small .some-block in omega arith) l t m)
+  upright : (l : ℕ) → Upright (R .blocks) (touchesOf (codeOf (R .v) (R .insts) (R .operands) (R .crossings) (R .addresses) (R .ends)) (piecesOf (R .pieces)) l)
+  upright l es = false-any (inverted (lineOf (R .blocks) es)) (touchesOf (codeOf (R .v) (R .insts) (R .operands) (R .crossings) (R .addresses) (R .ends)) (piecesOf (R .pieces)) l)
+      (λ t m. same-inverted (R .blocks) es (edgesIn (R .blocks) (R .edges)) t
+      ∙ touches-fine (jobOf R) (N .passed .checked) (let q = blocks-length (R .blocks) in let b = N .passed .small .some-block in omega arith) l t m)
 
   -- without locals there is nothing to do
-  pub locals-none : rowCount 2 locals ≡ 0 → LocalsDone points v blocks edges insts operands crossings locals slots addresses ends pieces assigned moves areas r w₀ w₀ 0
+  pub locals-none : rowCount 2 (R .locals) ≡ 0 → LocalsDone R areas r w₀ w₀ 0
   locals-none e = record {
     len = refl;
     keys = λ i a b. refl;
@@ -84,14 +85,14 @@ module _ (points v : ℕ) (blocks edges insts operands crossings locals slots ad
     listed = λ A h. rw e (listed-none wordOf (listing (areas / 2) (r .items)) A w₀);
   }
 
-  module _ (lay : Lay) (g : Grid) (some : 0 < rowCount 2 locals) (K : InOrder pieces (r .keys) w₀) (L : LaidFrom z (r .free) lay) (G : Gridded (gridSizes z) (r .base) g) where
+  module _ (lay : Lay) (g : Grid) (some : 0 < rowCount 2 (R .locals)) (K : InOrder (R .pieces) (r .keys) w₀) (L : LaidFrom z (r .free) lay) (G : Gridded (gridSizes z) (r .base) g) where
     S : Small z
     S = N .passed .small
 
     laid : LocalsLaid z r lay g w₀
     laid = locals-laid z r g (slotPlaces z (r .free)) S P G (slots-from z (r .free)) w₀ (N .space) L some
 
-    within : markOf g + g .width + rowCount 3 blocks + mostOfLocal z ≤ spaceOf z
+    within : markOf g + g .width + rowCount 3 (R .blocks) + mostOfLocal z ≤ spaceOf z
     within = let f = layout-fits z r g (slotPlaces z (r .free)) S P G (slots-from z (r .free)) .locals-fit some in omega arith
 
     space-small : spaceOf z < 2 ^ 32
@@ -100,7 +101,7 @@ module _ (points v : ℕ) (blocks edges insts operands crossings locals slots ad
         omega (arith, S .registers, S .few-blocks, S .few-edges, S .few-insts, S .few-operands, S .few-crossings, S .few-locals, S .few-slots, S .few-addresses, S .few-ends, S .few-pieces, S .few-assigned, S .few-moves, S .few-ranges)
 
     pub locals-asked : {m : ℕ} → m ≡ markOf g
-        → Asked blocks edges insts operands crossings addresses ends pieces v (rowCount 2 locals) lay (placesIn r) g m (listing (areas / 2) (r .items)) w₀
+        → Asked (R .blocks) (R .edges) (R .insts) (R .operands) (R .crossings) (R .addresses) (R .ends) (R .pieces) (R .v) (rowCount 2 (R .locals)) lay (placesIn r) g m (listing (areas / 2) (r .items)) w₀
     locals-asked {m} e =
         let o = laid .order in
         let c = laid .carry in
@@ -144,14 +145,14 @@ module _ (points v : ℕ) (blocks edges insts operands crossings locals slots ad
           few = let q = ranges-small S in omega arith;
         }
       where
-        ends-in : r .ends + rowCount 2 ends ≤ length w₀
+        ends-in : r .ends + rowCount 2 (R .ends) ≤ length w₀
         ends-in =
             let o = laid .order in
             omega (arith, o .ends-fit, o .base-fits, o .touched-fits, o .leaves-fit, o .passes-fit, o .written-fits, o .read-fits, o .to-fits, laid .fits)
 
     pub locals-done : {m n : ℕ} {w : List ℕ} → m ≡ markOf g
-        → LocalsIn blocks edges insts operands crossings addresses ends pieces v (rowCount 2 locals) lay (placesIn r) g m (listing (areas / 2) (r .items)) w₀ w n
-        → LocalsDone points v blocks edges insts operands crossings locals slots addresses ends pieces assigned moves areas r w₀ w n
+        → LocalsIn (R .blocks) (R .edges) (R .insts) (R .operands) (R .crossings) (R .addresses) (R .ends) (R .pieces) (R .v) (rowCount 2 (R .locals)) lay (placesIn r) g m (listing (areas / 2) (r .items)) w₀ w n
+        → LocalsDone R areas r w₀ w n
     locals-done e I = record {
       len = I .len;
       keys = λ i a b. I .keys i a (omega (arith, L .escapes-at));
@@ -162,10 +163,10 @@ module _ (points v : ℕ) (blocks edges insts operands crossings locals slots ad
 
 -- ---- the same, by counts that are the records'
 
-module _ (points v : ℕ) (blocks edges insts operands crossings locals slots addresses ends pieces assigned moves : List ℕ) (areas : ℕ) (r : Regions) {w₀ : List ℕ}
-    (N : Lent points v blocks edges insts operands crossings locals slots addresses ends pieces assigned moves areas w₀) (z : Sizes) (by-sizes : z ≡ sizesOf v blocks edges insts operands crossings locals slots addresses ends pieces assigned moves areas) (P : Placed z r) where
+module _ (R : Rows) (areas : ℕ) (r : Regions) {w₀ : List ℕ}
+    (N : Lent R areas w₀) (z : Sizes) (by-sizes : z ≡ sizesOf R areas) (P : Placed z r) where
   abbrev counts : Sizes
-  counts = sizesOf v blocks edges insts operands crossings locals slots addresses ends pieces assigned moves areas
+  counts = sizesOf R areas
 
   placed : Placed counts r
   placed = subst (λ (y : Sizes). Placed y r) by-sizes P
@@ -173,11 +174,11 @@ module _ (points v : ℕ) (blocks edges insts operands crossings locals slots ad
   pub small-for : Small z
   small-for = subst Small (sym by-sizes) (N .passed .small)
 
-  pub none-for : z .locals ≡ 0 → LocalsDone points v blocks edges insts operands crossings locals slots addresses ends pieces assigned moves areas r w₀ w₀ 0
-  none-for e = locals-none points v blocks edges insts operands crossings locals slots addresses ends pieces assigned moves areas r N placed (sym (ap (λ (y : Sizes). y .locals) by-sizes) ∙ e)
+  pub none-for : z .locals ≡ 0 → LocalsDone R areas r w₀ w₀ 0
+  none-for e = locals-none R areas r N placed (sym (ap (λ (y : Sizes). y .locals) by-sizes) ∙ e)
 
-  module _ (lay : Lay) (g : Grid) (some : 0 < z .locals) (K : InOrder pieces (r .keys) w₀) (L : LaidFrom z (r .free) lay) (G : Gridded (gridSizes z) (r .base) g) {m : ℕ} (e : m ≡ markOf g) where
-    some-local : 0 < rowCount 2 locals
+  module _ (lay : Lay) (g : Grid) (some : 0 < z .locals) (K : InOrder (R .pieces) (r .keys) w₀) (L : LaidFrom z (r .free) lay) (G : Gridded (gridSizes z) (r .base) g) {m : ℕ} (e : m ≡ markOf g) where
+    some-local : 0 < rowCount 2 (R .locals)
     some-local = subst (λ (y : Sizes). 0 < y .locals) by-sizes some
 
     laid-for : LaidFrom counts (r .free) lay
@@ -186,11 +187,11 @@ module _ (points v : ℕ) (blocks edges insts operands crossings locals slots ad
     gridded-for : Gridded (gridSizes counts) (r .base) g
     gridded-for = subst (λ (y : Sizes). Gridded (gridSizes y) (r .base) g) by-sizes G
 
-    pub asked-for : Asked blocks edges insts operands crossings addresses ends pieces v (z .locals) lay (placesIn r) g m (listing (z .room) (r .items)) w₀
-    asked-for = subst (λ (y : Sizes). Asked blocks edges insts operands crossings addresses ends pieces v (y .locals) lay (placesIn r) g m (listing (y .room) (r .items)) w₀) (sym by-sizes)
-        (locals-asked points v blocks edges insts operands crossings locals slots addresses ends pieces assigned moves areas r N placed lay g some-local K laid-for gridded-for e)
+    pub asked-for : Asked (R .blocks) (R .edges) (R .insts) (R .operands) (R .crossings) (R .addresses) (R .ends) (R .pieces) (R .v) (z .locals) lay (placesIn r) g m (listing (z .room) (r .items)) w₀
+    asked-for = subst (λ (y : Sizes). Asked (R .blocks) (R .edges) (R .insts) (R .operands) (R .crossings) (R .addresses) (R .ends) (R .pieces) (R .v) (y .locals) lay (placesIn r) g m (listing (y .room) (r .items)) w₀) (sym by-sizes)
+        (locals-asked R areas r N placed lay g some-local K laid-for gridded-for e)
 
-    pub done-for : {n : ℕ} {w : List ℕ} → LocalsIn blocks edges insts operands crossings addresses ends pieces v (z .locals) lay (placesIn r) g m (listing (z .room) (r .items)) w₀ w n
-        → LocalsDone points v blocks edges insts operands crossings locals slots addresses ends pieces assigned moves areas r w₀ w n
-    done-for {n} {w} I = locals-done points v blocks edges insts operands crossings locals slots addresses ends pieces assigned moves areas r N placed lay g some-local K laid-for gridded-for e
-        (subst (λ (y : Sizes). LocalsIn blocks edges insts operands crossings addresses ends pieces v (y .locals) lay (placesIn r) g m (listing (y .room) (r .items)) w₀ w n) by-sizes I)
+    pub done-for : {n : ℕ} {w : List ℕ} → LocalsIn (R .blocks) (R .edges) (R .insts) (R .operands) (R .crossings) (R .addresses) (R .ends) (R .pieces) (R .v) (z .locals) lay (placesIn r) g m (listing (z .room) (r .items)) w₀ w n
+        → LocalsDone R areas r w₀ w n
+    done-for {n} {w} I = locals-done R areas r N placed lay g some-local K laid-for gridded-for e
+        (subst (λ (y : Sizes). LocalsIn (R .blocks) (R .edges) (R .insts) (R .operands) (R .crossings) (R .addresses) (R .ends) (R .pieces) (R .v) (y .locals) lay (placesIn r) g m (listing (y .room) (r .items)) w₀ w n) by-sizes I)

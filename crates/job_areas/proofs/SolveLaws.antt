@@ -33,6 +33,7 @@ use Rattle.job_layout.proofs.FitLaws.{slots-in-order, slots-laid, slots-within}
 use Rattle.area_tables.specs.Tables.{listing}
 use Rattle.job_areas.specs.Areas.{SlotsAsked, SlotsIn, Lent, LocalsDone, SlotsDue, SlotsDone, Solved}
 use Rattle.job_areas.proofs.KeptLaws.{held-bound}
+use Rattle.job_space.specs.Rows.{Rows}
 
 -- ---- the slots' phase
 
@@ -92,30 +93,30 @@ slot-item J s =
     ap (λ (t : Bool). cond t (localArea J (length (J .locals) + s)) (slotAreaIn J (length (J .locals) + s - length (J .locals)))) (le-ltb (length (J .locals) + s) (length (J .locals)) (omega arith))
     ∙ ap (slotAreaIn J) (omega arith)
 
-pub lent-after : {points v : ℕ} {blocks edges insts operands crossings locals slots addresses ends pieces assigned moves : List ℕ} {areas : ℕ} {w₀ w : List ℕ}
-    → Lent points v blocks edges insts operands crossings locals slots addresses ends pieces assigned moves areas w₀ → length w ≡ length w₀ → Lent points v blocks edges insts operands crossings locals slots addresses ends pieces assigned moves areas w
+pub lent-after : {R : Rows} {areas : ℕ} {w₀ w : List ℕ}
+    → Lent R areas w₀ → length w ≡ length w₀ → Lent R areas w
 lent-after N e = record { passed = N .passed; space = omega (arith, N .space) }
 
-module _ (points v : ℕ) (blocks edges insts operands crossings locals slots addresses ends pieces assigned moves : List ℕ) (areas : ℕ) (r : Regions) {w₀ w₁ : List ℕ}
-    (N : Lent points v blocks edges insts operands crossings locals slots addresses ends pieces assigned moves areas w₀)
-    (P : Placed (sizesOf v blocks edges insts operands crossings locals slots addresses ends pieces assigned moves areas) r) (O : PutInOrder pieces (r .keys) w₀ w₁) where
+module _ (R : Rows) (areas : ℕ) (r : Regions) {w₀ w₁ : List ℕ}
+    (N : Lent R areas w₀)
+    (P : Placed (sizesOf R areas) r) (O : PutInOrder (R .pieces) (r .keys) w₀ w₁) where
   abbrev z : Sizes
-  z = sizesOf v blocks edges insts operands crossings locals slots addresses ends pieces assigned moves areas
+  z = sizesOf R areas
 
   abbrev J : Job
-  J = jobOf points v blocks edges insts operands crossings locals slots addresses ends pieces assigned moves
+  J = jobOf R
 
-  registers-small : (s : ℕ) → heldWord (spilled (assignedOf assigned) s) ≤ 4294967296
-  registers-small s = held-bound 4294967296 (assignedOf assigned) s
+  registers-small : (s : ℕ) → heldWord (spilled (assignedOf (R .assigned)) s) ≤ 4294967296
+  registers-small s = held-bound 4294967296 (assignedOf (R .assigned)) s
       (λ a m.
-      let (k, h, e) = at-mem (assignedOf assigned) a (record { register = 0; slot = 0 }) m in
-      let f = scan-fine PieceWord (λ n. leb v (getD (assignedOf assigned) n (record { register = 0; slot = 0 }) .register)) (length (assignedOf assigned)) (N .passed .assigned-fine) k h in
-      let g = leb-false v (getD (assignedOf assigned) k (record { register = 0; slot = 0 }) .register) f in
-      let x : getD (assignedOf assigned) k (record { register = 0; slot = 0 }) .register ≡ a .register = ap (λ (b : Assigned). b .register) e in
+      let (k, h, e) = at-mem (assignedOf (R .assigned)) a (record { register = 0; slot = 0 }) m in
+      let f = scan-fine PieceWord (λ n. leb (R .v) (getD (assignedOf (R .assigned)) n (record { register = 0; slot = 0 }) .register)) (length (assignedOf (R .assigned))) (N .passed .assigned-fine) k h in
+      let g = leb-false (R .v) (getD (assignedOf (R .assigned)) k (record { register = 0; slot = 0 }) .register) f in
+      let x : getD (assignedOf (R .assigned)) k (record { register = 0; slot = 0 }) .register ≡ a .register = ap (λ (b : Assigned). b .register) e in
       omega (arith, g, x, N .passed .small .registers))
 
-  module _ {w₂ : List ℕ} {total : ℕ} (L : LocalsDone points v blocks edges insts operands crossings locals slots addresses ends pieces assigned moves areas r w₁ w₂ total) where
-    pub slots-due : SlotsDue points blocks insts pieces assigned moves z r total w₂
+  module _ {w₂ : List ℕ} {total : ℕ} (L : LocalsDone R areas r w₁ w₂ total) where
+    pub slots-due : SlotsDue (R .points) (R .blocks) (R .insts) (R .pieces) (R .assigned) (R .moves) z r total w₂
     slots-due = record {
       small = N .passed .small;
       placed = P;
@@ -130,8 +131,8 @@ module _ (points v : ℕ) (blocks edges insts operands crossings locals slots ad
       most = L .most;
     }
 
-    pub solved : {w : List ℕ} {n : ℕ} → SlotsDone points blocks insts pieces assigned moves z r total w₂ w n
-        → Solved points v blocks edges insts operands crossings locals slots addresses ends pieces assigned moves areas w₀ w n
+    pub solved : {w : List ℕ} {n : ℕ} → SlotsDone (R .points) (R .blocks) (R .insts) (R .pieces) (R .assigned) (R .moves) z r total w₂ w n
+        → Solved R areas w₀ w n
     solved {w} {n} D = record {
       kept = record {
         len = D .kept .len ∙ L .len ∙ O .kept .len;
@@ -139,31 +140,31 @@ module _ (points v : ℕ) (blocks edges insts operands crossings locals slots ad
         past = λ i h. D .kept .past i h ∙ L .past i h ∙ O .kept .past i (omega (arith, keys-in));
       };
       listed =
-          subst (λ (k : ℕ). ListedBy wordOf (listing (areas / 2) (areas / 2)) (itemArea J) (k + length slots) n w) (sym many)
-          (subst (λ (k : ℕ). ListedBy wordOf (listing (areas / 2) k) (itemArea J) (rowCount 2 locals + length slots) n w) (P .items-at)
-          (D .listed (itemArea J) (λ s h. subst (λ (k : ℕ). itemArea J (k + s) ≡ slotAreaIn J s) many (slot-item J s) ∙ sym (ap (slotArea (piecesOf pieces) (spilled (assignedOf assigned) s)) (moved-whatever (blocksOf blocks) insts operands points s (movesOf moves))))
+          subst (λ (k : ℕ). ListedBy wordOf (listing (areas / 2) (areas / 2)) (itemArea J) (k + length (R .slots)) n w) (sym many)
+          (subst (λ (k : ℕ). ListedBy wordOf (listing (areas / 2) k) (itemArea J) (rowCount 2 (R .locals) + length (R .slots)) n w) (P .items-at)
+          (D .listed (itemArea J) (λ s h. subst (λ (k : ℕ). itemArea J (k + s) ≡ slotAreaIn J s) many (slot-item J s) ∙ sym (ap (slotArea (piecesOf (R .pieces)) (spilled (assignedOf (R .assigned)) s)) (moved-whatever (blocksOf (R .blocks)) (R .insts) (R .operands) (R .points) s (movesOf (R .moves)))))
           (L .listed (itemArea J) (λ i h. local-item J i (omega (arith, many))))));
     }
       where
-        many : length (J .locals) ≡ rowCount 2 locals
-        many = length-records 2 (λ f. record { size = f 0; align = f 1 }) locals
+        many : length (J .locals) ≡ rowCount 2 (R .locals)
+        many = length-records 2 (λ f. record { size = f 0; align = f 1 }) (R .locals)
 
-        keys-in : r .keys + rowCount 3 pieces ≤ spaceOf z
+        keys-in : r .keys + rowCount 3 (R .pieces) ≤ spaceOf z
         keys-in = omega (arith, P .items-at, P .keys-at)
 
 -- ---- the same, by counts that are the records'
 
-module _ (points v : ℕ) (blocks edges insts operands crossings locals slots addresses ends pieces assigned moves : List ℕ) (areas : ℕ) (r : Regions) {w₀ : List ℕ}
-    (N : Lent points v blocks edges insts operands crossings locals slots addresses ends pieces assigned moves areas w₀) (y : Sizes) (by-sizes : y ≡ sizesOf v blocks edges insts operands crossings locals slots addresses ends pieces assigned moves areas) (P : Placed y r) where
-  placed : Placed (sizesOf v blocks edges insts operands crossings locals slots addresses ends pieces assigned moves areas) r
+module _ (R : Rows) (areas : ℕ) (r : Regions) {w₀ : List ℕ}
+    (N : Lent R areas w₀) (y : Sizes) (by-sizes : y ≡ sizesOf R areas) (P : Placed y r) where
+  placed : Placed (sizesOf R areas) r
   placed = subst (λ (x : Sizes). Placed x r) by-sizes P
 
-  pub keys-room : r .keys + rowCount 3 pieces ≤ length w₀
+  pub keys-room : r .keys + rowCount 3 (R .pieces) ≤ length w₀
   keys-room = let p = placed in omega (arith, p .items-at, p .keys-at, N .space)
 
-  module _ {w₁ : List ℕ} (O : PutInOrder pieces (r .keys) w₀ w₁) {w₂ : List ℕ} {total : ℕ} (L : LocalsDone points v blocks edges insts operands crossings locals slots addresses ends pieces assigned moves areas r w₁ w₂ total) where
-    pub due-for : SlotsDue points blocks insts pieces assigned moves y r total w₂
-    due-for = subst (λ (x : Sizes). SlotsDue points blocks insts pieces assigned moves x r total w₂) (sym by-sizes) (slots-due points v blocks edges insts operands crossings locals slots addresses ends pieces assigned moves areas r N placed O L)
+  module _ {w₁ : List ℕ} (O : PutInOrder (R .pieces) (r .keys) w₀ w₁) {w₂ : List ℕ} {total : ℕ} (L : LocalsDone R areas r w₁ w₂ total) where
+    pub due-for : SlotsDue (R .points) (R .blocks) (R .insts) (R .pieces) (R .assigned) (R .moves) y r total w₂
+    due-for = subst (λ (x : Sizes). SlotsDue (R .points) (R .blocks) (R .insts) (R .pieces) (R .assigned) (R .moves) x r total w₂) (sym by-sizes) (slots-due R areas r N placed O L)
 
-    pub solved-for : {w : List ℕ} {n : ℕ} → SlotsDone points blocks insts pieces assigned moves y r total w₂ w n → Solved points v blocks edges insts operands crossings locals slots addresses ends pieces assigned moves areas w₀ w n
-    solved-for {w} {n} D = solved points v blocks edges insts operands crossings locals slots addresses ends pieces assigned moves areas r N placed O L (subst (λ (x : Sizes). SlotsDone points blocks insts pieces assigned moves x r total w₂ w n) by-sizes D)
+    pub solved-for : {w : List ℕ} {n : ℕ} → SlotsDone (R .points) (R .blocks) (R .insts) (R .pieces) (R .assigned) (R .moves) y r total w₂ w n → Solved R areas w₀ w n
+    solved-for {w} {n} D = solved R areas r N placed O L (subst (λ (x : Sizes). SlotsDone (R .points) (R .blocks) (R .insts) (R .pieces) (R .assigned) (R .moves) x r total w₂ w n) by-sizes D)

@@ -20,6 +20,7 @@ use Rattle.area_measure.specs.Locals.{wordOf, ListedBy}
 use Rattle.slot_measure.specs.All.{mostFor, AreasBy}
 use Rattle.area_tables.specs.Tables.{listing}
 use Rattle.job_space.specs.declared.Sizes.{Sizes}
+use Rattle.job_space.specs.Rows.{Rows}
 use Rattle.job_space.specs.Space.{sizesOf, spaceOf, Small}
 use Rattle.job_checks.specs.Job.{jobOf, Passed}
 use Rattle.job_layout.specs.declared.Regions.{Regions}
@@ -51,19 +52,26 @@ pub record SlotsIn (points : ℕ) (blocks insts moves pieces assigned : List ℕ
 -- ---- all items
 
 -- what no refusal before measuring says: numbers 1 to 6 of the records, and of number 7 the work space
-pub record Lent (points v : ℕ) (blocks edges insts operands crossings locals slots addresses ends pieces assigned moves : List ℕ) (areas : ℕ) (w : List ℕ) : Type 0 where
-  pub passed : Passed points v blocks edges insts operands crossings locals slots addresses ends pieces assigned moves areas
-  pub space : spaceOf (sizesOf v blocks edges insts operands crossings locals slots addresses ends pieces assigned moves areas) ≤ length w
+pub record Lent (R : Rows) (areas : ℕ) (w : List ℕ) : Type 0 where
+  pub passed : Passed R areas
+  pub space : spaceOf (sizesOf R areas) ≤ length w
+
+-- what the locals' phase goes by: the counts, the regions, and the live pieces in order
+pub record LocalsDue (R : Rows) (areas : ℕ) (z : Sizes) (r : Regions) (w : List ℕ) : Type 0 where
+  pub lent : Lent R areas w
+  pub sizes : z ≡ sizesOf R areas
+  pub placed : Placed z r
+  pub order : InOrder (R .pieces) (r .keys) w
 
 -- the areas of the locals; the live pieces stand as they did, and nothing past W has changed
-pub record LocalsDone (points v : ℕ) (blocks edges insts operands crossings locals slots addresses ends pieces assigned moves : List ℕ) (areas : ℕ) (r : Regions) (w₀ w : List ℕ) (n : ℕ) : Type 0 where
+pub record LocalsDone (R : Rows) (areas : ℕ) (r : Regions) (w₀ w : List ℕ) (n : ℕ) : Type 0 where
   pub len : length w ≡ length w₀
   pub keys : (i : ℕ) → r .keys ≤ i → i < r .free → getD w i 0 ≡ getD w₀ i 0
-  pub past : (i : ℕ) → spaceOf (sizesOf v blocks edges insts operands crossings locals slots addresses ends pieces assigned moves areas) ≤ i → getD w i 0 ≡ getD w₀ i 0
-  pub most : n ≤ rowCount 2 locals * mostOfLocal (sizesOf v blocks edges insts operands crossings locals slots addresses ends pieces assigned moves areas)
+  pub past : (i : ℕ) → spaceOf (sizesOf R areas) ≤ i → getD w i 0 ≡ getD w₀ i 0
+  pub most : n ≤ rowCount 2 (R .locals) * mostOfLocal (sizesOf R areas)
   pub listed : (A : ℕ → Option (List Range))
-      → ((i : ℕ) → i < rowCount 2 locals → A i ≡ localArea (jobOf points v blocks edges insts operands crossings locals slots addresses ends pieces assigned moves) i)
-      → ListedBy wordOf (listing (areas / 2) (r .items)) A (rowCount 2 locals) n w
+      → ((i : ℕ) → i < rowCount 2 (R .locals) → A i ≡ localArea (jobOf R) i)
+      → ListedBy wordOf (listing (areas / 2) (r .items)) A (rowCount 2 (R .locals)) n w
 
 -- what the slots' phase goes by
 pub record SlotsDue (points : ℕ) (blocks insts pieces assigned moves : List ℕ) (z : Sizes) (r : Regions) (total : ℕ) (w : List ℕ) : Type 0 where
@@ -85,7 +93,6 @@ pub record SlotsDone (points : ℕ) (blocks insts pieces assigned moves : List �
       → ListedBy wordOf (listing (z .room) (r .items)) A (z .locals) total w₀ → ListedBy wordOf (listing (z .room) (r .items)) A (z .locals + z .slots) n w
 
 -- the areas of all items of the job, and their words behind the room of the area list; nothing past W has changed
-pub record Solved (points v : ℕ) (blocks edges insts operands crossings locals slots addresses ends pieces assigned moves : List ℕ) (areas : ℕ) (w₀ w : List ℕ) (n : ℕ) : Type 0 where
-  pub kept : Within 0 (spaceOf (sizesOf v blocks edges insts operands crossings locals slots addresses ends pieces assigned moves areas)) w₀ w
-  pub listed : ListedBy wordOf (listing (areas / 2) (areas / 2)) (itemArea (jobOf points v blocks edges insts operands crossings locals slots addresses ends pieces assigned moves))
-      (itemCount (jobOf points v blocks edges insts operands crossings locals slots addresses ends pieces assigned moves)) n w
+pub record Solved (R : Rows) (areas : ℕ) (w₀ w : List ℕ) (n : ℕ) : Type 0 where
+  pub kept : Within 0 (spaceOf (sizesOf R areas)) w₀ w
+  pub listed : ListedBy wordOf (listing (areas / 2) (areas / 2)) (itemArea (jobOf R)) (itemCount (jobOf R)) n w

@@ -1,9 +1,6 @@
 // The areas of all items of a job in the work space, from records that no check refuses: the locals', then the slots'.
-ghost use mathlib.Core.Path.{_≡_};
-ghost use Rattle.job_space.specs.Space.{sizesOf};
-ghost use Rattle.job_layout.specs.Layout.{Placed};
-ghost use Rattle.live.specs.Live.{InOrder};
-ghost use Rattle.job_areas.specs.Areas.{Lent, LocalsDone, SlotsDue, SlotsDone, Solved};
+ghost use Rattle.job_space.specs.Rows.{rowsAt, lentRows};
+ghost use Rattle.job_areas.specs.Areas.{Lent, LocalsDue, LocalsDone, SlotsDue, SlotsDone, Solved};
 use area_measure::Listing;
 use job_layout::Regions;
 use job_space::Sizes;
@@ -32,9 +29,8 @@ fn measure_locals(
     z: Sizes,
     r: Regions,
 ) -> usize
-    requires { ⌜ Lent points v (now blocks) (now edges) (now insts) (now operands) (now crossings) (now locals) (now slots) (now addresses) (now ends) (now pieces) (now assigned) (now moves) areas (now work) ⌝ }
-    requires { ⌜ (z ≡ sizesOf v (now blocks) (now edges) (now insts) (now operands) (now crossings) (now locals) (now slots) (now addresses) (now ends) (now pieces) (now assigned) (now moves) areas) × Placed z r × InOrder (now pieces) (r .keys) (now work) ⌝ }
-    ensures { λ n. ⌜ LocalsDone points v (now (blocks .entry)) (now (edges .entry)) (now (insts .entry)) (now (operands .entry)) (now (crossings .entry)) (now (locals .entry)) (now (slots .entry)) (now (addresses .entry)) (now (ends .entry)) (now (pieces .entry)) (now (assigned .entry)) (now (moves .entry)) areas r (now (work .entry)) (now (work .exit)) n ⌝ }
+    requires { ⌜ LocalsDue (rowsAt points v blocks edges insts operands crossings locals slots addresses ends pieces assigned moves) areas z r (now work) ⌝ }
+    ensures { λ n. ⌜ LocalsDone (lentRows points v blocks edges insts operands crossings locals slots addresses ends pieces assigned moves) areas r (now (work .entry)) (now (work .exit)) n ⌝ }
 {
     if z.locals == 0 {
         return 0;
@@ -129,8 +125,8 @@ pub fn solve(
     areas: usize,
     work: &mut [u64],
 ) -> usize
-    requires { ⌜ Lent points v (now blocks) (now edges) (now insts) (now operands) (now crossings) (now locals) (now slots) (now addresses) (now ends) (now pieces) (now assigned) (now moves) areas (now work) ⌝ }
-    ensures { λ n. ⌜ Solved points v (now (blocks .entry)) (now (edges .entry)) (now (insts .entry)) (now (operands .entry)) (now (crossings .entry)) (now (locals .entry)) (now (slots .entry)) (now (addresses .entry)) (now (ends .entry)) (now (pieces .entry)) (now (assigned .entry)) (now (moves .entry)) areas (now (work .entry)) (now (work .exit)) n ⌝ }
+    requires { ⌜ Lent (rowsAt points v blocks edges insts operands crossings locals slots addresses ends pieces assigned moves) areas (now work) ⌝ }
+    ensures { λ n. ⌜ Solved (lentRows points v blocks edges insts operands crossings locals slots addresses ends pieces assigned moves) areas (now (work .entry)) (now (work .exit)) n ⌝ }
 {
     let z = job_space::records::sizes(
         v,

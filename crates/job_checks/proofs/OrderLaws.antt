@@ -1,18 +1,18 @@
--- The checks of a job's records in their order: which refusal each gives. "Lowest number wins."
+-- Which refusal each check of a job's records gives.
 use Prim.Native.Nat.{ℕ}
-use mathlib.Core.Path.{_≡_, refl}
 use mathlib.Core.Bool.{not}
 use mathlib.Core.List.{List}
 use lib.ListN.{length}
 use lib.Dec.{eqb, ltb}
 use Rattle.refusals.specs.declared.Refusal.the-variants.{Count, Line, Edge, Inst, Stray, Piece}
-use Rattle.refusals.specs.Verdicts.{numberOf, inOrder}
-use Rattle.refusals.specs.Orders.{Gives, Giving, Ordered}
+use Rattle.refusals.specs.Orders.{Gives, Giving}
 use Rattle.refusals.proofs.Orders.{check-gives, first-gives, scan-gives}
 use Rattle.words.specs.Rows.{rowCount}
 use Rattle.insts.specs.Counts.{badRows, rowsVerdict, mostVerdict, offset, instCounts, codeCounts}
+use Rattle.areas.specs.Job.{Job, checks}
 use Rattle.carry_checks.specs.Checks.{carryCounts}
-use Rattle.job_checks.specs.Job.{otherCounts, countVerdict, recordsVerdict, recordsChecks, recordsGive}
+use Rattle.job_space.specs.Rows.{Rows}
+use Rattle.job_checks.specs.Job.{otherCounts, countVerdict, checksGive}
 
 pub rows-give : (width limit n : ℕ) → Gives Count (rowsVerdict width limit n)
 rows-give width limit n = check-gives Count (badRows width limit n)
@@ -50,32 +50,23 @@ others-give edges slots pieces assigned moves areas =
     (first-gives Count _ _ (rows-give 2 65536 assigned)
     (first-gives Count _ _ (rows-give 4 65536 moves) (rows-give 2 65536 areas)))))
 
-module _ (points v : ℕ) (blocks edges insts operands crossings locals slots addresses ends pieces assigned moves : List ℕ) (areas : ℕ) where
-  counts-give : Gives Count (countVerdict v blocks edges insts operands crossings locals slots addresses ends pieces assigned moves areas)
-  unfolding countVerdict
-  counts-give = first-gives Count _ _ (carry-counts-give v blocks insts operands crossings locals addresses ends) (others-give (length edges) (length slots) (length pieces) (length assigned) (length moves) areas)
+pub counts-give : (R : Rows) (areas : ℕ) → Gives Count (countVerdict R areas)
+unfolding countVerdict
+counts-give R areas =
+    first-gives Count _ _ (carry-counts-give (R .v) (R .blocks) (R .insts) (R .operands) (R .crossings) (R .locals) (R .addresses) (R .ends))
+    (others-give (length (R .edges)) (length (R .slots)) (length (R .pieces)) (length (R .assigned)) (length (R .moves)) areas)
 
-  pub records-order : recordsVerdict points v blocks edges insts operands crossings locals slots addresses ends pieces assigned moves areas ≡ inOrder (recordsChecks points v blocks edges insts operands crossings locals slots addresses ends pieces assigned moves areas)
-  unfolding recordsVerdict inOrder
-  records-order = refl
-
-  pub records-give : Giving recordsGive (recordsChecks points v blocks edges insts operands crossings locals slots addresses ends pieces assigned moves areas)
-  records-give = (
-    counts-give,
+pub checks-give : (J : Job) → Giving checksGive (checks J)
+checks-give J = (
+  scan-gives Line _ _,
+  (
+    scan-gives Edge _ _,
     (
-      scan-gives Line _ _,
+      scan-gives Inst _ _,
       (
-        scan-gives Edge _ _,
-        (
-          scan-gives Inst _ _,
-          (
-            scan-gives Inst _ _,
-            (scan-gives Stray _ _, (scan-gives Stray _ _, (scan-gives Stray _ _, (scan-gives Piece _ _, (scan-gives Piece _ _, tt))))),
-          ),
-        ),
+        scan-gives Inst _ _,
+        (scan-gives Stray _ _, (scan-gives Stray _ _, (scan-gives Stray _ _, (scan-gives Piece _ _, (scan-gives Piece _ _, tt))))),
       ),
     ),
-  )
-
-  pub records-ordered : Ordered numberOf recordsGive (recordsChecks points v blocks edges insts operands crossings locals slots addresses ends pieces assigned moves areas)
-  records-ordered = record { gives = records-give; rises = refl }
+  ),
+)

@@ -1,11 +1,12 @@
 // Refusals 1 to 6 of a job, in linear time and without work space.
 ghost use mathlib.Core.Path.{_≡_};
 ghost use mathlib.Core.List.{[]};
-ghost use Prim.Native.Nat.{_/_, _≤_};
+ghost use Prim.Native.Nat.{ℕ, _/_, _≤_};
 ghost use lib.ListN.{length};
 ghost use Rattle.insts.specs.Rows.{AddsUp};
-ghost use Rattle.job_checks.specs.Job.{otherCounts, countVerdict, recordsVerdict};
-ghost use Rattle.job_checks.specs.Inner.{placeVerdict, strayVerdict, liveVerdict};
+ghost use Rattle.job_space.specs.Rows.{lentRows};
+ghost use Rattle.job_checks.specs.Job.{otherCounts, countVerdict};
+ghost use Rattle.job_checks.specs.Inner.{placeVerdict, strayVerdict, liveVerdict, placedVerdict};
 use refusals::Verdict;
 
 // Refusal 1 of the groups that carrying is not lent, by their lengths.
@@ -33,7 +34,7 @@ fn others(
 }
 
 // Refusal 1; the area list is given by its length.
-fn counts(
+pub fn counts(
     v: u32,
     blocks: &[u32],
     edges: &[u32],
@@ -49,7 +50,7 @@ fn counts(
     moves: &[u32],
     areas: usize,
 ) -> Verdict
-    ensures { λ r. ⌜ r ≡ countVerdict v (now (blocks .entry)) (now (edges .entry)) (now (insts .entry)) (now (operands .entry)) (now (crossings .entry)) (now (locals .entry)) (now (slots .entry)) (now (addresses .entry)) (now (ends .entry)) (now (pieces .entry)) (now (assigned .entry)) (now (moves .entry)) areas ⌝ }
+    ensures { λ r. ⌜ ((points : ℕ) → r ≡ countVerdict (lentRows points v blocks edges insts operands crossings locals slots addresses ends pieces assigned moves) areas) ⌝ }
 {
     let a = carry_checks::checks::counts(
         v,
@@ -93,20 +94,11 @@ fn located(
     refusals::earlier(a, b)
 }
 
-// Refusal 4 of the crossings, refusal 5 of the addresses, the ends and the moves, whatever the operands.
-fn stray(
-    v: u32,
-    blocks: &[u32],
-    insts: &[u32],
-    crossings: &[u32],
-    addresses: &[u32],
-    ends: &[u32],
-    moves: &[u32],
-) -> Verdict
-    requires { ⌜ v ≤ 65535 ⌝ }
-    ensures { λ r. ⌜ r ≡ strayVerdict v (now (blocks .entry)) (now (insts .entry)) [] (now (crossings .entry)) (now (addresses .entry)) (now (ends .entry)) (now (moves .entry)) ⌝ }
+// Refusal 5 of the addresses, the ends and the moves, whatever the operands.
+fn stray(blocks: &[u32], insts: &[u32], addresses: &[u32], ends: &[u32], moves: &[u32]) -> Verdict
+    ensures { λ r. ⌜ r ≡ strayVerdict (now (blocks .entry)) (now (insts .entry)) [] (now (addresses .entry)) (now (ends .entry)) (now (moves .entry)) ⌝ }
 {
-    let a = carry_checks::checks::stray(v, insts, crossings, addresses, ends);
+    let a = carry_checks::checks::stray(insts, addresses, ends);
     let b = spill_checks::moves(blocks, insts, moves);
     refusals::earlier(a, b)
 }
@@ -121,8 +113,8 @@ fn live(v: u32, blocks: &[u32], pieces: &[u32], assigned: &[u32]) -> Verdict
     refusals::earlier(a, b)
 }
 
-// The first refusal of a job's records, by number and then in the job text's order, for an area list of `areas` numbers.
-pub fn records(
+// Refusals 2 to 6 of records whose counts are within their limits, by number and then in the job text's order.
+pub fn placed(
     points: u32,
     v: u32,
     blocks: &[u32],
@@ -130,41 +122,22 @@ pub fn records(
     insts: &[u32],
     operands: &[u32],
     crossings: &[u32],
-    locals: &[u32],
-    slots: &[u32],
     addresses: &[u32],
     ends: &[u32],
     pieces: &[u32],
     assigned: &[u32],
     moves: &[u32],
-    areas: usize,
 ) -> Verdict
-    ensures { λ r. ⌜ r ≡ recordsVerdict points v (now (blocks .entry)) (now (edges .entry)) (now (insts .entry)) (now (operands .entry)) (now (crossings .entry)) (now (locals .entry)) (now (slots .entry)) (now (addresses .entry)) (now (ends .entry)) (now (pieces .entry)) (now (assigned .entry)) (now (moves .entry)) areas ⌝ }
+    requires { ⌜ (1 ≤ length (now blocks) / 3) × (length (now blocks) / 3 ≤ 4096) × AddsUp (now insts) (now operands) × (v ≤ 65535) ⌝ }
+    ensures { λ r. ⌜ r ≡ placedVerdict points v (now (blocks .entry)) (now (edges .entry)) (now (insts .entry)) (now (operands .entry)) (now (crossings .entry))
+        (now (addresses .entry)) (now (ends .entry)) (now (pieces .entry)) (now (assigned .entry)) (now (moves .entry)) ⌝ }
 {
-    let number = counts(
-        v,
-        blocks,
-        edges,
-        insts,
-        operands,
-        crossings,
-        locals,
-        slots,
-        addresses,
-        ends,
-        pieces,
-        assigned,
-        moves,
-        areas,
-    );
-    if let Verdict::Bad(r, i) = number {
-        return Verdict::Bad(r, i);
-    }
     let place = located(points, v, blocks, edges, insts, operands);
     if let Verdict::Bad(r, i) = place {
         return Verdict::Bad(r, i);
     }
-    let astray = stray(v, blocks, insts, crossings, addresses, ends, moves);
+    let crossed = insts::checks::crossing(v, crossings);
+    let astray = stray(blocks, insts, addresses, ends, moves);
     let outside = live(v, blocks, pieces, assigned);
-    refusals::earlier(astray, outside)
+    refusals::earlier(crossed, refusals::earlier(astray, outside))
 }

@@ -1,38 +1,31 @@
 -- From what `job::share` promises and its answer in one number to what the exported job promises, by how many counts there is room for.
-use Prim.Native.Nat.{ℕ, _+_, _/_, _≤_, _<_}
+use Prim.Native.Nat.{ℕ, _/_, _≤_, _<_}
 use mathlib.Core.Path.{_≡_, refl, sym, ap, subst, _∙_}
-use mathlib.Core.Bool.{Bool, true, false, _||_}
+use mathlib.Core.Bool.{Bool}
 use mathlib.Core.List.{List}
 use lib.ListN.{length, replicate}
-use lib.Dec.{ltb}
 use borrow.Author.Tests.{lt-ltb, le-ltb}
 use Rattle.refusals.specs.declared.Verdict.{Verdict}
 use Rattle.refusals.specs.declared.Verdict.the-variants.{Fine, Bad}
 use Rattle.refusals.specs.declared.Refusal.{Refusal}
-use Rattle.refusals.specs.declared.Refusal.the-variants.{Count, Space}
+use Rattle.refusals.specs.declared.Refusal.the-variants.{Space}
 use Rattle.refusals.specs.Verdicts.{numberOf, first, check}
 use Rattle.refusals.specs.Outcomes.{Outcome, unless, after}
-use Rattle.refusals.proofs.Laws.{first-bad, first-last}
+use Rattle.refusals.proofs.Laws.{first-fine, first-bad, first-last}
 use Rattle.areas.specs.Job.{itemsVerdict}
 use Rattle.fitting.specs.Plan.{Plan}
 use Rattle.wants.specs.Entry.{Tally, tallyOf, cellRows}
-use Rattle.job_space.specs.declared.Sizes.{Sizes}
-use Rattle.job_space.specs.Space.{spaceOf, badShape}
-use Rattle.job_checks.specs.Job.{recordsVerdict}
+use Rattle.job_space.specs.Space.{spaceOf, sizesOf}
 use Rattle.soundness.specs.Demand.{jobPlan}
 use Rattle.job_answers.specs.declared.Shared.{Shared}
 use Rattle.job_answers.specs.Answers.{answered}
-use Rattle.job.specs.Entry.{job, sizes, spaceVerdict, lentVerdict, SharedAs}
-use Rattle.job.proofs.CheckLaws.{by-shape, by-records, by-space}
+use Rattle.job.specs.Entry.{lentVerdict, SharedAs}
 use Rattle.codes.specs.Codes.{refusalCode, codeOf, verdictCode}
 use Rattle.want_codes.specs.Plans.{countsOf, PlanTold}
 use Rattle.job_codes.specs.Job.{measuredVerdict, itemsTold, areasTold, JobCoded}
-
--- 7 of another cause, then 7
-space-again : (b : Bool) → first (check Space b) (Bad Space 0) ≡ Bad Space 0
-unfolding first
-space-again true = refl
-space-again false = refl
+use Rattle.job_space.specs.Rows.{Rows}
+use Rattle.fitting.specs.declared.Terms.{Terms}
+use Rattle.job_checks.specs.Job.{jobOf}
 
 -- whatever comes before, a refusal at last is a refusal
 never-fine : (v : Verdict) → (r : Refusal) × (i : ℕ) × (first v (Bad Space 0) ≡ Bad r i)
@@ -40,49 +33,41 @@ unfolding first
 never-fine Fine = (Space, 0, refl)
 never-fine (Bad r i) = (r, i, refl)
 
-space-last : (z : Sizes) (cells items work : ℕ) → first (spaceVerdict z cells items work) (Bad Space 0) ≡ Bad Space 0
-space-last z cells items work = space-again (ltb work (spaceOf z) || (ltb (cells / 2) (z .locals + z .slots) || ltb (items / 4) (z .locals + z .slots)))
-
-module _ (points v budget : ℕ) (blocks edges insts operands crossings locals slots addresses ends pieces assigned moves : List ℕ) where
+module _ (R : Rows) (t : Terms) where
   -- the ways out of `short`
   module _ (cells items areas work : ℕ) where
     abbrev lent : Verdict
-    lent = lentVerdict points v budget blocks edges insts operands crossings locals slots addresses ends pieces assigned moves cells items areas work
+    lent = lentVerdict R t cells items areas work
 
-    pub short-shape : {n : ℕ} → badShape budget cells items ≡ true → n ≡ refusalCode 1 0 → n ≡ verdictCode (first lent (Bad Space 0))
-    short-shape e q = q ∙ ap verdictCode (sym (first-bad lent (Bad Space 0) Count 0 (sym (by-shape points v budget blocks edges insts operands crossings locals slots addresses ends pieces assigned moves cells items areas work e))))
+    pub short-lent : {n : ℕ} (r : Refusal) (i : ℕ) → lent ≡ Bad r i → n ≡ refusalCode (numberOf r) i → n ≡ verdictCode (first lent (Bad Space 0))
+    short-lent r i e q = q ∙ ap verdictCode (sym (first-bad lent (Bad Space 0) r i e))
 
-    pub short-records : {n : ℕ} (r : Refusal) (i : ℕ) → badShape budget cells items ≡ false → recordsVerdict points v blocks edges insts operands crossings locals slots addresses ends pieces assigned moves areas ≡ Bad r i → n ≡ refusalCode (numberOf r) i
-        → n ≡ verdictCode (first lent (Bad Space 0))
-    short-records r i e f q = q ∙ ap verdictCode (sym (first-bad lent (Bad Space 0) r i (sym (by-records points v budget blocks edges insts operands crossings locals slots addresses ends pieces assigned moves cells items areas work r i e f))))
-
-    pub short-space : {n : ℕ} → badShape budget cells items ≡ false → recordsVerdict points v blocks edges insts operands crossings locals slots addresses ends pieces assigned moves areas ≡ Fine → n ≡ refusalCode 7 0 → n ≡ verdictCode (first lent (Bad Space 0))
-    short-space e f q =
-        q ∙ ap verdictCode (sym (ap (λ (x : Verdict). first x (Bad Space 0)) (sym (by-space points v budget blocks edges insts operands crossings locals slots addresses ends pieces assigned moves cells items areas work (sizes points v budget blocks edges insts operands crossings locals slots addresses ends pieces assigned moves areas) e f refl refl)) ∙ space-last (sizes points v budget blocks edges insts operands crossings locals slots addresses ends pieces assigned moves areas) cells items work))
+    pub short-space : {n : ℕ} → lent ≡ Fine → n ≡ refusalCode 7 0 → n ≡ verdictCode (first lent (Bad Space 0))
+    short-space e q = q ∙ ap verdictCode (sym (first-fine lent (Bad Space 0) e))
 
   module _ (cells items areas counts work : List ℕ) where
     abbrev lentNow : Verdict
-    lentNow = lentVerdict points v budget blocks edges insts operands crossings locals slots addresses ends pieces assigned moves (length cells) (length items) (length areas) (length work)
+    lentNow = lentVerdict R t (length cells) (length items) (length areas) (length work)
 
     abbrev listNow : Verdict
-    listNow = itemsVerdict (job points v budget blocks edges insts operands crossings locals slots addresses ends pieces assigned moves) (length areas / 2)
+    listNow = itemsVerdict (jobOf R) (length areas / 2)
 
     abbrev planNow : Plan
-    planNow = jobPlan (job points v budget blocks edges insts operands crossings locals slots addresses ends pieces assigned moves) budget
+    planNow = jobPlan (jobOf R) (t .budget)
 
     abbrev itemsNow : Plan → List ℕ
-    itemsNow = itemsTold points v budget blocks edges insts operands crossings locals slots addresses ends pieces assigned moves
+    itemsNow = itemsTold R
 
     abbrev areasNow : Plan → List ℕ
-    areasNow = areasTold points v budget blocks edges insts operands crossings locals slots addresses ends pieces assigned moves
+    areasNow = areasTold R
 
     -- room for three counts: the entry's own verdicts
-    enough : 3 ≤ length counts → measuredVerdict points v budget blocks edges insts operands crossings locals slots addresses ends pieces assigned moves (length cells) (length items) (length areas) (length counts) (length work) ≡ lentNow
+    enough : 3 ≤ length counts → measuredVerdict R t (length cells) (length items) (length areas) (length counts) (length work) ≡ lentNow
     enough h = ap (λ (b : Bool). first lentNow (check Space b)) (le-ltb (length counts) 3 h) ∙ first-last lentNow
 
     pub job-coded : {cells′ items′ areas′ counts′ work′ : List ℕ} {s : Shared} {r : ℕ} → 3 ≤ length counts
-        → SharedAs points v budget blocks edges insts operands crossings locals slots addresses ends pieces assigned moves cells items areas work s cells′ items′ areas′ work′ → PlanTold counts (answered s) r counts′
-        → JobCoded points v budget blocks edges insts operands crossings locals slots addresses ends pieces assigned moves cells items areas counts work r cells′ items′ areas′ counts′ work′
+        → SharedAs R t cells items areas work s cells′ items′ areas′ work′ → PlanTold counts (answered s) r counts′
+        → JobCoded R t cells items areas counts work r cells′ items′ areas′ counts′ work′
     job-coded h a t =
         let e = sym (enough h) in
         record {
@@ -91,14 +76,14 @@ module _ (points v budget : ℕ) (blocks edges insts operands crossings locals s
           in-items = a .lists .in-items ∙ ap (λ (w : Verdict). after (unless (first w listNow) planNow) itemsNow items) e;
           in-areas = a .lists .in-areas ∙ ap (λ (w : Verdict). after (unless (first w listNow) planNow) areasNow areas) e;
           in-counts = t .in-counts ∙ ap (λ (x : Outcome Tally). after x countsOf counts) (a .lists .answer) ∙ ap (λ (w : Verdict). after (tallyOf (unless (first w listNow) planNow)) countsOf counts) e;
-          in-work = a .in-work ∙ ap (λ (w : Verdict). after (unless w (spaceOf (sizes points v budget blocks edges insts operands crossings locals slots addresses ends pieces assigned moves (length areas)))) (λ n. replicate n 0) work) e;
+          in-work = a .in-work ∙ ap (λ (w : Verdict). after (unless w (spaceOf (sizesOf R (length areas)))) (λ n. replicate n 0) work) e;
         }
 
     -- too little room: a refusal, and everything as it was
-    pub job-short : {r : ℕ} → length counts < 3 → r ≡ verdictCode (first lentNow (Bad Space 0)) → JobCoded points v budget blocks edges insts operands crossings locals slots addresses ends pieces assigned moves cells items areas counts work r cells items areas counts work
+    pub job-short : {r : ℕ} → length counts < 3 → r ≡ verdictCode (first lentNow (Bad Space 0)) → JobCoded R t cells items areas counts work r cells items areas counts work
     job-short h q =
         let (k, i, e) = never-fine lentNow in
-        let m : measuredVerdict points v budget blocks edges insts operands crossings locals slots addresses ends pieces assigned moves (length cells) (length items) (length areas) (length counts) (length work) ≡ Bad k i =
+        let m : measuredVerdict R t (length cells) (length items) (length areas) (length counts) (length work) ≡ Bad k i =
         ap (λ (b : Bool). first lentNow (check Space b)) (lt-ltb (length counts) 3 h) ∙ e in
         let c = sym (first-bad _ listNow k i m) in
         record {
@@ -107,5 +92,5 @@ module _ (points v budget : ℕ) (blocks edges insts operands crossings locals s
           in-items = ap (λ (w : Verdict). after (unless w planNow) itemsNow items) c;
           in-areas = ap (λ (w : Verdict). after (unless w planNow) areasNow areas) c;
           in-counts = ap (λ (w : Verdict). after (tallyOf (unless w planNow)) countsOf counts) c;
-          in-work = ap (λ (w : Verdict). after (unless w (spaceOf (sizes points v budget blocks edges insts operands crossings locals slots addresses ends pieces assigned moves (length areas)))) (λ n. replicate n 0) work) (sym m);
+          in-work = ap (λ (w : Verdict). after (unless w (spaceOf (sizesOf R (length areas)))) (λ n. replicate n 0) work) (sym m);
         }

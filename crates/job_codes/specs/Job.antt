@@ -11,48 +11,48 @@ use Rattle.areas.specs.Job.{itemCount, itemArea, itemsVerdict}
 use Rattle.fitting.specs.Plan.{Plan}
 use Rattle.wants.specs.Entry.{tallyOf, cellRows}
 use Rattle.area_tables.specs.Tables.{areaRows}
-use Rattle.job_space.specs.Space.{spaceOf}
+use Rattle.job_space.specs.Space.{spaceOf, sizesOf}
 use Rattle.soundness.specs.Demand.{jobPlan}
 use Rattle.job_answers.specs.Answers.{itemRows}
-use Rattle.job.specs.Entry.{job, sizes, lentVerdict}
+use Rattle.job.specs.Entry.{lentVerdict}
 use Rattle.codes.specs.Codes.{codeOf}
 use Rattle.want_codes.specs.Plans.{countsOf, fewCounts}
+use Rattle.job_space.specs.Rows.{Rows}
+use Rattle.fitting.specs.declared.Terms.{Terms}
+use Rattle.job_checks.specs.Job.{jobOf}
 
--- what a call is lent: `H`'s numbers and the rows of each group
-module _ (points v budget : ℕ) (blocks edges insts operands crossings locals slots addresses ends pieces assigned moves : List ℕ) where
+-- the item list and the area list of a plan
+abbrev pub itemsTold : Rows → Plan → List ℕ
+itemsTold R = itemRows (itemCount (jobOf R)) (itemArea (jobOf R))
+
+abbrev pub areasTold : Rows → Plan → List ℕ
+areasTold R _ = areaRows (itemCount (jobOf R)) (itemArea (jobOf R))
+
+-- what a call is lent: the rows, and what fitting has to keep to
+module _ (R : Rows) (t : Terms) where
   -- the answer lists, the counts and the work space, by their lengths
   module _ (cells items areas counts work : ℕ) where
     -- numbers 1 to 7; `counts` is an answer list of three numbers
     abbrev pub measuredVerdict : Verdict
-    measuredVerdict = first (lentVerdict points v budget blocks edges insts operands crossings locals slots addresses ends pieces assigned moves cells items areas work) (check Space (fewCounts counts))
+    measuredVerdict = first (lentVerdict R t cells items areas work) (check Space (fewCounts counts))
 
     -- all refusals, lowest number first: 9 comes after every cause of 7
     abbrev pub codedVerdict : Verdict
-    codedVerdict = first measuredVerdict (itemsVerdict (job points v budget blocks edges insts operands crossings locals slots addresses ends pieces assigned moves) (areas / 2))
+    codedVerdict = first measuredVerdict (itemsVerdict (jobOf R) (areas / 2))
 
     -- the job's plan, unless refused
     abbrev pub jobOutcome : Outcome Plan
-    jobOutcome = unless codedVerdict (jobPlan (job points v budget blocks edges insts operands crossings locals slots addresses ends pieces assigned moves) budget)
+    jobOutcome = unless codedVerdict (jobPlan (jobOf R) (t .budget))
 
     -- W, unless refused before anything is measured
     abbrev pub workOutcome : Outcome ℕ
-    workOutcome = unless measuredVerdict (spaceOf (sizes points v budget blocks edges insts operands crossings locals slots addresses ends pieces assigned moves areas))
-
-  abbrev pub itemsTold : Plan → List ℕ
-  itemsTold =
-      itemRows (itemCount (job points v budget blocks edges insts operands crossings locals slots addresses ends pieces assigned moves))
-      (itemArea (job points v budget blocks edges insts operands crossings locals slots addresses ends pieces assigned moves))
-
-  abbrev pub areasTold : Plan → List ℕ
-  areasTold _ =
-      areaRows (itemCount (job points v budget blocks edges insts operands crossings locals slots addresses ends pieces assigned moves))
-      (itemArea (job points v budget blocks edges insts operands crossings locals slots addresses ends pieces assigned moves))
+    workOutcome = unless measuredVerdict (spaceOf (sizesOf R areas))
 
   -- the whole job: the answer in one number, and each list that was lent
   pub record JobCoded (cells items areas counts work : List ℕ) (r : ℕ) (cells′ items′ areas′ counts′ work′ : List ℕ) : Type 0 where
     pub answer : r ≡ codeOf (tallyOf (jobOutcome (length cells) (length items) (length areas) (length counts) (length work)))
     pub in-cells : cells′ ≡ after (jobOutcome (length cells) (length items) (length areas) (length counts) (length work)) cellRows cells
-    pub in-items : items′ ≡ after (jobOutcome (length cells) (length items) (length areas) (length counts) (length work)) itemsTold items
-    pub in-areas : areas′ ≡ after (jobOutcome (length cells) (length items) (length areas) (length counts) (length work)) areasTold areas
+    pub in-items : items′ ≡ after (jobOutcome (length cells) (length items) (length areas) (length counts) (length work)) (itemsTold R) items
+    pub in-areas : areas′ ≡ after (jobOutcome (length cells) (length items) (length areas) (length counts) (length work)) (areasTold R) areas
     pub in-counts : counts′ ≡ after (tallyOf (jobOutcome (length cells) (length items) (length areas) (length counts) (length work))) countsOf counts
     pub in-work : work′ ≡ after (workOutcome (length cells) (length items) (length areas) (length counts) (length work)) (λ n. replicate n 0) work

@@ -6,6 +6,7 @@ ghost use Rattle.refusals.specs.declared.Refusal.the-variants.{Space};
 ghost use Rattle.refusals.specs.declared.Verdict.the-variants.{Bad};
 ghost use Rattle.refusals.specs.Verdicts.{first};
 ghost use Rattle.codes.specs.Codes.{verdictCode};
+ghost use Rattle.job_space.specs.Rows.{lentRows};
 ghost use Rattle.job.specs.Entry.{lentVerdict};
 ghost use Rattle.job_answers.specs.Answers.{answered};
 ghost use Rattle.want_codes.specs.Plans.{PlanTold};
@@ -13,6 +14,7 @@ ghost use Rattle.job_codes.specs.Job.{JobCoded};
 use codes::refused;
 use codes::tell;
 use job_answers::Shared;
+use job_space::Head;
 use refusals::Refusal;
 use refusals::Verdict;
 
@@ -32,9 +34,7 @@ fn job(counts: &mut [u64], s: Shared) -> u64
 
 // What is refused where there is too little room for the counts: numbers 1 to 6, else 7.
 fn short(
-    points: u32,
-    v: u32,
-    budget: u32,
+    head: Head,
     blocks: &[u32],
     edges: &[u32],
     insts: &[u32],
@@ -52,14 +52,11 @@ fn short(
     areas: usize,
     work: usize,
 ) -> u64
-    ensures { λ r. ⌜ r ≡ verdictCode (first (lentVerdict points v budget (now (blocks .entry)) (now (edges .entry)) (now (insts .entry)) (now (operands .entry)) (now (crossings .entry)) (now (locals .entry)) (now (slots .entry)) (now (addresses .entry)) (now (ends .entry)) (now (pieces .entry)) (now (assigned .entry)) (now (moves .entry)) cells items areas work) (Bad Space 0)) ⌝ }
+    ensures { λ r. ⌜ r ≡ verdictCode (first (lentVerdict (lentRows (head .points) (head .v) blocks edges insts operands crossings locals slots addresses ends pieces assigned moves)
+        (head .terms) cells items areas work) (Bad Space 0)) ⌝ }
 {
-    if job_space::bad_shape(budget, cells, items) {
-        return refused(Refusal::Count, 0);
-    }
-    let lent = job_checks::checks::records(
-        points,
-        v,
+    let lent = job::checks::refusal(
+        head,
         blocks,
         edges,
         insts,
@@ -72,7 +69,10 @@ fn short(
         pieces,
         assigned,
         moves,
+        cells,
+        items,
         areas,
+        work,
     );
     if let Verdict::Bad(r, i) = lent {
         return refused(r, i);
@@ -82,9 +82,7 @@ fn short(
 
 // `job::share`, the whole job: the plan's counts are cells, probes and depth; fewer than three numbers for them are refused with 7.
 pub fn share(
-    points: u32,
-    v: u32,
-    budget: u32,
+    head: Head,
     blocks: &[u32],
     edges: &[u32],
     insts: &[u32],
@@ -103,15 +101,13 @@ pub fn share(
     counts: &mut [u64],
     work: &mut [u64],
 ) -> u64
-    ensures { λ r. ⌜ JobCoded points v budget (now (blocks .entry)) (now (edges .entry)) (now (insts .entry)) (now (operands .entry)) (now (crossings .entry)) (now (locals .entry)) (now (slots .entry)) (now (addresses .entry)) (now (ends .entry)) (now (pieces .entry)) (now (assigned .entry)) (now (moves .entry))
+    ensures { λ r. ⌜ JobCoded (lentRows (head .points) (head .v) blocks edges insts operands crossings locals slots addresses ends pieces assigned moves) (head .terms)
         (now (cells .entry)) (now (items .entry)) (now (areas .entry)) (now (counts .entry)) (now (work .entry)) r
         (now (cells .exit)) (now (items .exit)) (now (areas .exit)) (now (counts .exit)) (now (work .exit)) ⌝ }
 {
     if counts.len() < 3 {
         return short(
-            points,
-            v,
-            budget,
+            head,
             blocks,
             edges,
             insts,
@@ -133,9 +129,7 @@ pub fn share(
     job(
         counts,
         job::share(
-            points,
-            v,
-            budget,
+            head,
             blocks,
             edges,
             insts,

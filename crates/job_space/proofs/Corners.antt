@@ -1,14 +1,19 @@
 -- The corners of the definitions, by computation: ⌈n/64⌉, the counts of a job's records, W, and number 1 of what only fitting takes.
+use Prim.Native.Nat.{ℕ}
 use mathlib.Core.Path.{_≡_, refl}
 use mathlib.Core.Bool.{true, false}
 use mathlib.Core.List.{[], _∷_}
+use Rattle.fitting.specs.declared.Terms.{Terms}
+use Rattle.job_space.specs.Rows.{rowsOf}
 use Rattle.job_space.specs.Space.{rowWords, sizesOf, spaceOf, badShape}
 
 pub words : (rowWords 0 ≡ 0) × (rowWords 1 ≡ 1) × (rowWords 64 ≡ 1) × (rowWords 65 ≡ 2)
 words = (refl, refl, refl, refl)
 
 -- each count by itself: a record has 3, 2, 9, 2, 1, 2, 1, 2, 2, 3, 2 and 4 numbers, the area list 2
-pub counts : sizesOf 7 (0 ∷ 0 ∷ 0 ∷ []) (0 ∷ 0 ∷ 0 ∷ 0 ∷ []) (0 ∷ 0 ∷ 0 ∷ 0 ∷ 0 ∷ 0 ∷ 0 ∷ 0 ∷ 0 ∷ []) (0 ∷ 0 ∷ 0 ∷ 0 ∷ 0 ∷ 0 ∷ []) (0 ∷ 0 ∷ 0 ∷ 0 ∷ []) (0 ∷ 0 ∷ []) (0 ∷ 0 ∷ []) (0 ∷ 0 ∷ 0 ∷ 0 ∷ 0 ∷ 0 ∷ []) (0 ∷ 0 ∷ 0 ∷ 0 ∷ []) (0 ∷ 0 ∷ 0 ∷ []) (0 ∷ 0 ∷ 0 ∷ 0 ∷ []) (0 ∷ 0 ∷ 0 ∷ 0 ∷ []) 11
+pub counts : sizesOf (rowsOf 0 7 (0 ∷ 0 ∷ 0 ∷ []) (0 ∷ 0 ∷ 0 ∷ 0 ∷ []) (0 ∷ 0 ∷ 0 ∷ 0 ∷ 0 ∷ 0 ∷ 0 ∷ 0 ∷ 0 ∷ []) (0 ∷ 0 ∷ 0 ∷ 0 ∷ 0 ∷ 0 ∷ [])
+    (0 ∷ 0 ∷ 0 ∷ 0 ∷ []) (0 ∷ 0 ∷ []) (0 ∷ 0 ∷ []) (0 ∷ 0 ∷ 0 ∷ 0 ∷ 0 ∷ 0 ∷ []) (0 ∷ 0 ∷ 0 ∷ 0 ∷ [])
+    (0 ∷ 0 ∷ 0 ∷ []) (0 ∷ 0 ∷ 0 ∷ 0 ∷ []) (0 ∷ 0 ∷ 0 ∷ 0 ∷ [])) 11
     ≡ record { v = 7; blocks = 1; edges = 2; insts = 1; operands = 3; crossings = 4; locals = 1; slots = 2; addresses = 3; ends = 2; pieces = 1; assigned = 2; moves = 1; room = 5 }
 counts = refl
 
@@ -18,5 +23,8 @@ pub space : (spaceOf (record { v = 0; blocks = 1; edges = 0; insts = 2; operands
 space = (refl, refl)
 
 -- number 1: "budget 1,048,576", a cell list of 2 and an item list of 4 numbers a row
-pub shapes : (badShape 1048576 2 4 ≡ false) × (badShape 1048577 2 4 ≡ true) × (badShape 0 3 4 ≡ true) × (badShape 0 2 6 ≡ true) × (badShape 0 0 0 ≡ false)
+abbrev terms : ℕ → Terms
+terms b = record { budget = b }
+
+pub shapes : (badShape (terms 1048576) 2 4 ≡ false) × (badShape (terms 1048577) 2 4 ≡ true) × (badShape (terms 0) 3 4 ≡ true) × (badShape (terms 0) 2 6 ≡ true) × (badShape (terms 0) 0 0 ≡ false)
 shapes = (refl, refl, refl, refl, refl)

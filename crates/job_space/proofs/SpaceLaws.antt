@@ -7,7 +7,9 @@ use mathlib.Core.Bool.{Bool, true, not}
 use mathlib.Core.List.{[], _∷_}
 use lib.Dec.{eqb}
 use borrow.Author.Tests.{lt-ltb, le-ltb, eq-eqb, ne-eqb}
+use Rattle.fitting.specs.declared.Terms.{Terms}
 use Rattle.job_space.specs.declared.Sizes.{Sizes}
+use Rattle.job_space.specs.Rows.{rowsOf}
 use Rattle.job_space.specs.Space.{rowWords, sizesOf, spaceOf, Counted, Small, badShape}
 
 -- the rows of the places are short
@@ -18,9 +20,9 @@ rows-small {z} S =
     omega (arith, S .few-blocks)
 
 -- ★1 with an area list of 64 ranges: 7 records, one block with a row of one word, 64 ranges and no register
-pub star-1-space : spaceOf (sizesOf 0 (0 ∷ 0 ∷ 19 ∷ []) []
+pub star-1-space : spaceOf (sizesOf (rowsOf 20 0 (0 ∷ 0 ∷ 19 ∷ []) []
     (1 ∷ 0 ∷ 2 ∷ 3 ∷ 0 ∷ 0 ∷ 256 ∷ 256 ∷ 0 ∷ 1 ∷ 0 ∷ 6 ∷ 7 ∷ 0 ∷ 0 ∷ 256 ∷ 256 ∷ 0 ∷ []) [] []
-    (8 ∷ 8 ∷ 4 ∷ 4 ∷ []) [] (0 ∷ 0 ∷ 1 ∷ 1 ∷ []) [] [] [] [] 128) ≡ 576
+    (8 ∷ 8 ∷ 4 ∷ 4 ∷ []) [] (0 ∷ 0 ∷ 1 ∷ 1 ∷ []) [] [] [] []) 128) ≡ 576
 star-1-space = refl
 
 -- W of any 32-bit numbers is far below 64 bits
@@ -50,12 +52,12 @@ small-counted S = record {
 
 -- ---- number 1 of the budget, the cells and the items
 
-module _ (budget cells items : ℕ) where
-  pub over-budget : 1048576 < budget → true ≡ badShape budget cells items
-  over-budget h = simp (lt-ltb 1048576 budget h)
+module _ (t : Terms) (cells items : ℕ) where
+  pub over-budget : 1048576 < t .budget → true ≡ badShape t cells items
+  over-budget h = simp (lt-ltb 1048576 (t .budget) h)
 
-  pub odd-cells : budget ≤ 1048576 → (cells % 2 ≡ 0 → ⊥) → true ≡ badShape budget cells items
-  odd-cells h d = simp (le-ltb 1048576 budget h, ne-eqb (cells % 2) 0 d)
+  pub odd-cells : t .budget ≤ 1048576 → (cells % 2 ≡ 0 → ⊥) → true ≡ badShape t cells items
+  odd-cells h d = simp (le-ltb 1048576 (t .budget) h, ne-eqb (cells % 2) 0 d)
 
-  pub by-items : (r : Bool) → budget ≤ 1048576 → cells % 2 ≡ 0 → r ≡ not (eqb (items % 4) 0) → r ≡ badShape budget cells items
-  by-items r h e g = g ∙ simp (le-ltb 1048576 budget h, eq-eqb (cells % 2) 0 e)
+  pub by-items : (r : Bool) → t .budget ≤ 1048576 → cells % 2 ≡ 0 → r ≡ not (eqb (items % 4) 0) → r ≡ badShape t cells items
+  by-items r h e g = g ∙ simp (le-ltb 1048576 (t .budget) h, eq-eqb (cells % 2) 0 e)

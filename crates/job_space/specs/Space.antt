@@ -1,33 +1,34 @@
 -- Document 01: the counts of a job's records, W, and number 1 of what only fitting takes.
 use Prim.Native.Nat.{ℕ, _+_, _*_, _/_, _%_, _^_, _≤_, _<_}
 use mathlib.Core.Bool.{Bool, not, _||_}
-use mathlib.Core.List.{List}
 use lib.ListN.{length}
 use lib.Dec.{ltb, eqb}
 use Rattle.words.specs.Rows.{rowCount}
+use Rattle.fitting.specs.declared.Terms.{Terms}
 use Rattle.job_space.specs.declared.Sizes.{Sizes}
+use Rattle.job_space.specs.Rows.{Rows}
 
 -- ⌈n/64⌉: the words of a row of n bits
 abbrev pub rowWords : ℕ → ℕ
 rowWords n = (n + 63) / 64
 
 -- how many records are lent, how many ranges the area list holds, and V
-abbrev pub sizesOf : ℕ → List ℕ → List ℕ → List ℕ → List ℕ → List ℕ → List ℕ → List ℕ → List ℕ → List ℕ → List ℕ → List ℕ → List ℕ → ℕ → Sizes
-sizesOf v blocks edges insts operands crossings locals slots addresses ends pieces assigned moves areas =
+abbrev pub sizesOf : Rows → ℕ → Sizes
+sizesOf R areas =
     record {
-      v = v;
-      blocks = rowCount 3 blocks;
-      edges = rowCount 2 edges;
-      insts = rowCount 9 insts;
-      operands = rowCount 2 operands;
-      crossings = length crossings;
-      locals = rowCount 2 locals;
-      slots = length slots;
-      addresses = rowCount 2 addresses;
-      ends = rowCount 2 ends;
-      pieces = rowCount 3 pieces;
-      assigned = rowCount 2 assigned;
-      moves = rowCount 4 moves;
+      v = R .v;
+      blocks = rowCount 3 (R .blocks);
+      edges = rowCount 2 (R .edges);
+      insts = rowCount 9 (R .insts);
+      operands = rowCount 2 (R .operands);
+      crossings = length (R .crossings);
+      locals = rowCount 2 (R .locals);
+      slots = length (R .slots);
+      addresses = rowCount 2 (R .addresses);
+      ends = rowCount 2 (R .ends);
+      pieces = rowCount 3 (R .pieces);
+      assigned = rowCount 2 (R .assigned);
+      moves = rowCount 4 (R .moves);
       room = areas / 2;
     }
 
@@ -73,5 +74,5 @@ pub record Small (z : Sizes) : Type 0 where
   pub few-ranges : z .room ≤ 65536
 
 -- number 1 of what only fitting takes: the budget over 1,048,576, a cell or an item list that is no whole rows
-abbrev pub badShape : ℕ → ℕ → ℕ → Bool
-badShape budget cells items = ltb 1048576 budget || (not (eqb (cells % 2) 0) || not (eqb (items % 4) 0))
+abbrev pub badShape : Terms → ℕ → ℕ → Bool
+badShape t cells items = ltb 1048576 (t .budget) || (not (eqb (cells % 2) 0) || not (eqb (items % 4) 0))

@@ -1,10 +1,18 @@
 // The counts of a job's records as they are lent, W, and what only fitting takes.
 ghost use mathlib.Core.Path.{_≡_};
 ghost use Rattle.job_space.specs.Space.{spaceOf, Counted, badShape};
+use fitting::Terms;
 
 pub mod records; // records.rt: how many are lent
 
 const BUDGET: u32 = 1048576;
+
+// The numbers of a job's `H` line: the points, V, and what fitting has to keep to.
+pub struct Head {
+    pub points: u32,
+    pub v: u32,
+    pub terms: Terms,
+}
 
 // How many records of each group are lent, how many ranges the area list holds, and how many registers are numbered.
 pub struct Sizes {
@@ -53,7 +61,22 @@ pub fn words(
     moves: u32,
     ranges: u32,
 ) -> u64
-    ensures { λ r. ⌜ r ≡ spaceOf (record { v = v; blocks = blocks; edges = edges; insts = insts; operands = operands; crossings = crossings; locals = locals; slots = slots; addresses = addresses; ends = ends; pieces = pieces; assigned = assigned; moves = moves; room = ranges }) ⌝ }
+    ensures { λ r. ⌜ r ≡ spaceOf (record {
+      v = v;
+      blocks = blocks;
+      edges = edges;
+      insts = insts;
+      operands = operands;
+      crossings = crossings;
+      locals = locals;
+      slots = slots;
+      addresses = addresses;
+      ends = ends;
+      pieces = pieces;
+      assigned = assigned;
+      moves = moves;
+      room = ranges;
+    }) ⌝ }
 {
     needed(Sizes {
         v: v as usize,
@@ -74,10 +97,10 @@ pub fn words(
 }
 
 // Refusal 1 of what only fitting takes: a budget over its limit, or a cell or an item list that is no whole rows.
-pub fn bad_shape(budget: u32, cells: usize, items: usize) -> bool
-    ensures { λ r. ⌜ r ≡ badShape budget cells items ⌝ }
+pub fn bad_shape(terms: Terms, cells: usize, items: usize) -> bool
+    ensures { λ r. ⌜ r ≡ badShape terms cells items ⌝ }
 {
-    if BUDGET < budget {
+    if BUDGET < terms.budget {
         return true;
     }
     if cells % 2 != 0 {

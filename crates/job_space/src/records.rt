@@ -1,5 +1,7 @@
 // How many records of each group are lent.
 ghost use mathlib.Core.Path.{_≡_};
+ghost use Prim.Native.Nat.{ℕ};
+ghost use Rattle.job_space.specs.Rows.{lentRows};
 ghost use Rattle.job_space.specs.Space.{sizesOf};
 use crate::Sizes;
 
@@ -20,7 +22,7 @@ pub fn sizes(
     moves: &[u32],
     areas: usize,
 ) -> Sizes
-    ensures { λ r. ⌜ r ≡ sizesOf v (now (blocks .entry)) (now (edges .entry)) (now (insts .entry)) (now (operands .entry)) (now (crossings .entry)) (now (locals .entry)) (now (slots .entry)) (now (addresses .entry)) (now (ends .entry)) (now (pieces .entry)) (now (assigned .entry)) (now (moves .entry)) areas ⌝ }
+    ensures { λ r. ⌜ ((points : ℕ) → r ≡ sizesOf (lentRows points v blocks edges insts operands crossings locals slots addresses ends pieces assigned moves) areas) ⌝ }
 {
     Sizes {
         v: v as usize,

@@ -6,7 +6,9 @@ ghost use mathlib.Core.Path.{_≡_};
 ghost use lib.ListN.{length};
 ghost use Rattle.cases.specs.Cuts.{Ordered};
 use cases::Cuts;
+use fitting::Terms;
 use job::Shared;
+use job_space::Head;
 
 // How many plans there are, and how many of them have fewer cells than items, spent as many probes as the budget has, have an ending local, over 64 locals, and a move that
 // names a slot. There are fewer cases than bytes of text, so that no count wraps.
@@ -85,10 +87,15 @@ fn shared(
     let c10 = e.c10;
     let c11 = e.c11;
     let c12 = e.c12;
+    let points = n[0];
+    let v = n[1];
+    let budget = n[2];
     job::share(
-        n[0],
-        n[1],
-        n[2],
+        Head {
+            points: points,
+            v: v,
+            terms: Terms { budget: budget },
+        },
         &n[c0..c1],
         &n[c1..c2],
         &n[c2..c3],

@@ -17,6 +17,7 @@ use Rattle.moved_ranges.specs.Moved.{MovedTo}
 use Rattle.spilled_registers.specs.Spilled.{SpilledTo}
 use Rattle.item_lists.specs.Lists.{answered as areasOutcome}
 use Rattle.area_entries.specs.Entry.{LocalAreas}
+use Rattle.job_space.specs.Rows.{Rows}
 use Rattle.item_areas.specs.Entry.{ItemAreas}
 use Rattle.plan_text.specs.Printed.{writtenOf}
 use Rattle.planning.specs.Answer.{TextPrinted}
@@ -67,9 +68,8 @@ abbrev pub LocalAreasCoded : List ℕ → List ℕ → ℕ → List ℕ → List
 LocalAreasCoded blocks edges points kinds touches ends areas₀ items₀ work₀ r areas items work =
     Coded (λ a. countCode (areasOutcome a)) (λ a. LocalAreas blocks edges points kinds touches ends areas₀ items₀ work₀ a areas items work) r
 
-abbrev pub ItemAreasCoded : ℕ → ℕ → List ℕ → List ℕ → List ℕ → List ℕ → List ℕ → List ℕ → List ℕ → List ℕ → List ℕ → List ℕ → List ℕ → List ℕ → List ℕ → List ℕ → List ℕ → ℕ → List ℕ → List ℕ → List ℕ → Type 0
-ItemAreasCoded points v blocks edges insts operands crossings locals slots addresses ends pieces assigned moves areas₀ items₀ work₀ r areas items work =
-    Coded (λ a. countCode (areasOutcome a)) (λ a. ItemAreas points v blocks edges insts operands crossings locals slots addresses ends pieces assigned moves areas₀ items₀ work₀ a areas items work) r
+abbrev pub ItemAreasCoded : Rows → List ℕ → List ℕ → List ℕ → ℕ → List ℕ → List ℕ → List ℕ → Type 0
+ItemAreasCoded R areas₀ items₀ work₀ r areas items work = Coded (λ a. countCode (areasOutcome a)) (λ a. ItemAreas R areas₀ items₀ work₀ a areas items work) r
 
 -- ---- text
 

@@ -1,4 +1,5 @@
 // Exported: the areas of items.
+ghost use Rattle.job_space.specs.Rows.{lentRows};
 ghost use mathlib.Core.Path.{_≡_};
 ghost use Rattle.area_layout.specs.Layout.{spaceFor};
 ghost use Rattle.slots.specs.Exports.{ItemAreasCoded, LocalAreasCoded};
@@ -24,7 +25,7 @@ pub extern "C" fn slots_item_areas(
     items: &mut [u32],
     work: &mut [u64],
 ) -> u64
-    ensures { λ r. ⌜ ItemAreasCoded points v (now (blocks .entry)) (now (edges .entry)) (now (insts .entry)) (now (operands .entry)) (now (crossings .entry)) (now (locals .entry)) (now (slots .entry)) (now (addresses .entry)) (now (ends .entry)) (now (pieces .entry)) (now (assigned .entry)) (now (moves .entry))
+    ensures { λ r. ⌜ ItemAreasCoded (lentRows points v blocks edges insts operands crossings locals slots addresses ends pieces assigned moves)
         (now (areas .entry)) (now (items .entry)) (now (work .entry)) r (now (areas .exit)) (now (items .exit)) (now (work .exit)) ⌝ }
 {
     area_codes::areas_code(item_areas::item_areas(

@@ -11,7 +11,10 @@ ghost use Rattle.codes.specs.Codes.{countCode, optionCode, truthOf, truthCode};
 ghost use Rattle.want_codes.specs.Plans.{codedOutcome, PlanCoded};
 ghost use Rattle.query_codes.specs.Codes.{toldOf, PartTold};
 ghost use Rattle.slots.specs.Exports.{FlowCoded, SpreadCoded, fitSpace, ListCoded, CrowdCoded, CapCoded, ApartCoded};
+ghost use Rattle.job_space.specs.Rows.{lentRows};
 ghost use Rattle.job_codes.specs.Job.{JobCoded};
+use fitting::Terms;
+use job_space::Head;
 
 mod area_exports; // area_exports.rt: areas of items
 mod carry_exports; // carry_exports.rt: carried addresses, moves and slots
@@ -105,14 +108,16 @@ pub extern "C" fn slots_share(
     counts: &mut [u64],
     work: &mut [u64],
 ) -> u64
-    ensures { λ r. ⌜ JobCoded points v budget (now (blocks .entry)) (now (edges .entry)) (now (insts .entry)) (now (operands .entry)) (now (crossings .entry)) (now (locals .entry)) (now (slots .entry)) (now (addresses .entry)) (now (ends .entry)) (now (pieces .entry)) (now (assigned .entry)) (now (moves .entry))
+    ensures { λ r. ⌜ JobCoded (lentRows points v blocks edges insts operands crossings locals slots addresses ends pieces assigned moves) (record { budget = budget })
         (now (cells .entry)) (now (items .entry)) (now (areas .entry)) (now (counts .entry)) (now (work .entry)) r
         (now (cells .exit)) (now (items .exit)) (now (areas .exit)) (now (counts .exit)) (now (work .exit)) ⌝ }
 {
     job_codes::share(
-        points,
-        v,
-        budget,
+        Head {
+            points: points,
+            v: v,
+            terms: Terms { budget: budget },
+        },
         blocks,
         edges,
         insts,
@@ -151,7 +156,22 @@ pub extern "C" fn slots_work_words(
     moves: u32,
     ranges: u32,
 ) -> u64
-    ensures { λ r. ⌜ r ≡ spaceOf (record { v = v; blocks = blocks; edges = edges; insts = insts; operands = operands; crossings = crossings; locals = locals; slots = slots; addresses = addresses; ends = ends; pieces = pieces; assigned = assigned; moves = moves; room = ranges }) ⌝ }
+    ensures { λ r. ⌜ r ≡ spaceOf (record {
+      v = v;
+      blocks = blocks;
+      edges = edges;
+      insts = insts;
+      operands = operands;
+      crossings = crossings;
+      locals = locals;
+      slots = slots;
+      addresses = addresses;
+      ends = ends;
+      pieces = pieces;
+      assigned = assigned;
+      moves = moves;
+      room = ranges;
+    }) ⌝ }
 {
     job_space::words(
         v,

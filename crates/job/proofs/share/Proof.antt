@@ -1,15 +1,30 @@
 -- `share` meets its contract: refused, or measured, fitted and written.
 use native.Mathlib.Omega.{arith}
-use mathlib.Core.Path.{sym, ap, subst, _∙_}
+use mathlib.Core.Path.{_≡_, sym, ap, subst, _∙_}
 use lib.ListN.{length}
 use denote.Ref.{now}
 use borrow.Author.Needs.{needs}
+use Rattle.refusals.specs.declared.Verdict.{Verdict}
+use Rattle.refusals.specs.declared.Verdict.the-variants.{Fine}
+use Rattle.job_space.specs.Rows.{Rows, rowsAt}
 use Rattle.job_space.specs.Space.{Small, spaceOf}
 use Rattle.job_space.proofs.SpaceLaws.{small-counted}
-use Rattle.job.proofs.CheckLaws.{granted}
+use Rattle.job.specs.Entry.{lentVerdict}
+use Rattle.job.proofs.CheckLaws.{Granted, granted}
 use Rattle.job.proofs.EntryLaws.{refused-entry, asked, answered-entry}
 use Rattle.job.proofs.share.Statement.{statement}
 use Rattle.job.proofs.share.Tie as tie
+
+-- what was lent
+abbrev rows : tie.Start → Rows
+rows s = let a = s .args in rowsAt (a .head .points) (a .head .v) (a .blocks) (a .edges) (a .insts) (a .operands) (a .crossings) (a .locals)
+    (a .slots) (a .addresses) (a .ends) (a .pieces) (a .assigned) (a .moves)
+
+abbrev lent : tie.Start → Verdict
+lent s = let a = s .args in lentVerdict (rows s) (a .head .terms) (length (now (a .cells))) (length (now (a .items))) (length (now (a .areas))) (length (now (a .work)))
+
+known : (s : tie.Start) → lent s ≡ Fine → let a = s .args in Granted (rows s) (length (now (a .cells))) (length (now (a .items))) (length (now (a .areas))) (now (a .work))
+known s = let a = s .args in granted (rows s) (a .head .terms) (length (now (a .cells))) (length (now (a .items))) (length (now (a .areas))) (now (a .work))
 
 refusal-requires : tie.Need-refusal-requires
 refusal-requires c κs = search needs
@@ -18,7 +33,10 @@ enum-known-verdict : tie.Need-enum-known-verdict
 enum-known-verdict c = search needs
 
 returns : tie.Need-returns
-returns c = let a = (c .before .before .before .before .before .before .before .before .before .before .before .before .before .before .before .before .before .before .before .before .args) in refused-entry (a .points) (a .v) (a .budget) (now (a .blocks)) (now (a .edges)) (now (a .insts)) (now (a .operands)) (now (a .crossings)) (now (a .locals)) (now (a .slots)) (now (a .addresses)) (now (a .ends)) (now (a .pieces)) (now (a .assigned)) (now (a .moves)) (now (a .cells)) (now (a .items)) (now (a .areas)) (now (a .work)) _ _ (sym ((c .before .before .before .refusal) .ensures) ∙ (c .before .verdict) .given .1)
+returns c =
+    let s = (c .before .before .before .before .before .before .before .before .before .before .before .before .before .before .before .before .before .before .before .before) in
+    let a = s .args in
+    refused-entry (rows s) (a .head .terms) (now (a .cells)) (now (a .items)) (now (a .areas)) (now (a .work)) _ _ (sym ((c .before .before .before .refusal) .ensures) ∙ (c .before .verdict) .given .1)
 
 enum-told : tie.Need-enum-told
 enum-told c = search needs
@@ -27,16 +45,25 @@ sizes-requires : tie.Need-sizes-requires
 sizes-requires c κs = search needs
 
 needed-requires : tie.Need-needed-requires
-needed-requires c κs = let a = (c .before .before .before .before .before .before .before .before .before .before .before .before .before .before .before .before .before .before .before .before .args) in let g = granted (a .points) (a .v) (a .budget) (now (a .blocks)) (now (a .edges)) (now (a .insts)) (now (a .operands)) (now (a .crossings)) (now (a .locals)) (now (a .slots)) (now (a .addresses)) (now (a .ends)) (now (a .pieces)) (now (a .assigned)) (now (a .moves)) (length (now (a .cells))) (length (now (a .items))) (length (now (a .areas))) (now (a .work)) (sym ((c .before .before .before .refusal) .ensures) ∙ (c .before .enum-told) .given .1) in small-counted (subst Small (sym ((c .sizes) .ensures)) (g .lent .passed .small))
+needed-requires c κs =
+    let s = (c .before .before .before .before .before .before .before .before .before .before .before .before .before .before .before .before .before .before .before .before) in
+    small-counted (subst Small (sym ((c .sizes) .ensures (s .args .head .points))) (known s (sym ((c .before .before .before .refusal) .ensures) ∙ (c .before .enum-told) .given .1) .lent .passed .small))
 
 solve-requires : tie.Need-solve-requires
-solve-requires c κs = let a = (c .before .before .before .before .before .before .before .before .before .before .before .before .before .before .before .before .before .before .before .before .before .before .args) in let g = granted (a .points) (a .v) (a .budget) (now (a .blocks)) (now (a .edges)) (now (a .insts)) (now (a .operands)) (now (a .crossings)) (now (a .locals)) (now (a .slots)) (now (a .addresses)) (now (a .ends)) (now (a .pieces)) (now (a .assigned)) (now (a .moves)) (length (now (a .cells))) (length (now (a .items))) (length (now (a .areas))) (now (a .work)) (sym ((c .before .before .before .before .before .refusal) .ensures) ∙ (c .before .before .before .enum-told) .given .1) in g .lent
+solve-requires c κs = let s = (c .before .before .before .before .before .before .before .before .before .before .before .before .before .before .before .before .before .before .before .before .before .before) in known s (sym ((c .before .before .before .before .before .refusal) .ensures) ∙ (c .before .before .before .enum-told) .given .1) .lent
 
 answer-requires : tie.Need-answer-requires
-answer-requires c κs = let a = (c .before .before .before .before .before .before .before .before .before .before .before .before .before .before .before .before .before .before .before .before .before .before .before .before .before .before .before .before .before .args) in let g = granted (a .points) (a .v) (a .budget) (now (a .blocks)) (now (a .edges)) (now (a .insts)) (now (a .operands)) (now (a .crossings)) (now (a .locals)) (now (a .slots)) (now (a .addresses)) (now (a .ends)) (now (a .pieces)) (now (a .assigned)) (now (a .moves)) (length (now (a .cells))) (length (now (a .items))) (length (now (a .areas))) (now (a .work)) (sym ((c .before .before .before .before .before .before .before .before .before .before .before .before .refusal) .ensures) ∙ (c .before .before .before .before .before .before .before .before .before .before .enum-told) .given .1) in asked (a .points) (a .v) (a .budget) (now (a .blocks)) (now (a .edges)) (now (a .insts)) (now (a .operands)) (now (a .crossings)) (now (a .locals)) (now (a .slots)) (now (a .addresses)) (now (a .ends)) (now (a .pieces)) (now (a .assigned)) (now (a .moves)) (now (a .cells)) (now (a .items)) (now (a .areas)) (now (a .work)) g ((c .before .before .before .before .before .before .solve) .ensures) ((c .before .before .before .before .before .before .before .before .needed) .ensures ∙ ap spaceOf ((c .before .before .before .before .before .before .before .before .before .sizes) .ensures))
+answer-requires c κs =
+    let s = (c .before .before .before .before .before .before .before .before .before .before .before .before .before .before .before .before .before .before .before .before .before .before .before .before .before .before .before .before .before) in
+    let a = s .args in
+    asked (rows s) (a .head .terms) (now (a .cells)) (now (a .items)) (now (a .areas)) (now (a .work)) (known s (sym ((c .before .before .before .before .before .before .before .before .before .before .before .before .refusal) .ensures) ∙ (c .before .before .before .before .before .before .before .before .before .before .enum-told) .given .1))
+    ((c .before .before .before .before .before .before .solve) .ensures) ((c .before .before .before .before .before .before .before .before .needed) .ensures ∙ ap spaceOf ((c .before .before .before .before .before .before .before .before .before .sizes) .ensures (s .args .head .points)))
 
 clear-requires : tie.Need-clear-requires
-clear-requires c κs = let a = (c .before .before .before .before .before .before .before .before .before .before .before .before .before .before .before .before .before .before .before .before .before .before .before .before .before .before .before .before .before .before .before .before .before .before .before .before .before .before .before .args) in let g = granted (a .points) (a .v) (a .budget) (now (a .blocks)) (now (a .edges)) (now (a .insts)) (now (a .operands)) (now (a .crossings)) (now (a .locals)) (now (a .slots)) (now (a .addresses)) (now (a .ends)) (now (a .pieces)) (now (a .assigned)) (now (a .moves)) (length (now (a .cells))) (length (now (a .items))) (length (now (a .areas))) (now (a .work)) (sym ((c .before .before .before .before .before .before .before .before .before .before .before .before .before .before .before .before .before .before .before .before .before .before .refusal) .ensures) ∙ (c .before .before .before .before .before .before .before .before .before .before .before .before .before .before .before .before .before .before .before .before .enum-told) .given .1) in omega (arith, g .lent .space, (c .before .before .before .before .before .before .before .before .before .before .before .before .before .before .before .before .before .before .needed) .ensures ∙ ap spaceOf ((c .before .before .before .before .before .before .before .before .before .before .before .before .before .before .before .before .before .before .before .sizes) .ensures), (c .before .before .before .before .before .before .before .before .before .before .before .before .before .before .before .before .solve) .ensures .kept .len, (c .before .before .before .before .before .before .before .before .before .answer) .ensures .0 .len)
+clear-requires c κs =
+    let s = (c .before .before .before .before .before .before .before .before .before .before .before .before .before .before .before .before .before .before .before .before .before .before .before .before .before .before .before .before .before .before .before .before .before .before .before .before .before .before .before) in
+    let g = known s (sym ((c .before .before .before .before .before .before .before .before .before .before .before .before .before .before .before .before .before .before .before .before .before .before .refusal) .ensures) ∙ (c .before .before .before .before .before .before .before .before .before .before .before .before .before .before .before .before .before .before .before .before .enum-told) .given .1) in
+    omega (arith, g .lent .space, (c .before .before .before .before .before .before .before .before .before .before .before .before .before .before .before .before .before .before .needed) .ensures ∙ ap spaceOf ((c .before .before .before .before .before .before .before .before .before .before .before .before .before .before .before .before .before .before .before .sizes) .ensures (s .args .head .points)), (c .before .before .before .before .before .before .before .before .before .before .before .before .before .before .before .before .solve) .ensures .kept .len, (c .before .before .before .before .before .before .before .before .before .answer) .ensures .0 .len)
 
 same-length : tie.Need-same-length
 same-length c = search needs
@@ -51,7 +78,11 @@ same-length-4 : tie.Need-same-length-4
 same-length-4 c = search needs
 
 returns-2 : tie.Need-returns-2
-returns-2 c = let a = (c .before .before .before .before .before .before .before .before .before .before .before .before .before .before .before .before .before .before .before .before .before .before .before .before .before .before .before .before .before .before .before .before .before .before .before .before .before .before .before .before .before .before .args) in answered-entry (a .points) (a .v) (a .budget) (now (a .blocks)) (now (a .edges)) (now (a .insts)) (now (a .operands)) (now (a .crossings)) (now (a .locals)) (now (a .slots)) (now (a .addresses)) (now (a .ends)) (now (a .pieces)) (now (a .assigned)) (now (a .moves)) (now (a .cells)) (now (a .items)) (now (a .areas)) (now (a .work)) (sym ((c .before .before .before .before .before .before .before .before .before .before .before .before .before .before .before .before .before .before .before .before .before .before .before .before .before .refusal) .ensures) ∙ (c .before .before .before .before .before .before .before .before .before .before .before .before .before .before .before .before .before .before .before .before .before .before .before .enum-told) .given .1) ((c .before .before .before .before .before .before .before .before .before .before .before .before .before .before .before .before .before .before .before .solve) .ensures) ((c .before .before .before .before .before .before .before .before .before .before .before .before .before .before .before .before .before .before .before .before .before .needed) .ensures ∙ ap spaceOf ((c .before .before .before .before .before .before .before .before .before .before .before .before .before .before .before .before .before .before .before .before .before .before .sizes) .ensures)) ((c .before .before .before .before .before .before .before .before .before .before .before .before .answer) .ensures .0) ((c .before .before .before .before .before .before .before .before .before .before .before .before .answer) .ensures .1) ((c .before .before .clear) .ensures)
+returns-2 c =
+    let s = (c .before .before .before .before .before .before .before .before .before .before .before .before .before .before .before .before .before .before .before .before .before .before .before .before .before .before .before .before .before .before .before .before .before .before .before .before .before .before .before .before .before .before) in
+    let a = s .args in
+    answered-entry (rows s) (a .head .terms) (now (a .cells)) (now (a .items)) (now (a .areas)) (now (a .work)) (sym ((c .before .before .before .before .before .before .before .before .before .before .before .before .before .before .before .before .before .before .before .before .before .before .before .before .before .refusal) .ensures) ∙ (c .before .before .before .before .before .before .before .before .before .before .before .before .before .before .before .before .before .before .before .before .before .before .before .enum-told) .given .1)
+    ((c .before .before .before .before .before .before .before .before .before .before .before .before .before .before .before .before .before .before .before .solve) .ensures) ((c .before .before .before .before .before .before .before .before .before .before .before .before .before .before .before .before .before .before .before .before .before .needed) .ensures ∙ ap spaceOf ((c .before .before .before .before .before .before .before .before .before .before .before .before .before .before .before .before .before .before .before .before .before .before .sizes) .ensures (s .args .head .points))) ((c .before .before .before .before .before .before .before .before .before .before .before .before .answer) .ensures .0) ((c .before .before .before .before .before .before .before .before .before .before .before .before .answer) .ensures .1) ((c .before .before .clear) .ensures)
 
 pub share-spec : {M : Type 1} → statement M
 share-spec =

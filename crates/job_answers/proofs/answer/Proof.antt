@@ -11,7 +11,7 @@ use Rattle.job_answers.proofs.answer.Statement.{statement}
 use Rattle.job_answers.proofs.answer.Tie as tie
 
 returns : tie.Need-returns
-returns c = let a = (c .before .before .before .before .before .before .before .args) in (record { len = refl; below = λ i h. refl; past = λ i h. refl }, λ A D. refused-list A (planFor (now (a .locals)) (now (a .slots)) A (a .budget)) (countOf (now (a .locals)) (now (a .slots))) (length (now (a .areas)) / 2) (a .total) (now (a .work)) D (omega arith) _ _ _)
+returns c = let a = (c .before .before .before .before .before .before .before .args) in (record { len = refl; below = λ i h. refl; past = λ i h. refl }, λ A D. refused-list A (planFor (now (a .locals)) (now (a .slots)) A (a .terms .budget)) (countOf (now (a .locals)) (now (a .slots))) (length (now (a .areas)) / 2) (a .total) (now (a .work)) D (omega arith) _ _ _)
 
 fitted-requires : tie.Need-fitted-requires
 fitted-requires c κs = ready (c .before .before .before .before .before .before .before .before .pre) (omega arith)
@@ -20,7 +20,7 @@ add-write : tie.Need-add-write
 add-write c = omega (arith, (c .before .before .before .before .before .before .before .before .before .before .before .before .before .before .before .pre) .few)
 
 write-requires : tie.Need-write-requires
-write-requires c κs = let a = (c .before .before .before .before .before .before .before .before .before .before .before .before .before .before .before .args) in listable (now (a .locals)) (now (a .slots)) (a .budget) (a .total) (a .end) (now (a .cells)) (now (a .items)) (now (a .areas)) _ _ _ (c .before .before .before .before .before .before .before .before .before .before .before .before .before .before .before .pre) (omega arith) ((c .before .before .before .before .before .before .fitted) .ensures)
+write-requires c κs = let a = (c .before .before .before .before .before .before .before .before .before .before .before .before .before .before .before .args) in listable (now (a .locals)) (now (a .slots)) (a .terms .budget) (a .total) (a .end) (now (a .cells)) (now (a .items)) (now (a .areas)) _ _ _ (c .before .before .before .before .before .before .before .before .before .before .before .before .before .before .before .pre) (omega arith) ((c .before .before .before .before .before .before .fitted) .ensures)
 
 same-length : tie.Need-same-length
 same-length c = search needs
@@ -35,7 +35,7 @@ same-length-4 : tie.Need-same-length-4
 same-length-4 c = search needs
 
 returns-2 : tie.Need-returns-2
-returns-2 c = let a = (c .before .before .before .before .before .before .before .before .before .before .before .before .before .before .before .before .before .before .before .before .before .before .args) in ((c .before .before .before .before .before .before .before .before .before .before .before .before .before .fitted) .ensures .kept, λ A D. answered-list (now (a .locals)) (now (a .slots)) (a .budget) (a .total) (a .end) (now (a .cells)) (now (a .items)) (now (a .areas)) _ _ _ (c .before .before .before .before .before .before .before .before .before .before .before .before .before .before .before .before .before .before .before .before .before .before .pre) (omega arith) ((c .before .before .before .before .before .before .before .before .before .before .before .before .before .fitted) .ensures) A D ((c .before .before .before .before .before .before .write) .ensures))
+returns-2 c = let a = (c .before .before .before .before .before .before .before .before .before .before .before .before .before .before .before .before .before .before .before .before .before .before .args) in ((c .before .before .before .before .before .before .before .before .before .before .before .before .before .fitted) .ensures .kept, λ A D. answered-list (now (a .locals)) (now (a .slots)) (a .terms .budget) (a .total) (a .end) (now (a .cells)) (now (a .items)) (now (a .areas)) _ _ _ (c .before .before .before .before .before .before .before .before .before .before .before .before .before .before .before .before .before .before .before .before .before .before .pre) (omega arith) ((c .before .before .before .before .before .before .before .before .before .before .before .before .before .fitted) .ensures) A D ((c .before .before .before .before .before .before .write) .ensures))
 
 pub answer-spec : {M : Type 1} → statement M
 answer-spec =

@@ -5,13 +5,13 @@ use Rattle.job_space.proofs.bad_shape.Statement.{statement}
 use Rattle.job_space.proofs.bad_shape.Tie as tie
 
 returns : tie.Need-returns
-returns c = over-budget ((c .before .args) .budget) ((c .before .args) .cells) ((c .before .args) .items) ((c .if1) .taken)
+returns c = over-budget ((c .before .before .args) .terms) ((c .before .before .args) .cells) ((c .before .before .args) .items) ((c .if1) .taken)
 
 returns-2 : tie.Need-returns-2
-returns-2 c = odd-cells ((c .before .before .args) .budget) ((c .before .before .args) .cells) ((c .before .before .args) .items) ((c .before .if1) .left) ((c .if2) .taken)
+returns-2 c = odd-cells ((c .before .before .before .args) .terms) ((c .before .before .before .args) .cells) ((c .before .before .before .args) .items) ((c .before .if1) .left) ((c .if2) .taken)
 
 returns-3 : tie.Need-returns-3
-returns-3 c = by-items ((c .before .before .args) .budget) ((c .before .before .args) .cells) ((c .before .before .args) .items) _ ((c .before .if1) .left) ((c .if2) .left) refl
+returns-3 c = by-items ((c .before .before .before .args) .terms) ((c .before .before .before .args) .cells) ((c .before .before .before .args) .items) _ ((c .before .if1) .left) ((c .if2) .left) refl
 
 pub bad-shape-spec : {M : Type 1} → statement M
 bad-shape-spec =

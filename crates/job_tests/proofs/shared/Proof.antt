@@ -5,14 +5,14 @@ use Rattle.cases.proofs.ColumnLaws.{begins, stops, here}
 use Rattle.job_tests.proofs.shared.Statement.{statement}
 use Rattle.job_tests.proofs.shared.Tie as tie
 
-shared-slice-read-share : tie.Need-shared-slice-read-share
-shared-slice-read-share c = here 0 ((c .before .before .before .before .before .before .pre) .0) (lit≤ tt)
+shared-slice-read-points : tie.Need-shared-slice-read-points
+shared-slice-read-points c = here 0 ((c .before .before .before .before .before .before .pre) .0) (lit≤ tt)
 
-shared-slice-read-share-2 : tie.Need-shared-slice-read-share-2
-shared-slice-read-share-2 c = here 1 ((c .before .before .before .before .before .before .before .pre) .0) (lit≤ tt)
+shared-slice-read-v : tie.Need-shared-slice-read-v
+shared-slice-read-v c = here 1 ((c .before .before .before .before .before .before .before .pre) .0) (lit≤ tt)
 
-shared-slice-read-share-3 : tie.Need-shared-slice-read-share-3
-shared-slice-read-share-3 c = here 2 ((c .before .before .before .before .before .before .before .before .pre) .0) (lit≤ tt)
+shared-slice-read-budget : tie.Need-shared-slice-read-budget
+shared-slice-read-budget c = here 2 ((c .before .before .before .before .before .before .before .before .pre) .0) (lit≤ tt)
 
 mul-share : tie.Need-mul-share
 mul-share c = begins ((c .before .before .before .before .before .before .before .before .pre) .1 .in0)
@@ -180,9 +180,9 @@ pub shared-spec : {M : Type 1} → statement M
 shared-spec =
     tie.close
     (tie.spec
-    shared-slice-read-share
-    shared-slice-read-share-2
-    shared-slice-read-share-3
+    shared-slice-read-points
+    shared-slice-read-v
+    shared-slice-read-budget
     mul-share
     sub-share
     part-share-start

@@ -14,7 +14,13 @@ earlier-requires : tie.Need-earlier-requires
 earlier-requires c κs = search needs
 
 returns : tie.Need-returns
-returns c = (let a = (c .before .before .stray) .ensures in let b = (c .before .moves) .ensures in let r = (c .earlier) .ensures in cc)
+returns c = let a = (c .before .before .stray) .ensures in let b = (c .before .moves) .ensures in let r = (c .earlier) .ensures in cc
 
 pub stray-spec : {M : Type 1} → statement M
-stray-spec = tie.close (tie.spec stray-requires moves-requires earlier-requires returns)
+stray-spec =
+    tie.close
+    (tie.spec
+    stray-requires
+    moves-requires
+    earlier-requires
+    returns)
