@@ -11,7 +11,7 @@ ghost use Rattle.job_fit.specs.Wants.{countOf, planFor};
 ghost use Rattle.job_answers.specs.Answers.{AnsweredBy};
 ghost use Rattle.job_answers.specs.Inner.{Measured};
 ghost use Rattle.areas.specs.Job.{areasVerdict};
-use fitting::Terms;
+use job_space::Terms;
 use refusals::Refusal;
 
 // A plan's cells, the probes spent and its depth, or a refusal with the index of the first offending record.

@@ -4,7 +4,7 @@ use mathlib.Core.Bool.{Bool, not, _||_}
 use lib.ListN.{length}
 use lib.Dec.{ltb, eqb}
 use Rattle.words.specs.Rows.{rowCount}
-use Rattle.fitting.specs.declared.Terms.{Terms}
+use Rattle.job_space.specs.declared.Terms.{Terms}
 use Rattle.job_space.specs.declared.Sizes.{Sizes}
 use Rattle.job_space.specs.Rows.{Rows}
 
