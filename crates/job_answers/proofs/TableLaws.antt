@@ -15,8 +15,8 @@ use Rattle.fitting.specs.Wants.{orderOf}
 use Rattle.fitting.specs.Plan.{Plan, cellAt}
 use Rattle.fitting.proofs.OrderLaws.{order-names}
 use Rattle.fitting.proofs.PlanLaws.{facts}
-use Rattle.order.specs.Keys.{sizeOf, alignOf}
-use Rattle.cell_tables.specs.declared.Counts.{Counts}
+use Rattle.fit_tables.specs.Keys.{sizeOf, alignOf}
+use Rattle.fit_tables.specs.declared.Counts.{Counts}
 use Rattle.areas.specs.Job.{rangesOf, areasVerdict}
 use Rattle.area_measure.specs.Locals.{wordOf, ListedBy}
 use Rattle.answer_rows.specs.Rows.{rowsIn}

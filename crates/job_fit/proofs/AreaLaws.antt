@@ -19,8 +19,8 @@ use Rattle.area_pieces.proofs.AreaLaws.{unpacked-both}
 use Rattle.area_pieces.proofs.HullLaws.{gather-append}
 use Rattle.area_measure.specs.Locals.{listed, wordOf, ListedBy}
 use Rattle.area_measure.proofs.ListLaws.{ranges-append, ranges-more, gather-more}
-use Rattle.cell_tables.specs.Tables.{firstOf, countOf, rangesAt, areaIn, Proper}
-use Rattle.cell_tables.proofs.TableLaws.{area-none, area-some}
+use Rattle.fit_tables.specs.Tables.{firstOf, countOf, rangesAt, areaIn, Proper}
+use Rattle.fit_tables.proofs.TableLaws.{area-none, area-some}
 use Rattle.area_tables.specs.Tables.{listing}
 use Rattle.area_tables.proofs.RowLaws.{gathered-long, listed-long}
 

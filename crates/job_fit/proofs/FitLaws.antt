@@ -17,9 +17,9 @@ use Rattle.words.proofs.RegionLaws.{region-next}
 use Rattle.ranges.specs.declared.Range.{Range}
 use Rattle.fitting.specs.Wants.{Want, orderOf}
 use Rattle.fitting.specs.Plan.{planOf}
-use Rattle.order.specs.Keys.{sizeOf, alignOf}
-use Rattle.cell_tables.specs.declared.Counts.{Counts}
-use Rattle.cell_tables.specs.Tables.{wantIn, wantsIn, Lent, Fitted}
+use Rattle.fit_tables.specs.Keys.{sizeOf, alignOf}
+use Rattle.fit_tables.specs.declared.Counts.{Counts}
+use Rattle.fit_tables.specs.Tables.{wantIn, wantsIn, Lent, Fitted}
 use Rattle.area_measure.specs.Locals.{wordOf, ListedBy}
 use Rattle.area_tables.specs.Tables.{listing}
 use Rattle.job_fit.specs.Wants.{countOf, sizeAt, alignAt, localWord, slotWord, wantWord, wantFor, wantsFor, planFor, Ready, Holds, FittedFor}

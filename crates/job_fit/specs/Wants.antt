@@ -12,8 +12,8 @@ use Rattle.ranges.specs.Points.{Apart}
 use Rattle.graph.specs.Work.{Within}
 use Rattle.fitting.specs.Wants.{Want, orderOf}
 use Rattle.fitting.specs.Plan.{Plan, planOf, depthOf}
-use Rattle.cell_tables.specs.declared.Counts.{Counts}
-use Rattle.cell_tables.specs.Tables.{Shown}
+use Rattle.fit_tables.specs.declared.Counts.{Counts}
+use Rattle.fit_tables.specs.Tables.{Shown}
 use Rattle.area_measure.specs.Locals.{wordOf, ListedBy}
 use Rattle.area_tables.specs.Tables.{listing}
 

@@ -4,7 +4,7 @@ ghost use lib.ListN.{length};
 ghost use Rattle.words.specs.Rows.{rowCount};
 ghost use Rattle.words.specs.Regions.{Region};
 ghost use Rattle.job_fit.specs.Wants.{localWord, slotWord, wantWord, Ready, FittedFor};
-use cell_tables::Counts;
+use fit_tables::Counts;
 
 const HALF: u64 = 0x1_0000_0000;
 
@@ -57,5 +57,5 @@ pub fn fitted(
 {
     let n = locals.len() / 2 + slots.len();
     load(work, room + n, locals, slots);
-    fit::fit(work, 0, room, n, end, budget as u64)
+    fit_cells::fit(work, 0, room, n, end, budget as u64)
 }

@@ -18,9 +18,9 @@ use Rattle.fitting.specs.Plan.{Cell, cellAt, Plan, planOf, depthOf}
 use Rattle.fitting.specs.Queries.{areasOf}
 use Rattle.fitting.proofs.PlanLaws.{facts}
 use Rattle.fitting.proofs.OrderLaws.{order-names}
-use Rattle.order.specs.Keys.{sizeOf, alignOf}
-use Rattle.cell_tables.specs.declared.Counts.{Counts}
-use Rattle.cell_tables.specs.Tables.{wantIn, wantsIn, planIn, Shown, Fitted}
+use Rattle.fit_tables.specs.Keys.{sizeOf, alignOf}
+use Rattle.fit_tables.specs.declared.Counts.{Counts}
+use Rattle.fit_tables.specs.Tables.{wantIn, wantsIn, planIn, Shown, Fitted}
 use Rattle.wants.specs.declared.Fitted.the-variants.{Plan as Planned, Refused}
 use Rattle.wants.specs.Entry.{wantsOf, planFor, tallied, cellRow, cellRows, itemRows, FittedAlone}
 use Rattle.want_tables.specs.Tables.{itemRow, Loaded, cellRowsIn, itemRowsIn}

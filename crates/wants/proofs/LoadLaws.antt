@@ -19,9 +19,9 @@ use Rattle.ranges.specs.Points.{range, rangeAt, Apart}
 use Rattle.ranges.specs.Forms.{unpack, unpacked}
 use Rattle.ranges.proofs.FormLaws.{unpacked-length, unpacked-at, unpack-pack}
 use Rattle.fitting.specs.Queries.{areasOf, partOf}
-use Rattle.order.specs.Keys.{sizeOf, alignOf}
-use Rattle.cell_tables.specs.Tables.{firstOf, countOf, rangesAt, areaIn, wantIn, wantsIn, Proper, Lent}
-use Rattle.cell_tables.proofs.TableLaws.{area-none, area-some}
+use Rattle.fit_tables.specs.Keys.{sizeOf, alignOf}
+use Rattle.fit_tables.specs.Tables.{firstOf, countOf, rangesAt, areaIn, wantIn, wantsIn, Proper, Lent}
+use Rattle.fit_tables.proofs.TableLaws.{area-none, area-some}
 use Rattle.wants.specs.Entry.{wantsOf}
 use Rattle.want_checks.specs.Checks.{badWant}
 use Rattle.want_tables.specs.Tables.{itemWordAt, Loaded}

@@ -4,7 +4,7 @@ use mathlib.Core.Path.{_≡_}
 use mathlib.Core.List.{List}
 use Rattle.refusals.specs.Outcomes.{given, after}
 use Rattle.fitting.specs.Plan.{Plan}
-use Rattle.cell_tables.specs.declared.Counts.{Counts}
+use Rattle.fit_tables.specs.declared.Counts.{Counts}
 use Rattle.wants.specs.Entry.{tallied, cellRows, itemRows, zeroed}
 use Rattle.want_checks.specs.Checks.{spaceOf}
 

@@ -54,7 +54,7 @@ fn answer(
     cells: &mut [u32],
     items: &mut [u32],
     work: &mut [u64],
-) -> cell_tables::Counts
+) -> fit_tables::Counts
     requires { ⌜ Granted (now wants) (now areas) (length (now cells)) (length (now items)) (length (now work)) ⌝ }
     ensures { λ r. ⌜ Answered (now (wants .entry)) (now (areas .entry)) (planFor (now (wants .entry)) (now (areas .entry)) budget)
         (now (cells .entry)) (now (items .entry)) (now (work .entry)) r (now (cells .exit)) (now (items .exit)) (now (work .exit)) ⌝ }
@@ -63,7 +63,7 @@ fn answer(
     let ranges = areas.len() / 2;
     want_tables::load(work, wants, areas, n, ranges);
     let end = 8 * (n + ranges);
-    let f = fit::fit(work, 0, ranges, n, end, budget as u64);
+    let f = fit_cells::fit(work, 0, ranges, n, end, budget as u64);
     want_tables::write_cells(cells, work, ranges + 5 * n, f.cells);
     want_tables::write_items(items, work, wants, ranges + 6 * n, n);
     words::clear(work, end);

@@ -1,4 +1,0 @@
-pub mod ChainLaws
-pub mod ListLaws
-pub mod TableLaws
-pub mod CodeLaws

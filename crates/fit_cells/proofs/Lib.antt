@@ -1,0 +1,11 @@
+pub mod FoldLaws
+pub mod FoldBounds
+pub mod BelowLaws
+pub mod EnterLaws
+pub mod LinkLaws
+pub mod StepLaws
+pub mod PutLaws
+pub mod RunLaws
+pub mod PutBounds
+pub mod GrewLaws
+pub mod EachLaws

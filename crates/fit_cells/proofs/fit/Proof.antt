@@ -1,0 +1,67 @@
+-- `fit` meets its contract: the items are ordered, then placed.
+use Rattle.fit_cells.proofs.RunLaws.{in-order, zeros, fitted, cells-few}
+use native.Mathlib.Omega.{arith}
+use Prim.Native.Nat.{_-_}
+use Rattle.fit_cells.proofs.fit.Statement.{statement}
+use Rattle.fit_cells.proofs.fit.Tie as tie
+
+add-order : tie.Need-add-order
+add-order c = omega arith
+
+mul-order : tie.Need-mul-order
+mul-order c = omega arith
+
+add-order-2 : tie.Need-add-order-2
+add-order-2 c = omega arith
+
+order-requires : tie.Need-order-requires
+order-requires c κs = omega arith
+
+mul-fill : tie.Need-mul-fill
+mul-fill c = omega arith
+
+add-fill : tie.Need-add-fill
+add-fill c = omega arith
+
+fill-requires : tie.Need-fill-requires
+fill-requires c κs = omega arith
+
+place-requires : tie.Need-place-requires
+place-requires c κs = (in-order ((c .before .before .before .before .before .before .before .before .before .before .pre) .0) ((c .before .before .before .before .before .before .before .before .before .before .pre) .1) ((c .before .before .before .before .before .before .before .before .before .before .pre) .2) ((c .before .before .before .before .before .before .before .before .before .before .pre) .3) ((c .before .before .before .before .before .before .before .order) .ensures) ((c .before .before .before .fill) .ensures), zeros ((c .before .before .before .before .before .before .before .before .before .before .pre) .0) ((c .before .before .before .before .before .before .before .before .before .before .pre) .1) ((c .before .before .before .before .before .before .before .before .before .before .pre) .2) ((c .before .before .before .before .before .before .before .before .before .before .pre) .3) ((c .before .before .before .before .before .before .before .order) .ensures) ((c .before .before .before .fill) .ensures))
+
+mul-depth : tie.Need-mul-depth
+mul-depth c = omega arith
+
+add-depth : tie.Need-add-depth
+add-depth c = omega arith
+
+depth-requires : tie.Need-depth-requires
+depth-requires c κs = omega (arith, (c .before .before .before .before .before .before .before .before .before .before .before .before .before .before .pre) .0 .few, (c .before .before .before .before .before .before .before .before .before .before .before .before .before .before .pre) .0 .room, cells-few ((c .before .before .before .before .before .before .before .before .before .before .before .before .before .before .pre) .0) ((c .before .before .before .before .before .before .before .before .before .before .before .before .before .before .pre) .1) ((c .before .before .before .before .before .before .before .before .before .before .before .before .before .before .pre) .2) ((c .before .before .before .before .before .before .before .before .before .before .before .before .before .before .pre) .3) ((c .before .before .before .before .before .before .before .before .before .before .before .order) .ensures) ((c .before .before .before .before .before .before .before .fill) .ensures) ((c .before .before .before .place) .ensures))
+
+sub-t21 : tie.Need-sub-t21
+sub-t21 c = omega arith
+
+same-length : tie.Need-same-length
+same-length c = omega arith
+
+returns : tie.Need-returns
+returns c = fitted ((c .before .before .before .before .before .before .before .before .before .before .before .before .before .before .before .before .pre) .0) ((c .before .before .before .before .before .before .before .before .before .before .before .before .before .before .before .before .pre) .1) ((c .before .before .before .before .before .before .before .before .before .before .before .before .before .before .before .before .pre) .2) ((c .before .before .before .before .before .before .before .before .before .before .before .before .before .before .before .before .pre) .3) ((c .before .before .before .before .before .before .before .before .before .before .before .before .before .order) .ensures) ((c .before .before .before .before .before .before .before .before .before .fill) .ensures) _ ((c .before .before .before .before .before .place) .ensures) ((c .before .depth) .ensures)
+
+pub fit-spec : {M : Type 1} → statement M
+fit-spec =
+    tie.close
+    (tie.spec
+    add-order
+    mul-order
+    add-order-2
+    order-requires
+    mul-fill
+    add-fill
+    fill-requires
+    place-requires
+    mul-depth
+    add-depth
+    depth-requires
+    sub-t21
+    same-length
+    returns)

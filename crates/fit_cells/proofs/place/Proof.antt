@@ -1,0 +1,68 @@
+-- `place` meets its contract: the rows stand at the end of the room.
+use Rattle.fit_cells.proofs.EachLaws.{in-order-below, step-fits, step-word}
+use native.Mathlib.Omega.{arith}
+use Prim.Native.Nat.{_-_}
+use borrow.Author.Needs.{needs}
+use Rattle.fit_cells.proofs.place.Statement.{statement}
+use Rattle.fit_cells.proofs.place.Tie as tie
+
+mul-width-for : tie.Need-mul-width-for
+mul-width-for c = omega arith
+
+add-width-for : tie.Need-add-width-for
+add-width-for c = omega arith
+
+sub-width-for : tie.Need-sub-width-for
+sub-width-for c = omega arith
+
+width-for-requires : tie.Need-width-for-requires
+width-for-requires c κs = tt
+
+reach-requires : tie.Need-reach-requires
+reach-requires c κs = search needs
+
+mul-step : tie.Need-mul-step
+mul-step c = omega arith
+
+add-step : tie.Need-add-step
+add-step c = omega arith
+
+div-step : tie.Need-div-step
+div-step c = omega arith
+
+add-step-2 : tie.Need-add-step-2
+add-step-2 c = record { fits = step-word _ _ ((c .reach) .ensures) }
+
+mul-each : tie.Need-mul-each
+mul-each c = omega (arith, (c .before .before .before .width-for) .ensures .1, (c .before .before .before .width-for) .ensures .0, (c .before .before .before .before .before .pre) .0 .low, (c .before .before .before .before .before .pre) .0 .high)
+
+sub-each : tie.Need-sub-each
+sub-each c = omega (arith, (c .before .before .before .width-for) .ensures .1, (c .before .before .before .width-for) .ensures .0, (c .before .before .before .before .before .pre) .0 .low, (c .before .before .before .before .before .pre) .0 .high)
+
+each-requires : tie.Need-each-requires
+each-requires c κs = (in-order-below ((c .before .before .before .before .before .pre) .0) _ (omega (arith, (c .before .before .before .width-for) .ensures .1, (c .before .before .before .width-for) .ensures .0, (c .before .before .before .before .before .pre) .0 .low, (c .before .before .before .before .before .pre) .0 .high)) (omega (arith, (c .before .before .before .width-for) .ensures .1, (c .before .before .before .width-for) .ensures .0, (c .before .before .before .before .before .pre) .0 .low, (c .before .before .before .before .before .pre) .0 .high)), (c .before .before .before .before .before .pre) .1, record { rows-le = omega (arith, (c .before .before .before .width-for) .ensures .1, (c .before .before .before .width-for) .ensures .0, (c .before .before .before .before .before .pre) .0 .low, (c .before .before .before .before .before .pre) .0 .high); narrow = omega (arith, (c .before .before .before .width-for) .ensures .0); some-step = omega arith; step-le = step-fits _ _ ((c .before .reach) .ensures) })
+
+same-length : tie.Need-same-length
+same-length c = omega arith
+
+returns : tie.Need-returns
+returns c = record { rows = _; holds = (c .before .before .each) .ensures .holds; rest = λ x h. (c .before .before .each) .ensures .rest x (omega (arith, (c .before .before .before .before .before .before .width-for) .ensures .1, (c .before .before .before .before .before .before .width-for) .ensures .0, (c .before .before .before .before .before .before .before .before .pre) .0 .low, (c .before .before .before .before .before .before .before .before .pre) .0 .high)) }
+
+pub place-spec : {M : Type 1} → statement M
+place-spec =
+    tie.close
+    (tie.spec
+    mul-width-for
+    add-width-for
+    sub-width-for
+    width-for-requires
+    reach-requires
+    mul-step
+    add-step
+    div-step
+    add-step-2
+    mul-each
+    sub-each
+    each-requires
+    same-length
+    returns)

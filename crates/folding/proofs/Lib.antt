@@ -1,2 +1,0 @@
-pub mod FoldLaws
-pub mod Bounds

@@ -1,2 +1,0 @@
-pub mod SameOrder
-pub mod PassLaws
