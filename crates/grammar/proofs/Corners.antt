@@ -7,7 +7,9 @@ use Rattle.refusals.specs.declared.Verdict.the-variants.{Fine, Bad}
 use Rattle.refusals.specs.declared.Refusal.the-variants.{Text as TextRefused}
 use Rattle.refusals.specs.Verdicts.{first, scan}
 use Rattle.grammar.specs.Numerals.{digitsOf, decimal, digits, valueFrom, numberFrom, fieldOf, dash, noField}
-use Rattle.grammar.specs.Groups.{Group, groups, letters, noSlot, mayFollow, indexOf}
+use Rattle.grammar.specs.Groups.{Group, groups, groupCount, letters, noSlot, baseAt, rowNumbers, mayFollow, indexOf}
+use Rattle.grammar.specs.Groups.{headGroup, blockGroup, instGroup, operandGroup, assignedGroup, moveGroup}
+use Rattle.grammar.proofs.TableLaws.{columnOf}
 use Rattle.grammar.specs.Lines.{linesOf, parts, groupOf, fieldsOf, fits, formed, wellFormed, lineGroup}
 use Rattle.grammar.specs.Text.{badLine, numbers, operandsAfter, rowsIn, crowded, tooMany, textVerdict, rowWith}
 
@@ -21,26 +23,31 @@ numerals = (refl, refl, refl, refl, refl, refl, refl, refl, refl, refl, refl, re
 -- "groups in this order": H, B, E, I, O, X, L, S, A, K, R, P, M; numbers a row, of which an instruction has a flag and an operand count more than fields; "64 of each"
 pub table : (letters ≡ 72 ∷ 66 ∷ 69 ∷ 73 ∷ 79 ∷ 88 ∷ 76 ∷ 83 ∷ 65 ∷ 75 ∷ 82 ∷ 80 ∷ 77 ∷ []) × (map (λ (g : Group). g .width) groups ≡ 3 ∷ 3 ∷ 2 ∷ 9 ∷ 2 ∷ 1 ∷ 2 ∷ 1 ∷ 2 ∷ 2 ∷ 3 ∷ 2 ∷ 4 ∷ [])
     × (map (λ (g : Group). g .room) groups ≡ 1 ∷ 64 ∷ 64 ∷ 64 ∷ 64 ∷ 64 ∷ 64 ∷ 64 ∷ 64 ∷ 64 ∷ 64 ∷ 64 ∷ 64 ∷ [])
-    × (map (λ (g : Group). g .base) groups ≡ 0 ∷ 3 ∷ 195 ∷ 323 ∷ 899 ∷ 1027 ∷ 1091 ∷ 1219 ∷ 1283 ∷ 1411 ∷ 1539 ∷ 1731 ∷ 1859 ∷ [])
-table = (refl, refl, refl, refl)
+    × (columnOf groupCount baseAt ≡ 0 ∷ 3 ∷ 195 ∷ 323 ∷ 899 ∷ 1027 ∷ 1091 ∷ 1219 ∷ 1283 ∷ 1411 ∷ 1539 ∷ 1731 ∷ 1859 ∷ [])
+    × (rowNumbers ≡ 2115)
+table = (refl, refl, refl, refl, refl)
 
 -- `H` first and once, a group behind itself, none back, `O` only behind an `I` or its other `O`s
-pub order : (mayFollow 0 0 ≡ true) × (mayFollow 1 0 ≡ false) × (mayFollow 0 1 ≡ false) × (mayFollow 1 12 ≡ true) × (mayFollow 3 1 ≡ false) × (mayFollow 2 1 ≡ true) × (mayFollow 3 4 ≡ false) × (mayFollow 4 4 ≡ true) × (mayFollow 5 4 ≡ false)
+pub order : (mayFollow 0 headGroup ≡ true) × (mayFollow 1 headGroup ≡ false) × (mayFollow 0 blockGroup ≡ false) × (mayFollow 1 moveGroup ≡ true) × (mayFollow 3 blockGroup ≡ false)
+    × (mayFollow 2 blockGroup ≡ true) × (mayFollow 3 operandGroup ≡ false) × (mayFollow 4 operandGroup ≡ true) × (mayFollow 5 operandGroup ≡ false)
 order = (refl, refl, refl, refl, refl, refl, refl, refl, refl)
 
 -- a line without its newline; a blank one; a carriage return; a field missing, and one too many. (No line of a group is longer than 79 bytes, so "at most 128" has no corner of its own.)
-pub lines : (wellFormed (83 ∷ 44 ∷ 56 ∷ 10 ∷ []) ≡ true) × (wellFormed (83 ∷ 44 ∷ 56 ∷ []) ≡ false) × (wellFormed (10 ∷ []) ≡ false) × (wellFormed (83 ∷ 44 ∷ 56 ∷ 13 ∷ 10 ∷ []) ≡ false) × (wellFormed (83 ∷ 44 ∷ 10 ∷ []) ≡ false) × (wellFormed (83 ∷ 44 ∷ 56 ∷ 44 ∷ 56 ∷ 10 ∷ []) ≡ false)
+pub lines : (wellFormed (83 ∷ 44 ∷ 56 ∷ 10 ∷ []) ≡ true) × (wellFormed (83 ∷ 44 ∷ 56 ∷ []) ≡ false) × (wellFormed (10 ∷ []) ≡ false)
+    × (wellFormed (83 ∷ 44 ∷ 56 ∷ 13 ∷ 10 ∷ []) ≡ false) × (wellFormed (83 ∷ 44 ∷ 10 ∷ []) ≡ false) × (wellFormed (83 ∷ 44 ∷ 56 ∷ 44 ∷ 56 ∷ 10 ∷ []) ≡ false)
 unfolding parts groupOf fieldsOf fits formed wellFormed indexOf digits valueFrom numberFrom fieldOf
 lines = (refl, refl, refl, refl, refl, refl)
 
 -- an instruction's row: the flag, the fields told apart, and how many `O` follow; `-` for unplaced, no base, no index; and for no slot
-pub records : (rowWith 3 (2 ∷ 3 ∷ 4 ∷ 5 ∷ 6 ∷ 7 ∷ 8 ∷ []) 9 ≡ 1 ∷ 2 ∷ 3 ∷ 4 ∷ 5 ∷ 6 ∷ 7 ∷ 8 ∷ 9 ∷ []) × (rowWith 3 (dash ∷ 3 ∷ 4 ∷ 5 ∷ 6 ∷ dash ∷ dash ∷ []) 9 ≡ 0 ∷ 0 ∷ 3 ∷ 4 ∷ 5 ∷ 6 ∷ 256 ∷ 256 ∷ 9 ∷ [])
-    × (rowWith 11 (2 ∷ dash ∷ []) 9 ≡ 2 ∷ noSlot ∷ []) × (rowWith 12 (2 ∷ 3 ∷ dash ∷ 5 ∷ []) 9 ≡ 2 ∷ 3 ∷ noSlot ∷ 5 ∷ [])
+pub records : (rowWith instGroup (2 ∷ 3 ∷ 4 ∷ 5 ∷ 6 ∷ 7 ∷ 8 ∷ []) 9 ≡ 1 ∷ 2 ∷ 3 ∷ 4 ∷ 5 ∷ 6 ∷ 7 ∷ 8 ∷ 9 ∷ [])
+    × (rowWith instGroup (dash ∷ 3 ∷ 4 ∷ 5 ∷ 6 ∷ dash ∷ dash ∷ []) 9 ≡ 0 ∷ 0 ∷ 3 ∷ 4 ∷ 5 ∷ 6 ∷ 256 ∷ 256 ∷ 9 ∷ [])
+    × (rowWith assignedGroup (2 ∷ dash ∷ []) 9 ≡ 2 ∷ noSlot ∷ []) × (rowWith moveGroup (2 ∷ 3 ∷ dash ∷ 5 ∷ []) 9 ≡ 2 ∷ 3 ∷ noSlot ∷ 5 ∷ [])
 unfolding numbers
 records = (refl, refl, refl, refl)
 
 -- `-` where it has no place: a block's number, an operand
-pub dashes : (wellFormed (66 ∷ 44 ∷ 45 ∷ 44 ∷ 48 ∷ 44 ∷ 57 ∷ 10 ∷ []) ≡ false) × (wellFormed (80 ∷ 44 ∷ 49 ∷ 44 ∷ 45 ∷ 10 ∷ []) ≡ true) × (wellFormed (80 ∷ 44 ∷ 45 ∷ 44 ∷ 49 ∷ 10 ∷ []) ≡ false)
+pub dashes : (wellFormed (66 ∷ 44 ∷ 45 ∷ 44 ∷ 48 ∷ 44 ∷ 57 ∷ 10 ∷ []) ≡ false) × (wellFormed (80 ∷ 44 ∷ 49 ∷ 44 ∷ 45 ∷ 10 ∷ []) ≡ true)
+    × (wellFormed (80 ∷ 44 ∷ 45 ∷ 44 ∷ 49 ∷ 10 ∷ []) ≡ false)
 unfolding parts groupOf fieldsOf fits formed wellFormed indexOf digits valueFrom numberFrom fieldOf
 dashes = (refl, refl, refl)
 
@@ -48,6 +55,7 @@ dashes = (refl, refl, refl)
 abbrev header : ℕ → List ℕ
 header d = 72 ∷ 44 ∷ 57 ∷ 44 ∷ 54 ∷ d ∷ 44 ∷ 57 ∷ 10 ∷ []
 
-pub heads : (tooMany (header 52 ∷ []) ≡ false) × (tooMany (header 53 ∷ []) ≡ true) × (textVerdict [] ≡ Bad TextRefused 0) × (textVerdict (header 52) ≡ Fine) × (textVerdict (header 52 ++ header 52) ≡ Bad TextRefused 1)
+pub heads : (tooMany (header 52 ∷ []) ≡ false) × (tooMany (header 53 ∷ []) ≡ true) × (textVerdict [] ≡ Bad TextRefused 0) × (textVerdict (header 52) ≡ Fine)
+    × (textVerdict (header 52 ++ header 52) ≡ Bad TextRefused 1)
 unfolding linesOf parts groupOf fieldsOf fits formed wellFormed lineGroup indexOf digits valueFrom numberFrom fieldOf badLine numbers operandsAfter rowsIn crowded first scan
 heads = (refl, refl, refl, refl, refl)

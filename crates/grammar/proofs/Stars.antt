@@ -5,7 +5,8 @@ use Prim.Native.Nat.{ℕ}
 use Rattle.refusals.specs.declared.Verdict.the-variants.{Fine}
 use Rattle.refusals.specs.Verdicts.{first, scan}
 use Rattle.grammar.specs.Numerals.{digits, valueFrom, numberFrom, fieldOf}
-use Rattle.grammar.specs.Groups.{indexOf}
+use Rattle.grammar.specs.Groups.{indexOf, headGroup, blockGroup, edgeGroup, instGroup, operandGroup, crossingGroup, localGroup, slotGroup}
+use Rattle.grammar.specs.Groups.{addressGroup, endGroup, pieceGroup, assignedGroup, moveGroup}
 use Rattle.grammar.specs.Lines.{linesOf, parts, groupOf, fieldsOf, fits, formed, wellFormed, lineGroup}
 use Rattle.grammar.specs.Text.{badLine, numbers, operandsAfter, rowsIn, crowded, readVerdict}
 
@@ -31,19 +32,19 @@ star =
 -- its records: points, V and budget; a block; two instructions without operands; two locals; two addresses
 pub record Read (text : List ℕ) : Type 0 where
   pub fine : readVerdict text ≡ Fine
-  pub head : rowsIn 0 (linesOf text) ≡ (20 ∷ 0 ∷ 1048576 ∷ []) ∷ []
-  pub blocks : rowsIn 1 (linesOf text) ≡ (0 ∷ 0 ∷ 19 ∷ []) ∷ []
-  pub edges : rowsIn 2 (linesOf text) ≡ []
-  pub insts : rowsIn 3 (linesOf text) ≡ (1 ∷ 0 ∷ 2 ∷ 3 ∷ 0 ∷ 0 ∷ 256 ∷ 256 ∷ 0 ∷ []) ∷ (1 ∷ 0 ∷ 6 ∷ 7 ∷ 0 ∷ 0 ∷ 256 ∷ 256 ∷ 0 ∷ []) ∷ []
-  pub operands : rowsIn 4 (linesOf text) ≡ []
-  pub crossings : rowsIn 5 (linesOf text) ≡ []
-  pub locals : rowsIn 6 (linesOf text) ≡ (8 ∷ 8 ∷ []) ∷ (4 ∷ 4 ∷ []) ∷ []
-  pub slots : rowsIn 7 (linesOf text) ≡ []
-  pub addresses : rowsIn 8 (linesOf text) ≡ (0 ∷ 0 ∷ []) ∷ (1 ∷ 1 ∷ []) ∷ []
-  pub ends : rowsIn 9 (linesOf text) ≡ []
-  pub pieces : rowsIn 10 (linesOf text) ≡ []
-  pub assigned : rowsIn 11 (linesOf text) ≡ []
-  pub moves : rowsIn 12 (linesOf text) ≡ []
+  pub head : rowsIn headGroup (linesOf text) ≡ (20 ∷ 0 ∷ 1048576 ∷ []) ∷ []
+  pub blocks : rowsIn blockGroup (linesOf text) ≡ (0 ∷ 0 ∷ 19 ∷ []) ∷ []
+  pub edges : rowsIn edgeGroup (linesOf text) ≡ []
+  pub insts : rowsIn instGroup (linesOf text) ≡ (1 ∷ 0 ∷ 2 ∷ 3 ∷ 0 ∷ 0 ∷ 256 ∷ 256 ∷ 0 ∷ []) ∷ (1 ∷ 0 ∷ 6 ∷ 7 ∷ 0 ∷ 0 ∷ 256 ∷ 256 ∷ 0 ∷ []) ∷ []
+  pub operands : rowsIn operandGroup (linesOf text) ≡ []
+  pub crossings : rowsIn crossingGroup (linesOf text) ≡ []
+  pub locals : rowsIn localGroup (linesOf text) ≡ (8 ∷ 8 ∷ []) ∷ (4 ∷ 4 ∷ []) ∷ []
+  pub slots : rowsIn slotGroup (linesOf text) ≡ []
+  pub addresses : rowsIn addressGroup (linesOf text) ≡ (0 ∷ 0 ∷ []) ∷ (1 ∷ 1 ∷ []) ∷ []
+  pub ends : rowsIn endGroup (linesOf text) ≡ []
+  pub pieces : rowsIn pieceGroup (linesOf text) ≡ []
+  pub assigned : rowsIn assignedGroup (linesOf text) ≡ []
+  pub moves : rowsIn moveGroup (linesOf text) ≡ []
 
 pub star-1 : Read star
 unfolding star linesOf parts groupOf fieldsOf fits formed wellFormed lineGroup indexOf digits valueFrom numberFrom fieldOf badLine numbers operandsAfter rowsIn crowded first scan

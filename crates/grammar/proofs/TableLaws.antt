@@ -1,9 +1,9 @@
 -- The table of groups: its columns, and rules that are computed over the whole of it.
 use mathlib.Core.Path.{_≡_, refl, ap, sym, _∙_}
 use mathlib.Core.Logic.{_≢_, _⊎_, inl, inr}
-use mathlib.Core.Bool.{Bool, true, false, not, _||_}
+use mathlib.Core.Bool.{Bool, true, false, cond, not, _||_}
 use mathlib.Core.List.{List, [], _∷_, map}
-use Prim.Native.Nat.{ℕ, zero, suc, _+_, _*_, _/_, _%_, _≤_, _<_}
+use Prim.Native.Nat.{ℕ, zero, suc, _+_, _*_, _≤_, _<_}
 use native.Mathlib.Omega.{arith}
 use native.Mathlib.Nat.{zero-add, le-of-suc-le-suc, not-suc-le-zero, mul-suc, mul-le-mul-left}
 use native.Mathlib.Numerals.{add-one}
@@ -12,7 +12,8 @@ use lib.ListN.{length, getD, drop, drop-of-length-le, List·getD-map}
 use lib.Seq.{drop-cons}
 use borrow.Author.Tests.{eq-eqb, ne-eqb, eqb-true, leb-true}
 use Rattle.grammar.specs.Numerals.{dash}
-use Rattle.grammar.specs.Groups.{Group, groups, groupAt, noGroup, groupCount, rowNumbers, instGroup, operandGroup, indexOf}
+use Rattle.grammar.specs.Groups.{Group, groups, groupAt, baseAt, noGroup, groupCount, rowNumbers, mostFields, allowed, indexOf}
+use Rattle.grammar.specs.Groups.{unplaced, noPosition, noSlot, instGroup, operandGroup, assignedGroup, moveGroup}
 
 -- ---- a test that holds at each number below n, computed
 
@@ -42,34 +43,40 @@ at (suc n) f t (suc k) h = at n (λ i. f (suc i)) (both-right (f 0) (every n (λ
 pub column : (f : Group → ℕ) (k : ℕ) → getD (map f groups) k (f noGroup) ≡ f (groupAt k)
 column f k = List·getD-map f groups k noGroup
 
-unfoldable pub dashTable : List ℕ
-dashTable = 4294967296 ∷ 4294967296 ∷ 4294967296 ∷ 4294967296 ∷ 4294967296 ∷ 4294967296 ∷ 4294967296 ∷ 4294967296 ∷ 4294967296 ∷ 4294967296 ∷ 4294967296 ∷ 4294967296 ∷ 4294967296 ∷ 4294967296 ∷ 4294967296 ∷ 4294967296 ∷ 4294967296 ∷ 4294967296 ∷ 4294967296 ∷ 4294967296 ∷ 4294967296 ∷ 0 ∷ 4294967296 ∷ 4294967296 ∷ 4294967296 ∷ 4294967296 ∷ 256 ∷ 256 ∷ 4294967296 ∷ 4294967296 ∷ 4294967296 ∷ 4294967296 ∷ 4294967296 ∷ 4294967296 ∷ 4294967296 ∷ 4294967296 ∷ 4294967296 ∷ 4294967296 ∷ 4294967296 ∷ 4294967296 ∷ 4294967296 ∷ 4294967296 ∷ 4294967296 ∷ 4294967296 ∷ 4294967296 ∷ 4294967296 ∷ 4294967296 ∷ 4294967296 ∷ 4294967296 ∷ 4294967296 ∷ 4294967296 ∷ 4294967296 ∷ 4294967296 ∷ 4294967296 ∷ 4294967296 ∷ 4294967296 ∷ 4294967296 ∷ 4294967296 ∷ 4294967296 ∷ 4294967296 ∷ 4294967296 ∷ 4294967296 ∷ 4294967296 ∷ 4294967296 ∷ 4294967296 ∷ 4294967296 ∷ 4294967296 ∷ 4294967296 ∷ 4294967296 ∷ 4294967296 ∷ 4294967296 ∷ 4294967296 ∷ 4294967296 ∷ 4294967296 ∷ 4294967296 ∷ 4294967296 ∷ 4294967296 ∷ 4294967296 ∷ 4294967295 ∷ 4294967296 ∷ 4294967296 ∷ 4294967296 ∷ 4294967296 ∷ 4294967296 ∷ 4294967296 ∷ 4294967296 ∷ 4294967295 ∷ 4294967295 ∷ 4294967296 ∷ 4294967296 ∷ 4294967296 ∷ []
+-- a column that is told by the group's number
+abbrev pub columnOf : ℕ → (ℕ → ℕ) → List ℕ
+columnOf zero f = []
+columnOf (suc n) f = f 0 ∷ columnOf n (λ i. f (suc i))
 
-dash-entry : ℕ → Bool
-dash-entry i = eqb (getD dashTable i 0) (getD (groupAt (i / 7) .dashes) (i % 7) dash)
+pub column-at : (n : ℕ) (f : ℕ → ℕ) (k : ℕ) → k < n → getD (columnOf n f) k 0 ≡ f k
+column-at zero f k h = absurd (not-suc-le-zero h)
+column-at (suc n) f zero h = refl
+column-at (suc n) f (suc k) h = column-at n (λ i. f (suc i)) k (le-of-suc-le-suc h)
 
 narrow-entry : ℕ → Bool
-narrow-entry k = leb (length (groupAt k .dashes)) 7
+narrow-entry k = leb (length (groupAt k .dashes)) mostFields
 
-getD-any : (l : List ℕ) (i a b : ℕ) → i < length l → getD l i a ≡ getD l i b
-getD-any [] i a b h = absurd (not-suc-le-zero h)
-getD-any (x ∷ l) zero a b h = refl
-getD-any (x ∷ l) (suc i) a b h = getD-any l i a b (le-of-suc-le-suc h)
-
-pub fields-most : (k : ℕ) → k < groupCount → length (groupAt k .dashes) ≤ 7
+pub fields-most : (k : ℕ) → k < groupCount → length (groupAt k .dashes) ≤ mostFields
 unfolding narrow-entry
-fields-most k h = leb→le (length (groupAt k .dashes)) 7 (at groupCount narrow-entry tt k h)
+fields-most k h = leb→le (length (groupAt k .dashes)) mostFields (at groupCount narrow-entry tt k h)
 
-pub dash-is : (k j : ℕ) → k < groupCount → j < length (groupAt k .dashes) → getD dashTable (7 * k + j) 0 ≡ getD (groupAt k .dashes) j 0
-unfolding dash-entry dashTable
-dash-is k j h l =
-    let m : length (groupAt k .dashes) ≤ 7 = fields-most k h in
-    let q : (7 * k + j) / 7 ≡ k = omega arith in
-    let r : (7 * k + j) % 7 ≡ j = omega arith in
-    eqb→eq _ _ (at 91 dash-entry tt (7 * k + j) (omega arith))
-    ∙ ap (λ (x : ℕ). getD (groupAt x .dashes) ((7 * k + j) % 7) dash) q
-    ∙ ap (λ (x : ℕ). getD (groupAt k .dashes) x dash) r
-    ∙ getD-any (groupAt k .dashes) j dash 0 l
+-- ---- what `-` stands for, told by the few fields where it has a place
+
+abbrev pub dashOf : ℕ → ℕ → ℕ
+dashOf k j =
+    cond (eqb k instGroup) (cond (eqb j 0) unplaced (cond (leb 5 j) noPosition dash))
+    (cond (eqb k assignedGroup) (cond (eqb j 1) noSlot dash) (cond (eqb k moveGroup) (cond (leb 2 j) noSlot dash) dash))
+
+dash-entry : ℕ → ℕ → Bool
+dash-entry k j = eqb (dashOf k j) (getD (groupAt k .dashes) j 0)
+
+dash-row : ℕ → Bool
+dash-row k = every (length (groupAt k .dashes)) (dash-entry k)
+
+pub dash-told : (k j : ℕ) → (k < groupCount) × (j < length (groupAt k .dashes)) → (d : ℕ) → dashOf k j ≡ d → d ≡ getD (groupAt k .dashes) j 0
+unfolding dash-row dash-entry
+dash-told k j h d e =
+    sym e ∙ eqb→eq (dashOf k j) _ (at (length (groupAt k .dashes)) (dash-entry k) (at groupCount dash-row tt k (h .0)) j (h .1))
 
 -- ---- the place of an element
 
@@ -108,7 +115,7 @@ module _ {x : ℕ} {l : List ℕ} {k : ℕ} (s : Seeking x l k) where
 -- ---- the groups' regions in the reader's list
 
 abbrev pub regionEnd : ℕ → ℕ
-regionEnd k = groupAt k .base + groupAt k .width * groupAt k .room
+regionEnd k = baseAt k + groupAt k .width * groupAt k .room
 
 end-entry : ℕ → Bool
 end-entry k = leb (regionEnd k) rowNumbers
@@ -118,26 +125,26 @@ unfolding end-entry
 end-within k h = leb→le (regionEnd k) rowNumbers (at groupCount end-entry tt k h)
 
 apart-entry : ℕ → ℕ → Bool
-apart-entry j k = eqb j k || (leb (regionEnd j) (groupAt k .base) || leb (regionEnd k) (groupAt j .base))
+apart-entry j k = eqb j k || (leb (regionEnd j) (baseAt k) || leb (regionEnd k) (baseAt j))
 
 apart-row : ℕ → Bool
 apart-row j = every groupCount (apart-entry j)
 
 -- no two groups' regions have a number in common
-pub regions-apart : (j k : ℕ) → j < groupCount → k < groupCount → j ≢ k → (regionEnd j ≤ groupAt k .base) ⊎ (regionEnd k ≤ groupAt j .base)
+pub regions-apart : (j k : ℕ) → j < groupCount → k < groupCount → j ≢ k → (regionEnd j ≤ baseAt k) ⊎ (regionEnd k ≤ baseAt j)
 unfolding apart-entry apart-row
 regions-apart j k h l d =
-    go (eqb j k) (leb (regionEnd j) (groupAt k .base)) (leb (regionEnd k) (groupAt j .base)) refl refl refl (at groupCount (apart-entry j) (at groupCount apart-row tt j h) k l)
+    go (eqb j k) (leb (regionEnd j) (baseAt k)) (leb (regionEnd k) (baseAt j)) refl refl refl (at groupCount (apart-entry j) (at groupCount apart-row tt j h) k l)
   where
-    go : (s t u : Bool) → eqb j k ≡ s → leb (regionEnd j) (groupAt k .base) ≡ t → leb (regionEnd k) (groupAt j .base) ≡ u → T (s || (t || u))
-        → (regionEnd j ≤ groupAt k .base) ⊎ (regionEnd k ≤ groupAt j .base)
+    go : (s t u : Bool) → eqb j k ≡ s → leb (regionEnd j) (baseAt k) ≡ t → leb (regionEnd k) (baseAt j) ≡ u → T (s || (t || u))
+        → (regionEnd j ≤ baseAt k) ⊎ (regionEnd k ≤ baseAt j)
     go true t u p q r x = absurd (d (eqb-true j k p))
-    go false true u p q r x = inl (leb-true (regionEnd j) (groupAt k .base) q)
-    go false false true p q r x = inr (leb-true (regionEnd k) (groupAt j .base) r)
+    go false true u p q r x = inl (leb-true (regionEnd j) (baseAt k) q)
+    go false false true p q r x = inr (leb-true (regionEnd k) (baseAt j) r)
     go false false false p q r x = absurd x
 
 -- a row that there is room for
-pub row-within : (k n : ℕ) → k < groupCount → n < groupAt k .room → groupAt k .base + groupAt k .width * n + groupAt k .width ≤ regionEnd k
+pub row-within : (k n : ℕ) → k < groupCount → n < groupAt k .room → baseAt k + groupAt k .width * n + groupAt k .width ≤ regionEnd k
 row-within k n h l =
     let e : groupAt k .width * n + groupAt k .width ≤ groupAt k .width * groupAt k .room = rw (← mul-suc (groupAt k .width) n) (mul-le-mul-left (groupAt k .width) l) in omega arith
 
@@ -155,8 +162,8 @@ open-place k h e = go (eqb k instGroup) (eqb k operandGroup) refl refl (rw (eq-e
     go false false p q x = absurd x
 
 room-entry : ℕ → Bool
-room-entry k = leb (groupAt k .room) 64
+room-entry k = leb (groupAt k .room) allowed
 
-pub room-most : (k : ℕ) → k < groupCount → groupAt k .room ≤ 64
+pub room-most : (k : ℕ) → k < groupCount → groupAt k .room ≤ allowed
 unfolding room-entry
-room-most k h = leb→le (groupAt k .room) 64 (at groupCount room-entry tt k h)
+room-most k h = leb→le (groupAt k .room) allowed (at groupCount room-entry tt k h)

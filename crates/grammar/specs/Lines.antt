@@ -59,9 +59,13 @@ fits (d ∷ ds) (f ∷ fs) = ltb (meant d f) limit && fits ds fs
 unfoldable pub formed : List ℕ → Bool
 formed b = ltb (groupOf b) groupCount && fits (groupAt (groupOf b) .dashes) (fieldsOf b)
 
--- a line by itself: "lines of at most 128 bytes", the newline among them
+-- "lines of at most 128 bytes", the newline among them
+abbrev pub longest : ℕ
+longest = 128
+
+-- a line by itself
 unfoldable pub wellFormed : List ℕ → Bool
-wellFormed l = leb (length l) 128 && (ended l && formed (body l))
+wellFormed l = leb (length l) longest && (ended l && formed (body l))
 
 -- the group of a line, or `groupCount` where it is malformed, and its fields
 unfoldable pub lineGroup : List ℕ → ℕ

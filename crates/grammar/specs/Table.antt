@@ -1,14 +1,15 @@
 -- The table's entry of a group, as the code has it.
+use Prim.Native.Nat.{ℕ}
 use mathlib.Core.Path.{_≡_}
 use lib.ListN.{length}
-use Rattle.grammar.specs.Groups.{Group}
+use Rattle.grammar.specs.Groups.{groupAt, baseAt}
 use Rattle.grammar.specs.declared.Entry.{Entry}
 
-pub record Tabled (g : Group) (e : Entry) : Type 0 where
-  pub fields : e .fields ≡ length (g .dashes)
-  pub place : e .place ≡ g .place
-  pub least : e .least ≡ g .least
-  pub most : e .most ≡ g .most
-  pub width : e .width ≡ g .width
-  pub room : e .room ≡ g .room
-  pub base : e .base ≡ g .base
+pub record Tabled (k : ℕ) (e : Entry) : Type 0 where
+  pub fields : e .fields ≡ length (groupAt k .dashes)
+  pub place : e .place ≡ groupAt k .place
+  pub least : e .least ≡ groupAt k .least
+  pub most : e .most ≡ groupAt k .most
+  pub width : e .width ≡ groupAt k .width
+  pub room : e .room ≡ groupAt k .room
+  pub base : e .base ≡ baseAt k

@@ -8,7 +8,7 @@ use Rattle.refusals.specs.declared.Verdict.{Verdict}
 use Rattle.refusals.specs.declared.Refusal.the-variants.{Count, Text as TextRefused}
 use Rattle.refusals.specs.Verdicts.{first, scan, check}
 use Rattle.grammar.specs.Numerals.{dash}
-use Rattle.grammar.specs.Groups.{groupAt, mayFollow, groupCount, instGroup, operandGroup}
+use Rattle.grammar.specs.Groups.{groupAt, mayFollow, groupCount, allowed, headGroup, instGroup, operandGroup}
 use Rattle.grammar.specs.Lines.{linesOf, lineGroup, lineFields, meant}
 
 -- ---- number 11: the first malformed line
@@ -45,7 +45,8 @@ abbrev pub placed : List ℕ → ℕ
 placed fs = cond (eqb (getD fs 0 0) dash) 0 1
 
 abbrev pub rowWith : ℕ → List ℕ → ℕ → List ℕ
-rowWith k fs operands = cond (eqb k instGroup) (placed fs ∷ (numbers (groupAt k .dashes) fs ++ (operands ∷ []))) (numbers (groupAt k .dashes) fs)
+rowWith k fs operands =
+    cond (eqb k instGroup) (placed fs ∷ (numbers (groupAt k .dashes) fs ++ (operands ∷ []))) (numbers (groupAt k .dashes) fs)
 
 -- "each followed by its `O,def,register`"
 unfoldable pub operandsAfter : List (List ℕ) → ℕ
@@ -61,14 +62,17 @@ abbrev pub countOf : ℕ → List (List ℕ) → ℕ
 countOf k ls = length (rowsIn k ls)
 
 -- `H`'s fields
+abbrev headField : ℕ → List (List ℕ) → ℕ
+headField j ls = getD (getD (rowsIn headGroup ls) 0 []) j 0
+
 abbrev pub points : List (List ℕ) → ℕ
-points ls = getD (getD (rowsIn 0 ls) 0 []) 0 0
+points ls = headField 0 ls
 
 abbrev pub registers : List (List ℕ) → ℕ
-registers ls = getD (getD (rowsIn 0 ls) 0 []) 1 0
+registers ls = headField 1 ls
 
 abbrev pub budget : List (List ℕ) → ℕ
-budget ls = getD (getD (rowsIn 0 ls) 0 []) 2 0
+budget ls = headField 2 ls
 
 -- ---- number 1: "the program allows 64 of each and V ≤ 64"
 
@@ -77,7 +81,7 @@ crowded zero ls = false
 crowded (suc k) ls = crowded k ls || ltb (groupAt k .room) (countOf k ls)
 
 abbrev pub tooMany : List (List ℕ) → Bool
-tooMany ls = crowded groupCount ls || ltb 64 (registers ls)
+tooMany ls = crowded groupCount ls || ltb allowed (registers ls)
 
 -- what the reader refuses: 11 comes before 1, so it is found only after every line was checked
 abbrev pub readVerdict : List ℕ → Verdict

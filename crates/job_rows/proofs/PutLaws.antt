@@ -91,22 +91,23 @@ module _ (ns : List ℕ) (seven : length ns ≡ 7) (p : ℕ) where
   inst-end : getD (p ∷ (ns ++ (0 ∷ []))) 8 0 ≡ 0
   inst-end = ap (λ (i : ℕ). getD (ns ++ (0 ∷ [])) i 0) (sym seven) ∙ getD-append-seam ns 0 [] 0
 
-module _ (fs rows r : List ℕ) (at : ℕ) (enough : 7 ≤ length fs) (room : at + 9 ≤ length rows) (g : Region rows r (at + 1) 7 (λ j. getD (numbers (groupAt 3 .dashes) fs) j 0)) (p : ℕ) (pe : p ≡ placed fs) where
-  seven-are : length (numbers (groupAt 3 .dashes) fs) ≡ 7
-  seven-are = numbers-length (groupAt 3 .dashes) fs enough
+module _ (fs rows r : List ℕ) (at : ℕ) (enough : 7 ≤ length fs) (room : at + 9 ≤ length rows)
+    (g : Region rows r (at + 1) 7 (λ j. getD (numbers (groupAt instGroup .dashes) fs) j 0)) (p : ℕ) (pe : p ≡ placed fs) where
+  seven-are : length (numbers (groupAt instGroup .dashes) fs) ≡ 7
+  seven-are = numbers-length (groupAt instGroup .dashes) fs enough
 
-  pub inst-region : Region rows (set (set r (at + 8) 0) at p) at 9 (λ j. getD (rowWith 3 fs 0) j 0)
+  pub inst-region : Region rows (set (set r (at + 8) 0) at p) at 9 (λ j. getD (rowWith instGroup fs 0) j 0)
   inst-region = record {
     len = length-set (set r (at + 8) 0) at p ∙ length-set r (at + 8) 0 ∙ g .len;
     inside = λ x j e h.
-        stored (λ y. y ≡ getD (rowWith 3 fs 0) j 0) (set r (at + 8) 0) at p x (rw (length-set r (at + 8) 0) (rw (g .len) (omega arith)))
-        (λ q. pe ∙ ap (λ (i : ℕ). getD (rowWith 3 fs 0) i 0) (let z : 0 ≡ j = omega arith in z))
-        (λ q. stored (λ y. y ≡ getD (rowWith 3 fs 0) j 0) r (at + 8) 0 x (rw (g .len) (omega arith))
-        (λ s. sym (inst-end (numbers (groupAt 3 .dashes) fs) seven-are (placed fs)) ∙ ap (λ (i : ℕ). getD (rowWith 3 fs 0) i 0) (let z : 8 ≡ j = omega arith in z))
+        stored (λ y. y ≡ getD (rowWith instGroup fs 0) j 0) (set r (at + 8) 0) at p x (rw (length-set r (at + 8) 0) (rw (g .len) (omega arith)))
+        (λ q. pe ∙ ap (λ (i : ℕ). getD (rowWith instGroup fs 0) i 0) (let z : 0 ≡ j = omega arith in z))
+        (λ q. stored (λ y. y ≡ getD (rowWith instGroup fs 0) j 0) r (at + 8) 0 x (rw (g .len) (omega arith))
+        (λ s. sym (inst-end (numbers (groupAt instGroup .dashes) fs) seven-are (placed fs)) ∙ ap (λ (i : ℕ). getD (rowWith instGroup fs 0) i 0) (let z : 8 ≡ j = omega arith in z))
         (λ s. let a : 0 < j = cut 1 j (λ u. u) (λ u. absurd (q (omega arith))) in
         let b : j < 8 = cut j 7 (λ u. omega arith) (λ u. absurd (s (omega arith))) in
         let i : j - 1 + 1 ≡ j = omega arith in
-        g .inside x (j - 1) (omega arith) (omega arith) ∙ sym (inst-at (numbers (groupAt 3 .dashes) fs) seven-are (placed fs) (j - 1) (omega arith)) ∙ ap (λ (n : ℕ). getD (rowWith 3 fs 0) n 0) i));
+        g .inside x (j - 1) (omega arith) (omega arith) ∙ sym (inst-at (numbers (groupAt instGroup .dashes) fs) seven-are (placed fs) (j - 1) (omega arith)) ∙ ap (λ (n : ℕ). getD (rowWith instGroup fs 0) n 0) i));
     before = λ i h.
         stored (λ y. y ≡ getD rows i 0) (set r (at + 8) 0) at p i (rw (length-set r (at + 8) 0) (rw (g .len) (omega arith))) (λ q. absurd (omega arith))
         (λ q. stored (λ y. y ≡ getD rows i 0) r (at + 8) 0 i (rw (g .len) (omega arith)) (λ s. absurd (omega arith)) (λ s. g .before i (omega arith)));
@@ -129,7 +130,7 @@ plain-row k fs h d = (
 
 -- which of the two a row is
 module _ (k : ℕ) (fs rows r : List ℕ) (at : ℕ) where
-  pub inst-is : k ≡ 3 → Region rows r at 9 (λ j. getD (rowWith 3 fs 0) j 0) → Region rows r at (groupAt k .width) (λ j. getD (rowWith k fs 0) j 0)
+  pub inst-is : k ≡ instGroup → Region rows r at 9 (λ j. getD (rowWith instGroup fs 0) j 0) → Region rows r at (groupAt k .width) (λ j. getD (rowWith k fs 0) j 0)
   inst-is e g = subst (λ (n : ℕ). Region rows r at (groupAt n .width) (λ j. getD (rowWith n fs 0) j 0)) (sym e) g
 
   pub plain-is : (n : ℕ) → (rowWith k fs 0 ≡ numbers (groupAt k .dashes) fs) × (length (groupAt k .dashes) ≡ groupAt k .width) → n ≡ length (groupAt k .dashes)

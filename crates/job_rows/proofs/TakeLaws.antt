@@ -16,7 +16,7 @@ use Rattle.words.specs.Regions.{Region, Kept, part}
 use Rattle.words.proofs.Points.{cut, same, stored}
 use Rattle.words.proofs.RegionLaws.{kept-before, kept-after, kept-part, kept-part-list, kept-then, kept-store, region-part, length-part, getD-part, part-is}
 use Rattle.words.proofs.RowLaws.{tabulate-getD}
-use Rattle.grammar.specs.Groups.{groupAt, groupCount, rowNumbers, instGroup, operandGroup}
+use Rattle.grammar.specs.Groups.{groupAt, baseAt, groupCount, rowNumbers, instGroup, operandGroup}
 use Rattle.grammar.specs.Lines.{lineGroup, lineFields}
 use Rattle.grammar.specs.Text.{rowWith, rowsIn, countOf}
 use Rattle.grammar.proofs.TableLaws.{regionEnd, end-within, regions-apart, row-within}
@@ -71,19 +71,19 @@ part-raised rows b n v u front h e =
 module _ {ls : List (List ℕ)} {rows counts : List ℕ} (s : Stored ls rows counts) (rl : length rows ≡ rowNumbers) (cl : length counts ≡ groupCount)
     (l : List ℕ) (h : lineGroup l < groupCount) (room : countOf (lineGroup l) ls < groupAt (lineGroup l) .room) (may : lineGroup l ≡ operandGroup → opens ls ≡ true) where
   -- a group's part lies in its region
-  part-in : (k n : ℕ) → k < groupCount → n ≤ groupAt k .room → groupAt k .base + groupAt k .width * n ≤ regionEnd k
+  part-in : (k n : ℕ) → k < groupCount → n ≤ groupAt k .room → baseAt k + groupAt k .width * n ≤ regionEnd k
   part-in k n kh nh = let m : groupAt k .width * n ≤ groupAt k .width * groupAt k .room = mul-le-mul-left (groupAt k .width) nh in omega arith
 
   insts-raised : lineGroup l ≡ operandGroup → Raised ls l
   insts-raised e = raised l (eq-eqb (lineGroup l) operandGroup e) ls (may e)
 
   -- the operand count of the last instruction
-  count-place : countAt (countOf instGroup ls) ≡ groupAt instGroup .base + groupAt instGroup .width * countOf instGroup ls - 1
+  count-place : countAt (countOf instGroup ls) ≡ baseAt instGroup + groupAt instGroup .width * countOf instGroup ls - 1
   count-place = omega arith
 
   last-number : (e : lineGroup l ≡ operandGroup) → (getD rows (countAt (countOf instGroup ls)) 0 ≡ insts-raised e .last) × (0 < countOf instGroup ls)
   last-number e =
-      let p = part-last rows (groupAt instGroup .base) (groupAt instGroup .width * countOf instGroup ls) (insts-raised e .last) (insts-raised e .front)
+      let p = part-last rows (baseAt instGroup) (groupAt instGroup .width * countOf instGroup ls) (insts-raised e .last) (insts-raised e .front)
       (let a = part-in instGroup (countOf instGroup ls) (lit< tt) (s .fitting instGroup (lit< tt)) in let b = end-within instGroup (lit< tt) in omega arith)
       (s .rows-are instGroup (lit< tt) ∙ insts-raised e .was) in
       (ap (λ (x : ℕ). getD rows x 0) count-place ∙ p .0, (let z = p .1 in omega arith))
@@ -109,13 +109,13 @@ module _ {ls : List (List ℕ)} {rows counts : List ℕ} (s : Stored ls rows cou
     at-is : groupAt (lineGroup l) .width * getD counts (lineGroup l) 0 ≡ groupAt (lineGroup l) .width * countOf (lineGroup l) ls
     at-is = ap (λ (n : ℕ). groupAt (lineGroup l) .width * n) (s .counted (lineGroup l) h)
 
-    row-in : groupAt (lineGroup l) .base + groupAt (lineGroup l) .width * countOf (lineGroup l) ls + groupAt (lineGroup l) .width ≤ regionEnd (lineGroup l)
+    row-in : baseAt (lineGroup l) + groupAt (lineGroup l) .width * countOf (lineGroup l) ls + groupAt (lineGroup l) .width ≤ regionEnd (lineGroup l)
     row-in = row-within (lineGroup l) (countOf (lineGroup l) ls) h room
 
-    middle-kept : (k : ℕ) → k < groupCount → k ≢ lineGroup l → Kept rows (p .middle) (groupAt k .base) (groupAt k .width * groupAt k .room)
+    middle-kept : (k : ℕ) → k < groupCount → k ≢ lineGroup l → Kept rows (p .middle) (baseAt k) (groupAt k .width * groupAt k .room)
     middle-kept k kh d =
-        ⊎-elim (λ a. kept-before (p .row) (groupAt k .base) (groupAt k .width * groupAt k .room) (omega (arith, at-is)))
-        (λ a. kept-after (p .row) (groupAt k .base) (groupAt k .width * groupAt k .room) (omega (arith, at-is, row-in)))
+        ⊎-elim (λ a. kept-before (p .row) (baseAt k) (groupAt k .width * groupAt k .room) (omega (arith, at-is)))
+        (λ a. kept-after (p .row) (baseAt k) (groupAt k .width * groupAt k .room) (omega (arith, at-is, row-in)))
         (regions-apart k (lineGroup l) kh h d)
 
     middle-length : length (p .middle) ≡ rowNumbers
@@ -125,18 +125,18 @@ module _ {ls : List (List ℕ)} {rows counts : List ℕ} (s : Stored ls rows cou
     put-operand e =
         p .raised e ∙ ap (λ (n : ℕ). set (p .middle) (countAt n) (suc (getD (p .middle) (countAt n) 0))) (s .counted instGroup (lit< tt))
 
-    place-in : (e : lineGroup l ≡ operandGroup) → (groupAt instGroup .base ≤ countAt (countOf instGroup ls)) × (countAt (countOf instGroup ls) < regionEnd instGroup)
+    place-in : (e : lineGroup l ≡ operandGroup) → (baseAt instGroup ≤ countAt (countOf instGroup ls)) × (countAt (countOf instGroup ls) < regionEnd instGroup)
     place-in e = let a = last-number e .1 in let b = s .fitting instGroup (lit< tt) in (omega arith, omega arith)
 
-    all-kept : (k : ℕ) → k < groupCount → k ≢ lineGroup l → (k ≡ instGroup → lineGroup l ≡ operandGroup → ⊥) → Kept rows rows′ (groupAt k .base) (groupAt k .width * groupAt k .room)
+    all-kept : (k : ℕ) → k < groupCount → k ≢ lineGroup l → (k ≡ instGroup → lineGroup l ≡ operandGroup → ⊥) → Kept rows rows′ (baseAt k) (groupAt k .width * groupAt k .room)
     all-kept k kh d n =
         same (lineGroup l) operandGroup
         (λ e. kept-then (middle-kept k kh d)
-        (subst (λ (r : List ℕ). Kept (p .middle) r (groupAt k .base) (groupAt k .width * groupAt k .room)) (sym (put-operand e))
-        (kept-store (p .middle) (countAt (countOf instGroup ls)) _ (groupAt k .base) (groupAt k .width * groupAt k .room)
+        (subst (λ (r : List ℕ). Kept (p .middle) r (baseAt k) (groupAt k .width * groupAt k .room)) (sym (put-operand e))
+        (kept-store (p .middle) (countAt (countOf instGroup ls)) _ (baseAt k) (groupAt k .width * groupAt k .room)
         (let a = place-in e .1 in let b = end-within instGroup (lit< tt) in let c = middle-length in omega arith)
         (⊎-elim (λ a. inr (let b = place-in e .0 in omega arith)) (λ a. inl (let b = place-in e .1 in omega arith)) (regions-apart k instGroup kh (lit< tt) (λ q. n q e))))))
-        (λ e. subst (λ (r : List ℕ). Kept rows r (groupAt k .base) (groupAt k .width * groupAt k .room)) (sym (p .plain e)) (middle-kept k kh d))
+        (λ e. subst (λ (r : List ℕ). Kept rows r (baseAt k) (groupAt k .width * groupAt k .room)) (sym (p .plain e)) (middle-kept k kh d))
 
     rows-length′ : length rows′ ≡ rowNumbers
     rows-length′ =
@@ -147,11 +147,11 @@ module _ {ls : List (List ℕ)} {rows counts : List ℕ} (s : Stored ls rows cou
 
     -- the parts of the groups that have no row more
     part-kept : (k : ℕ) → k < groupCount → k ≢ lineGroup l → (k ≡ instGroup → lineGroup l ≡ operandGroup → ⊥) → (n : ℕ) → n ≤ groupAt k .room
-        → part (groupAt k .base) (groupAt k .width * n) rows′ ≡ part (groupAt k .base) (groupAt k .width * n) rows
+        → part (baseAt k) (groupAt k .width * n) rows′ ≡ part (baseAt k) (groupAt k .width * n) rows
     part-kept k kh d q n nh =
         let a = part-in k n kh nh in
         let b = end-within k kh in
-        kept-part-list (kept-part (all-kept k kh d q) (groupAt k .base) (groupAt k .width * n) (omega arith) (omega arith)) (omega arith) (rows-length′ ∙ sym rl)
+        kept-part-list (kept-part (all-kept k kh d q) (baseAt k) (groupAt k .width * n) (omega arith) (omega arith)) (omega arith) (rows-length′ ∙ sym rl)
 
     count-same : (k : ℕ) → k ≢ lineGroup l → countOf k (ls ++ (l ∷ [])) ≡ countOf k ls
     count-same k d = count-more l k ls ∙ ap (λ (t : Bool). countOf k ls + cond t 1 0) (ne-eqb (lineGroup l) k (λ e. d (sym e))) ∙ add-zero (countOf k ls)
@@ -161,57 +161,57 @@ module _ {ls : List (List ℕ)} {rows counts : List ℕ} (s : Stored ls rows cou
 
     -- a group with no row more
     rows-same : (k : ℕ) → k < groupCount → k ≢ lineGroup l → (k ≡ instGroup → lineGroup l ≡ operandGroup → ⊥)
-        → part (groupAt k .base) (groupAt k .width * countOf k (ls ++ (l ∷ []))) rows′ ≡ flat (rowsIn k (ls ++ (l ∷ [])))
+        → part (baseAt k) (groupAt k .width * countOf k (ls ++ (l ∷ []))) rows′ ≡ flat (rowsIn k (ls ++ (l ∷ [])))
     rows-same k kh d q =
-        ap (λ (n : ℕ). part (groupAt k .base) (groupAt k .width * n) rows′) (count-same k d) ∙ part-kept k kh d q (countOf k ls) (s .fitting k kh) ∙ s .rows-are k kh
+        ap (λ (n : ℕ). part (baseAt k) (groupAt k .width * n) rows′) (count-same k d) ∙ part-kept k kh d q (countOf k ls) (s .fitting k kh) ∙ s .rows-are k kh
         ∙ ap flat (sym (rows-more l k q ls ∙ ap (λ (x : List (List ℕ)). rowsIn k ls ++ x) (row-none l k (λ e. d (sym e))) ∙ append-nil (rowsIn k ls)))
 
     -- the instructions, where the line is an operand
-    insts-now : (e : lineGroup l ≡ operandGroup) → part (groupAt instGroup .base) (groupAt instGroup .width * countOf instGroup (ls ++ (l ∷ []))) rows′ ≡ flat (rowsIn instGroup (ls ++ (l ∷ [])))
+    insts-now : (e : lineGroup l ≡ operandGroup) → part (baseAt instGroup) (groupAt instGroup .width * countOf instGroup (ls ++ (l ∷ []))) rows′ ≡ flat (rowsIn instGroup (ls ++ (l ∷ [])))
     insts-now e =
         let d : instGroup ≢ lineGroup l = (λ q. absurd (let z : _≡_ {A = ℕ} 3 4 = q ∙ e in omega arith)) in
         let a = part-in instGroup (countOf instGroup ls) (lit< tt) (s .fitting instGroup (lit< tt)) in
         let b = end-within instGroup (lit< tt) in
-        let m : part (groupAt instGroup .base) (groupAt instGroup .width * countOf instGroup ls) (p .middle) ≡ insts-raised e .front ++ (insts-raised e .last ∷ []) =
-        kept-part-list (kept-part (middle-kept instGroup (lit< tt) d) (groupAt instGroup .base) (groupAt instGroup .width * countOf instGroup ls) (omega arith) (omega arith)) (omega arith) (p .row .len)
+        let m : part (baseAt instGroup) (groupAt instGroup .width * countOf instGroup ls) (p .middle) ≡ insts-raised e .front ++ (insts-raised e .last ∷ []) =
+        kept-part-list (kept-part (middle-kept instGroup (lit< tt) d) (baseAt instGroup) (groupAt instGroup .width * countOf instGroup ls) (omega arith) (omega arith)) (omega arith) (p .row .len)
         ∙ s .rows-are instGroup (lit< tt) ∙ insts-raised e .was in
-        let v = part-last (p .middle) (groupAt instGroup .base) (groupAt instGroup .width * countOf instGroup ls) (insts-raised e .last) (insts-raised e .front) (let c = middle-length in omega arith) m .0 in
-        ap (λ (n : ℕ). part (groupAt instGroup .base) (groupAt instGroup .width * n) rows′) (count-same instGroup d)
-        ∙ ap (λ (r : List ℕ). part (groupAt instGroup .base) (groupAt instGroup .width * countOf instGroup ls) r)
+        let v = part-last (p .middle) (baseAt instGroup) (groupAt instGroup .width * countOf instGroup ls) (insts-raised e .last) (insts-raised e .front) (let c = middle-length in omega arith) m .0 in
+        ap (λ (n : ℕ). part (baseAt instGroup) (groupAt instGroup .width * n) rows′) (count-same instGroup d)
+        ∙ ap (λ (r : List ℕ). part (baseAt instGroup) (groupAt instGroup .width * countOf instGroup ls) r)
         (put-operand e ∙ ap (λ (x : ℕ). set (p .middle) x (suc (getD (p .middle) x 0))) count-place
-        ∙ ap (λ (x : ℕ). set (p .middle) (groupAt instGroup .base + groupAt instGroup .width * countOf instGroup ls - 1) (suc x)) v)
-        ∙ part-raised (p .middle) (groupAt instGroup .base) (groupAt instGroup .width * countOf instGroup ls) (insts-raised e .last) (suc (insts-raised e .last)) (insts-raised e .front) (let c = middle-length in omega arith) m
+        ∙ ap (λ (x : ℕ). set (p .middle) (baseAt instGroup + groupAt instGroup .width * countOf instGroup ls - 1) (suc x)) v)
+        ∙ part-raised (p .middle) (baseAt instGroup) (groupAt instGroup .width * countOf instGroup ls) (insts-raised e .last) (suc (insts-raised e .last)) (insts-raised e .front) (let c = middle-length in omega arith) m
         ∙ sym (insts-raised e .is)
 
     -- the line's own group
     row-length : length (rowWith (lineGroup l) fields 0) ≡ groupAt (lineGroup l) .width
     row-length = ap length re ∙ length-row (lineGroup l) (lineFields l) 0 h (group-fits l h)
 
-    own-middle : part (groupAt (lineGroup l) .base) (groupAt (lineGroup l) .width * countOf (lineGroup l) ls + groupAt (lineGroup l) .width) (p .middle) ≡ flat (rowsIn (lineGroup l) ls) ++ rowWith (lineGroup l) fields 0
+    own-middle : part (baseAt (lineGroup l)) (groupAt (lineGroup l) .width * countOf (lineGroup l) ls + groupAt (lineGroup l) .width) (p .middle) ≡ flat (rowsIn (lineGroup l) ls) ++ rowWith (lineGroup l) fields 0
     own-middle =
-        part-more rows (p .middle) (groupAt (lineGroup l) .base) (groupAt (lineGroup l) .width * countOf (lineGroup l) ls) (groupAt (lineGroup l) .width) (rowWith (lineGroup l) fields 0) row-length
+        part-more rows (p .middle) (baseAt (lineGroup l)) (groupAt (lineGroup l) .width * countOf (lineGroup l) ls) (groupAt (lineGroup l) .width) (rowWith (lineGroup l) fields 0) row-length
         (let a = row-in in let b = end-within (lineGroup l) h in omega arith)
-        (subst (λ (x : ℕ). Region rows (p .middle) (groupAt (lineGroup l) .base + x) (groupAt (lineGroup l) .width) (λ j. getD (rowWith (lineGroup l) fields 0) j 0)) at-is (p .row))
+        (subst (λ (x : ℕ). Region rows (p .middle) (baseAt (lineGroup l) + x) (groupAt (lineGroup l) .width) (λ j. getD (rowWith (lineGroup l) fields 0) j 0)) at-is (p .row))
         ∙ ap (λ (x : List ℕ). x ++ rowWith (lineGroup l) fields 0) (s .rows-are (lineGroup l) h)
 
-    own-kept : part (groupAt (lineGroup l) .base) (groupAt (lineGroup l) .width * countOf (lineGroup l) ls + groupAt (lineGroup l) .width) rows′
-        ≡ part (groupAt (lineGroup l) .base) (groupAt (lineGroup l) .width * countOf (lineGroup l) ls + groupAt (lineGroup l) .width) (p .middle)
+    own-kept : part (baseAt (lineGroup l)) (groupAt (lineGroup l) .width * countOf (lineGroup l) ls + groupAt (lineGroup l) .width) rows′
+        ≡ part (baseAt (lineGroup l)) (groupAt (lineGroup l) .width * countOf (lineGroup l) ls + groupAt (lineGroup l) .width) (p .middle)
     own-kept =
         same (lineGroup l) operandGroup
         (λ e. let a = row-in in let b = end-within (lineGroup l) h in let c = middle-length in let r = rows-length′ in
         let d : lineGroup l ≢ instGroup = (λ q. absurd (let z : _≡_ {A = ℕ} 4 3 = sym e ∙ q in omega arith)) in
         kept-part-list
-        (subst (λ (r : List ℕ). Kept (p .middle) r (groupAt (lineGroup l) .base) (groupAt (lineGroup l) .width * countOf (lineGroup l) ls + groupAt (lineGroup l) .width)) (sym (put-operand e))
-        (kept-store (p .middle) (countAt (countOf instGroup ls)) _ (groupAt (lineGroup l) .base) (groupAt (lineGroup l) .width * countOf (lineGroup l) ls + groupAt (lineGroup l) .width)
+        (subst (λ (r : List ℕ). Kept (p .middle) r (baseAt (lineGroup l)) (groupAt (lineGroup l) .width * countOf (lineGroup l) ls + groupAt (lineGroup l) .width)) (sym (put-operand e))
+        (kept-store (p .middle) (countAt (countOf instGroup ls)) _ (baseAt (lineGroup l)) (groupAt (lineGroup l) .width * countOf (lineGroup l) ls + groupAt (lineGroup l) .width)
         (let i = place-in e .1 in let j = end-within instGroup (lit< tt) in omega arith)
         (⊎-elim (λ u. inr (let i = place-in e .0 in omega arith)) (λ u. inl (let i = place-in e .1 in omega arith)) (regions-apart (lineGroup l) instGroup h (lit< tt) d))))
         (omega arith) (omega arith))
-        (λ e. ap (part (groupAt (lineGroup l) .base) (groupAt (lineGroup l) .width * countOf (lineGroup l) ls + groupAt (lineGroup l) .width)) (p .plain e))
+        (λ e. ap (part (baseAt (lineGroup l)) (groupAt (lineGroup l) .width * countOf (lineGroup l) ls + groupAt (lineGroup l) .width)) (p .plain e))
 
-    own-rows : part (groupAt (lineGroup l) .base) (groupAt (lineGroup l) .width * countOf (lineGroup l) (ls ++ (l ∷ []))) rows′ ≡ flat (rowsIn (lineGroup l) (ls ++ (l ∷ [])))
+    own-rows : part (baseAt (lineGroup l)) (groupAt (lineGroup l) .width * countOf (lineGroup l) (ls ++ (l ∷ []))) rows′ ≡ flat (rowsIn (lineGroup l) (ls ++ (l ∷ [])))
     own-rows =
         let q : lineGroup l ≡ instGroup → lineGroup l ≡ operandGroup → ⊥ = (λ a b. let z : _≡_ {A = ℕ} 3 4 = sym a ∙ b in omega arith) in
-        ap (λ (n : ℕ). part (groupAt (lineGroup l) .base) n rows′) (ap (λ (n : ℕ). groupAt (lineGroup l) .width * n) (count-next ∙ add-one (countOf (lineGroup l) ls)) ∙ mul-suc (groupAt (lineGroup l) .width) (countOf (lineGroup l) ls))
+        ap (λ (n : ℕ). part (baseAt (lineGroup l)) n rows′) (ap (λ (n : ℕ). groupAt (lineGroup l) .width * n) (count-next ∙ add-one (countOf (lineGroup l) ls)) ∙ mul-suc (groupAt (lineGroup l) .width) (countOf (lineGroup l) ls))
         ∙ own-kept ∙ own-middle ∙ ap (λ (x : List ℕ). flat (rowsIn (lineGroup l) ls) ++ x) (re ∙ sym (flat-one (rowWith (lineGroup l) (lineFields l) 0)))
         ∙ sym (ap flat (rows-more l (lineGroup l) q ls ∙ ap (λ (x : List (List ℕ)). rowsIn (lineGroup l) ls ++ x) (row-of l (lineGroup l) refl)) ∙ flat-append (rowsIn (lineGroup l) ls) (rowWith (lineGroup l) (lineFields l) 0 ∷ []))
 
@@ -224,10 +224,10 @@ module _ {ls : List (List ℕ)} {rows counts : List ℕ} (s : Stored ls rows cou
           ∙ ap (λ (n : ℕ). n + 1) (s .counted (lineGroup l) h) ∙ sym (ap (λ (n : ℕ). countOf n (ls ++ (l ∷ []))) e ∙ count-next))
           (λ d. getD-set-other counts (lineGroup l) k _ 0 d ∙ s .counted k kh ∙ sym (count-same k d));
       rows-are = λ k kh. same k (lineGroup l)
-          (λ e. subst (λ (n : ℕ). part (groupAt n .base) (groupAt n .width * countOf n (ls ++ (l ∷ []))) rows′ ≡ flat (rowsIn n (ls ++ (l ∷ [])))) (sym e) own-rows)
+          (λ e. subst (λ (n : ℕ). part (baseAt n) (groupAt n .width * countOf n (ls ++ (l ∷ []))) rows′ ≡ flat (rowsIn n (ls ++ (l ∷ [])))) (sym e) own-rows)
           (λ d. same k instGroup
           (λ i. same (lineGroup l) operandGroup
-          (λ o. subst (λ (n : ℕ). part (groupAt n .base) (groupAt n .width * countOf n (ls ++ (l ∷ []))) rows′ ≡ flat (rowsIn n (ls ++ (l ∷ [])))) (sym i) (insts-now o))
+          (λ o. subst (λ (n : ℕ). part (baseAt n) (groupAt n .width * countOf n (ls ++ (l ∷ []))) rows′ ≡ flat (rowsIn n (ls ++ (l ∷ [])))) (sym i) (insts-now o))
           (λ o. rows-same k kh d (λ _ q. o q)))
           (λ i. rows-same k kh d (λ q _. i q)));
     }

@@ -10,7 +10,7 @@ use Rattle.refusals.specs.declared.Refusal.the-variants.{Text as TextRefused}
 use Rattle.refusals.specs.Verdicts.{scan}
 use Rattle.words.specs.Rows.{flat}
 use Rattle.words.specs.Regions.{part}
-use Rattle.grammar.specs.Groups.{groupAt, groupCount, rowNumbers, mayFollow}
+use Rattle.grammar.specs.Groups.{groupAt, baseAt, groupCount, rowNumbers, mayFollow}
 use Rattle.grammar.specs.Text.{placeBefore, badLine, rowsIn, countOf}
 use Rattle.job_rows.specs.declared.Reader.{Reader}
 
@@ -18,7 +18,7 @@ use Rattle.job_rows.specs.declared.Reader.{Reader}
 pub record Stored (ls : List (List ℕ)) (rows counts : List ℕ) : Type 0 where
   pub fitting : (k : ℕ) → k < groupCount → countOf k ls ≤ groupAt k .room
   pub counted : (k : ℕ) → k < groupCount → getD counts k 0 ≡ countOf k ls
-  pub rows-are : (k : ℕ) → k < groupCount → part (groupAt k .base) (groupAt k .width * countOf k ls) rows ≡ flat (rowsIn k ls)
+  pub rows-are : (k : ℕ) → k < groupCount → part (baseAt k) (groupAt k .width * countOf k ls) rows ≡ flat (rowsIn k ls)
 
 -- some group has more lines than rows; from then on lines are checked and not stored
 pub record Over (ls : List (List ℕ)) : Type 0 where

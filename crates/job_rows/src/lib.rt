@@ -6,17 +6,23 @@ ghost use lib.Dec.{ltb};
 ghost use lib.ListN.{length, getD, set};
 ghost use Rattle.words.specs.Regions.{Region};
 ghost use Rattle.grammar.specs.Numerals.{limit};
-ghost use Rattle.grammar.specs.Groups.{groupAt, groupCount, mayFollow, rowNumbers};
+ghost use Rattle.grammar.specs.Groups.{groupAt, groupCount, instGroup, mayFollow, rowNumbers, mostFields, allowed};
 ghost use Rattle.grammar.specs.Lines.{meant};
 ghost use Rattle.grammar.specs.Text.{numbers, rowWith};
 ghost use Rattle.job_rows.specs.Put.{Meant, Storable, Put, countAt};
 ghost use Rattle.job_rows.specs.Taken.{Reads, Takes, Refuses, accepts, crowds};
+use grammar::DASH;
+use grammar::GROUP_COUNT;
+use grammar::INSTS;
+use grammar::OPERANDS;
 use grammar::dash_at;
 use grammar::entry_of;
 use lines::read_line;
 
-// What `-` reads as.
-const DASH: u64 = 4294967296;
+// How many fields an instruction's line has; its row has a flag before them and its operand count behind.
+const INST_FIELDS: usize = 7;
+
+const COUNT_PLACE: usize = INST_FIELDS + 1;
 
 // What is known of the lines so far: how many there are, the place of the last one in the order of groups, whether one was malformed and
 // which was the first, and whether a group has more lines than rows.
@@ -53,11 +59,11 @@ fn put_numbers(k: usize, n: usize, fields: &[u64], rows: &mut [u32], at: usize)
 
 // An instruction's row: whether it is placed, its fields, and no operand yet.
 fn put_inst(fields: &[u64], rows: &mut [u32], at: usize)
-    requires { ⌜ Meant 3 (now fields) × (at + 9 ≤ length (now rows)) ⌝ }
-    ensures { λ _. ⌜ Region (now (rows .entry)) (now (rows .exit)) at 9 (λ j. getD (rowWith 3 (now (fields .entry)) 0) j 0) ⌝ }
+    requires { ⌜ Meant instGroup (now fields) × (at + groupAt instGroup .width ≤ length (now rows)) ⌝ }
+    ensures { λ _. ⌜ Region (now (rows .entry)) (now (rows .exit)) at (groupAt instGroup .width) (λ j. getD (rowWith instGroup (now (fields .entry)) 0) j 0) ⌝ }
 {
-    put_numbers(3, 7, fields, rows, at + 1);
-    rows[at + 8] = 0;
+    put_numbers(INSTS, INST_FIELDS, fields, rows, at + 1);
+    rows[at + COUNT_PLACE] = 0;
     if fields[0] == DASH {
         rows[at] = 0;
         return;
@@ -70,7 +76,7 @@ fn put(k: usize, fields: &[u64], rows: &mut [u32], at: usize)
     requires { ⌜ Meant k (now fields) × (at + groupAt k .width ≤ length (now rows)) ⌝ }
     ensures { λ _. ⌜ Region (now (rows .entry)) (now (rows .exit)) at (groupAt k .width) (λ j. getD (rowWith k (now (fields .entry)) 0) j 0) ⌝ }
 {
-    if k == 3 {
+    if k == INSTS {
         put_inst(fields, rows, at);
         return;
     }
@@ -79,10 +85,11 @@ fn put(k: usize, fields: &[u64], rows: &mut [u32], at: usize)
 
 // One operand more in the row of instruction `i - 1`.
 fn raise(rows: &mut [u32], i: usize)
-    requires { ⌜ (i ≤ 64) × (length (now rows) ≡ rowNumbers) × (getD (now rows) (countAt i) 0 ≤ 64) ⌝ }
+    requires { ⌜ (i ≤ allowed) × (length (now rows) ≡ rowNumbers) × (getD (now rows) (countAt i) 0 ≤ allowed) ⌝ }
     ensures { λ _. ⌜ now (rows .exit) ≡ set (now (rows .entry)) (countAt i) (suc (getD (now (rows .entry)) (countAt i) 0)) ⌝ }
 {
-    let at = 322 + 9 * i;
+    let e = entry_of(INSTS);
+    let at = e.base - 1 + e.width * i;
     rows[at] = rows[at] + 1;
 }
 
@@ -93,20 +100,20 @@ fn store(k: usize, fields: &[u64], rows: &mut [u32], counts: &mut [u32])
 {
     let e = entry_of(k);
     let n = counts[k];
-    let insts = counts[3] as usize;
+    let insts = counts[INSTS] as usize;
     put(k, fields, rows, e.base + e.width * n as usize);
     counts[k] = n + 1;
-    if k == 4 {
+    if k == OPERANDS {
         raise(rows, insts);
         return;
     }
 }
 
-// Whether a line of group `k` may stand behind one at `place`; 13 is no group.
+// Whether a line of group `k` may stand behind one at `place`; `GROUP_COUNT` is no group.
 fn follows(k: usize, place: usize) -> bool
     ensures { λ r. ⌜ r ≡ (ltb k groupCount && mayFollow place k) ⌝ }
 {
-    if 13 <= k {
+    if GROUP_COUNT <= k {
         return false;
     }
     let e = entry_of(k);
@@ -167,7 +174,7 @@ pub fn take_line(
     rows: &mut [u32],
     counts: &mut [u32],
 ) -> Reader
-    requires { ⌜ (7 ≤ length (now fields)) × (r .lines < 2 ^ 64 - 1) × Reads r (now rows) (now counts) ⌝ }
+    requires { ⌜ (mostFields ≤ length (now fields)) × (r .lines < 2 ^ 64 - 1) × Reads r (now rows) (now counts) ⌝ }
     ensures { λ q. ⌜ Takes (now (line .entry)) r (now (rows .entry)) (now (counts .entry)) q (now (rows .exit)) (now (counts .exit)) ⌝ }
 {
     let k = read_line(line, fields);

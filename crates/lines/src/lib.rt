@@ -4,26 +4,18 @@ ghost use Prim.Native.Nat.{_≤_, _<_};
 ghost use lib.ListN.{length};
 ghost use lib.Dec.{ltb};
 ghost use Rattle.grammar.specs.Numerals.{fieldOf, numberFrom, limit};
-ghost use Rattle.grammar.specs.Groups.{groupCount};
+ghost use Rattle.grammar.specs.Groups.{groupCount, mostFields};
 ghost use Rattle.grammar.specs.Lines.{meant};
 ghost use Rattle.lines.specs.Read.{FieldsRead, BodyRead, LineRead};
+use grammar::DASH;
+use grammar::GROUP_COUNT;
+use grammar::LIMIT;
+use grammar::LONGEST;
+use grammar::NO_FIELD;
 use grammar::dash_at;
 use grammar::entry_of;
 use grammar::find;
 use grammar::group_of;
-
-// One more than a field's largest number; what `-` reads as; what reads as no field.
-const LIMIT: u64 = 4294967296;
-
-const DASH: u64 = 4294967296;
-
-const NO_FIELD: u64 = 4294967297;
-
-// No group.
-const NONE: usize = 13;
-
-// The longest line, with its newline.
-const LONGEST: usize = 128;
 
 // The number that digits make.
 fn value(s: &[u8]) -> u64
@@ -79,7 +71,7 @@ fn allowed(f: u64, d: u64) -> bool
 
 // The fields of a group's line, which stand behind the letter and its comma.
 fn fields(s: &[u8], k: usize, out: &mut [u64]) -> bool
-    requires { ⌜ (k < groupCount) × (7 ≤ length (now out)) ⌝ }
+    requires { ⌜ (k < groupCount) × (mostFields ≤ length (now out)) ⌝ }
     ensures { λ r. ⌜ FieldsRead k (now (s .entry)) (now (out .entry)) r (now (out .exit)) ⌝ }
 {
     let n = entry_of(k).fields;
@@ -101,42 +93,42 @@ fn fields(s: &[u8], k: usize, out: &mut [u64]) -> bool
     false
 }
 
-// The group of what stands before a line's newline, or 13, and its fields.
+// The group of what stands before a line's newline, or `GROUP_COUNT`, and its fields.
 fn body(b: &[u8], out: &mut [u64]) -> usize
-    requires { ⌜ 7 ≤ length (now out) ⌝ }
+    requires { ⌜ mostFields ≤ length (now out) ⌝ }
     ensures { λ r. ⌜ BodyRead (now (b .entry)) (now (out .entry)) r (now (out .exit)) ⌝ }
 {
     let e = find(b, b',');
     if e != 1 {
-        return NONE;
+        return GROUP_COUNT;
     }
     let k = group_of(b[0]);
-    if k == NONE {
-        return NONE;
+    if k == GROUP_COUNT {
+        return GROUP_COUNT;
     }
     if b.len() == 1 {
-        return NONE;
+        return GROUP_COUNT;
     }
     if fields(&b[2..], k, out) {
         return k;
     }
-    NONE
+    GROUP_COUNT
 }
 
-// The group of a line with its newline, or 13 where it is malformed, and its fields in the first numbers of `out`.
+// The group of a line with its newline, or `GROUP_COUNT` where it is malformed, and its fields in the first numbers of `out`.
 pub fn read_line(line: &[u8], out: &mut [u64]) -> usize
-    requires { ⌜ 7 ≤ length (now out) ⌝ }
+    requires { ⌜ mostFields ≤ length (now out) ⌝ }
     ensures { λ r. ⌜ LineRead (now (line .entry)) (now (out .entry)) r (now (out .exit)) ⌝ }
 {
     let n = line.len();
     if LONGEST < n {
-        return NONE;
+        return GROUP_COUNT;
     }
     if n == 0 {
-        return NONE;
+        return GROUP_COUNT;
     }
     if line[n - 1] != b'\n' {
-        return NONE;
+        return GROUP_COUNT;
     }
     body(&line[0..n - 1], out)
 }

@@ -9,6 +9,10 @@ use drawing::Axis;
 use drawing::axis_of;
 use drawing::height;
 use drawing::ranges;
+use grammar::GROUP_COUNT;
+use grammar::LOCALS;
+use grammar::ROW_NUMBERS;
+use grammar::SLOTS;
 use job::Shared;
 use planning::held;
 use planning::planned;
@@ -61,7 +65,7 @@ fn plan(rows: &[u32], counts: &[u32])
     let mut items = [0u32; 512];
     let mut areas = [0u32; 128];
     let mut work = [0u64; 8192];
-    let n = held(counts, 6) + held(counts, 7);
+    let n = held(counts, LOCALS) + held(counts, SLOTS);
     let b = held(counts, 1);
     let r = planned(rows, counts, &mut cells, &mut items, &mut areas, &mut work);
     match r {
@@ -72,7 +76,7 @@ fn plan(rows: &[u32], counts: &[u32])
                 &cells,
                 &items[0..4 * n],
                 &areas,
-                counts[6],
+                counts[LOCALS],
                 c as u32,
                 n as u32,
             );
@@ -82,8 +86,8 @@ fn plan(rows: &[u32], counts: &[u32])
 }
 
 fn main() {
-    let mut rows = [0; 2115];
-    let mut counts = [0; 13];
+    let mut rows = [0; ROW_NUMBERS];
+    let mut counts = [0; GROUP_COUNT];
     let v = input(&mut rows, &mut counts);
     match v {
         Verdict::Fine => plan(&rows, &counts),

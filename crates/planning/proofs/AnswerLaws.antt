@@ -28,7 +28,7 @@ use Rattle.job_answers.specs.declared.Shared.{Shared}
 use Rattle.job_answers.specs.declared.Shared.the-variants.{Plan as Planned, Refused}
 use Rattle.job_answers.specs.Answers.{answered, itemRows}
 use Rattle.job.specs.Entry.{lentVerdict, verdictOf}
-use Rattle.grammar.specs.Groups.{groupAt, groupCount, rowNumbers}
+use Rattle.grammar.specs.Groups.{groupAt, baseAt, groupCount, rowNumbers}
 use Rattle.grammar.specs.Lines.{linesOf}
 use Rattle.grammar.specs.Text.{linesVerdict, readVerdict}
 use Rattle.grammar.proofs.TableLaws.{room-most}
@@ -102,7 +102,7 @@ few-of text rows counts e F =
 
 module _ (text rows counts : List ℕ) where
   same-numbers : Records text rows counts → (k : ℕ) → k < groupCount → numbersAt rows counts k ≡ numbersIn text k
-  same-numbers R k h = ap (λ (n : ℕ). part (groupAt k .base) (groupAt k .width * n) rows) (R .counted k h) ∙ R .rows-are k h
+  same-numbers R k h = ap (λ (n : ℕ). part (baseAt k) (groupAt k .width * n) rows) (R .counted k h) ∙ R .rows-are k h
 
   pub accepted : {v : Verdict} → v ≡ Fine → Finished text v rows counts → printedFor (numbersAt rows counts) Fine ≡ programText text
   accepted {v} e F =

@@ -10,6 +10,10 @@ ghost use Rattle.plan_text.specs.Printed.{refusalText, inRoom, writtenOf, Print
 ghost use Rattle.planning.specs.Program.{printedFor};
 ghost use Rattle.row_plans.specs.Groups.{numbersAt, Few};
 ghost use Rattle.planning.specs.Answer.{Read, TextPrinted, Tells, Answers, roomFor};
+use grammar::GROUP_COUNT;
+use grammar::LOCALS;
+use grammar::ROW_NUMBERS;
+use grammar::SLOTS;
 use job::Shared;
 use plan_text::Written;
 use plan_text::print_plan;
@@ -46,14 +50,14 @@ fn plan(rows: &[u32], counts: &[u32], out: &mut [u8]) -> Written
     let mut items = [0u32; 512];
     let mut areas = [0u32; 128];
     let mut work = [0u64; 8192];
-    let n = held(counts, 6) + held(counts, 7);
+    let n = held(counts, LOCALS) + held(counts, SLOTS);
     let r = planned(rows, counts, &mut cells, &mut items, &mut areas, &mut work);
     match r {
         Shared::Plan(c, probes, depth) => print_plan(
             &cells[0..2 * c],
             &items[0..4 * n],
             &areas,
-            counts[6],
+            counts[LOCALS],
             probes,
             depth,
             out,
@@ -86,8 +90,8 @@ pub fn answer(v: Verdict, rows: &[u32], counts: &[u32], out: &mut [u8]) -> usize
 pub fn print_text(text: &[u8], out: &mut [u8]) -> Written
     ensures { λ w. ⌜ TextPrinted (now (text .entry)) (now (out .entry)) w (now (out .exit)) ⌝ }
 {
-    let mut rows = [0; 2115];
-    let mut counts = [0; 13];
+    let mut rows = [0; ROW_NUMBERS];
+    let mut counts = [0; GROUP_COUNT];
     let v = read_text(text, &mut rows, &mut counts);
     tell(v, &rows, &counts, out)
 }

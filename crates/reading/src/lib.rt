@@ -3,6 +3,7 @@ ghost use mathlib.Core.Path.{_≡_};
 ghost use lib.ListN.{length};
 ghost use Rattle.grammar.specs.Groups.{groupCount, rowNumbers};
 ghost use Rattle.planning.specs.Answer.{Read};
+use grammar::MOST_FIELDS;
 use refusals::Verdict;
 use text::feed;
 use text::finish;
@@ -14,7 +15,7 @@ pub fn input(rows: &mut [u32], counts: &mut [u32]) -> Verdict
     ensures { λ v. ⌜ Read v (now (rows .exit)) (now (counts .exit)) ⌝ }
 {
     let mut line = [0; 128];
-    let mut fields = [0; 7];
+    let mut fields = [0; MOST_FIELDS];
     let mut piece = [0; 4096];
     let mut s = start(&mut line, rows, counts);
     let mut turn: usize = 0;

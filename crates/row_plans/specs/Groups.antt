@@ -3,7 +3,7 @@ use Prim.Native.Nat.{ℕ, _*_, _≤_, _<_}
 use mathlib.Core.List.{List}
 use lib.ListN.{getD}
 use Rattle.words.specs.Regions.{part}
-use Rattle.grammar.specs.Groups.{groupAt, groupCount}
+use Rattle.grammar.specs.Groups.{groupAt, baseAt, groupCount}
 use Rattle.job_answers.specs.declared.Shared.{Shared}
 use Rattle.job.specs.Entry.{SharedAs}
 
@@ -21,7 +21,7 @@ module _ (group : ℕ → List ℕ) where
 
 -- the numbers of a group's records in the reader's lists
 abbrev pub numbersAt : List ℕ → List ℕ → ℕ → List ℕ
-numbersAt rows counts k = part (groupAt k .base) (groupAt k .width * getD counts k 0) rows
+numbersAt rows counts k = part (baseAt k) (groupAt k .width * getD counts k 0) rows
 
 -- there is a head, and of each group no more than the program allows
 pub record Few (counts : List ℕ) : Type 0 where

@@ -16,7 +16,7 @@ use Rattle.refusals.specs.Verdicts.{scan}
 use Rattle.words.specs.Rows.{flat}
 use Rattle.words.specs.Regions.{part}
 use Rattle.words.proofs.Bools.{never}
-use Rattle.grammar.specs.Groups.{groupAt, groupCount, rowNumbers}
+use Rattle.grammar.specs.Groups.{groupAt, baseAt, groupCount, rowNumbers}
 use Rattle.grammar.specs.Text.{rowsIn}
 use Rattle.grammar.specs.Lines.{newline, onto, linesOf, groupOf, ended, body, formed, wellFormed, lineGroup}
 use Rattle.job_rows.specs.declared.Reader.{Reader}
@@ -175,7 +175,7 @@ unfolding rowsIn flat
 none-stored rows counts z = record {
   fitting = λ k h. omega arith;
   counted = z;
-  rows-are = λ k h. ap (λ (n : ℕ). part (groupAt k .base) n rows) (mul-zero (groupAt k .width));
+  rows-are = λ k h. ap (λ (n : ℕ). part (baseAt k) n rows) (mul-zero (groupAt k .width));
 }
 
 pub reading-none : {line rows counts : List ℕ} {r : Reader} → length line ≡ 128 → length rows ≡ rowNumbers → length counts ≡ groupCount → ((k : ℕ) → k < groupCount → getD counts k 0 ≡ 0)

@@ -13,7 +13,7 @@ use Rattle.words.specs.Rows.{tabulate, flat}
 use Rattle.words.specs.Regions.{Region, part}
 use Rattle.words.proofs.RowLaws.{length-tabulate, tabulate-suc}
 use Rattle.words.proofs.RegionLaws.{Done, done-start, done-more, done-all, getD-part, region-list, region-front}
-use Rattle.grammar.specs.Groups.{groupAt, groupCount, rowNumbers}
+use Rattle.grammar.specs.Groups.{groupAt, baseAt, groupCount, rowNumbers}
 use Rattle.grammar.proofs.TableLaws.{at, end-within}
 use Rattle.job_rows.proofs.TakeLaws.{flat-append, flat-one}
 use Rattle.text.specs.Read.{padded, Copyable, Copied}
@@ -26,11 +26,11 @@ before zero = 0
 before (suc k) = before k + groupAt k .width * groupAt k .room
 
 start-entry : ℕ → Bool
-start-entry k = eqb (before k) (groupAt k .base)
+start-entry k = eqb (before k) (baseAt k)
 
-pub starts : (k : ℕ) → k < groupCount → before k ≡ groupAt k .base
+pub starts : (k : ℕ) → k < groupCount → before k ≡ baseAt k
 unfolding start-entry before
-starts k h = eqb→eq (before k) (groupAt k .base) (at groupCount start-entry tt k h)
+starts k h = eqb→eq (before k) (baseAt k) (at groupCount start-entry tt k h)
 
 pub before-all : before groupCount ≡ rowNumbers
 unfolding before
@@ -83,17 +83,17 @@ copy-start held counted rows counts c = record { len = refl; rows-are = refl; co
 module _ {held counted rows₀ counts₀ : List ℕ} (c : Copyable held counted rows₀ counts₀) {rows counts : List ℕ} {k : ℕ} (d : Copying held counted rows₀ counts₀ rows counts k) where
   module _ (h : k < groupCount) where
     -- a group's part is within the lists
-    pub group-within : groupAt k .base + groupAt k .width * groupAt k .room ≤ rowNumbers
+    pub group-within : baseAt k + groupAt k .width * groupAt k .room ≤ rowNumbers
     group-within = end-within k h
 
     pub few-numbers : groupAt k .width * getD counted k 0 ≤ rowNumbers
     few-numbers = let m = mul-le-mul-left (groupAt k .width) (c .fitting k h) in let e = end-within k h in omega arith
 
-    pub group-rooms : (groupAt k .base + groupAt k .width * groupAt k .room ≤ length held) × (groupAt k .base + groupAt k .width * groupAt k .room ≤ length rows)
+    pub group-rooms : (baseAt k + groupAt k .width * groupAt k .room ≤ length held) × (baseAt k + groupAt k .width * groupAt k .room ≤ length rows)
     group-rooms = (let e = end-within k h in let l = c .held-length in omega arith, (let e = end-within k h in let l = d .len in let r = c .rows-room in omega arith))
 
     -- the same by the code's base, width and room
-    module _ (b w m : ℕ) (be : b ≡ groupAt k .base) (we : w ≡ groupAt k .width) (me : m ≡ groupAt k .room) where
+    module _ (b w m : ℕ) (be : b ≡ baseAt k) (we : w ≡ groupAt k .width) (me : m ≡ groupAt k .room) where
       pub few-as : w * getD counted k 0 ≤ rowNumbers
       few-as = rw we few-numbers
 
@@ -103,24 +103,24 @@ module _ {held counted rows₀ counts₀ : List ℕ} (c : Copyable held counted 
       pub rooms-as : (b + w * m ≤ length held) × (b + w * m ≤ length rows)
       rooms-as = rw (be, we, me) group-rooms
 
-    front : take (groupAt k .base) rows ≡ flat (tabulate k (padded held counted))
+    front : take (baseAt k) rows ≡ flat (tabulate k (padded held counted))
     front =
-        ap (take (groupAt k .base)) (d .rows-are)
-        ∙ take-at (flat (tabulate k (padded held counted))) (drop (before k) rows₀) (groupAt k .base) (padded-before held counted k ∙ starts k h)
+        ap (take (baseAt k)) (d .rows-are)
+        ∙ take-at (flat (tabulate k (padded held counted))) (drop (before k) rows₀) (baseAt k) (padded-before held counted k ∙ starts k h)
 
-    behind : drop (groupAt k .base + groupAt k .width * groupAt k .room) rows ≡ drop (before (k + 1)) rows₀
+    behind : drop (baseAt k + groupAt k .width * groupAt k .room) rows ≡ drop (before (k + 1)) rows₀
     behind =
-        ap (drop (groupAt k .base + groupAt k .width * groupAt k .room)) (d .rows-are)
+        ap (drop (baseAt k + groupAt k .width * groupAt k .room)) (d .rows-are)
         ∙ ap (λ (n : ℕ). drop (n + groupAt k .width * groupAt k .room) (flat (tabulate k (padded held counted)) ++ drop (before k) rows₀)) (sym (padded-before held counted k ∙ starts k h))
         ∙ drop-append-add (flat (tabulate k (padded held counted))) (drop (before k) rows₀) (groupAt k .width * groupAt k .room)
         ∙ drop-drop (groupAt k .width * groupAt k .room) (before k) rows₀ ∙ ap (λ (n : ℕ). drop n rows₀) (sym (before-next k))
 
-    pub copy-more : {rows′ : List ℕ} → Region rows rows′ (groupAt k .base) (groupAt k .width * groupAt k .room) (λ j. getD (part (groupAt k .base) (groupAt k .width * getD counted k 0) held) j 0)
+    pub copy-more : {rows′ : List ℕ} → Region rows rows′ (baseAt k) (groupAt k .width * groupAt k .room) (λ j. getD (part (baseAt k) (groupAt k .width * getD counted k 0) held) j 0)
         → Copying held counted rows₀ counts₀ rows′ (set counts k (getD counted k 0)) (k + 1)
     copy-more {rows′} r = record {
       len = r .len ∙ d .len;
       rows-are = region-list r (group-rooms .1)
-          ∙ ap (λ (l : List ℕ). l ++ (padded held counted k ++ drop (groupAt k .base + groupAt k .width * groupAt k .room) rows)) front
+          ∙ ap (λ (l : List ℕ). l ++ (padded held counted k ++ drop (baseAt k + groupAt k .width * groupAt k .room) rows)) front
           ∙ ap (λ (l : List ℕ). flat (tabulate k (padded held counted)) ++ (padded held counted k ++ l)) behind
           ∙ sym (append-assoc (flat (tabulate k (padded held counted))) (padded held counted k) (drop (before (k + 1)) rows₀))
           ∙ ap (λ (l : List ℕ). l ++ drop (before (k + 1)) rows₀) (sym (flat-next k (padded held counted)));
@@ -136,8 +136,8 @@ module _ {held counted rows₀ counts₀ : List ℕ} (c : Copyable held counted 
       }
 
 -- the code's base, width and room
-pub group-as : (held : List ℕ) (k b w m n : ℕ) {rows r : List ℕ} → b ≡ groupAt k .base → w ≡ groupAt k .width → m ≡ groupAt k .room → Region rows r b (w * m) (λ j. getD (part b (w * n) held) j 0)
-    → Region rows r (groupAt k .base) (groupAt k .width * groupAt k .room) (λ j. getD (part (groupAt k .base) (groupAt k .width * n) held) j 0)
+pub group-as : (held : List ℕ) (k b w m n : ℕ) {rows r : List ℕ} → b ≡ baseAt k → w ≡ groupAt k .width → m ≡ groupAt k .room → Region rows r b (w * m) (λ j. getD (part b (w * n) held) j 0)
+    → Region rows r (baseAt k) (groupAt k .width * groupAt k .room) (λ j. getD (part (baseAt k) (groupAt k .width * n) held) j 0)
 group-as held k b w m n {rows} {r} be we me q =
     subst (λ (x : ℕ). Region rows r x (groupAt k .width * groupAt k .room) (λ j. getD (part x (groupAt k .width * n) held) j 0)) be
     (subst (λ (x : ℕ). Region rows r b (x * groupAt k .room) (λ j. getD (part b (x * n) held) j 0)) we (subst (λ (x : ℕ). Region rows r b (w * x) (λ j. getD (part b (w * n) held) j 0)) me q))

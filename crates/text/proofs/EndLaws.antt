@@ -21,7 +21,7 @@ use Rattle.words.specs.Regions.{part}
 use Rattle.words.proofs.RegionLaws.{getD-part}
 use Rattle.words.proofs.Points.{cut}
 use Rattle.words.proofs.Bools.{or-right, or-neither, never}
-use Rattle.grammar.specs.Groups.{groupAt, groupCount, mayFollow}
+use Rattle.grammar.specs.Groups.{groupAt, baseAt, groupCount, mayFollow}
 use Rattle.grammar.specs.Lines.{newline, linesOf, groupOf, ended, body, formed, wellFormed, lineGroup, lineFields}
 use Rattle.grammar.specs.Text.{placeBefore, malformed, badLine, linesVerdict, rowsIn, rowWith, operandsAfter, countOf, registers, crowded, tooMany, readVerdict}
 use Rattle.grammar.proofs.RowLaws.{group-fits, length-row}
@@ -272,7 +272,7 @@ module _ {text line rows counts : List ℕ} {r : Reader} {n : ℕ} (d : Reading 
       pub end-records : Records text rows counts
       end-records = record {
         counted = λ k h. held .counted k h ∙ ap (countOf k) (sym (lines-done e));
-        rows-are = λ k h. ap (λ (ls : List (List ℕ)). part (groupAt k .base) (groupAt k .width * countOf k ls) rows) (lines-done e) ∙ held .rows-are k h ∙ ap (λ (ls : List (List ℕ)). flat (rowsIn k ls)) (sym (lines-done e));
+        rows-are = λ k h. ap (λ (ls : List (List ℕ)). part (baseAt k) (groupAt k .width * countOf k ls) rows) (lines-done e) ∙ held .rows-are k h ∙ ap (λ (ls : List (List ℕ)). flat (rowsIn k ls)) (sym (lines-done e));
       }
 
 -- an accepted text has its head

@@ -23,7 +23,7 @@ use Rattle.words.specs.Rows.{tabulate, flat}
 use Rattle.words.specs.Regions.{part}
 use Rattle.words.proofs.Bools.{or-left, or-right, or-neither}
 use Rattle.words.proofs.RowLaws.{length-tabulate, getD-tabulate, tabulate-eq, tabulate-add, tabulate-getD, tabulate-replicate}
-use Rattle.grammar.specs.Groups.{groupAt, groupCount, rowNumbers}
+use Rattle.grammar.specs.Groups.{groupAt, baseAt, groupCount, rowNumbers}
 use Rattle.grammar.specs.Lines.{linesOf}
 use Rattle.grammar.specs.Text.{badLine, rowsIn, countOf, textVerdict, tooMany, readVerdict}
 use Rattle.grammar.proofs.RowLaws.{length-rows}
@@ -151,7 +151,7 @@ module _ (text : List ℕ) (fine : readVerdict text ≡ Fine) where
   module _ {held counted : List ℕ} (R : Records text held counted) where
     group-is : (k : ℕ) → k < groupCount → padded held counted k ≡ groupRows k ls
     group-is k h =
-        ap (λ (l : List ℕ). tabulate (groupAt k .width * groupAt k .room) (λ j. getD l j 0)) (ap (λ (n : ℕ). part (groupAt k .base) (groupAt k .width * n) held) (R .counted k h) ∙ R .rows-are k h)
+        ap (λ (l : List ℕ). tabulate (groupAt k .width * groupAt k .room) (λ j. getD l j 0)) (ap (λ (n : ℕ). part (baseAt k) (groupAt k .width * n) held) (R .counted k h) ∙ R .rows-are k h)
         ∙ filled (flat (rowsIn k ls)) (groupAt k .width * groupAt k .room) (rows-fit k h)
 
     pub copyable : {rows counts : List ℕ} → length held ≡ rowNumbers → length counted ≡ groupCount → rowNumbers ≤ length rows → groupCount ≤ length counts → Copyable held counted rows counts

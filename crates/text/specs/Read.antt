@@ -12,8 +12,8 @@ use Rattle.refusals.specs.Verdicts.{inOrder, check}
 use Rattle.refusals.specs.Outcomes.{unless, numbered, after}
 use Rattle.words.specs.Rows.{tabulate, flat}
 use Rattle.words.specs.Regions.{part}
-use Rattle.grammar.specs.Groups.{groupAt, groupCount, rowNumbers}
-use Rattle.grammar.specs.Lines.{newline, linesOf}
+use Rattle.grammar.specs.Groups.{groupAt, baseAt, groupCount, rowNumbers}
+use Rattle.grammar.specs.Lines.{newline, longest, linesOf}
 use Rattle.grammar.specs.Text.{textVerdict, tooMany, readVerdict, rowsIn, countOf}
 use Rattle.job_rows.specs.declared.Reader.{Reader}
 use Rattle.job_rows.specs.Taken.{Taken}
@@ -23,13 +23,13 @@ unfoldable pub unbroken : List ℕ → Bool
 unbroken [] = true
 unbroken (b ∷ s) = cond (eqb b newline) false (unbroken s)
 
--- the lines so far, and the bytes of the one that has not ended: the first 128 stand in the line buffer, and they are counted to 128
+-- the lines so far, and the bytes of the one that has not ended: the first `longest` stand in the line buffer, and they are counted to that
 pub record Held (done : List (List ℕ)) (rest : List ℕ) (r : Reader) (n : ℕ) (line rows counts : List ℕ) : Type 0 where
   pub taken : Taken done r rows counts
-  pub buffer : length line ≡ 128
+  pub buffer : length line ≡ longest
   pub unended : unbroken rest ≡ true
-  pub counted : n ≡ min (length rest) 128
-  pub bytes : take n line ≡ take 128 rest
+  pub counted : n ≡ min (length rest) longest
+  pub bytes : take n line ≡ take longest rest
 
 -- the reader has read this text, and more may follow
 pub record Reading (text : List ℕ) (r : Reader) (n : ℕ) (line rows counts : List ℕ) : Type 0 where
@@ -48,7 +48,7 @@ pub record Ready (r : Reader) (n : ℕ) (line rows counts : List ℕ) (more : �
 -- what the reader's lists hold of an accepted text: how many records each group has, and its rows from the group's place on
 pub record Records (text rows counts : List ℕ) : Type 0 where
   pub counted : (k : ℕ) → k < groupCount → getD counts k 0 ≡ countOf k (linesOf text)
-  pub rows-are : (k : ℕ) → k < groupCount → part (groupAt k .base) (groupAt k .width * countOf k (linesOf text)) rows ≡ flat (rowsIn k (linesOf text))
+  pub rows-are : (k : ℕ) → k < groupCount → part (baseAt k) (groupAt k .width * countOf k (linesOf text)) rows ≡ flat (rowsIn k (linesOf text))
 
 -- a byte more is read, or a piece, whatever was read before
 pub record Feeds (piece : List ℕ) (r : Reader) (n : ℕ) (line fields rows counts : List ℕ) (r′ : Reader) (n′ : ℕ) (line′ fields′ rows′ counts′ : List ℕ) : Type 0 where
@@ -95,7 +95,7 @@ pub record TextRead (text rows counts : List ℕ) (v : Verdict) (rows′ counts�
 
 -- a group's part of the reader's list, cut after its records and filled up with zeros
 abbrev pub padded : List ℕ → List ℕ → ℕ → List ℕ
-padded held counted k = tabulate (groupAt k .width * groupAt k .room) (λ j. getD (part (groupAt k .base) (groupAt k .width * getD counted k 0) held) j 0)
+padded held counted k = tabulate (groupAt k .width * groupAt k .room) (λ j. getD (part (baseAt k) (groupAt k .width * getD counted k 0) held) j 0)
 
 -- the lists have room, and no group has more records than rows
 pub record Copyable (held counted rows counts : List ℕ) : Type 0 where

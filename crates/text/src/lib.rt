@@ -8,8 +8,15 @@ ghost use lib.ListN.{length, getD};
 ghost use Rattle.refusals.specs.declared.Refusal.the-variants.{Space};
 ghost use Rattle.refusals.specs.Verdicts.{check};
 ghost use Rattle.words.specs.Regions.{Region, part};
-ghost use Rattle.grammar.specs.Groups.{groupCount, rowNumbers};
+ghost use Rattle.grammar.specs.Groups.{groupCount, rowNumbers, mostFields};
+ghost use Rattle.grammar.specs.Lines.{longest};
 ghost use Rattle.text.specs.Read.{Reading, Ready, Feeds, Finishes, Finished, Copyable, Copied, TextRead};
+use grammar::ALLOWED;
+use grammar::GROUP_COUNT;
+use grammar::LONGEST;
+use grammar::MOST_FIELDS;
+use grammar::REGISTERS;
+use grammar::ROW_NUMBERS;
 use grammar::entry_of;
 use job_rows::Reader;
 use job_rows::malformed;
@@ -17,9 +24,6 @@ use job_rows::take_line;
 use refusals::Refusal;
 use refusals::Verdict;
 use refusals::earlier;
-
-// The longest line, with its newline.
-const LONGEST: usize = 128;
 
 // What is known of the lines so far, and how many bytes of the next one stand in the line buffer.
 pub struct State {
@@ -29,11 +33,11 @@ pub struct State {
 
 // Nothing is read yet.
 pub fn start(line: &mut [u8], rows: &mut [u32], counts: &mut [u32]) -> State
-    requires { ⌜ (length (now line) ≡ 128) × (length (now rows) ≡ rowNumbers) × (length (now counts) ≡ groupCount) ⌝ }
+    requires { ⌜ (length (now line) ≡ longest) × (length (now rows) ≡ rowNumbers) × (length (now counts) ≡ groupCount) ⌝ }
     ensures { λ s. ⌜ Reading [] (s .reader) (s .len) (now (line .exit)) (now (rows .exit)) (now (counts .exit)) ⌝ }
 {
     let mut k = 0;
-    while k < 13 {
+    while k < GROUP_COUNT {
         counts[k] = 0;
         k += 1;
     }
@@ -58,7 +62,7 @@ fn take_byte(
     rows: &mut [u32],
     counts: &mut [u32],
 ) -> State
-    requires { ⌜ (7 ≤ length (now fields)) × Ready (s .reader) (s .len) (now line) (now rows) (now counts) 1 ⌝ }
+    requires { ⌜ (mostFields ≤ length (now fields)) × Ready (s .reader) (s .len) (now line) (now rows) (now counts) 1 ⌝ }
     ensures { λ q. ⌜ Feeds (b ∷ []) (s .reader) (s .len) (now (line .entry)) (now (fields .entry)) (now (rows .entry)) (now (counts .entry))
         (q .reader) (q .len) (now (line .exit)) (now (fields .exit)) (now (rows .exit)) (now (counts .exit)) ⌝ }
 {
@@ -93,7 +97,7 @@ pub fn feed(
     rows: &mut [u32],
     counts: &mut [u32],
 ) -> State
-    requires { ⌜ (7 ≤ length (now fields)) × Ready (s .reader) (s .len) (now line) (now rows) (now counts) (length (now piece)) ⌝ }
+    requires { ⌜ (mostFields ≤ length (now fields)) × Ready (s .reader) (s .len) (now line) (now rows) (now counts) (length (now piece)) ⌝ }
     ensures { λ q. ⌜ Feeds (now (piece .entry)) (s .reader) (s .len) (now (line .entry)) (now (fields .entry)) (now (rows .entry)) (now (counts .entry))
         (q .reader) (q .len) (now (line .exit)) (now (fields .exit)) (now (rows .exit)) (now (counts .exit)) ⌝ }
 {
@@ -124,7 +128,7 @@ pub fn finish(s: State, rows: &[u32]) -> Verdict
     if r.full {
         return Verdict::Bad(Refusal::Count, 0);
     }
-    if 64 < rows[1] {
+    if ALLOWED < rows[REGISTERS] {
         return Verdict::Bad(Refusal::Count, 0);
     }
     Verdict::Fine
@@ -136,7 +140,7 @@ fn read_all(text: &[u8], rows: &mut [u32], counts: &mut [u32]) -> Verdict
     ensures { λ v. ⌜ Finished (now (text .entry)) v (now (rows .exit)) (now (counts .exit)) ⌝ }
 {
     let mut line = [0; 128];
-    let mut fields = [0; 7];
+    let mut fields = [0; MOST_FIELDS];
     let s = start(&mut line, rows, counts);
     let q = feed(s, text, &mut line, &mut fields, rows, counts);
     finish(q, rows)
@@ -165,7 +169,7 @@ fn copy_all(held: &[u32], counted: &[u32], rows: &mut [u32], counts: &mut [u32])
     ensures { λ _. ⌜ Copied (now (held .entry)) (now (counted .entry)) (now (rows .entry)) (now (counts .entry)) (now (rows .exit)) (now (counts .exit)) ⌝ }
 {
     let mut k = 0;
-    while k < 13 {
+    while k < GROUP_COUNT {
         let e = entry_of(k);
         let n = counted[k];
         copy_group(held, e.base, e.width * n as usize, e.width * e.room, rows);
@@ -178,10 +182,10 @@ fn copy_all(held: &[u32], counted: &[u32], rows: &mut [u32], counts: &mut [u32])
 fn space(rows: usize, counts: usize) -> Verdict
     ensures { λ v. ⌜ v ≡ check Space (ltb rows rowNumbers || ltb counts groupCount) ⌝ }
 {
-    if rows < 2115 {
+    if rows < ROW_NUMBERS {
         return Verdict::Bad(Refusal::Space, 0);
     }
-    if counts < 13 {
+    if counts < GROUP_COUNT {
         return Verdict::Bad(Refusal::Space, 0);
     }
     Verdict::Fine
@@ -192,8 +196,8 @@ fn space(rows: usize, counts: usize) -> Verdict
 pub fn read_text(text: &[u8], rows: &mut [u32], counts: &mut [u32]) -> Verdict
     ensures { λ v. ⌜ TextRead (now (text .entry)) (now (rows .entry)) (now (counts .entry)) v (now (rows .exit)) (now (counts .exit)) ⌝ }
 {
-    let mut held = [0; 2115];
-    let mut counted = [0; 13];
+    let mut held = [0; ROW_NUMBERS];
+    let mut counted = [0; GROUP_COUNT];
     let v = read_all(text, &mut held, &mut counted);
     let s = space(rows.len(), counts.len());
     let w = earlier(v, s);

@@ -4,6 +4,11 @@ ghost use Prim.Native.Nat.{_≤_, _<_};
 ghost use mathlib.Core.Path.{_≡_};
 ghost use lib.ListN.{length};
 ghost use Rattle.grammar.specs.Groups.{groupCount, rowNumbers};
+use grammar::GROUP_COUNT;
+use grammar::INSTS;
+use grammar::MOST_FIELDS;
+use grammar::ROW_NUMBERS;
+use grammar::entry_of;
 use plan_text::Written;
 use planning::print_text;
 use refusals::Refusal;
@@ -48,8 +53,8 @@ fn told(v: Verdict, word: &[u8], counts: &[u32]) {
 }
 
 fn case(text: &[u8]) {
-    let mut rows = [0; 2115];
-    let mut counts = [0; 13];
+    let mut rows = [0; ROW_NUMBERS];
+    let mut counts = [0; GROUP_COUNT];
     let v = read_text(text, &mut rows, &mut counts);
     told(v, b"fine", &counts);
 }
@@ -227,7 +232,7 @@ fn pieces(text: &[u8], rows: &mut [u32], counts: &mut [u32]) -> Verdict
     requires { ⌜ (length (now rows) ≡ rowNumbers) × (length (now counts) ≡ groupCount) ⌝ }
 {
     let mut line = [0; 128];
-    let mut fields = [0; 7];
+    let mut fields = [0; MOST_FIELDS];
     let mut s = start(&mut line, rows, counts);
     let mut from = 0;
     while from < text.len() {
@@ -239,11 +244,12 @@ fn pieces(text: &[u8], rows: &mut [u32], counts: &mut [u32]) -> Verdict
 }
 
 fn input(text: &[u8]) {
-    let mut rows = [0; 2115];
-    let mut counts = [0; 13];
+    let mut rows = [0; ROW_NUMBERS];
+    let mut counts = [0; GROUP_COUNT];
     let v = pieces(text, &mut rows, &mut counts);
     told(v, b"", &counts);
-    counted(&rows[323..341]);
+    let insts = entry_of(INSTS).base;
+    counted(&rows[insts..insts + 18]);
 }
 
 fn main() {

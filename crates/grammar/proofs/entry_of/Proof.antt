@@ -1,6 +1,7 @@
 -- `entry_of` meets its contract: each array is a column of the table.
-use Rattle.grammar.proofs.TableLaws.{column}
+use Rattle.grammar.proofs.TableLaws.{column, column-at}
 use lib.ListN.{length}
+use Rattle.grammar.specs.Groups.{groupCount, baseAt}
 use borrow.Author.Needs.{needs}
 use Rattle.grammar.proofs.entry_of.Statement.{statement}
 use Rattle.grammar.proofs.entry_of.Tie as tie
@@ -55,7 +56,7 @@ returns c = record {
   most = column (λ g. g .most) (c .args .k);
   width = column (λ g. g .width) (c .args .k);
   room = column (λ g. g .room) (c .args .k);
-  base = column (λ g. g .base) (c .args .k);
+  base = column-at groupCount baseAt (c .args .k) (c .pre);
 }
 
 pub entry-of-spec : {M : Type 1} → statement M

@@ -38,7 +38,13 @@ same-length : tie.Need-same-length
 same-length c = simp length-set ((c .before .before .before .before .put-numbers) .ensures .len)
 
 returns : tie.Need-returns
-returns c = inst-region (now ((c .before .before .before .before .before .before .before .before .args) .fields)) (now ((c .before .before .before .before .before .before .before .before .args) .rows)) _ ((c .before .before .before .before .before .before .before .before .args) .at) ((c .before .before .before .before .before .before .before .before .pre) .0 .enough) ((c .before .before .before .before .before .before .before .before .pre) .1) ((c .before .before .before .before .put-numbers) .ensures) 0 (sym (ap (λ (t : Bool). cond t 0 1) (eq-eqb _ _ ((c .if1) .taken))))
+returns c =
+    let s1 = c .before .before .before .before in
+    let s2 = s1 .before .before .before .before in
+    let a = s2 .args in
+    let p = s2 .pre in
+    inst-region (now (a .fields)) (now (a .rows)) _ (a .at) (p .0 .enough) (p .1) ((s1 .put-numbers) .ensures) 0
+    (sym (ap (λ (t : Bool). cond t 0 1) (eq-eqb _ _ ((c .if1) .taken))))
 
 mul-rows-3 : tie.Need-mul-rows-3
 mul-rows-3 c = let h = (c .before .before .before .before .before .before .before .before .pre) .1 in omega arith
@@ -50,7 +56,12 @@ same-length-2 : tie.Need-same-length-2
 same-length-2 c = simp length-set ((c .before .before .before .before .put-numbers) .ensures .len)
 
 returns-2 : tie.Need-returns-2
-returns-2 c = inst-region (now ((c .before .before .before .before .before .before .before .before .args) .fields)) (now ((c .before .before .before .before .before .before .before .before .args) .rows)) _ ((c .before .before .before .before .before .before .before .before .args) .at) ((c .before .before .before .before .before .before .before .before .pre) .0 .enough) ((c .before .before .before .before .before .before .before .before .pre) .1) ((c .before .before .before .before .put-numbers) .ensures) 1 (sym (ap (λ (t : Bool). cond t 0 1) (ne-eqb _ _ ((c .if1) .left))))
+returns-2 c =
+    let s1 = c .before .before .before .before in
+    let s2 = s1 .before .before .before .before in
+    let a = s2 .args in
+    let p = s2 .pre in
+    inst-region (now (a .fields)) (now (a .rows)) _ (a .at) (p .0 .enough) (p .1) ((s1 .put-numbers) .ensures) 1 (sym (ap (λ (t : Bool). cond t 0 1) (ne-eqb _ _ ((c .if1) .left))))
 
 pub put-inst-spec : {M : Type 1} → statement M
 put-inst-spec =

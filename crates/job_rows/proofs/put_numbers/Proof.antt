@@ -31,7 +31,11 @@ dash-at-requires : tie.Need-dash-at-requires Inv-loop μ-loop
 dash-at-requires c κs = ((c .before .before .before .before .before .pre) .0 .group, (let q = (c .before .before .before .before .before .pre) .1 in omega arith))
 
 number-requires : tie.Need-number-requires Inv-loop μ-loop
-number-requires c κs = rw ((c .dash-at) .ensures) ((c .before .before .before .before .before .before .pre) .0 .number ((c .before .before .before .loop) .j) (let q = (c .before .before .before .before .before .before .pre) .1 in omega arith))
+number-requires c κs =
+    let s1 = c .before .before .before in
+    let s2 = s1 .before .before .before in
+    let p = s2 .pre in
+    rw ((c .dash-at) .ensures) (p .0 .number ((s1 .loop) .j) (let q = p .1 in omega arith))
 
 add-rows : tie.Need-add-rows Inv-loop μ-loop
 add-rows c = let h = (c .before .before .before .before .before .before .before .pre) .2 in omega arith
@@ -49,7 +53,16 @@ loop-less : tie.Need-loop-less Inv-loop μ-loop
 loop-less c = omega arith
 
 loop-again : tie.Need-loop-again Inv-loop μ-loop
-loop-again c = done-more ((c .before .before .before .before .loop) .inv) _ _ (omega arith) refl ((c .number) .ensures ∙ ap (λ (d : ℕ). meant d (getD (now ((c .before .before .before .before .before .before .before .args) .fields)) ((c .before .before .before .before .loop) .j) 0)) ((c .before .dash-at) .ensures) ∙ sym (numbers-at (groupAt ((c .before .before .before .before .before .before .before .args) .k) .dashes) (now ((c .before .before .before .before .before .before .before .args) .fields)) ((c .before .before .before .before .loop) .j) (let q = (c .before .before .before .before .before .before .before .pre) .1 in omega arith) ((c .before .before .before .before .before .before .before .pre) .0 .enough)))
+loop-again c =
+    let s1 = c .before in
+    let s2 = s1 .before .before .before in
+    let loop = s2 .loop in
+    let s3 = s2 .before .before .before in
+    let a = s3 .args in
+    let p = s3 .pre in
+    done-more (loop .inv) _ _ (omega arith) refl
+    ((c .number) .ensures ∙ ap (λ (d : ℕ). meant d (getD (now (a .fields)) (loop .j) 0)) ((s1 .dash-at) .ensures) ∙ sym
+    (numbers-at (groupAt (a .k) .dashes) (now (a .fields)) (loop .j) (let q = p .1 in omega arith) (p .0 .enough)))
 
 same-length : tie.Need-same-length Inv-loop μ-loop
 same-length c = (c .before .loop) .inv .now-is .len

@@ -42,7 +42,13 @@ same-length : tie.Need-same-length
 same-length c = (c .before .before .body) .ensures .kept
 
 returns-4 : tie.Need-returns-4
-returns-4 c = line-read (now ((c .before .before .before .before .before .before .before .before .before .before .before .args) .line)) (now ((c .before .before .before .before .before .before .before .before .before .before .before .args) .out)) _ _ _ (omega arith) ((c .before .before .before .before .before .if3) .left) (ap (λ (n : ℕ). take n (now ((c .before .before .before .before .before .before .before .before .before .before .before .args) .line))) (let g : length (now ((c .before .before .before .before .before .before .before .before .before .before .before .args) .line)) - 1 - 0 ≡ length (now ((c .before .before .before .before .before .before .before .before .before .before .before .args) .line)) - 1 = omega arith in g)) ((c .before .before .body) .ensures)
+returns-4 c =
+    let s1 = c .before .before in
+    let s2 = s1 .before .before .before in
+    let s3 = s2 .before .before .before .before .before .before in
+    let a = s3 .args in
+    line-read (now (a .line)) (now (a .out)) _ _ _ (omega arith) ((s2 .if3) .left)
+    (ap (λ (n : ℕ). take n (now (a .line))) (let g : length (now (a .line)) - 1 - 0 ≡ length (now (a .line)) - 1 = omega arith in g)) ((s1 .body) .ensures)
 
 pub read-line-spec : {M : Type 1} → statement M
 read-line-spec =

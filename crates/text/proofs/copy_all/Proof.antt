@@ -26,22 +26,55 @@ shared-slice-read-n : tie.Need-shared-slice-read-n Inv-loop μ-loop
 shared-slice-read-n c = let t = (c .before .before .loop-test) .taken in let l = (c .before .before .before .before .before .before .before .before .pre) .counted-length in omega arith
 
 cast-copy-group : tie.Need-cast-copy-group Inv-loop μ-loop
-cast-copy-group c = let f = (c .before .before .before .before .before .before .before .before .pre) .fitting ((c .before .before .before .loop) .k) ((c .before .before .loop-test) .taken) in let m = room-most ((c .before .before .before .loop) .k) ((c .before .before .loop-test) .taken) in omega arith
+cast-copy-group c =
+    let s1 = c .before .before in
+    let loop-test = s1 .loop-test in
+    let s2 = s1 .before in
+    let loop = s2 .loop in
+    let s3 = s2 .before .before .before .before .before in
+    let p = s3 .pre in
+    let f = p .fitting (loop .k) (loop-test .taken) in let m = room-most (loop .k) (loop-test .taken) in omega arith
 
 mul-copy-group : tie.Need-mul-copy-group Inv-loop μ-loop
-mul-copy-group c = let f = few-as (c .before .before .before .before .before .before .before .before .before .pre) ((c .before .before .before .before .loop) .inv) ((c .before .before .before .loop-test) .taken) _ _ _ ((c .before .before .entry-of) .ensures .base) ((c .before .before .entry-of) .ensures .width) ((c .before .before .entry-of) .ensures .room) in omega arith
+mul-copy-group c =
+    let s1 = c .before .before in
+    let entry-of = s1 .entry-of in
+    let s2 = s1 .before in
+    let s3 = s2 .before in
+    let s4 = s3 .before .before .before .before .before in
+    let p = s4 .pre in
+    let f = few-as p ((s3 .loop) .inv) ((s2 .loop-test) .taken) _ _ _ (entry-of .ensures .base) (entry-of .ensures .width) (entry-of .ensures .room) in omega arith
 
 mul-copy-group-2 : tie.Need-mul-copy-group-2 Inv-loop μ-loop
-mul-copy-group-2 c = let f = room-as (c .before .before .before .before .before .before .before .before .before .before .pre) ((c .before .before .before .before .before .loop) .inv) ((c .before .before .before .before .loop-test) .taken) _ _ _ ((c .before .before .before .entry-of) .ensures .base) ((c .before .before .before .entry-of) .ensures .width) ((c .before .before .before .entry-of) .ensures .room) in omega arith
+mul-copy-group-2 c =
+    let s1 = c .before .before .before in
+    let entry-of = s1 .entry-of in
+    let s2 = s1 .before in
+    let s3 = s2 .before in
+    let s4 = s3 .before .before .before .before .before in
+    let p = s4 .pre in
+    let f = room-as p ((s3 .loop) .inv) ((s2 .loop-test) .taken) _ _ _ (entry-of .ensures .base) (entry-of .ensures .width) (entry-of .ensures .room) in omega arith
 
 copy-group-requires : tie.Need-copy-group-requires Inv-loop μ-loop
-copy-group-requires c κs = rooms-as (c .before .before .before .before .before .before .before .before .before .before .before .pre) ((c .before .before .before .before .before .before .loop) .inv) ((c .before .before .before .before .before .loop-test) .taken) _ _ _ ((c .before .before .before .before .entry-of) .ensures .base) ((c .before .before .before .before .entry-of) .ensures .width) ((c .before .before .before .before .entry-of) .ensures .room)
+copy-group-requires c κs =
+    let s1 = c .before .before .before .before in
+    let entry-of = s1 .entry-of in
+    let s2 = s1 .before in
+    let s3 = s2 .before in
+    let s4 = s3 .before .before .before .before .before in
+    let p = s4 .pre in
+    rooms-as p ((s3 .loop) .inv) ((s2 .loop-test) .taken) _ _ _ (entry-of .ensures .base) (entry-of .ensures .width) (entry-of .ensures .room)
 
 mul-counts : tie.Need-mul-counts Inv-loop μ-loop
 mul-counts c = let t = (c .before .before .before .before .before .before .before .before .loop-test) .taken in omega arith
 
 slice-write-counts : tie.Need-slice-write-counts Inv-loop μ-loop
-slice-write-counts c = let t = (c .before .before .before .before .before .before .before .before .loop-test) .taken in let r = (c .before .before .before .before .before .before .before .before .before .before .before .before .before .before .pre) .counts-room in let l = (c .before .before .before .before .before .before .before .before .before .loop) .inv .counts-are .now-is .len in omega arith
+slice-write-counts c =
+    let s1 = c .before .before .before .before .before .before .before .before in
+    let s2 = s1 .before in
+    let s3 = s2 .before .before .before .before .before in
+    let p = s3 .pre in
+    let t = (s1 .loop-test) .taken in let r = p .counts-room in let l = (s2 .loop) .inv .counts-are .now-is .len in omega arith
 
 add-k : tie.Need-add-k Inv-loop μ-loop
 add-k c = let t = (c .before .before .before .before .before .before .before .before .loop-test) .taken in omega arith
@@ -50,7 +83,18 @@ loop-less : tie.Need-loop-less Inv-loop μ-loop
 loop-less c = let t = (c .before .before .before .before .before .before .before .before .loop-test) .taken in omega arith
 
 loop-again : tie.Need-loop-again Inv-loop μ-loop
-loop-again c = copy-more (c .before .before .before .before .before .before .before .before .before .before .before .before .before .before .pre) ((c .before .before .before .before .before .before .before .before .before .loop) .inv) ((c .before .before .before .before .before .before .before .before .loop-test) .taken) (group-as (now ((c .before .before .before .before .before .before .before .before .before .before .before .before .before .before .args) .held)) ((c .before .before .before .before .before .before .before .before .before .loop) .k) _ _ _ _ ((c .before .before .before .before .before .before .before .entry-of) .ensures .base) ((c .before .before .before .before .before .before .before .entry-of) .ensures .width) ((c .before .before .before .before .before .before .before .entry-of) .ensures .room) ((c .before .before .copy-group) .ensures))
+loop-again c =
+    let s1 = c .before .before in
+    let s2 = s1 .before .before .before .before .before in
+    let entry-of = s2 .entry-of in
+    let s3 = s2 .before in
+    let s4 = s3 .before in
+    let loop = s4 .loop in
+    let s5 = s4 .before .before .before .before .before in
+    let p = s5 .pre in
+    let a = s5 .args in
+    copy-more p (loop .inv) ((s3 .loop-test) .taken)
+    (group-as (now (a .held)) (loop .k) _ _ _ _ (entry-of .ensures .base) (entry-of .ensures .width) (entry-of .ensures .room) ((s1 .copy-group) .ensures))
 
 same-length : tie.Need-same-length Inv-loop μ-loop
 same-length c = (c .before .loop) .inv .len

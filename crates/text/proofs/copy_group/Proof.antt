@@ -26,25 +26,57 @@ mul-rows : tie.Need-mul-rows Inv-loop μ-loop
 mul-rows c = let r = (c .before .before .before .pre) .0 in let w = (c .before .before .before .pre) .1 in let l = (c .before .before .loop) .inv .now-is .len in let t = (c .before .loop-test) .taken in omega arith
 
 shared-slice-read-rows : tie.Need-shared-slice-read-rows Inv-loop μ-loop
-shared-slice-read-rows c = let r = (c .before .before .before .before .pre) .0 in let w = (c .before .before .before .before .pre) .1 in let l = (c .before .before .before .loop) .inv .now-is .len in let t = (c .before .before .loop-test) .taken in omega arith
+shared-slice-read-rows c =
+    let s1 = c .before .before in
+    let s2 = s1 .before in
+    let s3 = s2 .before in
+    let p = s3 .pre in
+    let r = p .0 in let w = p .1 in let l = (s2 .loop) .inv .now-is .len in let t = (s1 .loop-test) .taken in omega arith
 
 add-rows-2 : tie.Need-add-rows-2 Inv-loop μ-loop
-add-rows-2 c = let r = (c .before .before .before .before .pre) .0 in let w = (c .before .before .before .before .pre) .1 in let l = (c .before .before .before .loop) .inv .now-is .len in let t = (c .before .before .loop-test) .taken in omega arith
+add-rows-2 c =
+    let s1 = c .before .before in
+    let s2 = s1 .before in
+    let s3 = s2 .before in
+    let p = s3 .pre in
+    let r = p .0 in let w = p .1 in let l = (s2 .loop) .inv .now-is .len in let t = (s1 .loop-test) .taken in omega arith
 
 mul-rows-2 : tie.Need-mul-rows-2 Inv-loop μ-loop
-mul-rows-2 c = let r = (c .before .before .before .before .pre) .0 in let w = (c .before .before .before .before .pre) .1 in let l = (c .before .before .before .loop) .inv .now-is .len in let t = (c .before .before .loop-test) .taken in omega arith
+mul-rows-2 c =
+    let s1 = c .before .before in
+    let s2 = s1 .before in
+    let s3 = s2 .before in
+    let p = s3 .pre in
+    let r = p .0 in let w = p .1 in let l = (s2 .loop) .inv .now-is .len in let t = (s1 .loop-test) .taken in omega arith
 
 slice-write-rows : tie.Need-slice-write-rows Inv-loop μ-loop
-slice-write-rows c = let r = (c .before .before .before .before .pre) .0 in let w = (c .before .before .before .before .pre) .1 in let l = (c .before .before .before .loop) .inv .now-is .len in let t = (c .before .before .loop-test) .taken in omega arith
+slice-write-rows c =
+    let s1 = c .before .before in
+    let s2 = s1 .before in
+    let s3 = s2 .before in
+    let p = s3 .pre in
+    let r = p .0 in let w = p .1 in let l = (s2 .loop) .inv .now-is .len in let t = (s1 .loop-test) .taken in omega arith
 
 add-j : tie.Need-add-j Inv-loop μ-loop
-add-j c = let r = (c .before .before .before .before .pre) .0 in let w = (c .before .before .before .before .pre) .1 in let l = (c .before .before .before .loop) .inv .now-is .len in let t = (c .before .before .loop-test) .taken in omega arith
+add-j c =
+    let s1 = c .before .before in
+    let s2 = s1 .before in
+    let s3 = s2 .before in
+    let p = s3 .pre in
+    let r = p .0 in let w = p .1 in let l = (s2 .loop) .inv .now-is .len in let t = (s1 .loop-test) .taken in omega arith
 
 loop-less : tie.Need-loop-less Inv-loop μ-loop
 loop-less c = let t = (c .before .before .loop-test) .taken in omega arith
 
 loop-again : tie.Need-loop-again Inv-loop μ-loop
-loop-again c = done-more ((c .before .before .before .loop) .inv) _ _ ((c .before .before .loop-test) .taken) refl (group-held (now ((c .before .before .before .before .args) .held)) ((c .before .before .before .before .args) .base) ((c .before .before .before .before .args) .len) ((c .before .before .before .loop) .j) _ ((c .before .if1) .taken) refl)
+loop-again c =
+    let s1 = c .before in
+    let s2 = s1 .before in
+    let s3 = s2 .before in
+    let loop = s3 .loop in
+    let s4 = s3 .before in
+    let a = s4 .args in
+    done-more (loop .inv) _ _ ((s2 .loop-test) .taken) refl (group-held (now (a .held)) (a .base) (a .len) (loop .j) _ ((s1 .if1) .taken) refl)
 
 add-rows-3 : tie.Need-add-rows-3 Inv-loop μ-loop
 add-rows-3 c = let r = (c .before .before .before .pre) .0 in let w = (c .before .before .before .pre) .1 in let l = (c .before .before .loop) .inv .now-is .len in let t = (c .before .loop-test) .taken in omega arith
@@ -62,7 +94,13 @@ loop-less-2 : tie.Need-loop-less-2 Inv-loop μ-loop
 loop-less-2 c = let t = (c .before .loop-test) .taken in omega arith
 
 loop-again-2 : tie.Need-loop-again-2 Inv-loop μ-loop
-loop-again-2 c = done-more ((c .before .before .loop) .inv) _ _ ((c .before .loop-test) .taken) refl (group-past (now ((c .before .before .before .args) .held)) ((c .before .before .before .args) .base) ((c .before .before .before .args) .len) ((c .before .before .loop) .j) (let t = (c .if1) .left in omega arith))
+loop-again-2 c =
+    let s1 = c .before in
+    let s2 = s1 .before in
+    let loop = s2 .loop in
+    let s3 = s2 .before in
+    let a = s3 .args in
+    done-more (loop .inv) _ _ ((s1 .loop-test) .taken) refl (group-past (now (a .held)) (a .base) (a .len) (loop .j) (let t = (c .if1) .left in omega arith))
 
 same-length : tie.Need-same-length Inv-loop μ-loop
 same-length c = (c .before .loop) .inv .now-is .len

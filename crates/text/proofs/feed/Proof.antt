@@ -21,7 +21,13 @@ shared-slice-read-take-byte : tie.Need-shared-slice-read-take-byte Inv-loop μ-l
 shared-slice-read-take-byte c = omega arith
 
 take-byte-requires : tie.Need-take-byte-requires Inv-loop μ-loop
-take-byte-requires c κs = (let h = (c .before .before .before .before .before .before .before .before .before .before .before .before .pre) .0 in let k = (c .before .before .before .before .before .before .loop) .inv .1 .fields-kept in omega arith, ready-more (now ((c .before .before .before .before .before .before .before .before .before .before .before .before .args) .piece)) ((c .before .before .before .before .before .before .loop) .i) (omega arith) ((c .before .before .before .before .before .before .loop) .inv .1) ((c .before .before .before .before .before .before .before .before .before .before .before .before .pre) .1))
+take-byte-requires c κs =
+    let s1 = c .before .before .before .before .before .before in
+    let loop = s1 .loop in
+    let s2 = s1 .before .before .before .before .before .before in
+    let p = s2 .pre in
+    let a = s2 .args in
+    (let h = p .0 in let k = loop .inv .1 .fields-kept in omega arith, ready-more (now (a .piece)) (loop .i) (omega arith) (loop .inv .1) (p .1))
 
 add-i : tie.Need-add-i Inv-loop μ-loop
 add-i c = omega arith
@@ -30,7 +36,14 @@ loop-less : tie.Need-loop-less Inv-loop μ-loop
 loop-less c = omega arith
 
 loop-again : tie.Need-loop-again Inv-loop μ-loop
-loop-again c = (omega arith, fed-more (now ((c .before .before .before .before .before .before .before .before .before .before .before .before .before .before .before .before .before .before .before .before .before .args) .piece)) ((c .before .before .before .before .before .before .before .before .before .before .before .before .before .before .before .loop) .i) (omega arith) ((c .before .before .before .before .before .before .before .before .before .before .before .before .before .before .before .loop) .inv .1) ((c .before .before .before .before .before .before .before .before .take-byte) .ensures))
+loop-again c =
+    let s1 = c .before .before .before .before .before .before .before .before in
+    let s2 = s1 .before .before .before .before .before .before in
+    let test = s2 .loop-test in
+    let loop = s2 .before .loop in
+    let s3 = s2 .before .before .before .before .before .before .before in
+    let a = s3 .args in
+    (omega (arith, test .taken), fed-more (now (a .piece)) (loop .i) (test .taken) (loop .inv .1) ((s1 .take-byte) .ensures))
 
 same-length : tie.Need-same-length Inv-loop μ-loop
 same-length c = (c .before .loop) .inv .1 .line-kept

@@ -24,16 +24,37 @@ feed-requires : tie.Need-feed-requires
 feed-requires c κs = (lit≤ tt, record { text = []; reading = (c .before .before .before .before .before .before .before .before .before .start) .ensures; short = omega arith })
 
 finish-requires : tie.Need-finish-requires
-finish-requires c κs = (c .before .before .before .before .before .before .before .feed) .ensures .rows-kept ∙ ((c .before .before .before .before .before .before .before .before .before .before .before .before .before .before .before .before .before .start) .ensures .held .taken .rows-length)
+finish-requires c κs =
+    let s1 = c .before .before .before .before .before .before .before in
+    let s2 = s1 .before .before .before .before .before .before .before .before .before .before in
+    (s1 .feed) .ensures .rows-kept ∙ ((s2 .start) .ensures .held .taken .rows-length)
 
 same-length : tie.Need-same-length
-same-length c = (c .before .before .before .before .before .before .before .before .feed) .ensures .rows-kept ∙ ((c .before .before .before .before .before .before .before .before .before .before .before .before .before .before .before .before .before .before .start) .ensures .held .taken .rows-length) ∙ sym ((c .before .before .before .before .before .before .before .before .before .before .before .before .before .before .before .before .before .before .before .before .before .before .before .before .before .pre) .0)
+same-length c =
+    let s1 = c .before .before .before .before .before .before .before .before in
+    let s2 = s1 .before .before .before .before .before .before .before .before .before .before in
+    let s3 = s2 .before .before .before .before .before .before .before in
+    let p = s3 .pre in
+    (s1 .feed) .ensures .rows-kept ∙ ((s2 .start) .ensures .held .taken .rows-length) ∙ sym (p .0)
 
 same-length-2 : tie.Need-same-length-2
-same-length-2 c = (c .before .before .before .before .before .before .before .before .feed) .ensures .counts-kept ∙ (c .before .before .before .before .before .before .before .before .before .before .before .before .before .before .before .before .before .before .start) .ensures .held .taken .counts-length ∙ sym ((c .before .before .before .before .before .before .before .before .before .before .before .before .before .before .before .before .before .before .before .before .before .before .before .before .before .pre) .1)
+same-length-2 c =
+    let s1 = c .before .before .before .before .before .before .before .before in
+    let s2 = s1 .before .before .before .before .before .before .before .before .before .before in
+    let s3 = s2 .before .before .before .before .before .before .before in
+    let p = s3 .pre in
+    (s1 .feed) .ensures .counts-kept ∙ (s2 .start) .ensures .held .taken .counts-length ∙ sym (p .1)
 
 returns : tie.Need-returns
-returns c = record { verdict = (c .finish) .ensures .answer (now ((c .before .before .before .before .before .before .before .before .before .before .before .before .before .before .before .before .before .before .before .before .before .before .before .before .before .args) .text)) _ _ ((c .before .before .before .before .before .before .before .before .feed) .ensures .feeds [] ((c .before .before .before .before .before .before .before .before .before .before .before .before .before .before .before .before .before .before .start) .ensures)); records = (c .finish) .ensures .records (now ((c .before .before .before .before .before .before .before .before .before .before .before .before .before .before .before .before .before .before .before .before .before .before .before .before .before .args) .text)) _ _ ((c .before .before .before .before .before .before .before .before .feed) .ensures .feeds [] ((c .before .before .before .before .before .before .before .before .before .before .before .before .before .before .before .before .before .before .start) .ensures)) }
+returns c =
+    let s1 = c .before .before .before .before .before .before .before .before in
+    let feed = s1 .feed in
+    let s2 = s1 .before .before .before .before .before .before .before .before .before .before in
+    let start = s2 .start in
+    let s3 = s2 .before .before .before .before .before .before .before in
+    let a = s3 .args in
+    record
+    { verdict = (c .finish) .ensures .answer (now (a .text)) _ _ (feed .ensures .feeds [] (start .ensures)); records = (c .finish) .ensures .records (now (a .text)) _ _ (feed .ensures .feeds [] (start .ensures)) }
 
 pub read-all-spec : {M : Type 1} → statement M
 read-all-spec =

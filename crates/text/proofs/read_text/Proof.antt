@@ -26,7 +26,14 @@ enum-known-w : tie.Need-enum-known-w
 enum-known-w c = search needs
 
 returns : tie.Need-returns
-returns c = read-refused (now ((c .before .before .before .before .before .before .before .before .before .before .before .before .before .args) .text)) (now ((c .before .before .before .before .before .before .before .before .before .before .before .before .before .args) .rows)) (now ((c .before .before .before .before .before .before .before .before .before .before .before .before .before .args) .counts)) ((c .before .before .before .before .before .before .before .read-all) .ensures) ((c .before .before .before .earlier) .ensures ∙ ap (first _) ((c .before .before .before .before .space) .ensures)) _ _ ((c .before .w) .given .1)
+returns c =
+    let s1 = c .before in
+    let s2 = s1 .before .before in
+    let s3 = s2 .before in
+    let s4 = s3 .before .before .before in
+    let s5 = s4 .before .before .before .before .before .before in
+    let a = s5 .args in
+    read-refused (now (a .text)) (now (a .rows)) (now (a .counts)) ((s4 .read-all) .ensures) ((s2 .earlier) .ensures ∙ ap (first _) ((s3 .space) .ensures)) _ _ ((s1 .w) .given .1)
 
 enum-told : tie.Need-enum-told
 enum-told c = search needs
@@ -38,7 +45,24 @@ slice-aggregate-copy-all-2 : tie.Need-slice-aggregate-copy-all-2
 slice-aggregate-copy-all-2 c = search needs
 
 copy-all-requires : tie.Need-copy-all-requires
-copy-all-requires c κs = copyable (now ((c .before .before .before .before .before .before .before .before .before .before .before .before .before .before .before .before .args) .text)) (text-taken (now ((c .before .before .before .before .before .before .before .before .before .before .before .before .before .before .before .before .args) .text)) (now ((c .before .before .before .before .before .before .before .before .before .before .before .before .before .before .before .before .args) .rows)) (now ((c .before .before .before .before .before .before .before .before .before .before .before .before .before .before .before .before .args) .counts)) ((c .before .before .before .before .before .before .before .before .before .before .read-all) .ensures) ((c .before .before .before .before .before .before .earlier) .ensures ∙ ap (first _) ((c .before .before .before .before .before .before .before .space) .ensures)) ((c .before .before .before .before .enum-told) .given .1)) ((c .before .before .before .before .before .before .before .before .before .before .read-all) .ensures .records (text-taken (now ((c .before .before .before .before .before .before .before .before .before .before .before .before .before .before .before .before .args) .text)) (now ((c .before .before .before .before .before .before .before .before .before .before .before .before .before .before .before .before .args) .rows)) (now ((c .before .before .before .before .before .before .before .before .before .before .before .before .before .before .before .before .args) .counts)) ((c .before .before .before .before .before .before .before .before .before .before .read-all) .ensures) ((c .before .before .before .before .before .before .earlier) .ensures ∙ ap (first _) ((c .before .before .before .before .before .before .before .space) .ensures)) ((c .before .before .before .before .enum-told) .given .1))) ((c .before .before .before .before .before .before .before .before .before .before .read-all) .kept .1 .0) ((c .before .before .before .before .before .before .before .before .before .before .read-all) .kept .1 .1 .0) (rows-roomy (now ((c .before .before .before .before .before .before .before .before .before .before .before .before .before .before .before .before .args) .text)) (now ((c .before .before .before .before .before .before .before .before .before .before .before .before .before .before .before .before .args) .rows)) (now ((c .before .before .before .before .before .before .before .before .before .before .before .before .before .before .before .before .args) .counts)) ((c .before .before .before .before .before .before .before .before .before .before .read-all) .ensures) ((c .before .before .before .before .before .before .earlier) .ensures ∙ ap (first _) ((c .before .before .before .before .before .before .before .space) .ensures)) ((c .before .before .before .before .enum-told) .given .1)) (counts-roomy (now ((c .before .before .before .before .before .before .before .before .before .before .before .before .before .before .before .before .args) .text)) (now ((c .before .before .before .before .before .before .before .before .before .before .before .before .before .before .before .before .args) .rows)) (now ((c .before .before .before .before .before .before .before .before .before .before .before .before .before .before .before .before .args) .counts)) ((c .before .before .before .before .before .before .before .before .before .before .read-all) .ensures) ((c .before .before .before .before .before .before .earlier) .ensures ∙ ap (first _) ((c .before .before .before .before .before .before .before .space) .ensures)) ((c .before .before .before .before .enum-told) .given .1))
+copy-all-requires c κs =
+    let s1 = c .before .before .before .before in
+    let enum-told′ = s1 .enum-told in
+    let s2 = s1 .before .before in
+    let earlier = s2 .earlier in
+    let s3 = s2 .before in
+    let space = s3 .space in
+    let s4 = s3 .before .before .before in
+    let read-all = s4 .read-all in
+    let s5 = s4 .before .before .before .before .before .before in
+    let a = s5 .args in
+    copyable (now (a .text))
+    (text-taken (now (a .text)) (now (a .rows)) (now (a .counts)) (read-all .ensures) (earlier .ensures ∙ ap (first _) (space .ensures)) (enum-told′ .given .1))
+    (read-all .ensures .records
+    (text-taken (now (a .text)) (now (a .rows)) (now (a .counts)) (read-all .ensures) (earlier .ensures ∙ ap (first _) (space .ensures)) (enum-told′ .given .1)))
+    (read-all .kept .1 .0) (read-all .kept .1 .1 .0)
+    (rows-roomy (now (a .text)) (now (a .rows)) (now (a .counts)) (read-all .ensures) (earlier .ensures ∙ ap (first _) (space .ensures)) (enum-told′ .given .1))
+    (counts-roomy (now (a .text)) (now (a .rows)) (now (a .counts)) (read-all .ensures) (earlier .ensures ∙ ap (first _) (space .ensures)) (enum-told′ .given .1))
 
 same-length : tie.Need-same-length
 same-length c = search needs
@@ -47,7 +71,26 @@ same-length-2 : tie.Need-same-length-2
 same-length-2 c = search needs
 
 returns-2 : tie.Need-returns-2
-returns-2 c = read-fine (now ((c .before .before .before .before .before .before .before .before .before .before .before .before .before .before .before .before .before .before .before .before .before .args) .text)) (text-taken (now ((c .before .before .before .before .before .before .before .before .before .before .before .before .before .before .before .before .before .before .before .before .before .args) .text)) (now ((c .before .before .before .before .before .before .before .before .before .before .before .before .before .before .before .before .before .before .before .before .before .args) .rows)) (now ((c .before .before .before .before .before .before .before .before .before .before .before .before .before .before .before .before .before .before .before .before .before .args) .counts)) ((c .before .before .before .before .before .before .before .before .before .before .before .before .before .before .before .read-all) .ensures) ((c .before .before .before .before .before .before .before .before .before .before .before .earlier) .ensures ∙ ap (first _) ((c .before .before .before .before .before .before .before .before .before .before .before .before .space) .ensures)) ((c .before .before .before .before .before .before .before .before .before .enum-told) .given .1)) ((c .before .before .before .before .before .before .before .before .before .before .before .before .before .before .before .read-all) .ensures .records (text-taken (now ((c .before .before .before .before .before .before .before .before .before .before .before .before .before .before .before .before .before .before .before .before .before .args) .text)) (now ((c .before .before .before .before .before .before .before .before .before .before .before .before .before .before .before .before .before .before .before .before .before .args) .rows)) (now ((c .before .before .before .before .before .before .before .before .before .before .before .before .before .before .before .before .before .before .before .before .before .args) .counts)) ((c .before .before .before .before .before .before .before .before .before .before .before .before .before .before .before .read-all) .ensures) ((c .before .before .before .before .before .before .before .before .before .before .before .earlier) .ensures ∙ ap (first _) ((c .before .before .before .before .before .before .before .before .before .before .before .before .space) .ensures)) ((c .before .before .before .before .before .before .before .before .before .enum-told) .given .1))) ((c .before .before .before .before .before .before .before .before .before .enum-told) .given .1) (rows-roomy (now ((c .before .before .before .before .before .before .before .before .before .before .before .before .before .before .before .before .before .before .before .before .before .args) .text)) (now ((c .before .before .before .before .before .before .before .before .before .before .before .before .before .before .before .before .before .before .before .before .before .args) .rows)) (now ((c .before .before .before .before .before .before .before .before .before .before .before .before .before .before .before .before .before .before .before .before .before .args) .counts)) ((c .before .before .before .before .before .before .before .before .before .before .before .before .before .before .before .read-all) .ensures) ((c .before .before .before .before .before .before .before .before .before .before .before .earlier) .ensures ∙ ap (first _) ((c .before .before .before .before .before .before .before .before .before .before .before .before .space) .ensures)) ((c .before .before .before .before .before .before .before .before .before .enum-told) .given .1)) (counts-roomy (now ((c .before .before .before .before .before .before .before .before .before .before .before .before .before .before .before .before .before .before .before .before .before .args) .text)) (now ((c .before .before .before .before .before .before .before .before .before .before .before .before .before .before .before .before .before .before .before .before .before .args) .rows)) (now ((c .before .before .before .before .before .before .before .before .before .before .before .before .before .before .before .before .before .before .before .before .before .args) .counts)) ((c .before .before .before .before .before .before .before .before .before .before .before .before .before .before .before .read-all) .ensures) ((c .before .before .before .before .before .before .before .before .before .before .before .earlier) .ensures ∙ ap (first _) ((c .before .before .before .before .before .before .before .before .before .before .before .before .space) .ensures)) ((c .before .before .before .before .before .before .before .before .before .enum-told) .given .1)) ((c .before .before .before .before .copy-all) .ensures)
+returns-2 c =
+    let s1 = c .before .before .before .before in
+    let s2 = s1 .before .before .before .before .before in
+    let enum-told′ = s2 .enum-told in
+    let s3 = s2 .before .before in
+    let earlier = s3 .earlier in
+    let s4 = s3 .before in
+    let space = s4 .space in
+    let s5 = s4 .before .before .before in
+    let read-all = s5 .read-all in
+    let s6 = s5 .before .before .before .before .before .before in
+    let a = s6 .args in
+    read-fine (now (a .text))
+    (text-taken (now (a .text)) (now (a .rows)) (now (a .counts)) (read-all .ensures) (earlier .ensures ∙ ap (first _) (space .ensures)) (enum-told′ .given .1))
+    (read-all .ensures .records
+    (text-taken (now (a .text)) (now (a .rows)) (now (a .counts)) (read-all .ensures) (earlier .ensures ∙ ap (first _) (space .ensures)) (enum-told′ .given .1)))
+    (enum-told′ .given .1)
+    (rows-roomy (now (a .text)) (now (a .rows)) (now (a .counts)) (read-all .ensures) (earlier .ensures ∙ ap (first _) (space .ensures)) (enum-told′ .given .1))
+    (counts-roomy (now (a .text)) (now (a .rows)) (now (a .counts)) (read-all .ensures) (earlier .ensures ∙ ap (first _) (space .ensures)) (enum-told′ .given .1))
+    ((s1 .copy-all) .ensures)
 
 pub read-text-spec : {M : Type 1} → statement M
 read-text-spec =

@@ -36,7 +36,12 @@ same-length : tie.Need-same-length Inv-loop μ-loop
 same-length c = (c .before .loop) .inv .now-is .len
 
 returns : tie.Need-returns Inv-loop μ-loop
-returns c = reading-none ((c .before .before .pre) .0) ((c .before .before .pre) .1) ((c .before .loop) .inv .now-is .len ∙ (c .before .before .pre) .2) (λ k h. done-all ((c .before .loop) .inv) (omega arith) .inside k k (sym (zero-add k)) h) refl refl refl refl
+returns c =
+    let s1 = c .before in
+    let loop = s1 .loop in
+    let s2 = s1 .before in
+    let p = s2 .pre in
+    reading-none (p .0) (p .1) (loop .inv .now-is .len ∙ p .2) (λ k h. done-all (loop .inv) (omega arith) .inside k k (sym (zero-add k)) h) refl refl refl refl
 
 pub start-spec : {M : Type 1} → statement M
 start-spec =

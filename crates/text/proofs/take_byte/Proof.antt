@@ -10,13 +10,27 @@ use Rattle.text.proofs.take_byte.Statement.{statement}
 use Rattle.text.proofs.take_byte.Tie as tie
 
 malformed-requires : tie.Need-malformed-requires
-malformed-requires c κs = (let g = lines-few ((c .before .before .before .before .before .before .before .pre) .1 .reading) ((c .before .before .before .before .before .before .before .args) .b) in let h = (c .before .before .before .before .before .before .before .pre) .1 .short in omega arith)
+malformed-requires c κs =
+    let s1 = c .before .before .before .before .before .before .before in
+    let p = s1 .pre in
+    let a = s1 .args in
+    (let g = lines-few (p .1 .reading) (a .b) in let h = p .1 .short in omega arith)
 
 returns : tie.Need-returns
-returns c = record { feeds = λ t d. byte-long d ((c .before .before .before .before .before .before .before .before .args) .b) ((c .before .if2) .taken) ((c .before .before .if1) .taken) ((c .malformed) .ensures); line-kept = refl; fields-kept = refl; rows-kept = refl; counts-kept = refl }
+returns c =
+    let s1 = c .before in
+    let s2 = s1 .before in
+    let s3 = s2 .before .before .before .before .before .before in
+    let a = s3 .args in
+    record
+    { feeds = λ t d. byte-long d (a .b) ((s1 .if2) .taken) ((s2 .if1) .taken) ((c .malformed) .ensures); line-kept = refl; fields-kept = refl; rows-kept = refl; counts-kept = refl }
 
 returns-2 : tie.Need-returns-2
-returns-2 c = record { feeds = λ t d. byte-past d ((c .before .before .before .before .before .before .before .args) .b) ((c .if2) .left) ((c .before .if1) .taken); line-kept = refl; fields-kept = refl; rows-kept = refl; counts-kept = refl }
+returns-2 c =
+    let s1 = c .before in
+    let s2 = s1 .before .before .before .before .before .before in
+    let a = s2 .args in
+    record { feeds = λ t d. byte-past d (a .b) ((c .if2) .left) ((s1 .if1) .taken); line-kept = refl; fields-kept = refl; rows-kept = refl; counts-kept = refl }
 
 slice-write-line : tie.Need-slice-write-line
 slice-write-line c = let l = (c .before .before .before .before .before .before .pre) .1 .reading .held .buffer in omega arith
@@ -28,7 +42,11 @@ same-length : tie.Need-same-length
 same-length c = simp length-set
 
 returns-3 : tie.Need-returns-3
-returns-3 c = record { feeds = λ t d. byte-kept d ((c .before .before .before .before .before .before .before .args) .b) ((c .if3) .taken) (omega arith); line-kept = length-set (now ((c .before .before .before .before .before .before .before .args) .line)) _ _; fields-kept = refl; rows-kept = refl; counts-kept = refl }
+returns-3 c =
+    let s1 = c .before .before .before .before .before .before .before in
+    let a = s1 .args in
+    record
+    { feeds = λ t d. byte-kept d (a .b) ((c .if3) .taken) (omega arith); line-kept = length-set (now (a .line)) _ _; fields-kept = refl; rows-kept = refl; counts-kept = refl }
 
 add-take-line : tie.Need-add-take-line
 add-take-line c = let l = (c .before .before .before .before .before .before .before .pre) .1 .reading .held .buffer in omega arith
@@ -43,7 +61,11 @@ part-take-line-end : tie.Need-part-take-line-end
 part-take-line-end c = simp length-set (let l = (c .before .before .before .before .before .before .before .before .pre) .1 .reading .held .buffer in omega arith)
 
 take-line-requires : tie.Need-take-line-requires
-take-line-requires c κs = ((c .before .before .before .before .before .before .before .before .before .before .before .before .pre) .0, (let g = lines-few ((c .before .before .before .before .before .before .before .before .before .before .before .before .pre) .1 .reading) ((c .before .before .before .before .before .before .before .before .before .before .before .before .args) .b) in let h = (c .before .before .before .before .before .before .before .before .before .before .before .before .pre) .1 .short in omega arith), record { before = (c .before .before .before .before .before .before .before .before .before .before .before .before .pre) .1 .reading .done; taken = (c .before .before .before .before .before .before .before .before .before .before .before .before .pre) .1 .reading .held .taken })
+take-line-requires c κs =
+    let s1 = c .before .before .before .before .before .before .before .before .before .before .before .before in
+    let p = s1 .pre in
+    let a = s1 .args in
+    (p .0, (let g = lines-few (p .1 .reading) (a .b) in let h = p .1 .short in omega arith), record { before = p .1 .reading .done; taken = p .1 .reading .held .taken })
 
 same-length-2 : tie.Need-same-length-2
 same-length-2 c = simp length-set
@@ -58,7 +80,21 @@ same-length-5 : tie.Need-same-length-5
 same-length-5 c = (c .before .before .before .before .before .before .take-line) .ensures .counts-kept
 
 returns-4 : tie.Need-returns-4
-returns-4 c = record { feeds = λ t d. byte-ends d ((c .before .before .before .before .before .before .before .before .before .before .before .before .before .before .before .before .before .before .before .args) .b) ((c .before .before .before .before .before .before .before .before .before .before .before .before .if3) .left) _ (omega arith) (let g : ((c .before .before .before .before .before .before .before .before .before .before .before .before .before .before .before .before .before .before .before .args) .s .len) + 1 - 0 ≡ ((c .before .before .before .before .before .before .before .before .before .before .before .before .before .before .before .before .before .before .before .args) .s .len) + 1 = omega arith in ap (λ (i : ℕ). take i (set (now ((c .before .before .before .before .before .before .before .before .before .before .before .before .before .before .before .before .before .before .before .args) .line)) ((c .before .before .before .before .before .before .before .before .before .before .before .before .before .before .before .before .before .before .before .args) .s .len) ((c .before .before .before .before .before .before .before .before .before .before .before .before .before .before .before .before .before .before .before .args) .b))) g) ((c .before .before .before .before .before .before .take-line) .ensures); line-kept = length-set (now ((c .before .before .before .before .before .before .before .before .before .before .before .before .before .before .before .before .before .before .before .args) .line)) _ _; fields-kept = (c .before .before .before .before .before .before .take-line) .kept .1 .1 .0; rows-kept = (c .before .before .before .before .before .before .take-line) .ensures .rows-kept; counts-kept = (c .before .before .before .before .before .before .take-line) .ensures .counts-kept }
+returns-4 c =
+    let s1 = c .before .before .before .before .before .before in
+    let take-line = s1 .take-line in
+    let s2 = s1 .before .before .before .before .before .before in
+    let s3 = s2 .before .before .before .before .before .before .before in
+    let a = s3 .args in
+    record {
+      feeds = λ t d. byte-ends d (a .b) ((s2 .if3) .left) _ (omega arith) (let g : (a .s .len) + 1 - 0 ≡ (a .s .len) + 1 = omega arith in ap (λ (i : ℕ). take i (set (now
+          (a .line)) (a .s .len) (a .b))) g) (take-line .ensures);
+      line-kept = length-set (now
+          (a .line)) _ _;
+      fields-kept = take-line .kept .1 .1 .0;
+      rows-kept = take-line .ensures .rows-kept;
+      counts-kept = take-line .ensures .counts-kept;
+    }
 
 pub take-byte-spec : {M : Type 1} → statement M
 take-byte-spec =
