@@ -36,7 +36,7 @@ use Rattle.spilled_registers.specs.Spilled.{spilledVerdict}
 use Rattle.soundness.specs.Demand.{jobPlan}
 use Rattle.job_checks.specs.Job.{jobOf}
 use Rattle.item_areas.specs.Entry.{itemChecks, total}
-use Rattle.plan_text.specs.Printed.{roomChecks, counted as bytesOf}
+use Rattle.text_plan.specs.Printed.{roomChecks, counted as bytesOf}
 use Rattle.planning.specs.Program.{programText}
 use Rattle.planning.proofs.TextLaws.{program-short}
 use Rattle.codes.specs.Codes.{codeOf, countCode, optionCode, truthCode, Small, SmallOrAbsent, Read}

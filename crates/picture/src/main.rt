@@ -3,21 +3,21 @@
 ghost use mathlib.Core.Path.{_≡_};
 ghost use Prim.Native.Nat.{_*_, _≤_};
 ghost use lib.ListN.{length};
-ghost use Rattle.grammar.specs.Groups.{groupCount, rowNumbers};
+ghost use Rattle.text_grammar.specs.Groups.{groupCount, rowNumbers};
 ghost use Rattle.row_plans.specs.Groups.{Few};
 use drawing::Axis;
 use drawing::axis_of;
 use drawing::height;
 use drawing::ranges;
-use grammar::GROUP_COUNT;
-use grammar::LOCALS;
-use grammar::ROW_NUMBERS;
-use grammar::SLOTS;
 use job::Shared;
 use planning::held;
 use planning::planned;
 use reading::input;
 use refusals::Verdict;
+use text_grammar::GROUP_COUNT;
+use text_grammar::LOCALS;
+use text_grammar::ROW_NUMBERS;
+use text_grammar::SLOTS;
 
 mod frame; // frame.rt: what stands around the rows, and the refusal
 mod items; // items.rt: the items of a cell

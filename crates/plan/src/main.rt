@@ -1,9 +1,9 @@
 // The planning program: a job's text on standard input, its plan or its refusal on standard output. It allows 64 records of each group, and its area list has
 // 64 ranges.
-use grammar::GROUP_COUNT;
-use grammar::ROW_NUMBERS;
 use planning::answer;
 use reading::input;
+use text_grammar::GROUP_COUNT;
+use text_grammar::ROW_NUMBERS;
 
 fn main() {
     let mut rows = [0; ROW_NUMBERS];

@@ -28,18 +28,18 @@ use Rattle.job_answers.specs.declared.Shared.{Shared}
 use Rattle.job_answers.specs.declared.Shared.the-variants.{Plan as Planned, Refused}
 use Rattle.job_answers.specs.Answers.{answered, itemRows}
 use Rattle.job.specs.Entry.{lentVerdict, verdictOf}
-use Rattle.grammar.specs.Groups.{groupAt, baseAt, groupCount, rowNumbers}
-use Rattle.grammar.specs.Lines.{linesOf}
-use Rattle.grammar.specs.Text.{linesVerdict, readVerdict}
-use Rattle.grammar.proofs.TableLaws.{room-most}
-use Rattle.job_rows.specs.declared.Reader.{Reader}
-use Rattle.text.specs.Read.{Ready, Records, Finishes, Finished}
-use Rattle.text.proofs.EndLaws.{head-counted, accepted-few}
-use Rattle.text.proofs.WholeLaws.{text-fine}
-use Rattle.plan_text.specs.declared.Written.{Written}
-use Rattle.plan_text.specs.declared.Written.the-variants.{Bytes, Refused as WrittenRefused}
-use Rattle.plan_text.specs.Printed.{printed, refusalText, inRoom, writtenOf, PrintedTo, planText}
-use Rattle.plan_text.proofs.PlanLaws.{room-told, plan-in-room}
+use Rattle.text_grammar.specs.Groups.{groupAt, baseAt, groupCount, rowNumbers}
+use Rattle.text_grammar.specs.Lines.{linesOf}
+use Rattle.text_grammar.specs.Text.{linesVerdict, readVerdict}
+use Rattle.text_grammar.proofs.TableLaws.{room-most}
+use Rattle.text_lines.specs.declared.job_rows.Reader.{Reader}
+use Rattle.text_lines.specs.Read.{Ready, Records, Finishes, Finished}
+use Rattle.text_lines.proofs.EndLaws.{head-counted, accepted-few}
+use Rattle.text_lines.proofs.WholeLaws.{text-fine}
+use Rattle.text_plan.specs.declared.plan_text.Written.{Written}
+use Rattle.text_plan.specs.declared.plan_text.Written.the-variants.{Bytes, Refused as WrittenRefused}
+use Rattle.text_plan.specs.Printed.{printed, refusalText, inRoom, writtenOf, PrintedTo, planText}
+use Rattle.text_plan.proofs.PlanLaws.{room-told, plan-in-room}
 use Rattle.planning.specs.Program.{told, jobText, job, refusal, printedFor, numbersIn, programText}
 use Rattle.row_plans.specs.Groups.{points, registers, budget, numbersAt, Few, SharedFor}
 use Rattle.wants.proofs.TallyLaws.{not-refused}

@@ -29,8 +29,8 @@ use Rattle.soundness.proofs.Demand.{job-order, separate, uses, any-cells, deman
 use Rattle.job_answers.specs.Answers.{itemRows}
 use Rattle.job.specs.Entry.{lentVerdict}
 use Rattle.job.proofs.CheckLaws.{granted}
-use Rattle.grammar.specs.Text.{readVerdict}
-use Rattle.printing.specs.Lines.{lineText}
+use Rattle.text_grammar.specs.Text.{readVerdict}
+use Rattle.text_plan.specs.Lines.{lineText}
 use Rattle.row_plans.specs.Groups.{points, registers, budget}
 use Rattle.planning.specs.Program.{told, textOf, jobText, job, refusal, printedFor, numbersIn, programText}
 use Rattle.planning.specs.Named.{Listed, Named, ReadsThrough}

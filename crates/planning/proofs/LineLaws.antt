@@ -14,13 +14,13 @@ use Rattle.words.proofs.Bools.{and-both, not-both}
 use Rattle.words.proofs.RowLaws.{mem-tabulate, mem-of-tabulate}
 use Rattle.ranges.specs.declared.Range.{Range}
 use Rattle.fitting.specs.Queries.{slotsOf, shared}
-use Rattle.grammar.specs.Numerals.{decimal, digit, digits, valueFrom}
-use Rattle.grammar.specs.Lines.{newline, linesOf}
-use Rattle.grammar.proofs.RoundTrip.{decimal-digits, decimal-value}
-use Rattle.text.specs.Read.{unbroken}
-use Rattle.text.proofs.ByteLaws.{lines-end}
-use Rattle.printing.specs.Lines.{fieldsText, lineText}
-use Rattle.plan_text.specs.Printed.{cellLine, itemLine, rangeLine, areaLines, sharedLines, totalLine, printed}
+use Rattle.text_grammar.specs.Numerals.{decimal, digit, digits, valueFrom}
+use Rattle.text_grammar.specs.Lines.{newline, linesOf}
+use Rattle.text_grammar.proofs.RoundTrip.{decimal-digits, decimal-value}
+use Rattle.text_lines.specs.Read.{unbroken}
+use Rattle.text_lines.proofs.ByteLaws.{lines-end}
+use Rattle.text_plan.specs.Lines.{fieldsText, lineText}
+use Rattle.text_plan.specs.Printed.{cellLine, itemLine, rangeLine, areaLines, sharedLines, totalLine, printed}
 
 -- ---- a line ends in its newline, and has no other
 

@@ -26,9 +26,9 @@ use Rattle.wants.specs.Entry.{cellRows}
 use Rattle.wants.proofs.SeenLaws.{cells-long}
 use Rattle.job_answers.specs.Answers.{itemRows}
 use Rattle.job_answers.proofs.SeenLaws.{items-long, rows-held}
-use Rattle.plan_text.specs.Printed.{cellLines, itemLines, rangeLine, areaLines, sharedLines, totalLine, printed}
-use Rattle.plan_text.proofs.LineLaws.{line-length}
-use Rattle.plan_text.proofs.PlanLaws.{cells-length, items-length}
+use Rattle.text_plan.specs.Printed.{cellLines, itemLines, rangeLine, areaLines, sharedLines, totalLine, printed}
+use Rattle.text_plan.proofs.LineLaws.{line-length}
+use Rattle.text_plan.proofs.PlanLaws.{cells-length, items-length}
 use Rattle.planning.specs.Program.{textOf}
 
 -- ---- lines of ranges

@@ -14,9 +14,9 @@ use Rattle.areas.specs.Job.{Job, itemCount}
 use Rattle.fitting.specs.Wants.{Want, wantAt, orderOf}
 use Rattle.fitting.specs.Plan.{Plan, Cell, cellAt, cellOf, lowest, settled, placedBy, put, fit, nothing}
 use Rattle.soundness.specs.Demand.{localAt, widthAt, wantOf, wantsOf, jobPlan}
-use Rattle.grammar.specs.Numerals.{limit}
-use Rattle.grammar.specs.Lines.{linesOf}
-use Rattle.grammar.proofs.RowLaws.{rows-below}
+use Rattle.text_grammar.specs.Numerals.{limit}
+use Rattle.text_grammar.specs.Lines.{linesOf}
+use Rattle.text_grammar.proofs.RowLaws.{rows-below}
 use Rattle.planning.specs.Program.{job, numbersIn}
 use Rattle.planning.proofs.AnswerLaws.{makeLocal}
 

@@ -25,8 +25,8 @@ use Rattle.soundness.specs.Demand.{jobPlan}
 use Rattle.soundness.proofs.StarOne.{star-1-job, star-1-checked, star-1-areas, star-1 as star-1-plan}
 use Rattle.job_answers.specs.Answers.{itemRows}
 use Rattle.job.specs.Entry.{lentVerdict}
-use Rattle.grammar.proofs.Stars.{star, star-1 as star-1-read}
-use Rattle.plan_text.proofs.Stars.{star as starText, star-1 as star-1-printed}
+use Rattle.text_grammar.proofs.Stars.{star, star-1 as star-1-read}
+use Rattle.text_plan.proofs.Stars.{star as starText, star-1 as star-1-printed}
 use Rattle.planning.proofs.PrintLaws.{printed-same}
 use Rattle.planning.specs.Program.{told, jobText, job, refusal, printedFor, numbersIn, programText}
 use Rattle.planning.proofs.GroupLaws.{same-printed}

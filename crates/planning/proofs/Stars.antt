@@ -11,8 +11,8 @@ use Rattle.areas.proofs.Stars as areas
 use Rattle.fitting.specs.Wants.{orderOf}
 use Rattle.fitting.specs.Plan.{planOf}
 use Rattle.fitting.proofs.Stars as fitting
-use Rattle.grammar.proofs.Stars as grammar
-use Rattle.plan_text.proofs.Stars as plan_text
+use Rattle.text_grammar.proofs.Stars as grammar
+use Rattle.text_plan.proofs.Stars as plan_text
 use Rattle.planning.specs.Program.{programText}
 use Rattle.planning.proofs.StarOne.{star-1}
 

@@ -13,16 +13,16 @@ use Rattle.refusals.proofs.Laws.{first-left, first-right}
 use Rattle.words.proofs.RowLaws.{length-records}
 use Rattle.areas.specs.Job.{Job, itemCount, itemArea, itemsVerdict}
 use Rattle.soundness.specs.Demand.{jobPlan}
-use Rattle.grammar.specs.Groups.{groupCount, rowNumbers}
-use Rattle.grammar.specs.Lines.{linesOf}
-use Rattle.grammar.specs.Text.{readVerdict}
-use Rattle.grammar.proofs.RowLaws.{length-rows}
-use Rattle.text.specs.Read.{TextRead}
-use Rattle.text.proofs.EndLaws.{accepted-few}
-use Rattle.text.proofs.WholeLaws.{read-finished}
-use Rattle.plan_text.specs.declared.Written.{Written}
-use Rattle.plan_text.specs.Printed.{writtenOf}
-use Rattle.plan_text.proofs.LineLaws.{line-length}
+use Rattle.text_grammar.specs.Groups.{groupCount, rowNumbers}
+use Rattle.text_grammar.specs.Lines.{linesOf}
+use Rattle.text_grammar.specs.Text.{readVerdict}
+use Rattle.text_grammar.proofs.RowLaws.{length-rows}
+use Rattle.text_lines.specs.Read.{TextRead}
+use Rattle.text_lines.proofs.EndLaws.{accepted-few}
+use Rattle.text_lines.proofs.WholeLaws.{read-finished}
+use Rattle.text_plan.specs.declared.plan_text.Written.{Written}
+use Rattle.text_plan.specs.Printed.{writtenOf}
+use Rattle.text_plan.proofs.LineLaws.{line-length}
 use Rattle.row_plans.specs.Groups.{budget}
 use Rattle.planning.specs.Program.{told, jobText, job, refusal, printedFor, numbersIn, programText}
 use Rattle.planning.specs.Answer.{Read, Tells, Answers, roomFor}

@@ -4,10 +4,10 @@ use mathlib.Core.Path.{_≡_}
 use mathlib.Core.List.{List, _++_}
 use lib.ListN.{length, drop}
 use Rattle.refusals.specs.declared.Verdict.{Verdict}
-use Rattle.grammar.specs.Groups.{groupCount, rowNumbers}
-use Rattle.text.specs.Read.{Finished}
-use Rattle.plan_text.specs.declared.Written.{Written}
-use Rattle.plan_text.specs.Printed.{inRoom, PrintedTo}
+use Rattle.text_grammar.specs.Groups.{groupCount, rowNumbers}
+use Rattle.text_lines.specs.Read.{Finished}
+use Rattle.text_plan.specs.declared.plan_text.Written.{Written}
+use Rattle.text_plan.specs.Printed.{inRoom, PrintedTo}
 use Rattle.planning.specs.Program.{programText}
 
 -- the reader came to the end of some text

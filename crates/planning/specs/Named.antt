@@ -9,8 +9,8 @@ use Rattle.areas.specs.Job.{Job, itemCount}
 use Rattle.soundness.specs.Walks.{Step, read, write, Alike}
 use Rattle.soundness.specs.Machine.{RunsAlike}
 use Rattle.soundness.specs.Demand.{frameOf}
-use Rattle.grammar.specs.Lines.{linesOf}
-use Rattle.printing.specs.Lines.{lineText}
+use Rattle.text_grammar.specs.Lines.{linesOf}
+use Rattle.text_plan.specs.Lines.{lineText}
 
 -- a line is one of a text's lines
 abbrev pub Listed : List ℕ → List ℕ → Type 0

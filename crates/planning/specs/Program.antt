@@ -16,10 +16,10 @@ use Rattle.job_checks.specs.Job.{jobOf}
 use Rattle.soundness.specs.Demand.{jobPlan}
 use Rattle.job_answers.specs.Answers.{itemRows}
 use Rattle.job.specs.Entry.{verdictOf}
-use Rattle.grammar.specs.Lines.{linesOf}
-use Rattle.grammar.specs.Text.{rowsIn, readVerdict}
+use Rattle.text_grammar.specs.Lines.{linesOf}
+use Rattle.text_grammar.specs.Text.{rowsIn, readVerdict}
 use Rattle.row_plans.specs.Groups.{points, registers, budget}
-use Rattle.plan_text.specs.Printed.{printed, refusalText}
+use Rattle.text_plan.specs.Printed.{printed, refusalText}
 
 -- "its area list has 64 ranges"; cells and items have room for 64 locals and 64 slots, and the work space is over W of 64 records of each group
 abbrev pub cellNumbers : ℕ

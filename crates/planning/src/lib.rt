@@ -5,25 +5,25 @@ ghost use lib.ListN.{length};
 ghost use Rattle.refusals.specs.declared.Verdict.the-variants.{Fine};
 ghost use Rattle.refusals.specs.Verdicts.{numberOf};
 ghost use Rattle.refusals.specs.Outcomes.{given};
-ghost use Rattle.grammar.specs.Groups.{rowNumbers, groupCount};
-ghost use Rattle.plan_text.specs.Printed.{refusalText, inRoom, writtenOf, PrintedTo};
+ghost use Rattle.text_grammar.specs.Groups.{rowNumbers, groupCount};
+ghost use Rattle.text_plan.specs.Printed.{refusalText, inRoom, writtenOf, PrintedTo};
 ghost use Rattle.planning.specs.Program.{printedFor};
 ghost use Rattle.row_plans.specs.Groups.{numbersAt, Few};
 ghost use Rattle.planning.specs.Answer.{Read, TextPrinted, Tells, Answers, roomFor};
-use grammar::GROUP_COUNT;
-use grammar::LOCALS;
-use grammar::ROW_NUMBERS;
-use grammar::SLOTS;
 use job::Shared;
-use plan_text::Written;
-use plan_text::print_plan;
-use plan_text::print_refusal;
 use refusals::Refusal;
 use refusals::Verdict;
 use refusals::number;
 pub use row_plans::held;
 pub use row_plans::planned;
-use text::read_text;
+use text_grammar::GROUP_COUNT;
+use text_grammar::LOCALS;
+use text_grammar::ROW_NUMBERS;
+use text_grammar::SLOTS;
+use text_lines::text::read_text;
+use text_plan::plan_text::Written;
+use text_plan::plan_text::print_plan;
+use text_plan::plan_text::print_refusal;
 
 // How many bytes were written, where the text was not refused.
 fn bytes(w: Written) -> usize

@@ -1,13 +1,13 @@
 // What every program that takes a job's text does first: reads it from standard input.
 ghost use mathlib.Core.Path.{_≡_};
 ghost use lib.ListN.{length};
-ghost use Rattle.grammar.specs.Groups.{groupCount, rowNumbers};
+ghost use Rattle.text_grammar.specs.Groups.{groupCount, rowNumbers};
 ghost use Rattle.planning.specs.Answer.{Read};
-use grammar::MOST_FIELDS;
 use refusals::Verdict;
-use text::feed;
-use text::finish;
-use text::start;
+use text_grammar::MOST_FIELDS;
+use text_lines::text::feed;
+use text_lines::text::finish;
+use text_lines::text::start;
 
 // Reads all of standard input, a piece at a time.
 pub fn input(rows: &mut [u32], counts: &mut [u32]) -> Verdict

@@ -6,7 +6,7 @@ use mathlib.Core.Path.{_≡_, sym, ap, _∙_}
 use mathlib.Core.List.{List}
 use lib.ListN.{length, getD}
 use Rattle.words.proofs.RegionLaws.{getD-part}
-use Rattle.grammar.specs.Groups.{rowNumbers}
+use Rattle.text_grammar.specs.Groups.{rowNumbers}
 use Rattle.job_answers.specs.declared.Shared.{Shared}
 use Rattle.job.specs.Entry.{SharedAs}
 use Rattle.row_plans.specs.Groups.{numbersAt, Few}

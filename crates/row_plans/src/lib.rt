@@ -2,7 +2,7 @@
 ghost use mathlib.Core.Path.{_≡_};
 ghost use Prim.Native.Nat.{_+_, _*_, _≤_, _<_};
 ghost use lib.ListN.{length, getD};
-ghost use Rattle.grammar.specs.Groups.{rowNumbers, groupCount};
+ghost use Rattle.text_grammar.specs.Groups.{rowNumbers, groupCount};
 ghost use Rattle.row_plans.specs.Groups.{numbersAt, Few, SharedFor};
 use job::Shared;
 

@@ -19,7 +19,7 @@ use Rattle.item_lists.specs.Lists.{answered as areasOutcome}
 use Rattle.area_entries.specs.Entry.{LocalAreas}
 use Rattle.job_space.specs.Rows.{Rows}
 use Rattle.item_areas.specs.Entry.{ItemAreas}
-use Rattle.plan_text.specs.Printed.{writtenOf}
+use Rattle.text_plan.specs.Printed.{writtenOf}
 use Rattle.planning.specs.Answer.{TextPrinted}
 use Rattle.fitting.specs.Queries.{Slots}
 use Rattle.queries.specs.Shares.{counted}

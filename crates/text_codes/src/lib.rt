@@ -1,9 +1,9 @@
 // The answer of the text entry in one number.
 ghost use mathlib.Core.Path.{_≡_};
-ghost use Rattle.plan_text.specs.Printed.{writtenOf};
+ghost use Rattle.text_plan.specs.Printed.{writtenOf};
 ghost use Rattle.codes.specs.Codes.{countCode};
 use codes::refused;
-use plan_text::Written;
+use text_plan::plan_text::Written;
 
 pub fn text_code(w: Written) -> u64
     ensures { λ n. ⌜ n ≡ countCode (writtenOf w) ⌝ }

@@ -3,21 +3,21 @@
 ghost use Prim.Native.Nat.{_≤_, _<_};
 ghost use mathlib.Core.Path.{_≡_};
 ghost use lib.ListN.{length};
-ghost use Rattle.grammar.specs.Groups.{groupCount, rowNumbers};
-use grammar::GROUP_COUNT;
-use grammar::INSTS;
-use grammar::MOST_FIELDS;
-use grammar::ROW_NUMBERS;
-use grammar::entry_of;
-use plan_text::Written;
+ghost use Rattle.text_grammar.specs.Groups.{groupCount, rowNumbers};
 use planning::print_text;
 use refusals::Refusal;
 use refusals::Verdict;
 use refusals::number;
-use text::feed;
-use text::finish;
-use text::read_text;
-use text::start;
+use text_grammar::GROUP_COUNT;
+use text_grammar::INSTS;
+use text_grammar::MOST_FIELDS;
+use text_grammar::ROW_NUMBERS;
+use text_grammar::entry_of;
+use text_lines::text::feed;
+use text_lines::text::finish;
+use text_lines::text::read_text;
+use text_lines::text::start;
+use text_plan::plan_text::Written;
 
 fn say(s: &[u8]) {
     io::write_all(1, s);
@@ -118,12 +118,12 @@ fn plan(out: &mut [u8]) {
     let cells = [8, 8];
     let items = [0, 1, 0, 1, 0, 1, 1, 1];
     let areas = [2, 3, 6, 7];
-    let w = plan_text::print_plan(&cells, &items, &areas, 2, 1, 8, out);
+    let w = text_plan::plan_text::print_plan(&cells, &items, &areas, 2, 1, 8, out);
     written(w, out);
 }
 
 fn refusal(out: &mut [u8]) {
-    let w = plan_text::print_refusal(11, 4, out);
+    let w = text_plan::plan_text::print_refusal(11, 4, out);
     written(w, out);
 }
 

@@ -3,7 +3,7 @@ use native.Mathlib.Omega.{arith}
 use denote.Ref.{now}
 use mathlib.Core.Path.{refl}
 use lib.Dec.{lit≤}
-use Rattle.text.proofs.WholeLaws.{read-finished}
+use Rattle.text_lines.proofs.WholeLaws.{read-finished}
 use Rattle.planning.proofs.TextLaws.{text-read}
 use Rattle.planning.proofs.print_text.Statement.{statement}
 use Rattle.planning.proofs.print_text.Tie as tie

@@ -2,7 +2,7 @@
 use Prim.Native.Nat.{ℕ}
 use mathlib.Core.Path.{ap}
 use borrow.Author.Needs.{needs}
-use Rattle.plan_text.specs.Printed.{refusalText}
+use Rattle.text_plan.specs.Printed.{refusalText}
 use Rattle.planning.proofs.AnswerLaws.{printed-as}
 use Rattle.planning.proofs.refuse.Statement.{statement}
 use Rattle.planning.proofs.refuse.Tie as tie

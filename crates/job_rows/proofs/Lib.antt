@@ -1,4 +1,0 @@
-pub mod PutLaws
-pub mod StoreLaws
-pub mod TakeLaws
-pub mod ReaderLaws

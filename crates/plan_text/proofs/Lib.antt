@@ -1,4 +1,0 @@
-pub mod LineLaws
-pub mod ShareLaws
-pub mod PlanLaws
-pub mod Stars

@@ -1,4 +1,0 @@
-pub mod ByteLaws
-pub mod EndLaws
-pub mod CopyLaws
-pub mod WholeLaws

@@ -1,0 +1,10 @@
+pub mod FieldLaws
+pub mod BodyLaws
+pub mod PutLaws
+pub mod StoreLaws
+pub mod TakeLaws
+pub mod ReaderLaws
+pub mod ByteLaws
+pub mod EndLaws
+pub mod CopyLaws
+pub mod WholeLaws

@@ -1,0 +1,4 @@
+pub mod LineRead
+pub mod Taken
+pub mod Put
+pub mod Read

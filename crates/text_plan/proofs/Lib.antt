@@ -1,0 +1,5 @@
+pub mod PutLaws
+pub mod LineLaws
+pub mod ShareLaws
+pub mod PlanLaws
+pub mod Stars
