@@ -67,7 +67,8 @@ fn arrival(blocks: &[u32], work: &[u64], t: Spots, k: usize) -> u64
 // The pieces of the marked blocks, from `from` on; how many there are. The marks are taken away.
 fn arrive(blocks: &[u32], work: &mut [u64], t: Spots, s: Local, from: usize) -> usize
     requires { ⌜ Arriving t s (length (now blocks) / 3) from (now work) ⌝ }
-    ensures { λ r. ⌜ ((es : List Edge) → Arrived (lineOf (now (blocks .entry)) es) (endsAt t (now (work .entry))) (markBit s (now (work .entry))) s (length (now (blocks .entry)) / 3) from r (now (work .entry)) (now (work .exit))) ⌝ }
+    ensures { λ r. ⌜ ((es : List Edge) → Arrived (lineOf (now (blocks .entry)) es) (endsAt t (now (work .entry))) (markBit s (now (work .entry))) s
+        (length (now (blocks .entry)) / 3) from r (now (work .entry)) (now (work .exit))) ⌝ }
 {
     let end = s.wide * 64;
     let mut n = 0;
@@ -85,7 +86,8 @@ fn arrive(blocks: &[u32], work: &mut [u64], t: Spots, s: Local, from: usize) -> 
 // The blocks that the local arrives at by its own row, from `from` on; how many there are.
 fn arrived(blocks: &[u32], work: &mut [u64], t: Spots, s: Local, from: usize) -> usize
     requires { ⌜ Arrivable t s (length (now blocks) / 3) from (now work) ⌝ }
-    ensures { λ r. ⌜ ((es : List Edge) → Arrived (lineOf (now (blocks .entry)) es) (endsAt t (now (work .entry))) (ownBit s (now (work .entry))) s (length (now (blocks .entry)) / 3) from r (now (work .entry)) (now (work .exit))) ⌝ }
+    ensures { λ r. ⌜ ((es : List Edge) → Arrived (lineOf (now (blocks .entry)) es) (endsAt t (now (work .entry))) (ownBit s (now (work .entry))) s
+        (length (now (blocks .entry)) / 3) from r (now (work .entry)) (now (work .exit))) ⌝ }
 {
     words::copy(work, s.row, s.mark, s.wide);
     arrive(blocks, work, t, s, from)

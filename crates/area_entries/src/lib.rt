@@ -21,7 +21,8 @@ use refusals::Verdict;
 fn tell(f: Found, areas: &mut [u32], items: &mut [u32], work: &[u64], locals: usize) -> Answer
     requires { ⌜ Held locals (length (now areas) / 2) (now work) f × (3 * locals ≤ length (now items)) × (length (now areas) / 2 ≤ 65536) × (length (now areas) / 2 + locals ≤ length (now work)) ⌝ }
     ensures { λ r. ⌜ ((bad : Bool) (A : ℕ → Option (List Range)) → FoundAs bad A locals (length (now (areas .entry)) / 2) (now (work .entry)) f
-        → AnsweredBy (first (check Inverted bad) (areasVerdict locals A (length (now (areas .entry)) / 2))) locals A (now (areas .entry)) (now (items .entry)) r (now (areas .exit)) (now (items .exit))) ⌝ }
+        → AnsweredBy (first (check Inverted bad) (areasVerdict locals A (length (now (areas .entry)) / 2))) locals A (now (areas .entry)) (now (items .entry)) r (now (areas .exit))
+        (now (items .exit))) ⌝ }
 {
     match f {
         Found::Inverted => Answer::Refused(Refusal::Inverted, 0),

@@ -46,7 +46,8 @@ pub fn clear_marks(work: &mut [u64], g: Grid, n: usize)
 fn lay(over: Over, blocks: &[u32], edges: &[u32], work: &mut [u64], base: usize)
     requires { ⌜ Sound (blocksOf (now blocks)) × (edgeVerdict (blocksOf (now blocks)) (jumpsOf (now edges)) ≡ Fine) ⌝ }
     requires { ⌜ base + length (now edges) / 2 + length (now edges) / 2 + (length (now blocks) / 3 + 1 + length (now edges) / 2) ≤ length (now work) ⌝ }
-    ensures { λ _. ⌜ Neighbours (wayOf over (edgesIn (now (blocks .entry)) (now (edges .entry)))) (length (now (blocks .entry)) / 3) (length (now (edges .entry)) / 2) base (now (work .entry)) (now (work .exit)) ⌝ }
+    ensures { λ _. ⌜ Neighbours (wayOf over (edgesIn (now (blocks .entry)) (now (edges .entry)))) (length (now (blocks .entry)) / 3) (length (now (edges .entry)) / 2) base
+        (now (work .entry)) (now (work .exit)) ⌝ }
 {
     match over {
         Over::Predecessors => edge_rows::predecessors(blocks, edges, work, base),
@@ -58,7 +59,8 @@ fn lay(over: Over, blocks: &[u32], edges: &[u32], work: &mut [u64], base: usize)
 fn flow_over(over: Over, blocks: &[u32], edges: &[u32], work: &mut [u64], g: Grid, out: usize)
     requires { ⌜ Sound (blocksOf (now blocks)) × (edgeVerdict (blocksOf (now blocks)) (jumpsOf (now edges)) ≡ Fine) × Laid g (length (now blocks) / 3) (length (now edges) / 2) (now work) ⌝ }
     requires { ⌜ (g .touched + length (now blocks) / 3 * g .words ≤ out) × (out + length (now blocks) / 3 * g .words ≤ length (now work)) ⌝ }
-    ensures { λ _. ⌜ FlowedOver over (edgesIn (now (blocks .entry)) (now (edges .entry))) g (length (now (blocks .entry)) / 3) (length (now (edges .entry)) / 2) out (now (work .entry)) (now (work .exit)) ⌝ }
+    ensures { λ _. ⌜ FlowedOver over (edgesIn (now (blocks .entry)) (now (edges .entry))) g (length (now (blocks .entry)) / 3) (length (now (edges .entry)) / 2) out (now (work .entry))
+        (now (work .exit)) ⌝ }
 {
     let n = blocks.len() / 3;
     let e = edges.len() / 2;

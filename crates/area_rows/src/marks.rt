@@ -49,7 +49,8 @@ fn mark_touch(blocks: &[u32], work: &mut [u64], c: Column, start: u32, end: u32)
 // Sets the bit in the row of each place that a touch has a point of.
 pub fn mark_touched(blocks: &[u32], work: &mut [u64], s: Spots, c: Column)
     requires { ⌜ TouchesReady (now blocks) s c (now work) × (any (inverted (lineOf (now blocks) [])) (touchesAt s (now work)) ≡ false) ⌝ }
-    ensures { λ _. ⌜ ((es : List Edge) → Marked c (λ k. touched (lineOf (now (blocks .entry)) es) (touchesAt s (now (work .entry))) k || marked c (now (work .entry)) k) (now (work .entry)) (now (work .exit))) ⌝ }
+    ensures { λ _. ⌜ ((es : List Edge) → Marked c (λ k. touched (lineOf (now (blocks .entry)) es) (touchesAt s (now (work .entry))) k || marked c (now (work .entry)) k)
+        (now (work .entry)) (now (work .exit))) ⌝ }
 {
     let at = s.at;
     let mut i = 0;

@@ -43,7 +43,9 @@ fn list(
     work: &mut [u64],
 ) -> usize
     requires { ⌜ Checked v (now insts) (now operands) (now locals) (now addresses) (now ends) (length (now work)) × (mostOf v (now insts) ≤ length (now answer)) × (local < length (now locals) / 2) ⌝ }
-    ensures { λ r. ⌜ Registers (codeOf v (now (insts .entry)) (now (operands .entry)) (now (crossings .entry)) (now (addresses .entry)) (now (ends .entry))) local (usedOf (wordsOf v) (length (now (insts .entry)) / 9) (length (now (operands .entry)) / 2) (length (now (locals .entry)) / 2) (length (now (addresses .entry)) / 2)) r (now (answer .entry)) (now (answer .exit)) (now (work .entry)) (now (work .exit)) ⌝ }
+    ensures { λ r. ⌜ Registers (codeOf v (now (insts .entry)) (now (operands .entry)) (now (crossings .entry)) (now (addresses .entry)) (now (ends .entry))) local
+        (usedOf (wordsOf v) (length (now (insts .entry)) / 9) (length (now (operands .entry)) / 2) (length (now (locals .entry)) / 2) (length (now (addresses .entry)) / 2)) r
+        (now (answer .entry)) (now (answer .exit)) (now (work .entry)) (now (work .exit)) ⌝ }
 {
     let i = insts.len() / 9;
     let l = locals.len() / 2;
@@ -78,7 +80,8 @@ pub fn carried(
     answer: &mut [u32],
     work: &mut [u64],
 ) -> Carrying
-    ensures { λ r. ⌜ CarriedTo points v (now (blocks .entry)) (now (insts .entry)) (now (operands .entry)) (now (crossings .entry)) (now (locals .entry)) (now (addresses .entry)) (now (ends .entry)) local (now (answer .entry)) (now (work .entry)) r (now (answer .exit)) (now (work .exit)) ⌝ }
+    ensures { λ r. ⌜ CarriedTo points v (now (blocks .entry)) (now (insts .entry)) (now (operands .entry)) (now (crossings .entry)) (now (locals .entry)) (now (addresses .entry))
+        (now (ends .entry)) local (now (answer .entry)) (now (work .entry)) r (now (answer .exit)) (now (work .exit)) ⌝ }
 {
     let most = least(v, insts.len() / 9);
     let verdict = checks::refusal(

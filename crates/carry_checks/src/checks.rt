@@ -17,7 +17,8 @@ pub fn counts(
     addresses: &[u32],
     ends: &[u32],
 ) -> Verdict
-    ensures { λ r. ⌜ r ≡ carryCounts v (now (blocks .entry)) (now (insts .entry)) (now (operands .entry)) (now (crossings .entry)) (now (locals .entry)) (now (addresses .entry)) (now (ends .entry)) ⌝ }
+    ensures { λ r. ⌜ r ≡ carryCounts v (now (blocks .entry)) (now (insts .entry)) (now (operands .entry)) (now (crossings .entry)) (now (locals .entry)) (now (addresses .entry))
+        (now (ends .entry)) ⌝ }
 {
     let a = insts::counts::blocks(blocks);
     let b = insts::counts::code(v, insts, operands, crossings, locals, addresses, ends);
@@ -63,7 +64,8 @@ pub fn needed(
     addresses: &[u32],
     ends: &[u32],
 ) -> usize
-    requires { ⌜ (length (now blocks) / 3 ≤ 4096) × (length (now insts) / 9 ≤ 65536) × (length (now operands) / 2 ≤ 262144) × (length (now crossings) ≤ 65536) × (length (now locals) / 2 ≤ 2048) × (length (now addresses) / 2 ≤ 65536) × (length (now ends) / 2 ≤ 65536) ⌝ }
+    requires { ⌜ (length (now blocks) / 3 ≤ 4096) × (length (now insts) / 9 ≤ 65536) × (length (now operands) / 2 ≤ 262144) × (length (now crossings) ≤ 65536)
+        × (length (now locals) / 2 ≤ 2048) × (length (now addresses) / 2 ≤ 65536) × (length (now ends) / 2 ≤ 65536) ⌝ }
     ensures { λ r. ⌜ r ≡ carrySpace v (now (blocks .entry)) (now (insts .entry)) (now (operands .entry)) (now (crossings .entry)) (now (locals .entry)) (now (addresses .entry)) (now (ends .entry)) ⌝ }
 {
     let b = (blocks.len() / 3) as u32;
@@ -91,7 +93,8 @@ pub fn refusal(
     most: usize,
     work: usize,
 ) -> Verdict
-    ensures { λ r. ⌜ r ≡ carryVerdict points v (now (blocks .entry)) (now (insts .entry)) (now (operands .entry)) (now (crossings .entry)) (now (locals .entry)) (now (addresses .entry)) (now (ends .entry)) lent most work ⌝ }
+    ensures { λ r. ⌜ r ≡ carryVerdict points v (now (blocks .entry)) (now (insts .entry)) (now (operands .entry)) (now (crossings .entry)) (now (locals .entry)) (now (addresses .entry))
+        (now (ends .entry)) lent most work ⌝ }
 {
     let number = counts(
         v,

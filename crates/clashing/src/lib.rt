@@ -50,7 +50,8 @@ fn ending_before(end: &[u32], from: usize, point: u32) -> usize
 
 // Whether some point is in both of two lists that are in order and apart.
 pub fn clash(start: &[u32], end: &[u32], other_start: &[u32], other_end: &[u32]) -> bool
-    requires { ⌜ (length (now start) ≡ length (now end)) × (length (now «other_start») ≡ length (now «other_end»)) × Apart (columns (now start) (now end)) × Apart (columns (now «other_start») (now «other_end»)) ⌝ }
+    requires { ⌜ (length (now start) ≡ length (now end)) × (length (now «other_start») ≡ length (now «other_end»)) × Apart (columns (now start) (now end))
+        × Apart (columns (now «other_start») (now «other_end»)) ⌝ }
     ensures { λ r. ⌜ r ≡ clashes (columns (now (start .entry)) (now (end .entry))) (columns (now («other_start» .entry)) (now («other_end» .entry))) ⌝ }
 {
     let mut i = 0;

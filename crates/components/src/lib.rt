@@ -31,7 +31,8 @@ pub fn refusal(blocks: &[u32], edges: &[u32], points: u32, answer: usize, work: 
 fn solve(blocks: &[u32], edges: &[u32], work: &mut [u64]) -> usize
     requires { ⌜ Sound (blocksOf (now blocks)) × (edgeVerdict (blocksOf (now blocks)) (jumpsOf (now edges)) ≡ Fine) ⌝ }
     requires { ⌜ 8 * (length (now blocks) / 3 + length (now edges) / 2 + 0) ≤ length (now work) ⌝ }
-    ensures { λ r. ⌜ Solved (now (blocks .entry)) (now (edges .entry)) (length (now (edges .entry)) / 2 + length (now (edges .entry)) / 2 + (length (now (blocks .entry)) / 3 + 1 + length (now (edges .entry)) / 2)) (now (work .entry)) (now (work .exit)) r ⌝ }
+    ensures { λ r. ⌜ Solved (now (blocks .entry)) (now (edges .entry))
+        (length (now (edges .entry)) / 2 + length (now (edges .entry)) / 2 + (length (now (blocks .entry)) / 3 + 1 + length (now (edges .entry)) / 2)) (now (work .entry)) (now (work .exit)) r ⌝ }
 {
     let n = blocks.len() / 3;
     let e = edges.len() / 2;

@@ -60,7 +60,8 @@ fn widened(ends: Ends, l: &[u32], w: usize, s: usize, e: usize) -> Ends
 
 // The axis of blocks in rows of number, start and end, and of areas in rows of start and end: an area may reach outside the blocks, so the axis takes both.
 pub fn axis_of(blocks: &[u32], areas: &[u32]) -> Axis
-    ensures { λ r. ⌜ (r .first ≡ firstOf (now (blocks .entry)) (now (areas .entry))) × (r .more ≡ lastOf (now (blocks .entry)) (now (areas .entry)) - firstOf (now (blocks .entry)) (now (areas .entry))) ⌝ }
+    ensures { λ r. ⌜ (r .first ≡ firstOf (now (blocks .entry)) (now (areas .entry)))
+        × (r .more ≡ lastOf (now (blocks .entry)) (now (areas .entry)) - firstOf (now (blocks .entry)) (now (areas .entry))) ⌝ }
 {
     let none = Ends {
         low: 0xffff_ffff,

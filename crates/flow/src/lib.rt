@@ -51,7 +51,8 @@ pub fn refusal(
 fn neighbours(over: Over, blocks: &[u32], edges: &[u32], work: &mut [u64])
     requires { ⌜ Sound (blocksOf (now blocks)) × (edgeVerdict (blocksOf (now blocks)) (jumpsOf (now edges)) ≡ Fine) ⌝ }
     requires { ⌜ 0 + length (now edges) / 2 + length (now edges) / 2 + (length (now blocks) / 3 + 1 + length (now edges) / 2) ≤ length (now work) ⌝ }
-    ensures { λ _. ⌜ Neighbours (wayOf over (edgesIn (now (blocks .entry)) (now (edges .entry)))) (length (now (blocks .entry)) / 3) (length (now (edges .entry)) / 2) 0 (now (work .entry)) (now (work .exit)) ⌝ }
+    ensures { λ _. ⌜ Neighbours (wayOf over (edgesIn (now (blocks .entry)) (now (edges .entry)))) (length (now (blocks .entry)) / 3) (length (now (edges .entry)) / 2) 0
+        (now (work .entry)) (now (work .exit)) ⌝ }
 {
     match over {
         Over::Predecessors => edge_rows::predecessors(blocks, edges, work, 0),

@@ -65,7 +65,8 @@ fn run_end(work: &[u64], f: Flow, ord: usize, i: usize, c: u64) -> usize
 // Puts into the row of x what flows over the edges of the places from i up to j of the order to other components than c; whether an edge of them stays in c.
 fn pull(work: &mut [u64], f: Flow, ord: usize, i: usize, j: usize, c: u64, x: usize) -> bool
     requires { ⌜ Laid f (now work) × (ord ≡ orderFrom f) × (i ≤ j) × (j ≤ f .n) × (x < f .n) × (which f (now work) x ≡ c) ⌝ }
-    ensures { λ r. ⌜ Joins f x (λ b. Member f (now (work .entry)) i j (λ u. Across f (now (work .entry)) u c b)) (now (work .entry)) (now (work .exit)) × Tells (Member f (now (work .entry)) i j (λ u. Stays f (now (work .entry)) u c)) r ⌝ }
+    ensures { λ r. ⌜ Joins f x (λ b. Member f (now (work .entry)) i j (λ u. Across f (now (work .entry)) u c b)) (now (work .entry)) (now (work .exit))
+        × Tells (Member f (now (work .entry)) i j (λ u. Stays f (now (work .entry)) u c)) r ⌝ }
 {
     let mut looped = false;
     let mut p = i;

@@ -3,7 +3,8 @@
 // arrives. Rows are one word; bit k of the rows lent is set at place k only. Entries of 9 past the answer were there before.
 // A case's name is its shape's letter. Its columns: points, the length of the work space; blocks, edges. With a work space under 256 words only `components` is asked.
 // The shapes: a, no edge; b, a chain; c, a self loop; d, a loop of two blocks, and on; e, a loop with two entries; f, blocks that the first does not reach; g, duplicate edges; h, a chain laid out
-// against its edges; i, block numbers out of line order; j, refusal 2 at block 2; k, refusal 2 at the last block; l, refusal 3 at edge 1; m, refusal 1: a row cut short; n, refusal 7: one word under W.
+// against its edges; i, block numbers out of line order; j, refusal 2 at block 2; k, refusal 2 at the last block; l, refusal 3 at edge 1; m, refusal 1: a row cut short; n, refusal 7: one
+// word under W.
 ghost use mathlib.Core.Path.{_≡_};
 ghost use lib.ListN.{length};
 ghost use Rattle.cases.specs.Cuts.{Ordered};

@@ -94,7 +94,8 @@ fn bad_fields(insts: &[u32], i: usize) -> bool
 // Whether an instruction is reversed, or placed in no block or outside its points.
 fn bad_points(blocks: &[u32], insts: &[u32], i: usize, k: usize) -> bool
     requires { ⌜ Sound (blocksOf (now blocks)) × (i < length (now insts) / 9) × Splits (λ j. leb (field 3 (now blocks) j 1) (field 9 (now insts) i 2)) (length (now blocks) / 3) k ⌝ }
-    ensures { λ r. ⌜ r ≡ (ltb (field 9 (now (insts .entry)) i 3) (field 9 (now (insts .entry)) i 2) || isSet (field 9 (now (insts .entry)) i 0) && misplaced (blocksOf (now (blocks .entry))) (rowInst (now (insts .entry)) i)) ⌝ }
+    ensures { λ r. ⌜ r ≡ (ltb (field 9 (now (insts .entry)) i 3) (field 9 (now (insts .entry)) i 2) || isSet (field 9 (now (insts .entry)) i 0) && misplaced
+        (blocksOf (now (blocks .entry))) (rowInst (now (insts .entry)) i)) ⌝ }
 {
     let at = 9 * i;
     let early = insts[at + 2];

@@ -33,8 +33,11 @@ pub fn answer(
     work: &mut [u64],
 ) -> Shared
     requires { ⌜ Measured (countOf (now locals) (now slots)) (length (now areas) / 2) total end (length (now cells)) (length (now items)) (now work) ⌝ }
-    ensures { λ r. ⌜ Within 0 end (now (work .entry)) (now (work .exit)) × ((A : ℕ → Option (List Range)) → ListedBy wordOf (listing (length (now (areas .entry)) / 2) (length (now (areas .entry)) / 2)) A (countOf (now (locals .entry)) (now (slots .entry))) total (now (work .entry))
-        → AnsweredBy (areasVerdict (countOf (now (locals .entry)) (now (slots .entry))) A (length (now (areas .entry)) / 2)) (countOf (now (locals .entry)) (now (slots .entry))) A (planFor (now (locals .entry)) (now (slots .entry)) A (terms .budget))
+    ensures { λ r. ⌜ Within 0 end (now (work .entry)) (now (work .exit))
+        × ((A : ℕ → Option (List Range)) → ListedBy wordOf (listing (length (now (areas .entry)) / 2) (length (now (areas .entry)) / 2)) A
+        (countOf (now (locals .entry)) (now (slots .entry))) total (now (work .entry))
+        → AnsweredBy (areasVerdict (countOf (now (locals .entry)) (now (slots .entry))) A (length (now (areas .entry)) / 2)) (countOf (now (locals .entry)) (now (slots .entry))) A
+        (planFor (now (locals .entry)) (now (slots .entry)) A (terms .budget))
         (now (cells .entry)) (now (items .entry)) (now (areas .entry)) r (now (cells .exit)) (now (items .exit)) (now (areas .exit))) ⌝ }
 {
     let room = areas.len() / 2;

@@ -82,7 +82,8 @@ fn measure_slots(
     total: usize,
 ) -> usize
     requires { ⌜ SlotsDue points (now blocks) (now insts) (now pieces) (now assigned) (now moves) z r total (now work) ⌝ }
-    ensures { λ n. ⌜ SlotsDone points (now (blocks .entry)) (now (insts .entry)) (now (pieces .entry)) (now (assigned .entry)) (now (moves .entry)) z r total (now (work .entry)) (now (work .exit)) n ⌝ }
+    ensures { λ n. ⌜ SlotsDone points (now (blocks .entry)) (now (insts .entry)) (now (pieces .entry)) (now (assigned .entry)) (now (moves .entry)) z r total (now (work .entry))
+        (now (work .exit)) n ⌝ }
 {
     let p = job_layout::slots(z, r.free);
     slots::slots(

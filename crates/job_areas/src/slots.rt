@@ -21,7 +21,8 @@ pub fn slots(
     total: usize,
 ) -> usize
     requires { ⌜ SlotsAsked (now blocks) (now insts) (now moves) (now pieces) (now assigned) p keys held o first total (now work) ⌝ }
-    ensures { λ r. ⌜ SlotsIn points (now (blocks .entry)) (now (insts .entry)) (now (moves .entry)) (now (pieces .entry)) (now (assigned .entry)) p keys held o first total (now (work .entry)) (now (work .exit)) r ⌝ }
+    ensures { λ r. ⌜ SlotsIn points (now (blocks .entry)) (now (insts .entry)) (now (moves .entry)) (now (pieces .entry)) (now (assigned .entry)) p keys held o first total
+        (now (work .entry)) (now (work .exit)) r ⌝ }
 {
     slot_spots::held(assigned, work, held, p.slots);
     edge_rows::table(blocks, work, p.table);

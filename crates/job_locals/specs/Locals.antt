@@ -95,7 +95,8 @@ pub record Asked (blocks edges insts operands crossings addresses ends pieces : 
   pub few : locals * mostIn blocks addresses pieces < 2 ^ 32
 
 -- every local's area stands behind those before it, where it fits; the live pieces stand as they did
-pub record LocalsIn (blocks edges insts operands crossings addresses ends pieces : List ℕ) (v locals : ℕ) (lay : Lay) (p : Places) (g : Grid) (mark : ℕ) (o : Listing) (w₀ w : List ℕ) (r : ℕ) : Type 0 where
+pub record LocalsIn (blocks edges insts operands crossings addresses ends pieces : List ℕ) (v locals : ℕ) (lay : Lay) (p : Places) (g : Grid) (mark : ℕ) (o : Listing) (w₀ w : List ℕ)
+    (r : ℕ) : Type 0 where
   pub len : length w ≡ length w₀
   pub below : (i : ℕ) → i < o .areas → getD w i 0 ≡ getD w₀ i 0
   pub keys : (i : ℕ) → p .keys ≤ i → i < lay .escapes → getD w i 0 ≡ getD w₀ i 0

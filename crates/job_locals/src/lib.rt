@@ -21,7 +21,8 @@ fn tables(
     p: Places,
 ) -> usize
     requires { ⌜ TablesAsked (now insts) (now operands) (now addresses) (now ends) v locals lay p (now work) ⌝ }
-    ensures { λ r. ⌜ TablesIn (now (insts .entry)) (now (operands .entry)) (now (crossings .entry)) (now (addresses .entry)) (now (ends .entry)) v locals lay p (now (work .entry)) (now (work .exit)) r ⌝ }
+    ensures { λ r. ⌜ TablesIn (now (insts .entry)) (now (operands .entry)) (now (crossings .entry)) (now (addresses .entry)) (now (ends .entry)) v locals lay p (now (work .entry))
+        (now (work .exit)) r ⌝ }
 {
     let n = preparing::prepare(
         insts,
@@ -55,7 +56,8 @@ fn rows(
     mark: usize,
 )
     requires { ⌜ RowsAsked (now blocks) (now edges) (now insts) (now addresses) (now ends) (now pieces) lay p z g mark (now work) ⌝ }
-    ensures { λ _. ⌜ RowsIn (now (blocks .entry)) (now (edges .entry)) (now (insts .entry)) (now (addresses .entry)) (now (ends .entry)) (now (pieces .entry)) lay p z g mark (now (work .entry)) (now (work .exit)) ⌝ }
+    ensures { λ _. ⌜ RowsIn (now (blocks .entry)) (now (edges .entry)) (now (insts .entry)) (now (addresses .entry)) (now (ends .entry)) (now (pieces .entry)) lay p z g mark
+        (now (work .entry)) (now (work .exit)) ⌝ }
 {
     job_marks::mark_all(blocks, insts, addresses, ends, pieces, work, lay, p, z, g);
     area_flow::area_rows(blocks, edges, work, g);
@@ -83,7 +85,8 @@ pub fn locals(
     o: Listing,
 ) -> usize
     requires { ⌜ Asked (now blocks) (now edges) (now insts) (now operands) (now crossings) (now addresses) (now ends) (now pieces) v locals lay p g mark o (now work) ⌝ }
-    ensures { λ r. ⌜ LocalsIn (now (blocks .entry)) (now (edges .entry)) (now (insts .entry)) (now (operands .entry)) (now (crossings .entry)) (now (addresses .entry)) (now (ends .entry)) (now (pieces .entry)) v locals lay p g mark o (now (work .entry)) (now (work .exit)) r ⌝ }
+    ensures { λ r. ⌜ LocalsIn (now (blocks .entry)) (now (edges .entry)) (now (insts .entry)) (now (operands .entry)) (now (crossings .entry)) (now (addresses .entry)) (now (ends .entry))
+        (now (pieces .entry)) v locals lay p g mark o (now (work .entry)) (now (work .exit)) r ⌝ }
 {
     let n = tables(
         insts,

@@ -27,7 +27,8 @@ fn measure_next(
 ) -> usize
     requires { ⌜ Ready (now blocks) (now insts) (now addresses) (now ends) (now pieces) lay p z g mark o (now work) ⌝ }
     requires { ⌜ (l < z .locals) × (total ≤ l * mostIn (now blocks) (now addresses) (now pieces)) ⌝ }
-    ensures { λ r. ⌜ Next (now (blocks .entry)) (now (insts .entry)) (now (addresses .entry)) (now (ends .entry)) (now (pieces .entry)) lay p z g mark o l total (now (work .entry)) (now (work .exit)) r ⌝ }
+    ensures { λ r. ⌜ Next (now (blocks .entry)) (now (insts .entry)) (now (addresses .entry)) (now (ends .entry)) (now (pieces .entry)) lay p z g mark o l total (now (work .entry))
+        (now (work .exit)) r ⌝ }
 {
     let f = job_spots::fetch::fetch(insts, addresses, ends, pieces, work, lay, p, z, l);
     let k = f.kind;
@@ -75,7 +76,8 @@ pub fn measure_locals(
     o: Listing,
 ) -> usize
     requires { ⌜ Ready (now blocks) (now insts) (now addresses) (now ends) (now pieces) lay p z g mark o (now work) ⌝ }
-    ensures { λ r. ⌜ MeasuredLocals (now (blocks .entry)) (now (insts .entry)) (now (addresses .entry)) (now (ends .entry)) (now (pieces .entry)) lay p z g mark o (now (work .entry)) (now (work .exit)) r ⌝ }
+    ensures { λ r. ⌜ MeasuredLocals (now (blocks .entry)) (now (insts .entry)) (now (addresses .entry)) (now (ends .entry)) (now (pieces .entry)) lay p z g mark o (now (work .entry))
+        (now (work .exit)) r ⌝ }
 {
     let mut total = 0;
     let mut l = 0;

@@ -53,4 +53,5 @@ Slice = Both (RefT (List ℕ)) (RefT (List ℕ))
 
 abbrev pub lentRows : ℕ → ℕ → Slice → Slice → Slice → Slice → Slice → Slice → Slice → Slice → Slice → Slice → Slice → Slice → Rows
 lentRows points v blocks edges insts operands crossings locals slots addresses ends pieces assigned moves =
-    rowsAt points v (blocks .entry) (edges .entry) (insts .entry) (operands .entry) (crossings .entry) (locals .entry) (slots .entry) (addresses .entry) (ends .entry) (pieces .entry) (assigned .entry) (moves .entry)
+    rowsAt points v (blocks .entry) (edges .entry) (insts .entry) (operands .entry) (crossings .entry) (locals .entry) (slots .entry) (addresses .entry) (ends .entry) (pieces .entry)
+    (assigned .entry) (moves .entry)

@@ -41,7 +41,8 @@ pub fn touches(
     local: usize,
     to: usize,
 ) -> usize
-    requires { ⌜ InOrder (now pieces) keys (now work) × (rowCount 3 (now pieces) ≤ 65536) × (keys + rowCount 3 (now pieces) ≤ to) × (lay .queue + count ≤ to) × (to + (rowCount 3 (now pieces) + rowCount 3 (now pieces)) ≤ length (now work)) ⌝ }
+    requires { ⌜ InOrder (now pieces) keys (now work) × (rowCount 3 (now pieces) ≤ 65536) × (keys + rowCount 3 (now pieces) ≤ to) × (lay .queue + count ≤ to)
+        × (to + (rowCount 3 (now pieces) + rowCount 3 (now pieces)) ≤ length (now work)) ⌝ }
     requires { ⌜ Distinct (part (lay .queue) count (now work)) × ((k : ℕ) → k < count → getD (now work) (lay .queue + k) 0 < 2 ^ 32) ⌝ }
     requires { ⌜ Linked (now insts) (now addresses) (lay .heads) (lay .nexts) local to (now work) × (to + rowCount 3 (now pieces) + rowCount 2 (now addresses) ≤ length (now work)) ⌝ }
     ensures { λ r. ⌜ TouchesIn (now (insts .entry)) (now (addresses .entry)) (now (pieces .entry)) (lay .queue) count local to (now (work .entry)) (now (work .exit)) r ⌝ }

@@ -20,7 +20,8 @@ use spots::Spots;
 // Whether a touch's cover reaches the last point of the block at place k, one of the touch's first and last.
 fn covers_bottom(blocks: &[u32], work: &[u64], s: Spots, k: usize, end: u32) -> bool
     requires { ⌜ (k < length (now blocks) / 3) × Stand s (now work) ⌝ }
-    ensures { λ r. ⌜ ((es : List Edge) (start : ℕ) → r ≡ leb (bottom (lineOf (now (blocks .entry)) es) k) (cover (lineOf (now (blocks .entry)) es) (endsAt s (now (work .entry))) k (range start end) .end)) ⌝ }
+    ensures { λ r. ⌜ ((es : List Edge) (start : ℕ) → r ≡ leb (bottom (lineOf (now (blocks .entry)) es) k)
+        (cover (lineOf (now (blocks .entry)) es) (endsAt s (now (work .entry))) k (range start end) .end)) ⌝ }
 {
     let bottom = blocks[3 * k + 2];
     let last = spots::smaller(end, bottom);
@@ -54,7 +55,8 @@ fn mark_leave(blocks: &[u32], work: &mut [u64], s: Spots, c: Column, start: u32,
 // Sets the bit in the row of each place that the local leaves.
 pub fn mark_leaving(blocks: &[u32], work: &mut [u64], s: Spots, c: Column)
     requires { ⌜ TouchesReady (now blocks) s c (now work) × EndsReady (now blocks) s c (now work) × Rising (λ i. getD (now work) (s .ends + i) 0) (s .stops) ⌝ }
-    ensures { λ _. ⌜ ((es : List Edge) → Marked c (λ k. leaves (lineOf (now (blocks .entry)) es) (touchesAt s (now (work .entry))) (endsAt s (now (work .entry))) k || marked c (now (work .entry)) k) (now (work .entry)) (now (work .exit))) ⌝ }
+    ensures { λ _. ⌜ ((es : List Edge) → Marked c (λ k. leaves (lineOf (now (blocks .entry)) es) (touchesAt s (now (work .entry))) (endsAt s (now (work .entry))) k || marked c
+        (now (work .entry)) k) (now (work .entry)) (now (work .exit))) ⌝ }
 {
     let at = s.at;
     let mut i = 0;

@@ -45,7 +45,9 @@ fn measure(
     work: &mut [u64],
 )
     requires { ⌜ Checked v (now insts) (now operands) (now locals) (now addresses) (now ends) (length (now work)) × (length (now locals) / 2 ≤ length (now answer)) ⌝ }
-    ensures { λ _. ⌜ Measured (codeOf v (now (insts .entry)) (now (operands .entry)) (now (crossings .entry)) (now (addresses .entry)) (now (ends .entry))) (length (now (locals .entry)) / 2) (usedOf (wordsOf v) (length (now (insts .entry)) / 9) (length (now (operands .entry)) / 2) (length (now (locals .entry)) / 2) (length (now (addresses .entry)) / 2)) (now (answer .entry)) (now (answer .exit)) (now (work .entry)) (now (work .exit)) ⌝ }
+    ensures { λ _. ⌜ Measured (codeOf v (now (insts .entry)) (now (operands .entry)) (now (crossings .entry)) (now (addresses .entry)) (now (ends .entry)))
+        (length (now (locals .entry)) / 2) (usedOf (wordsOf v) (length (now (insts .entry)) / 9) (length (now (operands .entry)) / 2) (length (now (locals .entry)) / 2)
+        (length (now (addresses .entry)) / 2)) (now (answer .entry)) (now (answer .exit)) (now (work .entry)) (now (work .exit)) ⌝ }
 {
     let i = insts.len() / 9;
     let l = locals.len() / 2;
@@ -83,7 +85,8 @@ pub fn reach(
     answer: &mut [u32],
     work: &mut [u64],
 ) -> Answer
-    ensures { λ r. ⌜ ReachTo points v (now (blocks .entry)) (now (insts .entry)) (now (operands .entry)) (now (crossings .entry)) (now (locals .entry)) (now (addresses .entry)) (now (ends .entry)) (now (answer .entry)) (now (work .entry)) r (now (answer .exit)) (now (work .exit)) ⌝ }
+    ensures { λ r. ⌜ ReachTo points v (now (blocks .entry)) (now (insts .entry)) (now (operands .entry)) (now (crossings .entry)) (now (locals .entry)) (now (addresses .entry))
+        (now (ends .entry)) (now (answer .entry)) (now (work .entry)) r (now (answer .exit)) (now (work .exit)) ⌝ }
 {
     let verdict = checks::refusal(
         points,

@@ -19,7 +19,9 @@ use spots::Spots;
 pub fn mark_spots(blocks: &[u32], work: &mut [u64], s: Spots, g: Grid, l: usize, plain: bool)
     requires { ⌜ Standing (now blocks) s g l (now work) ⌝ }
     ensures { λ _. ⌜ Within (g .touched) (g .passes + length (now (blocks .entry)) / 3 * g .words) (now (work .entry)) (now (work .exit)) ⌝ }
-    ensures { λ _. ⌜ ((es : List Edge) → Marking g (length (now (blocks .entry)) / 3) l plain (not plain) (touched (lineOf (now (blocks .entry)) es) (touchesAt s (now (work .entry)))) (leaves (lineOf (now (blocks .entry)) es) (touchesAt s (now (work .entry))) (endsAt s (now (work .entry)))) (passes (lineOf (now (blocks .entry)) es) (endsAt s (now (work .entry)))) (now (work .entry)) (now (work .exit))) ⌝ }
+    ensures { λ _. ⌜ ((es : List Edge) → Marking g (length (now (blocks .entry)) / 3) l plain (not plain) (touched (lineOf (now (blocks .entry)) es) (touchesAt s (now (work .entry))))
+        (leaves (lineOf (now (blocks .entry)) es) (touchesAt s (now (work .entry))) (endsAt s (now (work .entry))))
+        (passes (lineOf (now (blocks .entry)) es) (endsAt s (now (work .entry)))) (now (work .entry)) (now (work .exit))) ⌝ }
 {
     let n = blocks.len() / 3;
     if plain {
@@ -74,7 +76,8 @@ fn mark_one(
 ) -> bool
     requires { ⌜ Ready p g (now blocks) (now touches) (now ends) (now work) × (l < p .locals) ⌝ }
     ensures { λ _. ⌜ Within (p .at) (g .passes + length (now (blocks .entry)) / 3 * g .words) (now (work .entry)) (now (work .exit)) ⌝ }
-    ensures { λ r. ⌜ ((es : List Edge) → MarkedOne (lineOf (now (blocks .entry)) es) kind (now (touches .entry)) (now (ends .entry)) g (length (now (blocks .entry)) / 3) l (now (work .entry)) (now (work .exit)) r) ⌝ }
+    ensures { λ r. ⌜ ((es : List Edge) → MarkedOne (lineOf (now (blocks .entry)) es) kind (now (touches .entry)) (now (ends .entry)) g (length (now (blocks .entry)) / 3) l
+        (now (work .entry)) (now (work .exit)) r) ⌝ }
 {
     if kind == 0 {
         return false;
@@ -98,7 +101,8 @@ pub fn mark_all(
     g: Grid,
 ) -> bool
     requires { ⌜ Ready p g (now blocks) (now touches) (now ends) (now work) × (p .locals ≤ length (now kinds)) ⌝ }
-    ensures { λ r. ⌜ ((es : List Edge) → MarkedAll (lineOf (now (blocks .entry)) es) (now (kinds .entry)) (now (touches .entry)) (now (ends .entry)) p g (length (now (blocks .entry)) / 3) (now (work .entry)) (now (work .exit)) r) ⌝ }
+    ensures { λ r. ⌜ ((es : List Edge) → MarkedAll (lineOf (now (blocks .entry)) es) (now (kinds .entry)) (now (touches .entry)) (now (ends .entry)) p g (length (now (blocks .entry)) / 3)
+        (now (work .entry)) (now (work .exit)) r) ⌝ }
 {
     area_flow::clear_marks(work, g, blocks.len() / 3);
     let mut l = 0;

@@ -54,7 +54,8 @@ fn walk(
     top: usize,
 ) -> usize
     requires { ⌜ ((width ≡ 2) ⊎ (width ≡ 3)) × Walkable (λ i. field width (now rows) i 0) (rowCount width (now rows)) l heads nexts top (now work) ⌝ }
-    ensures { λ r. ⌜ Walked (λ i. field width (now (rows .entry)) i 0) (λ i. wordOf width (field width (now (rows .entry)) i)) (rowCount width (now (rows .entry))) l top (now (work .entry)) (now (work .exit)) r ⌝ }
+    ensures { λ r. ⌜ Walked (λ i. field width (now (rows .entry)) i 0) (λ i. wordOf width (field width (now (rows .entry)) i)) (rowCount width (now (rows .entry))) l top
+        (now (work .entry)) (now (work .exit)) r ⌝ }
 {
     let mut next = work[heads + l];
     let mut to = top;

@@ -25,7 +25,8 @@ pub fn members(items: &[u32], cell: u32) -> usize
 
 // A count for each cell that an item names.
 fn count(items: &[u32], counts: &mut [u32])
-    requires { ⌜ (rowCount 4 (now items) ≤ 4096) × ((i : ℕ) → i < rowCount 4 (now items) → field 4 (now items) i 0 < length (now counts)) × ((c : ℕ) → c < length (now counts) → getD (now counts) c 0 ≡ 0) ⌝ }
+    requires { ⌜ (rowCount 4 (now items) ≤ 4096) × ((i : ℕ) → i < rowCount 4 (now items) → field 4 (now items) i 0 < length (now counts))
+        × ((c : ℕ) → c < length (now counts) → getD (now counts) c 0 ≡ 0) ⌝ }
     ensures { λ _. ⌜ Counted (now (items .entry)) (now (counts .exit)) (rowCount 4 (now (items .entry))) ⌝ }
 {
     let n = items.len() / 4;
@@ -39,7 +40,8 @@ fn count(items: &[u32], counts: &mut [u32])
 
 // The slots whose cell has two or more members, rising.
 fn pick(items: &[u32], locals: usize, counts: &[u32], out: &mut [u32]) -> usize
-    requires { ⌜ Counted (now items) (now counts) (rowCount 4 (now items)) × (locals ≤ rowCount 4 (now items)) × (rowCount 4 (now items) ≤ 4096) × (rowCount 4 (now items) - locals ≤ length (now out)) ⌝ }
+    requires { ⌜ Counted (now items) (now counts) (rowCount 4 (now items)) × (locals ≤ rowCount 4 (now items)) × (rowCount 4 (now items) ≤ 4096)
+        × (rowCount 4 (now items) - locals ≤ length (now out)) ⌝ }
     ensures { λ r. ⌜ Picked (crowdedSlots (now (items .entry)) locals) (now (out .entry)) (now (out .exit)) r ⌝ }
 {
     let n = items.len() / 4 - locals;
@@ -60,7 +62,8 @@ fn pick(items: &[u32], locals: usize, counts: &[u32], out: &mut [u32]) -> usize
 
 // The same, with the counts in an array by value: there are at most 4,096 cells.
 pub fn crowded(items: &[u32], locals: usize, out: &mut [u32]) -> usize
-    requires { ⌜ (rowCount 4 (now items) ≤ 4096) × (locals ≤ rowCount 4 (now items)) × ((i : ℕ) → i < rowCount 4 (now items) → field 4 (now items) i 0 < 4096) × (rowCount 4 (now items) - locals ≤ length (now out)) ⌝ }
+    requires { ⌜ (rowCount 4 (now items) ≤ 4096) × (locals ≤ rowCount 4 (now items)) × ((i : ℕ) → i < rowCount 4 (now items) → field 4 (now items) i 0 < 4096)
+        × (rowCount 4 (now items) - locals ≤ length (now out)) ⌝ }
     ensures { λ r. ⌜ Picked (crowdedSlots (now (items .entry)) locals) (now (out .entry)) (now (out .exit)) r ⌝ }
 {
     let mut counts = [0u32; 4096];

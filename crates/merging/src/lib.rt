@@ -54,8 +54,10 @@ fn merge_by(
     out_end: &mut [u32],
     keys: &mut [u64],
 ) -> usize
-    requires { ⌜ (length (now start) ≡ length (now end)) × (length (now «out_start») ≡ length (now «out_end»)) × (length (now start) ≤ length (now «out_start»)) × (length (now start) ≤ length (now keys)) ⌝ }
-    ensures { λ r. ⌜ Listing (columns (now («out_start» .entry)) (now («out_end» .entry))) (columns (now («out_start» .exit)) (now («out_end» .exit))) r (merged (columns (now (start .entry)) (now (end .entry)))) ⌝ }
+    requires { ⌜ (length (now start) ≡ length (now end)) × (length (now «out_start») ≡ length (now «out_end»)) × (length (now start) ≤ length (now «out_start»))
+        × (length (now start) ≤ length (now keys)) ⌝ }
+    ensures { λ r. ⌜ Listing (columns (now («out_start» .entry)) (now («out_end» .entry))) (columns (now («out_start» .exit)) (now («out_end» .exit))) r
+        (merged (columns (now (start .entry)) (now (end .entry)))) ⌝ }
 {
     pack_columns(start, end, keys);
     let k = packed::merge(keys, 0, start.len());
@@ -70,7 +72,8 @@ const FEW: usize = 256;
 // `merged` of lists whose columns are of one length, within the limit.
 pub fn merge(start: &[u32], end: &[u32], out_start: &mut [u32], out_end: &mut [u32]) -> usize
     requires { ⌜ (length (now start) ≡ length (now end)) × (length (now «out_start») ≡ length (now «out_end»)) × (length (now start) ≤ length (now «out_start»)) × (length (now start) ≤ 65536) ⌝ }
-    ensures { λ r. ⌜ Listing (columns (now («out_start» .entry)) (now («out_end» .entry))) (columns (now («out_start» .exit)) (now («out_end» .exit))) r (merged (columns (now (start .entry)) (now (end .entry)))) ⌝ }
+    ensures { λ r. ⌜ Listing (columns (now («out_start» .entry)) (now («out_end» .entry))) (columns (now («out_start» .exit)) (now («out_end» .exit))) r
+        (merged (columns (now (start .entry)) (now (end .entry)))) ⌝ }
 {
     if start.len() <= FEW {
         return merge_few(start, end, out_start, out_end);
@@ -81,7 +84,8 @@ pub fn merge(start: &[u32], end: &[u32], out_start: &mut [u32], out_end: &mut [u
 // Sorting needs room beside the answer, whose entries past the merged ranges are to stay: an array by value, for a list of 256, or of any length.
 fn merge_few(start: &[u32], end: &[u32], out_start: &mut [u32], out_end: &mut [u32]) -> usize
     requires { ⌜ (length (now start) ≡ length (now end)) × (length (now «out_start») ≡ length (now «out_end»)) × (length (now start) ≤ length (now «out_start»)) × (length (now start) ≤ 256) ⌝ }
-    ensures { λ r. ⌜ Listing (columns (now («out_start» .entry)) (now («out_end» .entry))) (columns (now («out_start» .exit)) (now («out_end» .exit))) r (merged (columns (now (start .entry)) (now (end .entry)))) ⌝ }
+    ensures { λ r. ⌜ Listing (columns (now («out_start» .entry)) (now («out_end» .entry))) (columns (now («out_start» .exit)) (now («out_end» .exit))) r
+        (merged (columns (now (start .entry)) (now (end .entry)))) ⌝ }
 {
     let mut keys = [0u64; 256];
     merge_by(start, end, out_start, out_end, &mut keys)
@@ -97,7 +101,8 @@ fn merge_many(
     again: bool,
 ) -> usize
     requires { ⌜ (length (now start) ≡ length (now end)) × (length (now «out_start») ≡ length (now «out_end»)) × (length (now start) ≤ length (now «out_start»)) × (length (now start) ≤ 65536) ⌝ }
-    ensures { λ r. ⌜ Listing (columns (now («out_start» .entry)) (now («out_end» .entry))) (columns (now («out_start» .exit)) (now («out_end» .exit))) r (merged (columns (now (start .entry)) (now (end .entry)))) ⌝ }
+    ensures { λ r. ⌜ Listing (columns (now («out_start» .entry)) (now («out_end» .entry))) (columns (now («out_start» .exit)) (now («out_end» .exit))) r
+        (merged (columns (now (start .entry)) (now (end .entry)))) ⌝ }
 {
     let mut keys = [0u64; 65536];
     if again {

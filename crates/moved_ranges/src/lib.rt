@@ -135,7 +135,8 @@ pub fn moved(
     out: &mut [u32],
     work: &mut [u64],
 ) -> Answer
-    ensures { λ r. ⌜ MovedTo points v (now (blocks .entry)) (now (insts .entry)) (now (operands .entry)) (now (moves .entry)) slot (now (out .entry)) (now (work .entry)) r (now (out .exit)) (now (work .exit)) ⌝ }
+    ensures { λ r. ⌜ MovedTo points v (now (blocks .entry)) (now (insts .entry)) (now (operands .entry)) (now (moves .entry)) slot (now (out .entry)) (now (work .entry)) r
+        (now (out .exit)) (now (work .exit)) ⌝ }
 {
     let verdict = refusal(
         points,

@@ -44,7 +44,8 @@ fn stopped(blocks: &[u32], point: u64) -> usize
 // Unsets the bit in the row of each place that has one of the ends.
 pub fn mark_passing(blocks: &[u32], work: &mut [u64], s: Spots, c: Column)
     requires { ⌜ EndsReady (now blocks) s c (now work) ⌝ }
-    ensures { λ _. ⌜ ((es : List Edge) → Marked c (λ k. passes (lineOf (now (blocks .entry)) es) (endsAt s (now (work .entry))) k && marked c (now (work .entry)) k) (now (work .entry)) (now (work .exit))) ⌝ }
+    ensures { λ _. ⌜ ((es : List Edge) → Marked c (λ k. passes (lineOf (now (blocks .entry)) es) (endsAt s (now (work .entry))) k && marked c (now (work .entry)) k) (now (work .entry))
+        (now (work .exit))) ⌝ }
 {
     let ends = s.ends;
     let mut i = 0;

@@ -112,8 +112,10 @@ fn registers(
     words: usize,
 ) -> usize
     requires { ⌜ AddsUp (now insts) (now operands) × (length (now insts) / 9 ≤ 65536) × (v ≤ 65535) × (words ≡ wordsOf v) ⌝ }
-    requires { ⌜ (lay .escapes + wordsOf v ≤ lay .dead) × (lay .dead + wordsOf v ≤ lay .defs) × (lay .defs + length (now insts) / 9 ≤ lay .firsts) × (lay .firsts + length (now insts) / 9 ≤ lay .edges) × (lay .edges + length (now operands) / 2 ≤ lay .heads) × (lay .heads ≤ length (now work)) ⌝ }
-    ensures { λ r. ⌜ Registered (codeOf v (now (insts .entry)) (now (operands .entry)) (now (crossings .entry)) [] []) lay (length (now (operands .entry)) / 2) r (now (work .entry)) (now (work .exit)) ⌝ }
+    requires { ⌜ (lay .escapes + wordsOf v ≤ lay .dead) × (lay .dead + wordsOf v ≤ lay .defs) × (lay .defs + length (now insts) / 9 ≤ lay .firsts)
+        × (lay .firsts + length (now insts) / 9 ≤ lay .edges) × (lay .edges + length (now operands) / 2 ≤ lay .heads) × (lay .heads ≤ length (now work)) ⌝ }
+    ensures { λ r. ⌜ Registered (codeOf v (now (insts .entry)) (now (operands .entry)) (now (crossings .entry)) [] []) lay (length (now (operands .entry)) / 2) r (now (work .entry))
+        (now (work .exit)) ⌝ }
 {
     clear(work, lay, words);
     let n = scan::scan(insts, operands, v, work, lay);
@@ -165,7 +167,8 @@ pub fn prepare(
     requires { ⌜ AddsUp (now insts) (now operands) × (length (now insts) / 9 ≤ 65536) × (v ≤ 65535) ⌝ }
     requires { ⌜ Laid lay v (length (now insts) / 9) (length (now operands) / 2) locals (length (now addresses) / 2) (length (now work)) ⌝ }
     requires { ⌜ ((k : ℕ) → k < length (now ends) / 2 → getD (now ends) (2 * k) 0 < length (now insts) / 9) ⌝ }
-    ensures { λ r. ⌜ Readied (codeOf v (now (insts .entry)) (now (operands .entry)) (now (crossings .entry)) (now (addresses .entry)) (now (ends .entry))) lay (length (now (operands .entry)) / 2) locals r (now (work .entry)) (now (work .exit)) ⌝ }
+    ensures { λ r. ⌜ Readied (codeOf v (now (insts .entry)) (now (operands .entry)) (now (crossings .entry)) (now (addresses .entry)) (now (ends .entry))) lay
+        (length (now (operands .entry)) / 2) locals r (now (work .entry)) (now (work .exit)) ⌝ }
 {
     let words = (v as usize + 63) / 64;
     let n = registers(insts, operands, crossings, v, work, lay, words);

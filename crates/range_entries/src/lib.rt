@@ -68,7 +68,8 @@ pub fn union(
     out_start: &mut [u32],
     out_end: &mut [u32],
 ) -> Counted
-    ensures { λ r. ⌜ Listed (unionOf (now (start .entry)) (now (end .entry)) (now («other_start» .entry)) (now («other_end» .entry)) (length (now («out_start» .entry))) (length (now («out_end» .entry))))
+    ensures { λ r. ⌜ Listed (unionOf (now (start .entry)) (now (end .entry)) (now («other_start» .entry)) (now («other_end» .entry)) (length (now («out_start» .entry)))
+        (length (now («out_end» .entry))))
         (now («out_start» .entry)) (now («out_end» .entry)) r (now («out_start» .exit)) (now («out_end» .exit)) ⌝ }
 {
     let v = range_checks::union(

@@ -21,7 +21,8 @@ fn wide(x: u32) -> usize
 // Whether operand `i`, at position `p`, uses a numbered register other than as the base or the index.
 fn strays(operands: &[u32], i: usize, p: usize, v: u32, mem: u32, base: u32, index: u32) -> bool
     requires { ⌜ i < length (now operands) / 2 ⌝ }
-    ensures { λ t. ⌜ t ≡ (not (isSet (operandAt (now (operands .entry)) i .def)) && (ltb (operandAt (now (operands .entry)) i .register) v && not (isSet mem && addressPosition (addressing base index) p))) ⌝ }
+    ensures { λ t. ⌜ t ≡ (not (isSet (operandAt (now (operands .entry)) i .def)) &&
+        (ltb (operandAt (now (operands .entry)) i .register) v && not (isSet mem && addressPosition (addressing base index) p))) ⌝ }
 {
     if operands[2 * i] == 1 {
         return false;
@@ -65,7 +66,10 @@ fn escape(
 // Whether operand `p` of the `n` from `from` on is the base or the index, of a numbered register of which each use is one of the two.
 fn handed(operands: &[u32], from: usize, n: usize, p: usize, v: u32, base: u32, index: u32) -> bool
     requires { ⌜ (from + n ≤ length (now operands) / 2) × (p < n) ⌝ }
-    ensures { λ t. ⌜ t ≡ (not (isSet (operandAt (now (operands .entry)) (from + p) .def)) && (ltb (operandAt (now (operands .entry)) (from + p) .register) v && (addressPosition (addressing base index) p && eachAddress (addressing base index) (operandAt (now (operands .entry)) (from + p) .register) 0 (operandsFrom (now (operands .entry)) from n)))) ⌝ }
+    ensures { λ t. ⌜ t ≡ (not (isSet (operandAt (now (operands .entry)) (from + p) .def)) &&
+        (ltb (operandAt (now (operands .entry)) (from + p) .register) v &&
+        (addressPosition (addressing base index) p && eachAddress (addressing base index) (operandAt (now (operands .entry)) (from + p) .register) 0
+        (operandsFrom (now (operands .entry)) from n)))) ⌝ }
 {
     let i = from + p;
     if operands[2 * i] == 1 {
@@ -226,7 +230,8 @@ fn one(
 // The pass over all instructions; how many edges there are.
 pub fn scan(insts: &[u32], operands: &[u32], v: u32, work: &mut [u64], lay: Lay) -> usize
     requires { ⌜ AddsUp (now insts) (now operands) × (length (now insts) / 9 ≤ 65536) × (v ≤ 65535) × Blank v lay (now work) ⌝ }
-    requires { ⌜ (lay .escapes + wordsOf v ≤ lay .dead) × (lay .dead + wordsOf v ≤ lay .defs) × (lay .defs + length (now insts) / 9 ≤ lay .edges) × (lay .edges + length (now operands) / 2 ≤ lay .heads) × (lay .heads ≤ length (now work)) ⌝ }
+    requires { ⌜ (lay .escapes + wordsOf v ≤ lay .dead) × (lay .dead + wordsOf v ≤ lay .defs) × (lay .defs + length (now insts) / 9 ≤ lay .edges)
+        × (lay .edges + length (now operands) / 2 ≤ lay .heads) × (lay .heads ≤ length (now work)) ⌝ }
     ensures { λ r. ⌜ Scanning v (instsOf (now (insts .entry)) (now (operands .entry))) (now (insts .entry)) lay (now (work .entry)) (now (work .exit)) (length (now (insts .entry)) / 9) r ⌝ }
 {
     let m = insts.len() / 9;

@@ -35,7 +35,8 @@ pub fn slot_area(
 ) -> Found
     requires { ⌜ Sound (blocksOf (now blocks)) × Table (blocksOf (now blocks)) (p .table) (now work) × Laid p (length (now blocks) / 3) (length (now moves) / 4) (now work) ⌝ }
     requires { ⌜ (moveVerdict (blocksOf (now blocks)) (instsOf (now insts) []) (movesOf (now moves)) ≡ Fine) × Chains p (now moves) (now work) × (slot < p .slots) ⌝ }
-    requires { ⌜ InOrder (now pieces) keys (now work) × (keys + rowCount 3 (now pieces) ≤ p .to) × (p .to + length (now moves) / 4 + length (now moves) / 4 + rowCount 3 (now pieces) ≤ length (now work)) × (rowCount 3 (now pieces) ≤ 65536) × (rowCount 4 (now moves) ≤ 65536) ⌝ }
+    requires { ⌜ InOrder (now pieces) keys (now work) × (keys + rowCount 3 (now pieces) ≤ p .to)
+        × (p .to + length (now moves) / 4 + length (now moves) / 4 + rowCount 3 (now pieces) ≤ length (now work)) × (rowCount 3 (now pieces) ≤ 65536) × (rowCount 4 (now moves) ≤ 65536) ⌝ }
     requires { ⌜ (held + slot < length (now work)) × (getD (now work) (held + slot) 0 ≤ 4294967296) ⌝ }
     ensures { λ f. ⌜ SlotIn points (now (blocks .entry)) (now (insts .entry)) (now (moves .entry)) (now (pieces .entry)) held slot (p .to) (now (work .entry)) (now (work .exit)) f ⌝ }
 {

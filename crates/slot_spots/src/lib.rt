@@ -93,7 +93,9 @@ fn walk(
     requires { ⌜ Sound (blocksOf (now blocks)) × Table (blocksOf (now blocks)) table (now work) × (table + length (now blocks) / 3 ≤ k .nexts) ⌝ }
     requires { ⌜ moveVerdict (blocksOf (now blocks)) (instsOf (now insts) []) (movesOf (now moves)) ≡ Fine ⌝ }
     requires { ⌜ Walkable (λ i. field 4 (now moves) i (k .column)) (rowCount 4 (now moves)) slot (k .heads) (k .nexts) top (now work) ⌝ }
-    ensures { λ r. ⌜ Walked (λ i. field 4 (now (moves .entry)) i (k .column)) (λ i. pack (coverOf points (blocksOf (now (blocks .entry))) (instsOf (now (insts .entry)) []) (moveRow (now (moves .entry)) i))) (rowCount 4 (now (moves .entry))) slot top (now (work .entry)) (now (work .exit)) r ⌝ }
+    ensures { λ r. ⌜ Walked (λ i. field 4 (now (moves .entry)) i (k .column))
+        (λ i. pack (coverOf points (blocksOf (now (blocks .entry))) (instsOf (now (insts .entry)) []) (moveRow (now (moves .entry)) i))) (rowCount 4 (now (moves .entry))) slot top
+        (now (work .entry)) (now (work .exit)) r ⌝ }
 {
     let mut next = work[k.heads + slot];
     let mut to = top;

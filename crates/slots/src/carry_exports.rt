@@ -54,7 +54,8 @@ pub extern "C" fn slots_carried(
     registers: &mut [u32],
     work: &mut [u64],
 ) -> u64
-    ensures { λ r. ⌜ CarriedCoded points v (now (blocks .entry)) (now (insts .entry)) (now (operands .entry)) (now (crossings .entry)) (now (locals .entry)) (now (addresses .entry)) (now (ends .entry)) local
+    ensures { λ r. ⌜ CarriedCoded points v (now (blocks .entry)) (now (insts .entry)) (now (operands .entry)) (now (crossings .entry)) (now (locals .entry)) (now (addresses .entry))
+        (now (ends .entry)) local
         (now (registers .entry)) (now (work .entry)) r (now (registers .exit)) (now (work .exit)) ⌝ }
 {
     carry_codes::carried_code(carried_registers::carried(

@@ -59,7 +59,8 @@ pub extern "C" fn slots_spread(
     out: &mut [u64],
     work: &mut [u64],
 ) -> u64
-    ensures { λ r. ⌜ SpreadCoded (now (blocks .entry)) (now (edges .entry)) points (now (leaves .entry)) (now (passes .entry)) words (now (out .entry)) (now (work .entry)) r (now (out .exit)) (now (work .exit)) ⌝ }
+    ensures { λ r. ⌜ SpreadCoded (now (blocks .entry)) (now (edges .entry)) points (now (leaves .entry)) (now (passes .entry)) words (now (out .entry)) (now (work .entry)) r
+        (now (out .exit)) (now (work .exit)) ⌝ }
 {
     part_codes::spread(spread::spread(blocks, edges, points, leaves, passes, words, out, work))
 }
@@ -321,7 +322,8 @@ pub extern "C" fn slots_union(
     out_start: &mut [u32],
     out_end: &mut [u32],
 ) -> u64
-    ensures { λ r. ⌜ ListCoded (unionOf (now (start .entry)) (now (end .entry)) (now («other_start» .entry)) (now («other_end» .entry)) (length (now («out_start» .entry))) (length (now («out_end» .entry))))
+    ensures { λ r. ⌜ ListCoded (unionOf (now (start .entry)) (now (end .entry)) (now («other_start» .entry)) (now («other_end» .entry)) (length (now («out_start» .entry)))
+        (length (now («out_end» .entry))))
         (now («out_start» .entry)) (now («out_end» .entry)) r (now («out_start» .exit)) (now («out_end» .exit)) ⌝ }
 {
     part_codes::counted(range_entries::union(

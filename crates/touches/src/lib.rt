@@ -16,7 +16,8 @@ pub fn of_registers(
     count: usize,
     to: usize,
 ) -> usize
-    requires { ⌜ InOrder (now pieces) keys (now work) × (rowCount 3 (now pieces) ≤ 65536) × (keys + rowCount 3 (now pieces) ≤ to) × (from + count ≤ to) × (to + (rowCount 3 (now pieces) + rowCount 3 (now pieces)) ≤ length (now work)) ⌝ }
+    requires { ⌜ InOrder (now pieces) keys (now work) × (rowCount 3 (now pieces) ≤ 65536) × (keys + rowCount 3 (now pieces) ≤ to) × (from + count ≤ to)
+        × (to + (rowCount 3 (now pieces) + rowCount 3 (now pieces)) ≤ length (now work)) ⌝ }
     requires { ⌜ Distinct (part from count (now work)) × ((k : ℕ) → k < count → getD (now work) (from + k) 0 < 2 ^ 32) ⌝ }
     ensures { λ r. ⌜ Gathered (now (pieces .entry)) from count to (now (work .entry)) (now (work .exit)) r ⌝ }
 {
