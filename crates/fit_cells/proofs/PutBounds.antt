@@ -5,37 +5,56 @@ use mathlib.Core.List.{List}
 use mir.Syntax.{w64}
 use mir.Val.{Fits}
 use native.Mathlib.Omega.{arith}
-use lib.ListN.{length}
+use lib.ListN.{length, getD}
 use Rattle.words.proofs.FitLaws.{Word, word, small}
 use Rattle.fit_tables.specs.Inner.{orderAt, Ready}
+use Rattle.fit_tables.specs.Tables.{firstOf, countOf, Proper, wantTable, orderTable, headTable, cellTable, behind}
+use Rattle.fit_tables.specs.declared.Tables.{Tables}
+use Rattle.fit_tables.specs.declared.Progress.{Progress}
 
 -- of item i at place k of the order
-pub record AtItem (items n k i cells m : ℕ) : Type 0 where
-  pub twice : Fits w64 (2 * n)
-  pub orders : Fits w64 (items + 2 * n)
-  pub place : Word (items + 2 * n + k) m
-  pub area : Word (items + i) m
-  pub words : Fits w64 (items + n)
-  pub size : Word (items + n + i) m
-  pub opens : (items + 8 * n ≤ m) × (k < n) × (i < n) × (cells < n)
+pub record AtItem (t : Tables) (k i cells m : ℕ) : Type 0 where
+  pub twice : Fits w64 (2 * t .n)
+  pub orders : Fits w64 (orderTable t)
+  pub place : Word (orderTable t + k) m
+  pub area : Word (t .items + i) m
+  pub words : Fits w64 (wantTable t)
+  pub size : Word (wantTable t + i) m
+  pub opens : (behind t ≤ m) × (k < t .n) × (i < t .n) × (cells < t .n)
   pub more : Fits w64 (cells + 1)
 
 -- of cell c
-pub record AtCell (items n m c : ℕ) : Type 0 where
-  pub thrice : Fits w64 (3 * n)
-  pub heads : Fits w64 (items + 3 * n)
-  pub head : Word (items + 3 * n + c) m
-  pub five : Fits w64 (5 * n)
-  pub sizes : Fits w64 (items + 5 * n)
-  pub size : Word (items + 5 * n + c) m
+pub record AtCell (t : Tables) (m c : ℕ) : Type 0 where
+  pub thrice : Fits w64 (3 * t .n)
+  pub heads : Fits w64 (headTable t)
+  pub head : Word (headTable t + c) m
+  pub five : Fits w64 (5 * t .n)
+  pub sizes : Fits w64 (cellTable t)
+  pub size : Word (cellTable t + c) m
 
-module _ {w : List ℕ} {at items n end k cells top : ℕ} (R : Ready w at items n end k cells top) (r : length w * 8 < 2 ^ 63) where
-  room : items + 8 * n ≤ length w
+module _ {w : List ℕ} {t : Tables} {k : ℕ} {s : Progress} (R : Ready w t k s) where
+  room : behind t ≤ length w
   room = omega (arith, R .linked .low, R .linked .top-le)
 
-  pub at-item : AtItem items n k (orderAt w items n k) cells (length w)
+  -- the item's list of ranges
+  pub item-proper : 0 < getD w (t .items + orderAt w t k) 0 → Proper w (t .at) (t .items) (getD w (t .items + orderAt w t k) 0)
+  item-proper h = R .linked .lent .proper (orderAt w t k) (R .known k (R .k-lt)) h
+
+  pub item-inside : 0 < getD w (t .items + orderAt w t k) 0
+      → t .at + (firstOf (getD w (t .items + orderAt w t k) 0) + countOf (getD w (t .items + orderAt w t k) 0)) ≤ length w
+  item-inside h = omega (arith, item-proper h .inside, room)
+
+  -- a cell that was looked at, or a new one
+  pub met : (most c : ℕ) → most ≡ min (s .cells) (s .left) → c ≤ most → c < t .n
+  met most c e h = omega (arith, R .cells-le, R .k-lt)
+
+  pub entering : {c : ℕ} → c < t .n → (behind t ≤ length w) × (k < t .n) × (orderAt w t k < t .n) × (c < t .n)
+  entering h = (room, R .k-lt, R .known k (R .k-lt), h)
+
+module _ {w : List ℕ} {t : Tables} {k : ℕ} {s : Progress} (R : Ready w t k s) (r : length w * 8 < 2 ^ 63) where
+  pub at-item : AtItem t k (orderAt w t k) (s .cells) (length w)
   at-item =
-      let a = room in
+      let a = room R in
       let h = R .k-lt in
       let l = R .cells-le in
       let i = R .known k h in
@@ -51,12 +70,9 @@ module _ {w : List ℕ} {at items n end k cells top : ℕ} (R : Ready w at items
         more = small _ m (omega arith) r;
       }
 
-  pub met : (most c left : ℕ) → most ≡ min cells left → c ≤ most → c < n
-  met most c left e h = omega (arith, R .cells-le, R .k-lt)
-
-  pub at-cell : (c : ℕ) → c < n → AtCell items n (length w) c
+  pub at-cell : (c : ℕ) → c < t .n → AtCell t (length w) c
   at-cell c h =
-      let a = room in
+      let a = room R in
       let m = length w in
       record {
         thrice = small _ m (omega arith) r;

@@ -8,91 +8,93 @@ use mathlib.Core.Option.{some, none, Option·none-ne-some}
 use mathlib.Core.List.{List, [], _∷_, _++_}
 use lib.ListN.{length, getD, take}
 use lib.Seq.{take-suc, take-all}
+use Rattle.words.specs.Rows.{tabulate}
 use Rattle.words.specs.Regions.{Region}
-use Rattle.words.proofs.RowLaws.{length-tabulate}
-use Rattle.fitting.specs.Wants.{Want, wantAt, before, orderOf}
+use Rattle.words.proofs.RowLaws.{length-tabulate, getD-tabulate, tabulate-eq, tabulate-getD}
+use Rattle.fitting.specs.Wants.{Want, wantAt, Names, orderOf}
 use Rattle.fitting.specs.Plan.{Plan, nothing, put, fit, planOf}
 use Rattle.fitting.proofs.OrderLaws.{order-names, length-ordered}
 use Rattle.fit_tables.specs.Keys.{sizeOf, alignOf, OrderedIn}
 use Rattle.sorting.proofs.RankLaws.{mem-at}
 use Rattle.fit_tables.specs.declared.Progress.{Progress}
-use Rattle.fit_tables.specs.Tables.{rangesAt, areaIn, wantIn, wantsIn, Lent, planIn, Fitted}
-use Rattle.fit_tables.specs.Inner.{orderAt, headAt, Probed, enteredIn, Holds, InOrder, Ready, Stepped, Placed, Each, Summed, Folded}
+use Rattle.fit_tables.specs.Tables.{wantTable, orderTable, cellTable, homeTable, behind, rangesAt, areaIn, wantIn, wantsIn, Lent, planIn, Fitted}
+use Rattle.fit_tables.specs.Inner.{upTo, orderIn, placedIn, orderAt, headAt, Probed, enteredIn, Holds, InOrder, Ready, Stepped, Placed, Each, Summed, Folded}
 use Rattle.fit_tables.proofs.TableLaws.{area-none, area-some, want-at, sized, area-kept, lent-kept, wants-kept}
 use Rattle.fit_cells.proofs.EnterLaws.{entered-length, entered-rest}
 use Rattle.fit_cells.proofs.StepLaws.{linked, order-kept}
 use Rattle.fit_cells.proofs.PutLaws.{open-none, open-miss, join-hit}
+use Rattle.fit_tables.specs.declared.Tables.{Tables}
 
 -- ---- one item
 
-module _ {w₀ : List ℕ} {at items n end k cells top : ℕ} (left : ℕ) (R : Ready w₀ at items n end k cells top) (i : ℕ) (i-is : i ≡ orderAt w₀ items n k) where
-  room : items + 8 * n ≤ length w₀
+module _ {w₀ : List ℕ} {t : Tables} {k : ℕ} {s : Progress} (R : Ready w₀ t k s) (i : ℕ) (i-is : i ≡ orderAt w₀ t k) where
+  room : behind t ≤ length w₀
   room = omega (arith, R .linked .low, R .linked .top-le)
 
-  i-in : i < n
+  i-in : i < t .n
   i-in = rw i-is (R .known k (R .k-lt))
 
   -- what is elsewhere
-  module _ (w : List ℕ) (c link word x : ℕ) (c-lt : c < n) (e : w ≡ enteredIn w₀ items n k i c link word x) where
+  module _ (w : List ℕ) (c link word x : ℕ) (c-lt : c < t .n) (e : w ≡ enteredIn w₀ t k i c link word x) where
     len-is : length w ≡ length w₀
-    len-is = ap length e ∙ entered-length w₀ items n k i c link word x room (R .k-lt) i-in c-lt
+    len-is = ap length e ∙ entered-length w₀ t k i c link word x room (R .k-lt) i-in c-lt
 
-    else-is : (y : ℕ) → end ≤ y → getD w y 0 ≡ getD w₀ y 0
-    else-is y h = ap (λ (v : List ℕ). getD v y 0) e ∙ entered-rest w₀ items n k i c link word x room (R .k-lt) i-in c-lt y (inr (omega (arith, R .linked .low, R .top-end)))
+    else-is : (y : ℕ) → t .end ≤ y → getD w y 0 ≡ getD w₀ y 0
+    else-is y h = ap (λ (v : List ℕ). getD v y 0) e ∙ entered-rest w₀ t k i c link word x room (R .k-lt) i-in c-lt y (inr (omega (arith, R .linked .low, R .top-end)))
 
-  cells-lt : cells < n
+  cells-lt : s .cells < t .n
   cells-lt = omega (arith, R .cells-le, R .k-lt)
 
   -- of any plan that the tables hold
-  module _ {w₁ : List ℕ} {budget : ℕ} {p : Plan} (L : Lent w₁ at items n) (known : (q : ℕ) → q < n → orderAt w₁ items n q < n) (H : Holds w₁ w₀ at items n end budget k cells left top p) where
-    i-was : i ≡ orderAt w₁ items n k
-    i-was = i-is ∙ H .tables (items + 2 * n + k) (omega (arith, R .k-lt))
+  module _ {w₁ : List ℕ} {budget : ℕ} {p : Plan} (L : Lent w₁ t) (known : (q : ℕ) → q < t .n → orderAt w₁ t q < t .n) (H : Holds w₁ w₀ t budget k s p) where
+    i-was : i ≡ orderAt w₁ t k
+    i-was = i-is ∙ H .tables (orderTable t + k) (omega (arith, R .k-lt))
 
-    here : i < n
+    here : i < t .n
     here = rw i-was (known k (R .k-lt))
 
-    area-is : wantAt (wantsIn w₁ at items n) i .area ≡ areaIn w₀ at (getD w₀ (items + i) 0)
+    area-is : wantAt (wantsIn w₁ t) i .area ≡ areaIn w₀ (t .at) (getD w₀ (t .items + i) 0)
     area-is = ap (λ (x : Want). x .area) (want-at L i here) ∙ sym (area-kept L w₀ (H .len) (λ x h. H .tables x (omega arith)) i here)
 
-    none-there : getD w₀ (items + i) 0 < 1 → wantAt (wantsIn w₁ at items n) i .area ≡ none
-    none-there h = area-is ∙ area-none w₀ at (getD w₀ (items + i) 0) (omega arith)
+    none-there : getD w₀ (t .items + i) 0 < 1 → wantAt (wantsIn w₁ t) i .area ≡ none
+    none-there h = area-is ∙ area-none w₀ (t .at) (getD w₀ (t .items + i) 0) (omega arith)
 
-    some-there : 0 < getD w₀ (items + i) 0 → wantAt (wantsIn w₁ at items n) i .area ≡ some (rangesAt w₀ at (getD w₀ (items + i) 0))
-    some-there h = area-is ∙ area-some w₀ at (getD w₀ (items + i) 0) h
+    some-there : 0 < getD w₀ (t .items + i) 0 → wantAt (wantsIn w₁ t) i .area ≡ some (rangesAt w₀ (t .at) (getD w₀ (t .items + i) 0))
+    some-there h = area-is ∙ area-some w₀ (t .at) (getD w₀ (t .items + i) 0) h
 
     -- the item by its place in the order, and the work space that was written
-    moved : (w v : List ℕ) (c l t : ℕ) → w ≡ v → Holds w₁ v at items n end budget (k + 1) c l t (put (wantsIn w₁ at items n) budget i p)
-        → Holds w₁ w at items n end budget (k + 1) c l t (put (wantsIn w₁ at items n) budget (orderAt w₁ items n k) p)
-    moved w v c l t e h = rw e (subst (λ (j : ℕ). Holds w₁ v at items n end budget (k + 1) c l t (put (wantsIn w₁ at items n) budget j p)) i-was h)
+    moved : (w v : List ℕ) (r : Progress) → w ≡ v → Holds w₁ v t budget (k + 1) r (put (wantsIn w₁ t) budget i p)
+        → Holds w₁ w t budget (k + 1) r (put (wantsIn w₁ t) budget (orderAt w₁ t k) p)
+    moved w v r e h = rw e (subst (λ (j : ℕ). Holds w₁ v t budget (k + 1) r (put (wantsIn w₁ t) budget j p)) i-was h)
 
-  pub stepped-none : {w : List ℕ} → getD w₀ (items + i) 0 < 1 → w ≡ enteredIn w₀ items n k i cells 0 (getD w₀ (items + n + i) 0) (getD w₀ (items + i) 0)
-      → Stepped w₀ w at items n end k cells left top (record { cells = cells + 1; left = left; top = top })
+  pub stepped-none : {w : List ℕ} → getD w₀ (t .items + i) 0 < 1 → w ≡ enteredIn w₀ t k i (s .cells) 0 (getD w₀ (wantTable t + i) 0) (getD w₀ (t .items + i) 0)
+      → Stepped w₀ w t k s (record { cells = s .cells + 1; left = s .left; top = s .top })
   stepped-none {w} h e = record {
-    keeps = λ w₁ budget p L known H. moved L known H w _ _ _ _ e (open-none L known H i (i-was L known H) (R .k-lt) (none-there L known H h));
-    len = len-is w cells 0 (getD w₀ (items + n + i) 0) (getD w₀ (items + i) 0) cells-lt e;
-    rest = else-is w cells 0 (getD w₀ (items + n + i) 0) (getD w₀ (items + i) 0) cells-lt e;
+    keeps = λ w₁ budget p L known H. moved L known H w _ _ e (open-none L known H i (i-was L known H) (R .k-lt) (none-there L known H h));
+    len = len-is w (s .cells) 0 (getD w₀ (wantTable t + i) 0) (getD w₀ (t .items + i) 0) cells-lt e;
+    rest = else-is w (s .cells) 0 (getD w₀ (wantTable t + i) 0) (getD w₀ (t .items + i) 0) cells-lt e;
   }
 
-  module _ (most r : ℕ) (m : most ≡ min cells left) (h : 0 < getD w₀ (items + i) 0) (P : Probed w₀ at items n most (rangesAt w₀ at (getD w₀ (items + i) 0)) r) where
-    pub stepped-miss : {w : List ℕ} → most ≤ r → w ≡ enteredIn w₀ items n k i cells 0 (getD w₀ (items + n + i) 0) (getD w₀ (items + i) 0)
-        → Stepped w₀ w at items n end k cells left top (record { cells = cells + 1; left = left - most; top = top })
+  module _ (most r : ℕ) (m : most ≡ min (s .cells) (s .left)) (h : 0 < getD w₀ (t .items + i) 0) (P : Probed w₀ t most (rangesAt w₀ (t .at) (getD w₀ (t .items + i) 0)) r) where
+    pub stepped-miss : {w : List ℕ} → most ≤ r → w ≡ enteredIn w₀ t k i (s .cells) 0 (getD w₀ (wantTable t + i) 0) (getD w₀ (t .items + i) 0)
+        → Stepped w₀ w t k s (record { cells = s .cells + 1; left = s .left - most; top = s .top })
     stepped-miss {w} q e = record {
-      keeps = λ w₁ budget p L known H. moved L known H w _ _ _ _ e
-          (open-miss L known H i (i-was L known H) (R .k-lt) (rangesAt w₀ at (getD w₀ (items + i) 0)) (some-there L known H h) most r m P q);
-      len = len-is w cells 0 (getD w₀ (items + n + i) 0) (getD w₀ (items + i) 0) cells-lt e;
-      rest = else-is w cells 0 (getD w₀ (items + n + i) 0) (getD w₀ (items + i) 0) cells-lt e;
+      keeps = λ w₁ budget p L known H. moved L known H w _ _ e
+          (open-miss L known H i (i-was L known H) (R .k-lt) (rangesAt w₀ (t .at) (getD w₀ (t .items + i) 0)) (some-there L known H h) most r m P q);
+      len = len-is w (s .cells) 0 (getD w₀ (wantTable t + i) 0) (getD w₀ (t .items + i) 0) cells-lt e;
+      rest = else-is w (s .cells) 0 (getD w₀ (wantTable t + i) 0) (getD w₀ (t .items + i) 0) cells-lt e;
     }
 
     -- the item has entered cell r, and its list may have been united with others
-    pub stepped-hit : {v w : List ℕ} {t : ℕ} → r < most → (word : ℕ)
-        → (sizeOf word ≡ max (sizeOf (getD w₀ (items + 5 * n + r) 0)) (sizeOf (getD w₀ (items + n + i) 0))) × (alignOf word ≡ max (alignOf (getD w₀ (items + 5 * n + r) 0)) (alignOf (getD w₀ (items + n + i) 0)))
-        → v ≡ enteredIn w₀ items n k i r (headAt w₀ items n r) word (getD w₀ (items + i) 0) → Folded v w at items n end k top t
-        → Stepped w₀ w at items n end k cells left top (record { cells = cells; left = left - (r + 1); top = t })
-    stepped-hit {v} {w} {t} q word s e F = record {
-      keeps = λ w₁ budget p L known H. F .keeps w₁ budget cells (left - (r + 1)) _ (moved L known H v _ _ _ _ e
-          (join-hit L known H i (i-was L known H) (R .k-lt) (rangesAt w₀ at (getD w₀ (items + i) 0)) (some-there L known H h) most r m P q word (s .0) (s .1)));
-      len = F .len ∙ len-is v r (headAt w₀ items n r) word (getD w₀ (items + i) 0) (omega (arith, cells-lt)) e;
-      rest = λ x l. F .rest x l ∙ else-is v r (headAt w₀ items n r) word (getD w₀ (items + i) 0) (omega (arith, cells-lt)) e x l;
+    pub stepped-hit : {v w : List ℕ} {b : ℕ} → r < most → (word : ℕ)
+        → (sizeOf word ≡ max (sizeOf (getD w₀ (cellTable t + r) 0)) (sizeOf (getD w₀ (wantTable t + i) 0))) × (alignOf word ≡ max (alignOf (getD w₀ (cellTable t + r) 0)) (alignOf (getD w₀ (wantTable t + i) 0)))
+        → v ≡ enteredIn w₀ t k i r (headAt w₀ t r) word (getD w₀ (t .items + i) 0) → Folded v w t k (s .top) b
+        → Stepped w₀ w t k s (record { cells = s .cells; left = s .left - (r + 1); top = b })
+    stepped-hit {v} {w} {b} q word z e F = record {
+      keeps = λ w₁ budget p L known H. F .keeps w₁ budget (s .cells) (s .left - (r + 1)) _ (moved L known H v _ _ e
+          (join-hit L known H i (i-was L known H) (R .k-lt) (rangesAt w₀ (t .at) (getD w₀ (t .items + i) 0)) (some-there L known H h) most r m P q word (z .0) (z .1)));
+      len = F .len ∙ len-is v r (headAt w₀ t r) word (getD w₀ (t .items + i) 0) (omega (arith, cells-lt)) e;
+      rest = λ x l. F .rest x l ∙ else-is v r (headAt w₀ t r) word (getD w₀ (t .items + i) 0) (omega (arith, cells-lt)) e x l;
     }
 
 -- ---- the order
@@ -107,20 +109,22 @@ unfolding fit
 fit-none ws budget l p = refl
 
 -- the plan of the first k places
-abbrev pub planTo : List ℕ → ℕ → ℕ → ℕ → ℕ → ℕ → Plan
-planTo w at items n budget k = fit (wantsIn w at items n) budget (take k (orderOf (wantsIn w at items n))) nothing
+abbrev pub planTo : List ℕ → Tables → ℕ → ℕ → Plan
+planTo w t budget k = fit (wantsIn w t) budget (take k (orderIn w t)) nothing
 
-module _ {w₁ : List ℕ} {at items n end : ℕ} (O : InOrder w₁ at items n end) where
-  length-order : length (orderOf (wantsIn w₁ at items n)) ≡ n
-  length-order = length-ordered (wantsIn w₁ at items n) (length (wantsIn w₁ at items n)) ∙ length-tabulate n (wantIn w₁ at items n)
+module _ {w₁ : List ℕ} {t : Tables} (O : InOrder w₁ t) where
+  length-order : length (orderIn w₁ t) ≡ t .n
+  length-order = length-tabulate (t .n) (orderAt w₁ t)
 
-  pub order-known : (q : ℕ) → q < n → orderAt w₁ items n q < n
-  order-known q h =
-      let a = order-names (wantsIn w₁ at items n) .known (getD (orderOf (wantsIn w₁ at items n)) q 0) (mem-at (orderOf (wantsIn w₁ at items n)) q (rw length-order h)) in
-      omega (arith, a, O .is q h, length-tabulate n (wantIn w₁ at items n))
+  order-at : (k : ℕ) → k < t .n → getD (orderIn w₁ t) k 0 ≡ orderAt w₁ t k
+  order-at k h = getD-tabulate (t .n) (orderAt w₁ t) k 0 h
 
-  pub run-start : (budget : ℕ) → ((i : ℕ) → i < n → getD w₁ (items + 6 * n + i) 0 ≡ 0) → Holds w₁ w₁ at items n end budget 0 0 budget (items + 8 * n) (planTo w₁ at items n budget 0)
-  run-start budget zeros = rw (fit-none (wantsIn w₁ at items n) budget (orderOf (wantsIn w₁ at items n)) nothing) (record {
+  pub order-known : (q : ℕ) → q < t .n → orderAt w₁ t q < t .n
+  order-known q h = rw (order-at q h) at (O .names .known (getD (orderIn w₁ t) q 0) (mem-at (orderIn w₁ t) q (rw length-order h)))
+
+  pub run-start : (budget : ℕ) → ((i : ℕ) → i < t .n → getD w₁ (homeTable t + i) 0 ≡ 0)
+      → Holds w₁ w₁ t budget 0 (record { cells = 0; left = budget; top = behind t }) (planTo w₁ t budget 0)
+  run-start budget zeros = rw (fit-none (wantsIn w₁ t) budget (orderIn w₁ t) nothing) (record {
     len = refl;
     tables = λ x o. refl;
     low = omega arith;
@@ -138,17 +142,14 @@ module _ {w₁ : List ℕ} {at items n end : ℕ} (O : InOrder w₁ at items n e
     same = λ c h. absurd (omega arith);
   })
 
-  pub plan-next : (budget k : ℕ) → k < n → put (wantsIn w₁ at items n) budget (orderAt w₁ items n k) (planTo w₁ at items n budget k) ≡ planTo w₁ at items n budget (k + 1)
+  pub plan-next : (budget k : ℕ) → k < t .n → put (wantsIn w₁ t) budget (orderAt w₁ t k) (planTo w₁ t budget k) ≡ planTo w₁ t budget (k + 1)
   plan-next budget k h =
-      ap (λ (i : ℕ). put (wantsIn w₁ at items n) budget i (planTo w₁ at items n budget k)) (O .is k h)
-      ∙ sym (fit-append (wantsIn w₁ at items n) budget (take k order) (getD order k 0) nothing)
-      ∙ ap (λ (l : List ℕ). fit (wantsIn w₁ at items n) budget l nothing) (sym (ap (λ (j : ℕ). take j order) (add-one k) ∙ take-suc order k 0 (rw length-order h)))
-    where
-      order : List ℕ
-      order = orderOf (wantsIn w₁ at items n)
+      ap (λ (i : ℕ). put (wantsIn w₁ t) budget i (planTo w₁ t budget k)) (sym (order-at k h))
+      ∙ sym (fit-append (wantsIn w₁ t) budget (take k (orderIn w₁ t)) (getD (orderIn w₁ t) k 0) nothing)
+      ∙ ap (λ (l : List ℕ). fit (wantsIn w₁ t) budget l nothing) (sym (ap (λ (j : ℕ). take j (orderIn w₁ t)) (add-one k) ∙ take-suc (orderIn w₁ t) k 0 (rw length-order h)))
 
-  module _ {w : List ℕ} {budget k cells left top : ℕ} (H : Holds w₁ w at items n end budget k cells left top (planTo w₁ at items n budget k)) where
-    pub run-ready : k < n → Ready w at items n end k cells top
+  module _ {w : List ℕ} {budget k : ℕ} {s : Progress} (H : Holds w₁ w t budget k s (planTo w₁ t budget k)) where
+    pub run-ready : k < t .n → Ready w t k s
     run-ready h = record {
       linked = linked (O .lent) order-known H;
       top-end = H .high;
@@ -160,61 +161,72 @@ module _ {w₁ : List ℕ} {at items n end : ℕ} (O : InOrder w₁ at items n e
       heads = H .heads;
     }
 
-    pub run-more : {v : List ℕ} {r : Progress} → k < n → Stepped w v at items n end k cells left top r → Holds w₁ v at items n end budget (k + 1) (r .cells) (r .left) (r .top) (planTo w₁ at items n budget (k + 1))
+    pub run-more : {v : List ℕ} {r : Progress} → k < t .n → Stepped w v t k s r → Holds w₁ v t budget (k + 1) r (planTo w₁ t budget (k + 1))
     run-more {v} {r} h S =
-        subst (λ (q : Plan). Holds w₁ v at items n end budget (k + 1) (r .cells) (r .left) (r .top) q) (plan-next budget k h)
-        (S .keeps w₁ budget (planTo w₁ at items n budget k) (O .lent) order-known H)
+        subst (λ (q : Plan). Holds w₁ v t budget (k + 1) r q) (plan-next budget k h)
+        (S .keeps w₁ budget (planTo w₁ t budget k) (O .lent) order-known H)
 
-    pub run-done : (width : ℕ) → n ≤ k → ((x : ℕ) → end + n * width ≤ x → getD w x 0 ≡ getD w₁ x 0) → Each w₁ w at items n end width budget (record { cells = cells; left = left; top = top })
+    pub run-done : (width : ℕ) → t .n ≤ k → ((x : ℕ) → t .end + t .n * width ≤ x → getD w x 0 ≡ getD w₁ x 0) → Each w₁ w t width budget s
     run-done width h rest =
-        let e : k ≡ n = omega (arith, H .k-le) in
+        let e : k ≡ (t .n) = omega (arith, H .k-le) in
         record {
-          holds = subst (λ (q : Plan). Holds w₁ w at items n end budget n cells left top q)
-              (ap (λ (l : List ℕ). fit (wantsIn w₁ at items n) budget l nothing) (take-all n (orderOf (wantsIn w₁ at items n)) (omega (arith, length-order))))
+          holds = subst (λ (q : Plan). Holds w₁ w t budget (t .n) s q)
+              (ap (λ (l : List ℕ). fit (wantsIn w₁ t) budget l nothing) (take-all (t .n) (orderIn w₁ t) (omega (arith, length-order))))
               (rw e at H);
           rest = rest;
         }
 
 -- ---- ordering, then placing
 
-module _ {w₀ w₁ w₂ : List ℕ} {at items n end : ℕ} (L : Lent w₀ at items n) (low : items + 8 * n ≤ end) (high : end ≤ length w₀) (small : end < 2 ^ 32) (O : OrderedIn w₀ w₁ (items + n) n (items + 2 * n)) (F : Region w₁ w₂ (items + 6 * n) n (λ _. 0)) where
+module _ {w₀ w₁ w₂ : List ℕ} {t : Tables} (L : Lent w₀ t) (low : behind t ≤ t .end) (high : t .end ≤ length w₀) (small : t .end < 2 ^ 32)
+    (O : OrderedIn w₀ w₁ (wantTable t) (t .n) (orderTable t)) (F : Region w₁ w₂ (homeTable t) (t .n) (λ _. 0)) where
   same-length : length w₂ ≡ length w₀
   same-length = F .len ∙ O .len
 
-  tables-kept : (x : ℕ) → x < items + 2 * n → getD w₂ x 0 ≡ getD w₀ x 0
+  tables-kept : (x : ℕ) → x < orderTable t → getD w₂ x 0 ≡ getD w₀ x 0
   tables-kept x h = F .before x (omega arith) ∙ O .rest x (inl h)
 
-  wants-same : wantsIn w₂ at items n ≡ wantsIn w₀ at items n
+  wants-same : wantsIn w₂ t ≡ wantsIn w₀ t
   wants-same = wants-kept L w₂ same-length tables-kept
 
-  pub in-order : InOrder w₂ at items n end
+  wants-count : length (wantsIn w₀ t) ≡ t .n
+  wants-count = length-tabulate (t .n) (wantIn w₀ t)
+
+  -- the order's table is the order of the wants
+  order-is : orderIn w₂ t ≡ orderOf (wantsIn w₀ t)
+  order-is =
+      tabulate-eq (t .n) (orderAt w₂ t) (λ k. getD (orderOf (wantsIn w₀ t)) k 0) (λ k h. F .before (orderTable t + k) (omega arith) ∙ O .is (wantsIn w₀ t) (sized L) k h)
+      ∙ ap (λ (n : ℕ). tabulate n (λ k. getD (orderOf (wantsIn w₀ t)) k 0)) (sym (length-ordered (wantsIn w₀ t) (length (wantsIn w₀ t)) ∙ wants-count))
+      ∙ tabulate-getD (orderOf (wantsIn w₀ t)) 0
+
+  pub in-order : InOrder w₂ t
   in-order = record {
     lent = lent-kept L w₂ same-length tables-kept;
     low = low;
     high = omega (arith, same-length);
     small = small;
-    is = λ k h. F .before (items + 2 * n + k) (omega arith) ∙ O .is (wantsIn w₀ at items n) (sized L) k h ∙ sym (ap (λ (ws : List Want). getD (orderOf ws) k 0) wants-same);
+    names = rw order-is (subst (λ (n : ℕ). Names n (orderOf (wantsIn w₀ t))) wants-count (order-names (wantsIn w₀ t)));
   }
 
-  pub zeros : (i : ℕ) → i < n → getD w₂ (items + 6 * n + i) 0 ≡ 0
-  zeros i h = F .inside (items + 6 * n + i) i refl h
+  pub zeros : (i : ℕ) → i < t .n → getD w₂ (homeTable t + i) 0 ≡ 0
+  zeros i h = F .inside (homeTable t + i) i refl h
 
-  plan-same : (budget : ℕ) → planIn w₂ at items n budget ≡ planIn w₀ at items n budget
-  plan-same budget = ap (λ (ws : List Want). planOf ws budget (orderOf ws)) wants-same
+  plan-same : (budget : ℕ) → placedIn w₂ t budget ≡ planIn w₀ t budget
+  plan-same budget = ap (λ (ws : List Want). planOf ws budget (orderIn w₂ t)) wants-same ∙ ap (λ (o : List ℕ). planOf (wantsIn w₀ t) budget o) order-is
 
-  pub fitted : {w₃ : List ℕ} {budget : ℕ} {s : Progress} (d : ℕ) → Placed w₂ w₃ at items n end budget s → Summed w₃ (items + 5 * n) (s .cells) d
-      → Fitted w₀ w₃ at items n end budget (record { cells = s .cells; probes = budget - s .left; depth = d })
+  pub fitted : {w₃ : List ℕ} {budget : ℕ} {s : Progress} (d : ℕ) → Placed w₂ w₃ t budget s → Summed w₃ (cellTable t) (s .cells) d
+      → Fitted w₀ w₃ t budget (record { cells = s .cells; probes = budget - s .left; depth = d })
   fitted {w₃} {budget} {s} d P D =
-      let H = subst (λ (q : Plan). Holds w₂ w₃ at items n (P .rows) budget n (s .cells) (s .left) (s .top) q) (plan-same budget) (P .holds) in
+      let H = subst (λ (q : Plan). Holds w₂ w₃ (upTo t (P .rows)) budget (t .n) s q) (plan-same budget) (P .holds) in
       record {
         len = H .len ∙ same-length;
         cells = H .cells-is;
         few = H .cells-le;
         probes = omega (arith, H .left-is);
-        depth = D .is (planIn w₀ at items n budget .cells) (sym (H .cells-is)) (λ c h. H .shown .size c (rw (H .cells-is) at h));
-        shown = H .shown;
+        depth = D .is (planIn w₀ t budget .cells) (sym (H .cells-is)) (λ c h. H .shown .size c (rw (H .cells-is) at h));
+        shown = record { size = H .shown .size; align = H .shown .align; cell = H .shown .cell };
         rest = λ x o. ⊎-elim (λ h. H .tables x (omega arith) ∙ tables-kept x h) (λ h. P .rest x h ∙ F .after x (omega arith) ∙ O .rest x (inr (omega arith))) o;
       }
 
-  pub cells-few : {w₃ : List ℕ} {budget : ℕ} {s : Progress} → Placed w₂ w₃ at items n end budget s → (s .cells ≤ n) × (length w₃ ≡ length w₀) × (s .left ≤ budget)
+  pub cells-few : {w₃ : List ℕ} {budget : ℕ} {s : Progress} → Placed w₂ w₃ t budget s → (s .cells ≤ t .n) × (length w₃ ≡ length w₀) × (s .left ≤ budget)
   cells-few P = (P .holds .cells-le, P .holds .len ∙ same-length, omega (arith, P .holds .left-is))

@@ -17,8 +17,9 @@ use Rattle.bits.proofs.DigitLaws.{bit-zero}
 use Rattle.ranges.specs.declared.Range.{Range}
 use Rattle.ranges.specs.Points.{Point}
 use Rattle.ranges.specs.Forms.{unpack, unpacked}
-use Rattle.fit_tables.specs.Tables.{firstOf, countOf, Lent}
+use Rattle.fit_tables.specs.Tables.{behind, firstOf, countOf, Lent}
 use Rattle.fit_tables.specs.Inner.{orderAt, itemAt, MarkedTo, Pointed, Drawn}
+use Rattle.fit_tables.specs.declared.Tables.{Tables}
 
 -- ---- a row's bits set, one by one
 
@@ -93,35 +94,35 @@ product-small t width step h k l =
 
 -- ---- an item's row
 
-module _ (w : List ℕ) (at items n k row width step : ℕ) where
-  pub drawn-none : (getD w (items + orderAt w items n k) 0 < 1) ⊎ (width < 1) → Drawn w w at items n k row width step (record { at = 0; word = 0 })
+module _ (w : List ℕ) (t : Tables) (k row width step : ℕ) where
+  pub drawn-none : (getD w (t .items + orderAt w t k) 0 < 1) ⊎ (width < 1) → Drawn w w t k row width step (record { at = 0; word = 0 })
   drawn-none o = record {
     len = refl;
     rest = λ x h. refl;
-    sound = λ h t l b. absurd (⊎-elim (λ q. omega arith) (λ q. omega arith) o);
+    sound = λ h s l b. absurd (⊎-elim (λ q. omega arith) (λ q. omega arith) o);
     own = λ h. absurd (omega arith);
     fits = omega arith;
   }
 
-  module _ (L : Lent w at items n) (in-order : orderAt w items n k < n) (low : items + 8 * n ≤ row) (high : row + width ≤ length w) (there : 0 < getD w (items + orderAt w items n k) 0)
+  module _ (L : Lent w t) (in-order : orderAt w t k < t .n) (low : behind t ≤ row) (high : row + width ≤ length w) (there : 0 < getD w (t .items + orderAt w t k) 0)
       {v u : List ℕ} {r : ℕ} (F : Region w v row width (λ _. 0))
-      (P : Pointed v u row width step (unpacked (part (at + firstOf (getD w (items + orderAt w items n k) 0)) (countOf (getD w (items + orderAt w items n k) 0)) v)) r) where
-    pub ranges-end : at + (firstOf (getD w (items + orderAt w items n k) 0) + countOf (getD w (items + orderAt w items n k) 0)) ≤ items
-    ranges-end = L .proper (orderAt w items n k) in-order there .inside
+      (P : Pointed v u row width step (unpacked (part (t .at + firstOf (getD w (t .items + orderAt w t k) 0)) (countOf (getD w (t .items + orderAt w t k) 0)) v)) r) where
+    pub ranges-end : t .at + (firstOf (getD w (t .items + orderAt w t k) 0) + countOf (getD w (t .items + orderAt w t k) 0)) ≤ t .items
+    ranges-end = L .proper (orderAt w t k) in-order there .inside
 
-    item-is : unpacked (part (at + firstOf (getD w (items + orderAt w items n k) 0)) (countOf (getD w (items + orderAt w items n k) 0)) v) ≡ itemAt w at items n k
+    item-is : unpacked (part (t .at + firstOf (getD w (t .items + orderAt w t k) 0)) (countOf (getD w (t .items + orderAt w t k) 0)) v) ≡ itemAt w t k
     item-is =
-        let kept : Kept w v (at + firstOf (getD w (items + orderAt w items n k) 0)) (countOf (getD w (items + orderAt w items n k) 0)) = record { same = λ y l q. F .before y (omega (arith, ranges-end)) } in
+        let kept : Kept w v (t .at + firstOf (getD w (t .items + orderAt w t k) 0)) (countOf (getD w (t .items + orderAt w t k) 0)) = record { same = λ y l q. F .before y (omega (arith, ranges-end)) } in
         ap unpacked (kept-part-list kept (omega (arith, ranges-end)) (F .len))
 
-    clear : (t : ℕ) → t < width * 64 → bit v row t ≡ false
-    clear t h = ap (λ (y : ℕ). bitOf y (t % 64)) (F .inside (row + t / 64) (t / 64) refl (omega arith)) ∙ bit-zero (t % 64)
+    clear : (s : ℕ) → s < width * 64 → bit v row s ≡ false
+    clear s h = ap (λ (y : ℕ). bitOf y (s % 64)) (F .inside (row + s / 64) (s / 64) refl (omega arith)) ∙ bit-zero (s % 64)
 
-    pub drawn-points : (m : ℕ) → m < width → Drawn w u at items n k row width step (record { at = m; word = getD u (row + m) 0 })
+    pub drawn-points : (m : ℕ) → m < width → Drawn w u t k row width step (record { at = m; word = getD u (row + m) 0 })
     drawn-points m in-row = record {
       len = P .len ∙ F .len;
       rest = λ x o. P .rest x o ∙ ⊎-elim (λ h. F .before x h) (λ h. F .after x h) o;
-      sound = λ h t l b. ⊎-elim (λ q. absurd (false≢true (sym (clear t l) ∙ q))) (λ q. rw item-is at q) (P .sound t l b);
+      sound = λ h s l b. ⊎-elim (λ q. absurd (false≢true (sym (clear s l) ∙ q))) (λ q. rw item-is at q) (P .sound s l b);
       own = λ h. (in-row, refl, there);
       fits = omega arith;
     }

@@ -17,6 +17,8 @@ use Rattle.bits.specs.Bits.{bitOf}
 use Rattle.bits.proofs.DigitLaws.{bit-and, bit-zero, lowest-is}
 use Rattle.ranges.specs.declared.Range.{Range}
 use Rattle.fit_tables.specs.Inner.{opens, Sure}
+use Rattle.fit_tables.specs.declared.Tables.{Tables}
+use Rattle.fit_tables.specs.declared.Sample.{Sample}
 
 -- ---- one word
 
@@ -34,8 +36,8 @@ nonzero y h = same-or y 0 (λ e. absurd (false≢true (ap not (sym (eq-eqb y 0 e
 pub some-bit : (x t : ℕ) → bitOf x t ≡ true → 0 < x
 some-bit x t e = same-or x 0 (λ z. absurd (false≢true (sym (bit-zero t) ∙ ap (λ (y : ℕ). bitOf y t) (sym z) ∙ e))) (λ d. omega arith)
 
-pub sure-less : {w : List ℕ} {at items n base width own cells : ℕ} {a : List Range} → Sure w at items n base width own cells a → {most : ℕ} → most ≤ cells → Sure w at items n base width own most a
-sure-less s h = record { inside = λ c l. s .inside c (omega arith); rules = λ c t l. s .rules c t (omega arith) }
+pub sure-less : {w : List ℕ} {t : Tables} {s : Sample} {cells : ℕ} {a : List Range} → Sure w t s cells a → {most : ℕ} → most ≤ cells → Sure w t s most a
+sure-less S h = record { inside = λ c l. S .inside c (omega arith); rules = λ c b l. S .rules c b (omega arith) }
 
 -- ---- rows
 
@@ -46,8 +48,8 @@ rows-apart rows width c r d =
 pub row-inside : (rows width c n l : ℕ) → c < n → rows + n * width ≤ l → rows + c * width + width ≤ l
 row-inside rows width c n l h k = omega (arith, row-before c n width h)
 
-pub ruled : {w : List ℕ} {at items n base width own most : ℕ} {a : List Range} → Sure w at items n base width own most a → (c : ℕ) → c < most → own < 2 ^ 64
-    → 0 < bitAnd (getD w (base + c * width) 0) own → opens w at items n a c ≡ false
-ruled {w} {at} {items} {n} {base} {width} {own} s c h l p =
-    let t = shared (getD w (base + c * width) 0) own l p in
-    s .rules c (t .0) h (t .1) (t .3) (t .2)
+pub ruled : {w : List ℕ} {t : Tables} {s : Sample} {most : ℕ} {a : List Range} → Sure w t s most a → (c : ℕ) → c < most → s .word < 2 ^ 64
+    → 0 < bitAnd (getD w (s .base + c * s .width) 0) (s .word) → opens w t a c ≡ false
+ruled {w} {t} {s} S c h l p =
+    let b = shared (getD w (s .base + c * s .width) 0) (s .word) l p in
+    S .rules c (b .0) h (b .1) (b .3) (b .2)

@@ -4,11 +4,13 @@ ghost use Prim.Native.Nat.{_+_, _*_, _/_, _^_, _<_, _≤_};
 ghost use lib.ListN.{length};
 ghost use Rattle.words.specs.Regions.{part};
 ghost use Rattle.ranges.specs.Forms.{unpacked};
-ghost use Rattle.fit_tables.specs.Tables.{Lent};
+ghost use Rattle.fit_tables.specs.Tables.{behind, Lent};
 ghost use Rattle.fit_tables.specs.Inner.{orderAt, MarkedTo, Pointed, Drawn};
+use crate::HALF;
+use crate::ORDER;
 use crate::Own;
-
-const HALF: u64 = 0x1_0000_0000;
+use crate::SampleRow;
+use crate::Tables;
 
 // Every bit of a word.
 const FULL: u64 = 0xffff_ffff_ffff_ffff;
@@ -39,33 +41,25 @@ fn mark(w: &mut [u64], row: usize, t: usize, p: u64, step: u64, end: u64) -> usi
 }
 
 // Sets the row's bits of the sample points from `first` on that are in `count` ranges from `from` on; the word that the last of them is in.
-fn points(
-    w: &mut [u64],
-    row: usize,
-    width: usize,
-    step: u64,
-    from: usize,
-    count: usize,
-    first: usize,
-) -> usize
-    requires { ⌜ (row + width ≤ length (now w)) × (from + count ≤ row) × (0 < width) × (width ≤ 8) × (0 < step) × (step ≤ 2 ^ 32) ⌝ }
-    ensures { λ r. ⌜ Pointed (now (w .entry)) (now (w .exit)) row width step (unpacked (part from count (now (w .entry)))) r ⌝ }
+fn points(w: &mut [u64], row: SampleRow, from: usize, count: usize, first: usize) -> usize
+    requires { ⌜ (row .at + row .width ≤ length (now w)) × (from + count ≤ row .at) × (0 < row .width) × (row .width ≤ 8) × (0 < row .step) × (row .step ≤ 2 ^ 32) ⌝ }
+    ensures { λ r. ⌜ Pointed (now (w .entry)) (now (w .exit)) (row .at) (row .width) (row .step) (unpacked (part from count (now (w .entry)))) r ⌝ }
 {
     let mut t = first;
     let mut i = 0;
     let mut last = 0;
-    while t < width * 64 {
+    while t < row.width * 64 {
         if i >= count {
             return last;
         }
         let x = w[from + i];
-        let p = t as u64 * step;
+        let p = t as u64 * row.step;
         if x % HALF < p {
             i += 1;
         } else {
             if x / HALF <= p {
                 last = t / 64;
-                t = mark(w, row, t, p, step, x % HALF);
+                t = mark(w, row.at, t, p, row.step, x % HALF);
             } else {
                 t += 1;
             }
@@ -88,36 +82,29 @@ fn choose(w: &[u64], row: usize, width: usize, first: usize, last: usize) -> usi
     last
 }
 
-// The row at `row` becomes that of the item at place `k` of the order.
-pub fn draw(
-    w: &mut [u64],
-    at: usize,
-    items: usize,
-    n: usize,
-    k: usize,
-    row: usize,
-    width: usize,
-    step: u64,
-) -> Own
-    requires { ⌜ Lent (now w) at items n × (orderAt (now w) items n k < n) × (k < n) × (items + 8 * n ≤ row) × (row + width ≤ length (now w)) × (width ≤ 8) × (0 < step) × (step ≤ 2 ^ 32) ⌝ }
-    ensures { λ r. ⌜ Drawn (now (w .entry)) (now (w .exit)) at items n k row width step r ⌝ }
+// The row becomes that of the item at place `k` of the order.
+pub fn draw(w: &mut [u64], t: Tables, k: usize, row: SampleRow) -> Own
+    requires { ⌜ Lent (now w) t × (orderAt (now w) t k < t .n) × (k < t .n) × (behind t ≤ row .at) × (row .at + row .width ≤ length (now w))
+        × (row .width ≤ 8) × (0 < row .step) × (row .step ≤ 2 ^ 32) ⌝ }
+    ensures { λ r. ⌜ Drawn (now (w .entry)) (now (w .exit)) t k (row .at) (row .width) (row .step) r ⌝ }
 {
-    let i = w[items + 2 * n + k] as usize;
-    let x = w[items + i];
+    let i = w[t.items + ORDER * t.n + k] as usize;
+    let x = w[t.items + i];
     if x < 1 {
         return Own { at: 0, word: 0 };
     }
-    if width < 1 {
+    if row.width < 1 {
         return Own { at: 0, word: 0 };
     }
-    let from = at + ((x - 1) / HALF) as usize;
+    let at = row.at;
+    let from = t.at + ((x - 1) / HALF) as usize;
     let count = ((x - 1) % HALF) as usize;
-    words::fill(w, row, width, 0);
-    let first = first_point(w, from, count, step);
-    let last = points(w, row, width, step, from, count, first);
-    let word = choose(w, row, width, first / 64, last);
+    words::fill(w, at, row.width, 0);
+    let first = first_point(w, from, count, row.step);
+    let last = points(w, row, from, count, first);
+    let word = choose(w, at, row.width, first / 64, last);
     Own {
         at: word,
-        word: w[row + word],
+        word: w[at + word],
     }
 }

@@ -1,42 +1,38 @@
-// Sample points: each cell has a row of bits, and a bit is set only where the area has the sample point. A bit that an item's row and a cell's have in common is a clash.
+// Sample points: each cell has a row of bits, and a bit is set only where the area has the sample point.
+// A bit that an item's row and a cell's have in common is a clash.
 ghost use mathlib.Core.Path.{_≡_};
 ghost use mathlib.Core.Bool.{true};
 ghost use Prim.Native.Nat.{_+_, _-_, _*_, _/_, _%_, _^_, _<_, _≤_};
 ghost use lib.Bits.{bitAnd};
 ghost use lib.ListN.{length, getD};
-ghost use Rattle.fit_tables.specs.Tables.{Proper, Lent};
+ghost use Rattle.fit_tables.specs.Tables.{behind, Proper, Lent};
 ghost use Rattle.fit_tables.specs.Inner.{orderAt, cellIn, Joined};
+use crate::HALF;
+use crate::HOMES;
+use crate::ORDER;
+use crate::Sample;
+use crate::Tables;
 use crate::larger;
 
-const HALF: u64 = 0x1_0000_0000;
-
 // Whether a cell's word and an item's have a sample point in common.
-pub fn hit(w: &[u64], base: usize, width: usize, c: usize, own: u64) -> bool
-    requires { ⌜ (0 < own → base + c * width < length (now w)) ⌝ }
-    ensures { λ r. ⌜ (r ≡ true → 0 < bitAnd (getD (now (w .entry)) (base + c * width) 0) own) ⌝ }
+pub fn hit(w: &[u64], s: Sample, c: usize) -> bool
+    requires { ⌜ (0 < s .word → s .base + c * s .width < length (now w)) ⌝ }
+    ensures { λ r. ⌜ (r ≡ true → 0 < bitAnd (getD (now (w .entry)) (s .base + c * s .width) 0) (s .word)) ⌝ }
 {
-    if own < 1 {
+    if s.word < 1 {
         return false;
     }
-    w[base + c * width] & own != 0
+    w[s.base + c * s.width] & s.word != 0
 }
 
-// The row at `row`, of the item at place `k`, joins that of its cell.
-pub fn join_row(
-    w: &mut [u64],
-    items: usize,
-    n: usize,
-    k: usize,
-    rows: usize,
-    width: usize,
-    cells: usize,
-)
-    requires { ⌜ (items + 8 * n ≤ rows) × (rows + n * width ≤ length (now w)) × (k < n) × (cells < n) × (orderAt (now w) items n k < n) × (cellIn (now w) items n k < n) ⌝ }
-    ensures { λ _. ⌜ Joined (now (w .entry)) (now (w .exit)) items n k rows width cells ⌝ }
+// The row of number `cells`, of those from `end` on, joins that of the cell of the item at place `k`.
+pub fn join_row(w: &mut [u64], t: Tables, k: usize, width: usize, cells: usize)
+    requires { ⌜ (behind t ≤ t .end) × (t .end + t .n * width ≤ length (now w)) × (k < t .n) × (cells < t .n) × (orderAt (now w) t k < t .n) × (cellIn (now w) t k < t .n) ⌝ }
+    ensures { λ _. ⌜ Joined (now (w .entry)) (now (w .exit)) t k width cells ⌝ }
 {
-    let i = w[items + 2 * n + k] as usize;
-    let c = w[items + 6 * n + i] as usize;
-    bits::row_or(w, rows + c * width, rows + cells * width, width);
+    let i = w[t.items + ORDER * t.n + k] as usize;
+    let c = w[t.items + HOMES * t.n + i] as usize;
+    bits::row_or(w, t.end + c * width, t.end + cells * width, width);
 }
 
 // The last point of a list, by its word, or 0.
@@ -55,14 +51,14 @@ fn last_point(w: &[u64], at: usize, top: usize, x: u64) -> u64
 }
 
 // The last point of all areas.
-pub fn reach(w: &[u64], at: usize, items: usize, n: usize) -> u64
-    requires { ⌜ Lent (now w) at items n ⌝ }
+pub fn reach(w: &[u64], t: Tables) -> u64
+    requires { ⌜ Lent (now w) t ⌝ }
     ensures { λ r. ⌜ r < 2 ^ 32 ⌝ }
 {
     let mut most = 0;
     let mut i = 0;
-    while i < n {
-        most = larger(most, last_point(w, at, items, w[items + i]));
+    while i < t.n {
+        most = larger(most, last_point(w, t.at, t.items, w[t.items + i]));
         i += 1;
     }
     most

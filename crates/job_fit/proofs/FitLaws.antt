@@ -22,7 +22,7 @@ use Rattle.fit_tables.specs.declared.Counts.{Counts}
 use Rattle.fit_tables.specs.Tables.{wantIn, wantsIn, Lent, Fitted}
 use Rattle.area_measure.specs.Locals.{wordOf, ListedBy}
 use Rattle.area_tables.specs.Tables.{listing}
-use Rattle.job_fit.specs.Wants.{countOf, sizeAt, alignAt, localWord, slotWord, wantWord, wantFor, wantsFor, planFor, Ready, Holds, FittedFor}
+use Rattle.job_fit.specs.Wants.{tablesFor, countOf, sizeAt, alignAt, localWord, slotWord, wantWord, wantFor, wantsFor, planFor, Ready, Holds, FittedFor}
 use Rattle.job_fit.proofs.AreaLaws.{area-is, proper-is, listed-kept}
 
 -- ---- the wants' table
@@ -62,11 +62,11 @@ module _ (locals slots : List ℕ) where
     -- ---- the plan
 
     module _ {room : ℕ} {w₀ w₁ : List ℕ} (R : Region w₀ w₁ (room + countOf locals slots) (countOf locals slots) (wantWord locals slots)) (space : room + 2 * countOf locals slots ≤ length w₀) (short : room ≤ 65536) where
-      module _ {A : ℕ → Option (List Range)} {total : ℕ} (D : ListedBy wordOf (listing room room) A (countOf locals slots) total w₀) (fits : total ≤ room) where
+      module _ {A : ℕ → Option (List Range)} {total : ℕ} (end : ℕ) (D : ListedBy wordOf (listing room room) A (countOf locals slots) total w₀) (fits : total ≤ room) where
         listed-there : ListedBy wordOf (listing room room) A (countOf locals slots) total w₁
         listed-there = listed-kept D fits (omega arith) w₁ (R .len) (λ x h. R .before x h)
 
-        want-is : (i : ℕ) → i < countOf locals slots → wantIn w₁ 0 room (countOf locals slots) i ≡ wantFor locals slots A i
+        want-is : (i : ℕ) → i < countOf locals slots → wantIn w₁ (tablesFor (countOf locals slots) room end) i ≡ wantFor locals slots A i
         want-is i h =
             let x = R .inside (room + countOf locals slots + i) i refl h in
             let a = size-is _ i x in
@@ -74,15 +74,15 @@ module _ (locals slots : List ℕ) where
             let c = area-is listed-there fits (omega (arith, R .len)) short i h in
             cc
 
-        pub wants-are : wantsIn w₁ 0 room (countOf locals slots) ≡ wantsFor locals slots A
-        wants-are = tabulate-eq (countOf locals slots) (wantIn w₁ 0 room (countOf locals slots)) (wantFor locals slots A) want-is
+        pub wants-are : wantsIn w₁ (tablesFor (countOf locals slots) room end) ≡ wantsFor locals slots A
+        wants-are = tabulate-eq (countOf locals slots) (wantIn w₁ (tablesFor (countOf locals slots) room end)) (wantFor locals slots A) want-is
 
-      module _ {end budget : ℕ} {w : List ℕ} {r : Counts} (inside : room + 8 * countOf locals slots ≤ end) (F : Fitted w₁ w 0 room (countOf locals slots) end budget r) where
+      module _ {end budget : ℕ} {w : List ℕ} {r : Counts} (inside : room + 8 * countOf locals slots ≤ end) (F : Fitted w₁ w (tablesFor (countOf locals slots) room end) budget r) where
         holds : (A : ℕ → Option (List Range)) (total : ℕ) → ListedBy wordOf (listing room room) A (countOf locals slots) total w₀ → total ≤ room
             → Holds (planFor locals slots A budget) (countOf locals slots) room w r
         holds A total D fits =
-            subst (λ (ws : List Want). Holds (planOf ws budget (orderOf ws)) (countOf locals slots) room w r) (wants-are D fits)
-            (record { cells = F .cells; probes = F .probes; depth = F .depth; shown = F .shown })
+            subst (λ (ws : List Want). Holds (planOf ws budget (orderOf ws)) (countOf locals slots) room w r) (wants-are end D fits)
+            (record { cells = F .cells; probes = F .probes; depth = F .depth; shown = record { size = F .shown .size; align = F .shown .align; cell = F .shown .cell } })
 
         pub fitted-for : FittedFor locals slots budget room end w₀ w r
         fitted-for = record {
@@ -93,9 +93,9 @@ module _ (locals slots : List ℕ) where
         }
 
       -- what fitting asks
-      pub lent : {end : ℕ} → Ready (countOf locals slots) room end w₀ → Lent w₁ 0 room (countOf locals slots)
-      lent N = record {
+      pub lent : {end : ℕ} → Ready (countOf locals slots) room end w₀ → Lent w₁ (tablesFor (countOf locals slots) room end)
+      lent {end} N = record {
         few = N .few;
         room = omega (arith, R .len, N .space, N .inside);
-        proper = λ i h q. proper-is (listed-there (N .listed) (N .fits)) (N .fits) (omega (arith, R .len)) short i h (N .apart i) q;
+        proper = λ i h q. proper-is (listed-there end (N .listed) (N .fits)) (N .fits) (omega (arith, R .len)) short i h (N .apart i) q;
       }

@@ -13,6 +13,7 @@ use Rattle.graph.specs.Work.{Within}
 use Rattle.fitting.specs.Wants.{Want, orderOf}
 use Rattle.fitting.specs.Plan.{Plan, planOf, depthOf}
 use Rattle.fit_tables.specs.declared.Counts.{Counts}
+use Rattle.fit_tables.specs.declared.Tables.{Tables}
 use Rattle.fit_tables.specs.Tables.{Shown}
 use Rattle.area_measure.specs.Locals.{wordOf, ListedBy}
 use Rattle.area_tables.specs.Tables.{listing}
@@ -61,12 +62,16 @@ pub record Ready (count room end : ℕ) (w : List ℕ) : Type 0 where
   pub inside : end ≤ length w
   pub small : end < 2 ^ 32
 
+-- where the tables stand: the areas from 0 on, the tables behind their room
+abbrev pub tablesFor : ℕ → ℕ → ℕ → Tables
+tablesFor count room end = record { at = 0; items = room; n = count; end = end }
+
 -- a plan in the tables and in the answer
 pub record Holds (p : Plan) (count room : ℕ) (w : List ℕ) (r : Counts) : Type 0 where
   pub cells : r .cells ≡ length (p .cells)
   pub probes : r .probes ≡ p .probes
   pub depth : r .depth ≡ depthOf (p .cells)
-  pub shown : Shown w room count p
+  pub shown : Shown w (tablesFor count room (room + 8 * count)) p
 
 -- the plan of the items' wants, whatever the areas are that stand there; these stand there still, and nothing from `end` on has changed
 pub record FittedFor (locals slots : List ℕ) (budget room end : ℕ) (w₀ w : List ℕ) (r : Counts) : Type 0 where

@@ -5,8 +5,8 @@ ghost use Rattle.words.specs.Rows.{rowCount};
 ghost use Rattle.words.specs.Regions.{Region};
 ghost use Rattle.job_fit.specs.Wants.{localWord, slotWord, wantWord, Ready, FittedFor};
 use fit_tables::Counts;
-
-const HALF: u64 = 0x1_0000_0000;
+use fit_tables::HALF;
+use fit_tables::Tables;
 
 // A word for each local: its size above its alignment.
 fn load_locals(w: &mut [u64], at: usize, locals: &[u32])
@@ -57,5 +57,11 @@ pub fn fitted(
 {
     let n = locals.len() / 2 + slots.len();
     load(work, room + n, locals, slots);
-    fit_cells::fit(work, 0, room, n, end, budget as u64)
+    let t = Tables {
+        at: 0,
+        items: room,
+        n: n,
+        end: end,
+    };
+    fit_cells::fit(work, t, budget as u64)
 }

@@ -20,11 +20,12 @@ use Rattle.fitting.proofs.PlanLaws.{facts}
 use Rattle.fitting.proofs.OrderLaws.{order-names}
 use Rattle.fit_tables.specs.Keys.{sizeOf, alignOf}
 use Rattle.fit_tables.specs.declared.Counts.{Counts}
-use Rattle.fit_tables.specs.Tables.{wantIn, wantsIn, planIn, Shown, Fitted}
+use Rattle.fit_tables.specs.declared.Tables.{Tables}
+use Rattle.fit_tables.specs.Tables.{cellTable, homeTable, wantIn, wantsIn, planIn, Shown, Fitted}
 use Rattle.wants.specs.declared.Fitted.the-variants.{Plan as Planned, Refused}
 use Rattle.wants.specs.Entry.{wantsOf, planFor, tallied, cellRow, cellRows, itemRows, FittedAlone}
 use Rattle.want_tables.specs.Tables.{itemRow, Loaded, cellRowsIn, itemRowsIn}
-use Rattle.wants.specs.Inner.{Answered}
+use Rattle.wants.specs.Inner.{tablesFor, Answered}
 use Rattle.want_tables.proofs.TableLaws.{item-wide}
 use Rattle.words.proofs.FlatLaws.{flat-length}
 use Rattle.words.proofs.RegionLaws.{drop-same}
@@ -43,33 +44,33 @@ rows-cells cs =
     ap flat (ap (map cellRow) (sym (tabulate-getD cs d)) ∙ map-tabulate cellRow (length cs) (λ i. getD cs i d))
 
 -- a cell's number is small
-pub cell-small : {w₁ w₂ : List ℕ} {ranges n end budget : ℕ} {r : Counts} → Fitted w₁ w₂ 0 ranges n end budget r → n ≤ 4096 → (i : ℕ) → i < n → getD w₂ (ranges + 6 * n + i) 0 < 2 ^ 32
-cell-small {w₁} {w₂} {ranges} {n} {end} {budget} {r} F few i h =
-    let ws = wantsIn w₁ 0 ranges n in
-    let k = facts ws budget (length ws) (orderOf ws) (order-names ws) .known i (rw (length-tabulate n (wantIn w₁ 0 ranges n)) h) in
+pub cell-small : {w₁ w₂ : List ℕ} {t : Tables} {budget : ℕ} {r : Counts} → Fitted w₁ w₂ t budget r → t .n ≤ 4096 → (i : ℕ) → i < t .n → getD w₂ (homeTable t + i) 0 < 2 ^ 32
+cell-small {w₁} {w₂} {t} {budget} {r} F few i h =
+    let ws = wantsIn w₁ t in
+    let k = facts ws budget (length ws) (orderOf ws) (order-names ws) .known i (rw (length-tabulate (t .n) (wantIn w₁ t)) h) in
     omega (arith, F .shown .cell i h, F .cells, F .few, k)
 
 module _ (wants areas cells items work w₁ w₂ cells′ items′ work′ : List ℕ) (r : Counts) (budget : ℕ)
     (L : Loaded work w₁ wants areas (rowCount 5 wants) (rowCount 2 areas))
-    (same : wantsIn w₁ 0 (rowCount 2 areas) (rowCount 5 wants) ≡ wantsOf (areasOf areas) wants)
-    (F : Fitted w₁ w₂ 0 (rowCount 2 areas) (rowCount 5 wants) (8 * (rowCount 5 wants + rowCount 2 areas)) budget r)
-    (C : cells′ ≡ cellRowsIn w₂ (rowCount 2 areas + 5 * rowCount 5 wants) (r .cells) ++ drop (2 * r .cells) cells)
-    (I : items′ ≡ itemRowsIn w₂ wants (rowCount 2 areas + 6 * rowCount 5 wants) (rowCount 5 wants) ++ drop (4 * rowCount 5 wants) items)
+    (same : wantsIn w₁ (tablesFor wants areas) ≡ wantsOf (areasOf areas) wants)
+    (F : Fitted w₁ w₂ (tablesFor wants areas) budget r)
+    (C : cells′ ≡ cellRowsIn w₂ (cellTable (tablesFor wants areas)) (r .cells) ++ drop (2 * r .cells) cells)
+    (I : items′ ≡ itemRowsIn w₂ wants (homeTable (tablesFor wants areas)) (rowCount 5 wants) ++ drop (4 * rowCount 5 wants) items)
     (Z : work′ ≡ cleared (8 * (rowCount 5 wants + rowCount 2 areas)) w₂) where
-  plan-is : planIn w₁ 0 (rowCount 2 areas) (rowCount 5 wants) budget ≡ planFor wants areas budget
+  plan-is : planIn w₁ (tablesFor wants areas) budget ≡ planFor wants areas budget
   plan-is = ap (λ (ws : List Want). planOf ws budget (orderOf ws)) same
 
   F′ : (r .cells ≡ length (planFor wants areas budget .cells)) × (r .probes ≡ planFor wants areas budget .probes) × (r .depth ≡ depthOf (planFor wants areas budget .cells))
   F′ = subst (λ (p : Plan). (r .cells ≡ length (p .cells)) × (r .probes ≡ p .probes) × (r .depth ≡ depthOf (p .cells))) plan-is (F .cells, F .probes, F .depth)
 
-  cells-are : cellRowsIn w₂ (rowCount 2 areas + 5 * rowCount 5 wants) (r .cells) ≡ cellRows (planFor wants areas budget)
+  cells-are : cellRowsIn w₂ (cellTable (tablesFor wants areas)) (r .cells) ≡ cellRows (planFor wants areas budget)
   cells-are =
       ap flat (tabulate-eq (r .cells) _ (λ i. cellRow (cellAt (planFor wants areas budget .cells) i)) row)
       ∙ ap (λ (k : ℕ). flat (tabulate k (λ i. cellRow (cellAt (planFor wants areas budget .cells) i)))) (F′ .0) ∙ sym (rows-cells (planFor wants areas budget .cells))
     where
-      row : (i : ℕ) → i < r .cells → sizeOf (getD w₂ (rowCount 2 areas + 5 * rowCount 5 wants + i) 0) ∷ alignOf (getD w₂ (rowCount 2 areas + 5 * rowCount 5 wants + i) 0) ∷ [] ≡ cellRow (cellAt (planFor wants areas budget .cells) i)
+      row : (i : ℕ) → i < r .cells → sizeOf (getD w₂ (cellTable (tablesFor wants areas) + i) 0) ∷ alignOf (getD w₂ (cellTable (tablesFor wants areas) + i) 0) ∷ [] ≡ cellRow (cellAt (planFor wants areas budget .cells) i)
       row i h =
-          let S = subst (λ (p : Plan). Shown w₂ (rowCount 2 areas) (rowCount 5 wants) p) plan-is (F .shown) in
+          let S = subst (λ (p : Plan). Shown w₂ (tablesFor wants areas) p) plan-is (F .shown) in
           let a = S .size i (rw (F′ .0) at h) in
           let b = S .align i (rw (F′ .0) at h) in
           cc
@@ -77,9 +78,9 @@ module _ (wants areas cells items work w₁ w₂ cells′ items′ work′ : Lis
   cells-long : length (cellRows (planFor wants areas budget)) ≡ 2 * r .cells
   cells-long = ap length (rows-cells (planFor wants areas budget .cells)) ∙ flat-length 2 (length (planFor wants areas budget .cells)) (λ i. cellRow (cellAt (planFor wants areas budget .cells) i)) (λ i h. refl) ∙ ap (λ (k : ℕ). 2 * k) (sym (F′ .0))
 
-  items-are : itemRowsIn w₂ wants (rowCount 2 areas + 6 * rowCount 5 wants) (rowCount 5 wants) ≡ itemRows wants (planFor wants areas budget)
+  items-are : itemRowsIn w₂ wants (homeTable (tablesFor wants areas)) (rowCount 5 wants) ≡ itemRows wants (planFor wants areas budget)
   items-are =
-      let S = subst (λ (p : Plan). Shown w₂ (rowCount 2 areas) (rowCount 5 wants) p) plan-is (F .shown) in
+      let S = subst (λ (p : Plan). Shown w₂ (tablesFor wants areas) p) plan-is (F .shown) in
       ap flat (tabulate-eq (rowCount 5 wants) _ _ (λ i h. ap (λ (c : ℕ). itemRow c (field 5 wants i 2) (field 5 wants i 3) (field 5 wants i 4)) (S .cell i h)))
 
   items-long : length (itemRows wants (planFor wants areas budget)) ≡ 4 * rowCount 5 wants

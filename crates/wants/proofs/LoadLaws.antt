@@ -21,6 +21,7 @@ use Rattle.ranges.proofs.FormLaws.{unpacked-length, unpacked-at, unpack-pack}
 use Rattle.fitting.specs.Queries.{areasOf, partOf}
 use Rattle.fit_tables.specs.Keys.{sizeOf, alignOf}
 use Rattle.fit_tables.specs.Tables.{firstOf, countOf, rangesAt, areaIn, wantIn, wantsIn, Proper, Lent}
+use Rattle.wants.specs.Inner.{tablesFor}
 use Rattle.fit_tables.proofs.TableLaws.{area-none, area-some}
 use Rattle.wants.specs.Entry.{wantsOf}
 use Rattle.want_checks.specs.Checks.{badWant}
@@ -105,22 +106,22 @@ module _ {w₀ w wants areas : List ℕ} (L : Loaded w₀ w wants areas (rowCoun
     align-is : alignOf (getD w (rowCount 2 areas + rowCount 5 wants + i) 0) ≡ field 5 wants i 1
     align-is = ap alignOf (L .want i h) ∙ omega (arith, narrow (5 * i + 1))
 
-    want-same : wantIn w 0 (rowCount 2 areas) (rowCount 5 wants) i ≡ record { size = field 5 wants i 0; align = field 5 wants i 1; area = partOf (areasOf areas) (field 5 wants i 2) (field 5 wants i 3) (field 5 wants i 4) }
+    want-same : wantIn w (tablesFor wants areas) i ≡ record { size = field 5 wants i 0; align = field 5 wants i 1; area = partOf (areasOf areas) (field 5 wants i 2) (field 5 wants i 3) (field 5 wants i 4) }
     want-same =
         let a = size-is in
         let b = align-is in
         let c = area-is in
         cc
 
-  pub lent : Lent w 0 (rowCount 2 areas) (rowCount 5 wants)
+  pub lent : Lent w (tablesFor wants areas)
   lent = record {
     few = few;
     room = omega (arith, L .len);
     proper = λ i h q. rw (L .item i h) (proper-is i h (rw (L .item i h) at q));
   }
 
-  pub wants-are : wantsIn w 0 (rowCount 2 areas) (rowCount 5 wants) ≡ wantsOf (areasOf areas) wants
-  wants-are = tabulate-eq (rowCount 5 wants) (wantIn w 0 (rowCount 2 areas) (rowCount 5 wants))
+  pub wants-are : wantsIn w (tablesFor wants areas) ≡ wantsOf (areasOf areas) wants
+  wants-are = tabulate-eq (rowCount 5 wants) (wantIn w (tablesFor wants areas))
       (λ i. record { size = field 5 wants i 0; align = field 5 wants i 1; area = partOf (areasOf areas) (field 5 wants i 2) (field 5 wants i 3) (field 5 wants i 4) }) want-same
 
 -- ---- what the entry computes fits, each bound as the code asks for it

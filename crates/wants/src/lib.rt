@@ -3,6 +3,10 @@ ghost use lib.ListN.{length};
 ghost use Rattle.wants.specs.Entry.{planFor, outcome, FittedAlone};
 ghost use Rattle.want_checks.specs.Checks.{Granted};
 ghost use Rattle.wants.specs.Inner.{Answered};
+use fit_tables::CELLS;
+use fit_tables::Counts;
+use fit_tables::HOMES;
+use fit_tables::Tables;
 use refusals::Refusal;
 use refusals::Verdict;
 
@@ -54,7 +58,7 @@ fn answer(
     cells: &mut [u32],
     items: &mut [u32],
     work: &mut [u64],
-) -> fit_tables::Counts
+) -> Counts
     requires { ⌜ Granted (now wants) (now areas) (length (now cells)) (length (now items)) (length (now work)) ⌝ }
     ensures { λ r. ⌜ Answered (now (wants .entry)) (now (areas .entry)) (planFor (now (wants .entry)) (now (areas .entry)) budget)
         (now (cells .entry)) (now (items .entry)) (now (work .entry)) r (now (cells .exit)) (now (items .exit)) (now (work .exit)) ⌝ }
@@ -63,9 +67,15 @@ fn answer(
     let ranges = areas.len() / 2;
     want_tables::load(work, wants, areas, n, ranges);
     let end = 8 * (n + ranges);
-    let f = fit_cells::fit(work, 0, ranges, n, end, budget as u64);
-    want_tables::write_cells(cells, work, ranges + 5 * n, f.cells);
-    want_tables::write_items(items, work, wants, ranges + 6 * n, n);
+    let t = Tables {
+        at: 0,
+        items: ranges,
+        n: n,
+        end: end,
+    };
+    let f = fit_cells::fit(work, t, budget as u64);
+    want_tables::write_cells(cells, work, ranges + CELLS * n, f.cells);
+    want_tables::write_items(items, work, wants, ranges + HOMES * n, n);
     words::clear(work, end);
     f
 }

@@ -24,7 +24,9 @@ shared-slice-read-sum : tie.Need-shared-slice-read-sum Inv-loop μ-loop
 shared-slice-read-sum c = omega arith
 
 add-sum-2 : tie.Need-add-sum-2 Inv-loop μ-loop
-add-sum-2 c = record { fits = sum-fits ((c .before .before .loop) .inv) (c .before .loop-test .taken) (omega arith) ((c .shared-slice-known) .given ((c .before .before .before .args) .from + (c .before .before .loop) .c) .fits) }
+add-sum-2 c =
+    let the-loop = c .before .before .loop in
+    record { fits = sum-fits (the-loop .inv) (c .before .loop-test .taken) (omega arith) (c .shared-slice-known .given ((c .before .before .before .args) .from + the-loop .c) .fits) }
 
 add-c : tie.Need-add-c Inv-loop μ-loop
 add-c c = omega arith
@@ -33,10 +35,12 @@ loop-less : tie.Need-loop-less Inv-loop μ-loop
 loop-less c = omega arith
 
 loop-again : tie.Need-loop-again Inv-loop μ-loop
-loop-again c = summing-more ((c .before .before .loop) .inv) (c .before .loop-test .taken) ((c .shared-slice-known) .given ((c .before .before .before .args) .from + (c .before .before .loop) .c) .fits)
+loop-again c =
+    let the-loop = c .before .before .loop in
+    summing-more (the-loop .inv) (c .before .loop-test .taken) (c .shared-slice-known .given ((c .before .before .before .args) .from + the-loop .c) .fits)
 
 returns : tie.Need-returns Inv-loop μ-loop
-returns c = summing-done ((c .before .loop) .inv) (omega arith)
+returns c = summing-done (c .before .loop .inv) (omega arith)
 
 pub depth-spec : {M : Type 1} → statement M
 depth-spec =

@@ -27,7 +27,11 @@ fill-requires : tie.Need-fill-requires
 fill-requires c κs = omega arith
 
 place-requires : tie.Need-place-requires
-place-requires c κs = (in-order ((c .before .before .before .before .before .before .before .before .before .before .pre) .0) ((c .before .before .before .before .before .before .before .before .before .before .pre) .1) ((c .before .before .before .before .before .before .before .before .before .before .pre) .2) ((c .before .before .before .before .before .before .before .before .before .before .pre) .3) ((c .before .before .before .before .before .before .before .order) .ensures) ((c .before .before .before .fill) .ensures), zeros ((c .before .before .before .before .before .before .before .before .before .before .pre) .0) ((c .before .before .before .before .before .before .before .before .before .before .pre) .1) ((c .before .before .before .before .before .before .before .before .before .before .pre) .2) ((c .before .before .before .before .before .before .before .before .before .before .pre) .3) ((c .before .before .before .before .before .before .before .order) .ensures) ((c .before .before .before .fill) .ensures))
+place-requires c κs =
+    let s = c .before .before .before .before .before .before .before .before .before .before .before .before .before .before .before in
+    let the-order = c .before .before .before .before .before .before .before .before .before .order in
+    let the-fill = c .before .before .before .fill in
+    (in-order (s .pre .0) (s .pre .1) (s .pre .2) (s .pre .3) (the-order .ensures) (the-fill .ensures), zeros (s .pre .0) (s .pre .1) (s .pre .2) (s .pre .3) (the-order .ensures) (the-fill .ensures))
 
 mul-depth : tie.Need-mul-depth
 mul-depth c = omega arith
@@ -36,16 +40,26 @@ add-depth : tie.Need-add-depth
 add-depth c = omega arith
 
 depth-requires : tie.Need-depth-requires
-depth-requires c κs = omega (arith, (c .before .before .before .before .before .before .before .before .before .before .before .before .before .before .pre) .0 .few, (c .before .before .before .before .before .before .before .before .before .before .before .before .before .before .pre) .0 .room, cells-few ((c .before .before .before .before .before .before .before .before .before .before .before .before .before .before .pre) .0) ((c .before .before .before .before .before .before .before .before .before .before .before .before .before .before .pre) .1) ((c .before .before .before .before .before .before .before .before .before .before .before .before .before .before .pre) .2) ((c .before .before .before .before .before .before .before .before .before .before .before .before .before .before .pre) .3) ((c .before .before .before .before .before .before .before .before .before .before .before .order) .ensures) ((c .before .before .before .before .before .before .before .fill) .ensures) ((c .before .before .before .place) .ensures))
+depth-requires c κs =
+    let s = c .before .before .before .before .before .before .before .before .before .before .before .before .before .before .before .before .before .before .before .before .before in
+    let the-order = c .before .before .before .before .before .before .before .before .before .before .before .before .before .before .before .order in
+    let the-fill = c .before .before .before .before .before .before .before .before .before .fill in
+    let the-place = c .before .before .before .before .before .place in
+    omega (arith, s .pre .0 .few, s .pre .0 .room, cells-few (s .pre .0) (s .pre .1) (s .pre .2) (s .pre .3) (the-order .ensures) (the-fill .ensures) (the-place .ensures))
 
-sub-t21 : tie.Need-sub-t21
-sub-t21 c = omega arith
+sub-t18 : tie.Need-sub-t18
+sub-t18 c = omega arith
 
 same-length : tie.Need-same-length
 same-length c = omega arith
 
 returns : tie.Need-returns
-returns c = fitted ((c .before .before .before .before .before .before .before .before .before .before .before .before .before .before .before .before .pre) .0) ((c .before .before .before .before .before .before .before .before .before .before .before .before .before .before .before .before .pre) .1) ((c .before .before .before .before .before .before .before .before .before .before .before .before .before .before .before .before .pre) .2) ((c .before .before .before .before .before .before .before .before .before .before .before .before .before .before .before .before .pre) .3) ((c .before .before .before .before .before .before .before .before .before .before .before .before .before .order) .ensures) ((c .before .before .before .before .before .before .before .before .before .fill) .ensures) _ ((c .before .before .before .before .before .place) .ensures) ((c .before .depth) .ensures)
+returns c =
+    let s = c .before .before .before .before .before .before .before .before .before .before .before .before .before .before .before .before .before .before .before .before .before .before .before in
+    let the-order = c .before .before .before .before .before .before .before .before .before .before .before .before .before .before .before .before .before .order in
+    let the-fill = c .before .before .before .before .before .before .before .before .before .before .before .fill in
+    let the-place = c .before .before .before .before .before .before .before .place in
+    fitted (s .pre .0) (s .pre .1) (s .pre .2) (s .pre .3) (the-order .ensures) (the-fill .ensures) _ (the-place .ensures) (c .before .depth .ensures)
 
 pub fit-spec : {M : Type 1} → statement M
 fit-spec =
@@ -62,6 +76,6 @@ fit-spec =
     mul-depth
     add-depth
     depth-requires
-    sub-t21
+    sub-t18
     same-length
     returns)

@@ -31,22 +31,40 @@ div-step : tie.Need-div-step
 div-step c = omega arith
 
 add-step-2 : tie.Need-add-step-2
-add-step-2 c = record { fits = step-word _ _ ((c .reach) .ensures) }
+add-step-2 c = record { fits = step-word _ _ (c .reach .ensures) }
 
-mul-each : tie.Need-mul-each
-mul-each c = omega (arith, (c .before .before .before .width-for) .ensures .1, (c .before .before .before .width-for) .ensures .0, (c .before .before .before .before .before .pre) .0 .low, (c .before .before .before .before .before .pre) .0 .high)
+mul-end : tie.Need-mul-end
+mul-end c =
+    let s = c .before .before .before .before .before .before .before .before in
+    let the-width-for = c .before .before .before .width-for in
+    omega (arith, the-width-for .ensures .1, the-width-for .ensures .0, s .pre .0 .low, s .pre .0 .high)
 
-sub-each : tie.Need-sub-each
-sub-each c = omega (arith, (c .before .before .before .width-for) .ensures .1, (c .before .before .before .width-for) .ensures .0, (c .before .before .before .before .before .pre) .0 .low, (c .before .before .before .before .before .pre) .0 .high)
+sub-end : tie.Need-sub-end
+sub-end c =
+    let s = c .before .before .before .before .before .before .before .before .before in
+    let the-width-for = c .before .before .before .before .width-for in
+    omega (arith, the-width-for .ensures .1, the-width-for .ensures .0, s .pre .0 .low, s .pre .0 .high)
 
 each-requires : tie.Need-each-requires
-each-requires c κs = (in-order-below ((c .before .before .before .before .before .pre) .0) _ (omega (arith, (c .before .before .before .width-for) .ensures .1, (c .before .before .before .width-for) .ensures .0, (c .before .before .before .before .before .pre) .0 .low, (c .before .before .before .before .before .pre) .0 .high)) (omega (arith, (c .before .before .before .width-for) .ensures .1, (c .before .before .before .width-for) .ensures .0, (c .before .before .before .before .before .pre) .0 .low, (c .before .before .before .before .before .pre) .0 .high)), (c .before .before .before .before .before .pre) .1, record { rows-le = omega (arith, (c .before .before .before .width-for) .ensures .1, (c .before .before .before .width-for) .ensures .0, (c .before .before .before .before .before .pre) .0 .low, (c .before .before .before .before .before .pre) .0 .high); narrow = omega (arith, (c .before .before .before .width-for) .ensures .0); some-step = omega arith; step-le = step-fits _ _ ((c .before .reach) .ensures) })
+each-requires c κs =
+    let s = c .before .before .before .before .before .before .before .before .before .before in
+    let the-width-for = c .before .before .before .before .before .width-for in
+    let I = s .pre .0 in
+    let f = the-width-for .ensures in (
+      in-order-below I _ (omega (arith, f .1, f .0, I .low, I .high)) (omega (arith, f .1, f .0, I .low, I .high)),
+      s .pre .1,
+      record { rows-le = omega (arith, f .1, f .0, I .low, I .high); narrow = omega (arith, f .0); some-step = omega arith; step-le = step-fits _ _ (c .before .before .before .reach .ensures) },
+    )
 
 same-length : tie.Need-same-length
 same-length c = omega arith
 
 returns : tie.Need-returns
-returns c = record { rows = _; holds = (c .before .before .each) .ensures .holds; rest = λ x h. (c .before .before .each) .ensures .rest x (omega (arith, (c .before .before .before .before .before .before .width-for) .ensures .1, (c .before .before .before .before .before .before .width-for) .ensures .0, (c .before .before .before .before .before .before .before .before .pre) .0 .low, (c .before .before .before .before .before .before .before .before .pre) .0 .high)) }
+returns c =
+    let s = c .before .before .before .before .before .before .before .before .before .before .before .before .before in
+    let the-width-for = c .before .before .before .before .before .before .before .before .width-for in
+    let the-each = c .before .before .each in
+    record { rows = _; holds = the-each .ensures .holds; rest = λ x h. the-each .ensures .rest x (omega (arith, the-width-for .ensures .1, the-width-for .ensures .0, s .pre .0 .low, s .pre .0 .high)) }
 
 pub place-spec : {M : Type 1} → statement M
 place-spec =
@@ -61,8 +79,8 @@ place-spec =
     add-step
     div-step
     add-step-2
-    mul-each
-    sub-each
+    mul-end
+    sub-end
     each-requires
     same-length
     returns)

@@ -10,19 +10,39 @@ add-n : tie.Need-add-n
 add-n c = omega (arith, (c .before .before .before .pre) .few)
 
 add-load : tie.Need-add-load
-add-load c = omega (arith, (c .before .before .before .before .pre) .space, (c .before .before .before .before .pre) .inside)
+add-load c =
+    let s = c .before .before .before .before in
+    omega (arith, s .pre .space, s .pre .inside)
 
 load-requires : tie.Need-load-requires
-load-requires c κs = omega (arith, (c .before .before .before .before .pre) .space, (c .before .before .before .before .pre) .inside)
+load-requires c κs =
+    let s = c .before .before .before .before in
+    omega (arith, s .pre .space, s .pre .inside)
 
 fit-requires : tie.Need-fit-requires
-fit-requires c κs = (lent (now ((c .before .before .before .before .before .before .before .before .args) .locals)) (now ((c .before .before .before .before .before .before .before .before .args) .slots)) (λ x. (c .before .before .before .before .before .before .before .shared-slice-known) .given x .fits) (λ x. (c .before .before .before .before .before .before .shared-slice-known2) .given x .fits) ((c .before .before .before .load) .ensures) (omega (arith, (c .before .before .before .before .before .before .before .before .pre) .space, (c .before .before .before .before .before .before .before .before .pre) .inside)) ((c .before .before .before .before .before .before .before .before .pre) .short) (c .before .before .before .before .before .before .before .before .pre), (c .before .before .before .before .before .before .before .before .pre) .space, omega (arith, (c .before .before .before .before .before .before .before .before .pre) .inside, (c .before .before .before .load) .ensures .len), (c .before .before .before .before .before .before .before .before .pre) .small)
+fit-requires c κs =
+    let s = c .before .before .before .before .before .before .before .before in
+    let the-shared-slice-known = c .before .before .before .before .before .before .before .shared-slice-known in
+    let the-shared-slice-known2 = c .before .before .before .before .before .before .shared-slice-known2 in
+    let the-load = c .before .before .before .load in (
+      lent (now (s .args .locals)) (now (s .args .slots)) (λ x. the-shared-slice-known .given x .fits) (λ x. the-shared-slice-known2 .given x .fits) (the-load .ensures)
+          (omega (arith, s .pre .space, s .pre .inside)) (s .pre .short) (s .pre),
+      s .pre .space,
+      omega (arith, s .pre .inside, the-load .ensures .len),
+      s .pre .small,
+    )
 
 same-length : tie.Need-same-length
 same-length c = search needs
 
 returns : tie.Need-returns
-returns c = fitted-for (now ((c .before .before .before .before .before .before .before .before .before .before .before .args) .locals)) (now ((c .before .before .before .before .before .before .before .before .before .before .before .args) .slots)) (λ x. (c .before .before .before .before .before .before .before .before .before .before .shared-slice-known) .given x .fits) (λ x. (c .before .before .before .before .before .before .before .before .before .shared-slice-known2) .given x .fits) ((c .before .before .before .before .before .before .load) .ensures) (omega (arith, (c .before .before .before .before .before .before .before .before .before .before .before .pre) .space, (c .before .before .before .before .before .before .before .before .before .before .before .pre) .inside)) ((c .before .before .before .before .before .before .before .before .before .before .before .pre) .short) ((c .before .before .before .before .before .before .before .before .before .before .before .pre) .space) ((c .before .before .fit) .ensures)
+returns c =
+    let s = c .before .before .before .before .before .before .before .before .before .before .before in
+    let the-shared-slice-known = c .before .before .before .before .before .before .before .before .before .before .shared-slice-known in
+    let the-shared-slice-known2 = c .before .before .before .before .before .before .before .before .before .shared-slice-known2 in
+    let the-load = c .before .before .before .before .before .before .load in
+    fitted-for (now (s .args .locals)) (now (s .args .slots)) (λ x. the-shared-slice-known .given x .fits) (λ x. the-shared-slice-known2 .given x .fits) (the-load .ensures)
+    (omega (arith, s .pre .space, s .pre .inside)) (s .pre .short) (s .pre .space) (c .before .before .fit .ensures)
 
 pub fitted-spec : {M : Type 1} → statement M
 fitted-spec =

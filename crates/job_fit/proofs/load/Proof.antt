@@ -19,7 +19,10 @@ same-length : tie.Need-same-length
 same-length c = search needs
 
 returns : tie.Need-returns
-returns c = both-loaded (now ((c .before .before .before .before .before .before .before .before .before .before .before .args) .locals)) (now ((c .before .before .before .before .before .before .before .before .before .before .before .args) .slots)) ((c .before .before .before .before .before .before .load-locals) .ensures) ((c .before .before .load-slots) .ensures) (omega arith)
+returns c =
+    let s = c .before .before .before .before .before .before .before .before .before .before .before in
+    let the-load-locals = c .before .before .before .before .before .before .load-locals in
+    both-loaded (now (s .args .locals)) (now (s .args .slots)) (the-load-locals .ensures) (c .before .before .load-slots .ensures) (omega arith)
 
 pub load-spec : {M : Type 1} → statement M
 load-spec =

@@ -8,49 +8,101 @@ use Rattle.wants.proofs.answer.Statement.{statement}
 use Rattle.wants.proofs.answer.Tie as tie
 
 load-requires : tie.Need-load-requires
-load-requires c κs = let a = (c .before .before .before .before .before .before .args) in (omega (arith, (c .before .before .before .before .before .before .pre) .space), omega arith, omega arith, (c .before .before .before .before .before .before .pre) .few, first-small (now (a .wants)) (now (a .areas)) ((c .before .before .before .before .before .before .pre) .short) ((c .before .before .before .before .before .before .pre) .fine))
+load-requires c κs =
+    let s = c .before .before .before .before .before .before in
+    let a = s .args in
+    (omega (arith, s .pre .space), omega arith, omega arith, s .pre .few, first-small (now (a .wants)) (now (a .areas)) (s .pre .short) (s .pre .fine))
 
 add-end : tie.Need-add-end
-add-end c = regions _ _ ((c .before .before .before .before .before .before .before .before .before .pre) .few) ((c .before .before .before .before .before .before .before .before .before .pre) .short) .all
+add-end c =
+    let s = c .before .before .before .before .before .before .before .before .before in
+    regions _ _ (s .pre .few) (s .pre .short) .all
 
 mul-end : tie.Need-mul-end
-mul-end c = regions _ _ ((c .before .before .before .before .before .before .before .before .before .pre) .few) ((c .before .before .before .before .before .before .before .before .before .pre) .short) .end
+mul-end c =
+    let s = c .before .before .before .before .before .before .before .before .before in
+    regions _ _ (s .pre .few) (s .pre .short) .end
 
 fit-requires : tie.Need-fit-requires
-fit-requires c κs = (lent ((c .before .before .before .load) .ensures) (λ x. (c .before .before .before .before .before .before .before .before .shared-slice-known2) .given x .fits) (λ x. (c .before .before .before .before .before .before .before .before .before .shared-slice-known) .given x .fits) ((c .before .before .before .before .before .before .before .before .before .before .pre) .few) ((c .before .before .before .before .before .before .before .before .before .before .pre) .short) (omega (arith, (c .before .before .before .before .before .before .before .before .before .before .pre) .space)) ((c .before .before .before .before .before .before .before .before .before .before .pre) .fine), omega arith, omega (arith, (c .before .before .before .before .before .before .before .before .before .before .pre) .space, (c .before .before .before .load) .ensures .len), omega (arith, (c .before .before .before .before .before .before .before .before .before .before .pre) .few, (c .before .before .before .before .before .before .before .before .before .before .pre) .short))
+fit-requires c κs =
+    let s = c .before .before .before .before .before .before .before .before .before .before in
+    let the-shared-slice-known = c .before .before .before .before .before .before .before .before .before .shared-slice-known in
+    let the-shared-slice-known2 = c .before .before .before .before .before .before .before .before .shared-slice-known2 in
+    let the-load = c .before .before .before .load in (
+      lent (the-load .ensures) (λ x. the-shared-slice-known2 .given x .fits) (λ x. the-shared-slice-known .given x .fits) (s .pre .few) (s .pre .short) (omega (arith, s .pre .space)) (s .pre .fine),
+      omega arith,
+      omega (arith, s .pre .space, the-load .ensures .len),
+      omega (arith, s .pre .few, s .pre .short),
+    )
 
 mul-write-cells : tie.Need-mul-write-cells
-mul-write-cells c = regions _ _ ((c .before .before .before .before .before .before .before .before .before .before .before .before .before .before .before .pre) .few) ((c .before .before .before .before .before .before .before .before .before .before .before .before .before .before .before .pre) .short) .five
+mul-write-cells c =
+    let s = c .before .before .before .before .before .before .before .before .before .before .before .before .before .before .before in
+    regions _ _ (s .pre .few) (s .pre .short) .five
 
 add-write-cells : tie.Need-add-write-cells
-add-write-cells c = regions _ _ ((c .before .before .before .before .before .before .before .before .before .before .before .before .before .before .before .pre) .few) ((c .before .before .before .before .before .before .before .before .before .before .before .before .before .before .before .pre) .short) .cells
+add-write-cells c =
+    let s = c .before .before .before .before .before .before .before .before .before .before .before .before .before .before .before in
+    regions _ _ (s .pre .few) (s .pre .short) .cells
 
 write-cells-requires : tie.Need-write-cells-requires
-write-cells-requires c κs = (in-cells _ _ _ ((c .before .before .before .before .fit) .ensures .few) ((c .before .before .before .before .before .before .before .before .before .before .before .before .before .before .before .pre) .in-cells), in-tables _ _ _ _ _ _ ((c .before .before .before .before .fit) .ensures .few) ((c .before .before .before .before .before .before .before .before .before .before .before .before .before .before .before .pre) .space) ((c .before .before .before .before .before .before .before .before .load) .ensures .len) ((c .before .before .before .before .fit) .ensures .len))
+write-cells-requires c κs =
+    let s = c .before .before .before .before .before .before .before .before .before .before .before .before .before .before .before in
+    let the-load = c .before .before .before .before .before .before .before .before .load in
+    let the-fit = c .before .before .before .before .fit in
+    (in-cells _ _ _ (the-fit .ensures .few) (s .pre .in-cells), in-tables _ _ _ _ _ _ (the-fit .ensures .few) (s .pre .space) (the-load .ensures .len) (the-fit .ensures .len))
 
 mul-write-items : tie.Need-mul-write-items
-mul-write-items c = regions _ _ ((c .before .before .before .before .before .before .before .before .before .before .before .before .before .before .before .before .before .before .before .before .pre) .few) ((c .before .before .before .before .before .before .before .before .before .before .before .before .before .before .before .before .before .before .before .before .pre) .short) .six
+mul-write-items c =
+    let s = c .before .before .before .before .before .before .before .before .before .before .before .before .before .before .before .before .before .before .before .before in
+    regions _ _ (s .pre .few) (s .pre .short) .six
 
 add-write-items : tie.Need-add-write-items
-add-write-items c = regions _ _ ((c .before .before .before .before .before .before .before .before .before .before .before .before .before .before .before .before .before .before .before .before .pre) .few) ((c .before .before .before .before .before .before .before .before .before .before .before .before .before .before .before .before .before .before .before .before .pre) .short) .items
+add-write-items c =
+    let s = c .before .before .before .before .before .before .before .before .before .before .before .before .before .before .before .before .before .before .before .before in
+    regions _ _ (s .pre .few) (s .pre .short) .items
 
 write-items-requires : tie.Need-write-items-requires
-write-items-requires c κs = (omega (arith, (c .before .before .before .before .before .before .before .before .before .before .before .before .before .before .before .before .before .before .before .before .pre) .in-items), omega (arith, (c .before .before .before .before .before .before .before .before .before .before .before .before .before .before .before .before .before .before .before .before .pre) .space, (c .before .before .before .before .before .before .before .before .before .before .before .before .before .load) .ensures .len, (c .before .before .before .before .before .before .before .before .before .fit) .ensures .len), omega arith, cell-small ((c .before .before .before .before .before .before .before .before .before .fit) .ensures) ((c .before .before .before .before .before .before .before .before .before .before .before .before .before .before .before .before .before .before .before .before .pre) .few))
+write-items-requires c κs =
+    let s = c .before .before .before .before .before .before .before .before .before .before .before .before .before .before .before .before .before .before .before .before in
+    let the-load = c .before .before .before .before .before .before .before .before .before .before .before .before .before .load in
+    let the-fit = c .before .before .before .before .before .before .before .before .before .fit in
+    (omega (arith, s .pre .in-items), omega (arith, s .pre .space, the-load .ensures .len, the-fit .ensures .len), omega arith, cell-small (the-fit .ensures) (s .pre .few))
 
 clear-requires : tie.Need-clear-requires
-clear-requires c κs = omega (arith, (c .before .before .before .before .before .before .before .before .before .before .before .before .before .before .before .before .before .before .before .before .before .before .before .before .pre) .space, (c .before .before .before .before .before .before .before .before .before .before .before .before .before .before .before .before .before .load) .ensures .len, (c .before .before .before .before .before .before .before .before .before .before .before .before .before .fit) .ensures .len)
+clear-requires c κs =
+    let s = c .before .before .before .before .before .before .before .before .before .before .before .before .before .before .before .before .before .before .before .before .before .before .before .before in
+    let the-load = c .before .before .before .before .before .before .before .before .before .before .before .before .before .before .before .before .before .load in
+    let the-fit = c .before .before .before .before .before .before .before .before .before .before .before .before .before .fit in
+    omega (arith, s .pre .space, the-load .ensures .len, the-fit .ensures .len)
 
 same-length : tie.Need-same-length
-same-length c = omega (arith, (c .before .before .before .before .before .before .before .before .before .before .before .write-cells) .kept)
+same-length c =
+    let the-write-cells = c .before .before .before .before .before .before .before .before .before .before .before .write-cells in
+    omega (arith, the-write-cells .kept)
 
 same-length-2 : tie.Need-same-length-2
-same-length-2 c = omega (arith, (c .before .before .before .before .before .before .write-items) .kept)
+same-length-2 c =
+    let the-write-items = c .before .before .before .before .before .before .write-items in
+    omega (arith, the-write-items .kept)
 
 same-length-3 : tie.Need-same-length-3
-same-length-3 c = omega (arith, (c .before .before .clear) .kept, (c .before .before .before .before .before .before .before .before .before .before .before .before .before .before .before .before .before .before .before .before .load) .ensures .len, (c .before .before .before .before .before .before .before .before .before .before .before .before .before .before .before .before .fit) .ensures .len)
+same-length-3 c =
+    let the-load = c .before .before .before .before .before .before .before .before .before .before .before .before .before .before .before .before .before .before .before .before .load in
+    let the-fit = c .before .before .before .before .before .before .before .before .before .before .before .before .before .before .before .before .fit in
+    omega (arith, (c .before .before .clear) .kept, the-load .ensures .len, the-fit .ensures .len)
 
 returns : tie.Need-returns
-returns c = answered _ _ _ _ _ _ _ _ _ _ _ _ ((c .before .before .before .before .before .before .before .before .before .before .before .before .before .before .before .before .before .before .before .before .load) .ensures) (wants-are ((c .before .before .before .before .before .before .before .before .before .before .before .before .before .before .before .before .before .before .before .before .load) .ensures) (λ x. (c .before .before .before .before .before .before .before .before .before .before .before .before .before .before .before .before .before .before .before .before .before .before .before .before .before .shared-slice-known2) .given x .fits) (λ x. (c .before .before .before .before .before .before .before .before .before .before .before .before .before .before .before .before .before .before .before .before .before .before .before .before .before .before .shared-slice-known) .given x .fits) ((c .before .before .before .before .before .before .before .before .before .before .before .before .before .before .before .before .before .before .before .before .before .before .before .before .before .before .before .pre) .few) ((c .before .before .before .before .before .before .before .before .before .before .before .before .before .before .before .before .before .before .before .before .before .before .before .before .before .before .before .pre) .short) (omega (arith, (c .before .before .before .before .before .before .before .before .before .before .before .before .before .before .before .before .before .before .before .before .before .before .before .before .before .before .before .pre) .space)) ((c .before .before .before .before .before .before .before .before .before .before .before .before .before .before .before .before .before .before .before .before .before .before .before .before .before .before .before .pre) .fine)) ((c .before .before .before .before .before .before .before .before .before .before .before .before .before .before .before .before .fit) .ensures) ((c .before .before .before .before .before .before .before .before .before .before .before .write-cells) .ensures) ((c .before .before .before .before .before .before .write-items) .ensures) ((c .before .before .clear) .ensures)
+returns c =
+    let s = c .before .before .before .before .before .before .before .before .before .before .before .before .before .before .before .before .before .before .before .before .before .before .before .before .before .before .before in
+    let the-shared-slice-known = c .before .before .before .before .before .before .before .before .before .before .before .before .before .before .before .before .before .before .before .before .before .before .before .before .before .before .shared-slice-known in
+    let the-shared-slice-known2 = c .before .before .before .before .before .before .before .before .before .before .before .before .before .before .before .before .before .before .before .before .before .before .before .before .before .shared-slice-known2 in
+    let the-load = c .before .before .before .before .before .before .before .before .before .before .before .before .before .before .before .before .before .before .before .before .load in
+    let the-fit = c .before .before .before .before .before .before .before .before .before .before .before .before .before .before .before .before .fit in
+    let the-write-cells = c .before .before .before .before .before .before .before .before .before .before .before .write-cells in
+    let the-write-items = c .before .before .before .before .before .before .write-items in
+    answered _ _ _ _ _ _ _ _ _ _ _ _ (the-load .ensures) (wants-are (the-load .ensures)
+    (λ x. the-shared-slice-known2 .given x .fits) (λ x. the-shared-slice-known .given x .fits) (s .pre .few) (s .pre .short) (omega (arith, s .pre .space)) (s .pre .fine)) (the-fit .ensures) (the-write-cells .ensures) (the-write-items .ensures) (c .before .before .clear .ensures)
 
 pub answer-spec : {M : Type 1} → statement M
 answer-spec =

@@ -17,13 +17,21 @@ enum-known-v : tie.Need-enum-known-v
 enum-known-v c = search needs
 
 returns : tie.Need-returns
-returns c = let a = (c .before .before .before .before .before .before .before .before .before .args) in refused-alone _ _ (verdict (now (a .wants)) (now (a .areas)) (a .locals) (a .budget) (length (now (a .cells))) (length (now (a .items))) (length (now (a .work)))) (planFor (now (a .wants)) (now (a .areas)) (a .budget)) _ _ _ _ _ (sym ((c .before .before .before .refusal) .ensures) ∙ (c .before .v) .given .1)
+returns c =
+    let s = c .before .before .before .before .before .before .before .before .before in
+    let a = s .args in
+    refused-alone _ _ (verdict (now (a .wants)) (now (a .areas)) (a .locals) (a .budget) (length (now (a .cells))) (length (now (a .items))) (length (now (a .work))))
+    (planFor (now (a .wants)) (now (a .areas)) (a .budget)) _ _ _ _ _ (sym (c .before .before .before .refusal .ensures) ∙ (c .before .v) .given .1)
 
 enum-told : tie.Need-enum-told
 enum-told c = search needs
 
 answer-requires : tie.Need-answer-requires
-answer-requires c κs = let a = (c .before .before .before .before .before .before .before .before .before .before .before .args) in granted (now (a .wants)) (now (a .areas)) (a .locals) (a .budget) (length (now (a .cells))) (length (now (a .items))) (length (now (a .work))) (sym ((c .before .before .before .before .before .refusal) .ensures) ∙ (c .before .before .before .enum-told) .given .1)
+answer-requires c κs =
+    let s = c .before .before .before .before .before .before .before .before .before .before .before in
+    let the-refusal = c .before .before .before .before .before .refusal in
+    let a = s .args in
+    granted (now (a .wants)) (now (a .areas)) (a .locals) (a .budget) (length (now (a .cells))) (length (now (a .items))) (length (now (a .work))) (sym (the-refusal .ensures) ∙ (c .before .before .before .enum-told) .given .1)
 
 same-length : tie.Need-same-length
 same-length c = search needs
@@ -35,7 +43,14 @@ same-length-3 : tie.Need-same-length-3
 same-length-3 c = search needs
 
 returns-2 : tie.Need-returns-2
-returns-2 c = let a = (c .before .before .before .before .before .before .before .before .before .before .before .before .before .before .before .before .before .before .args) in answered-alone _ _ (verdict (now (a .wants)) (now (a .areas)) (a .locals) (a .budget) (length (now (a .cells))) (length (now (a .items))) (length (now (a .work)))) (planFor (now (a .wants)) (now (a .areas)) (a .budget)) _ _ _ _ _ _ _ (sym ((c .before .before .before .before .before .before .before .before .before .before .before .before .refusal) .ensures) ∙ (c .before .before .before .before .before .before .before .before .before .before .enum-told) .given .1) ((c .before .before .before .before .before .before .answer) .ensures)
+returns-2 c =
+    let s = c .before .before .before .before .before .before .before .before .before .before .before .before .before .before .before .before .before .before in
+    let the-refusal = c .before .before .before .before .before .before .before .before .before .before .before .before .refusal in
+    let the-enum-told = c .before .before .before .before .before .before .before .before .before .before .enum-told in
+    let the-answer = c .before .before .before .before .before .before .answer in
+    let a = s .args in
+    answered-alone _ _ (verdict (now (a .wants)) (now (a .areas)) (a .locals) (a .budget) (length (now (a .cells))) (length (now (a .items))) (length (now (a .work))))
+    (planFor (now (a .wants)) (now (a .areas)) (a .budget)) _ _ _ _ _ _ _ (sym (the-refusal .ensures) ∙ the-enum-told .given .1) (the-answer .ensures)
 
 pub fit-wants-spec : {M : Type 1} → statement M
 fit-wants-spec =

@@ -1,7 +1,6 @@
 -- `free` meets its contract: the clash test of two parts of the work space.
 use Rattle.fit_tables.proofs.CodeLaws.{part-apart, absent, tested}
-use Rattle.ranges.specs.Forms.{unpacked}
-use Rattle.words.specs.Regions.{part}
+use Rattle.fit_tables.specs.Inner.{rangesOf}
 use Rattle.fit_tables.specs.Tables.{firstOf, countOf}
 use denote.Ref.{now}
 use native.Mathlib.Omega.{arith}
@@ -11,19 +10,21 @@ use Rattle.fit_cells.proofs.probing.free.Statement.{statement}
 use Rattle.fit_cells.proofs.probing.free.Tie as tie
 
 returns : tie.Need-returns
-returns c = let a = (c .before .before .args) in absent (now (a .w)) (a .at) (a .x) (unpacked (part (a .from) (a .count) (now (a .w)))) (omega arith)
+returns c = let g = (c .before .before .args) in absent (now (g .w)) (g .t .at) (g .x) (rangesOf (now (g .w)) (g .a)) (omega arith)
 
 add-first : tie.Need-add-first
-add-first c = omega (arith, ((c .before .before .pre) .0 (omega arith)) .inside)
+add-first c = omega (arith, ((c .before .before .before .pre) .0 (omega arith)) .inside)
 
 add-end : tie.Need-add-end
-add-end c = omega (arith, ((c .before .before .pre) .0 (omega arith)) .inside)
+add-end c = omega (arith, ((c .before .before .before .pre) .0 (omega arith)) .inside)
 
 add-to : tie.Need-add-to
 add-to c = omega arith
 
 mul-clash : tie.Need-mul-clash
-mul-clash c = omega (arith, ((c .before .before .pre) .0 (omega arith)) .inside)
+mul-clash c =
+    let s = c .before .before .before .before in
+    omega (arith, (s .pre .0 (omega arith)) .inside)
 
 sub-clash : tie.Need-sub-clash
 sub-clash c = omega arith
@@ -32,7 +33,9 @@ part-clash-start : tie.Need-part-clash-start
 part-clash-start c = omega arith
 
 part-clash-end : tie.Need-part-clash-end
-part-clash-end c = omega (arith, ((c .before .before .pre) .0 (omega arith)) .inside)
+part-clash-end c =
+    let s = c .before .before .before .before in
+    omega (arith, (s .pre .0 (omega arith)) .inside)
 
 mul-clash-2 : tie.Need-mul-clash-2
 mul-clash-2 c = omega arith
@@ -48,15 +51,19 @@ part-clash-end-2 c = omega arith
 
 clash-requires : tie.Need-clash-requires
 clash-requires c κs =
-    let a = (c .before .before .before .before .args) in (
-      part-apart (now (a .w)) (a .at + firstOf (a .x)) (a .at + firstOf (a .x) + countOf (a .x)) (countOf (a .x)) refl (((c .before .before .before .before .pre) .0 (omega arith)) .neat),
-      part-apart (now (a .w)) (a .from) (a .from + a .count) (a .count) refl ((c .before .before .before .before .pre) .3),
-    )
+    let s = c .before .before .before .before .before .before in
+    let g = (s .args) in
+    let first = g .t .at + firstOf (g .x) in
+    let count = countOf (g .x) in
+    (part-apart (now (g .w)) first (first + count) count refl ((s .pre .0 (omega arith)) .neat), part-apart (now (g .w)) (g .a .from) (g .a .from + g .a .count) (g .a .count) refl (s .pre .3))
 
 returns-2 : tie.Need-returns-2
 returns-2 c =
-    let a = (c .before .before .before .before .before .args) in
-    tested (now (a .w)) (a .at) (a .x) (a .from) (a .count) (a .at + firstOf (a .x)) (a .at + firstOf (a .x) + countOf (a .x)) (a .from + a .count) _ (omega arith) refl refl refl ((c .clash) .ensures)
+    let s = c .before .before .before .before .before .before .before in
+    let g = (s .args) in
+    let first = g .t .at + firstOf (g .x) in
+    let count = countOf (g .x) in
+    tested (now (g .w)) (g .t .at) (g .x) (g .a .from) (g .a .count) first (first + count) (g .a .from + g .a .count) _ (omega arith) refl refl refl (c .clash .ensures)
 
 pub free-spec : {M : Type 1} → statement M
 free-spec =

@@ -13,19 +13,27 @@ returns : tie.Need-returns
 returns c = λ e. absurd (false≢true e)
 
 mul-result : tie.Need-mul-result
-mul-result c = omega (arith, (c .before .pre) (omega arith))
+mul-result c = omega (arith, (c .before .before .before .pre) (omega arith))
 
 add-result : tie.Need-add-result
-add-result c = omega (arith, (c .before .pre) (omega arith))
+add-result c =
+    let s = c .before .before .before .before in
+    omega (arith, (s .pre) (omega arith))
 
 mul-result-2 : tie.Need-mul-result-2
-mul-result-2 c = omega (arith, (c .before .pre) (omega arith))
+mul-result-2 c =
+    let s = c .before .before .before .before in
+    omega (arith, (s .pre) (omega arith))
 
 shared-slice-read-result : tie.Need-shared-slice-read-result
-shared-slice-read-result c = omega (arith, (c .before .before .pre) (omega arith))
+shared-slice-read-result c =
+    let s = c .before .before .before .before .before in
+    omega (arith, (s .pre) (omega arith))
 
 returns-2 : tie.Need-returns-2
-returns-2 c = nonzero (bitAnd (getD (now ((c .before .before .args) .w)) ((c .before .before .args) .base + (c .before .before .args) .c * (c .before .before .args) .width) 0) ((c .before .before .args) .own))
+returns-2 c =
+    let s = c .before .before .before .before .before .before in
+    nonzero (bitAnd (getD (now (s .args .w)) (s .args .s .base + s .args .c * s .args .s .width) 0) (s .args .s .word))
 
 pub hit-spec : {M : Type 1} → statement M
 hit-spec =

@@ -39,19 +39,34 @@ slice-read-c : tie.Need-slice-read-c
 slice-read-c c = omega arith
 
 mul-row-or : tie.Need-mul-row-or
-mul-row-or c = omega (arith, row-inside ((c .before .before .before .before .args) .rows) ((c .before .before .before .before .args) .width) (cellIn (now ((c .before .before .before .before .args) .w)) ((c .before .before .before .before .args) .items) ((c .before .before .before .before .args) .n) ((c .before .before .before .before .args) .k)) ((c .before .before .before .before .args) .n) _ ((c .before .before .before .before .pre) .5) ((c .before .before .before .before .pre) .1))
+mul-row-or c =
+    let s = c .before .before .before .before .before .before .before .before in
+    omega (arith, row-inside (s .args .t .end) (s .args .width) (cellIn (now (s .args .w)) (s .args .t) (s .args .k)) (s .args .t .n) _ (s .pre .5) (s .pre .1))
 
 add-row-or : tie.Need-add-row-or
-add-row-or c = omega (arith, row-inside ((c .before .before .before .before .args) .rows) ((c .before .before .before .before .args) .width) (cellIn (now ((c .before .before .before .before .args) .w)) ((c .before .before .before .before .args) .items) ((c .before .before .before .before .args) .n) ((c .before .before .before .before .args) .k)) ((c .before .before .before .before .args) .n) _ ((c .before .before .before .before .pre) .5) ((c .before .before .before .before .pre) .1))
+add-row-or c =
+    let s = c .before .before .before .before .before .before .before .before .before in
+    omega (arith, row-inside (s .args .t .end) (s .args .width) (cellIn (now (s .args .w)) (s .args .t) (s .args .k)) (s .args .t .n) _ (s .pre .5) (s .pre .1))
 
 mul-row-or-2 : tie.Need-mul-row-or-2
-mul-row-or-2 c = omega (arith, row-inside ((c .before .before .before .before .args) .rows) ((c .before .before .before .before .args) .width) ((c .before .before .before .before .args) .cells) ((c .before .before .before .before .args) .n) _ ((c .before .before .before .before .pre) .3) ((c .before .before .before .before .pre) .1))
+mul-row-or-2 c =
+    let s = c .before .before .before .before .before .before .before .before .before in
+    omega (arith, row-inside (s .args .t .end) (s .args .width) (s .args .cells) (s .args .t .n) _ (s .pre .3) (s .pre .1))
 
 add-row-or-2 : tie.Need-add-row-or-2
-add-row-or-2 c = omega (arith, row-inside ((c .before .before .before .before .args) .rows) ((c .before .before .before .before .args) .width) ((c .before .before .before .before .args) .cells) ((c .before .before .before .before .args) .n) _ ((c .before .before .before .before .pre) .3) ((c .before .before .before .before .pre) .1))
+add-row-or-2 c =
+    let s = c .before .before .before .before .before .before .before .before .before .before in
+    omega (arith, row-inside (s .args .t .end) (s .args .width) (s .args .cells) (s .args .t .n) _ (s .pre .3) (s .pre .1))
 
 row-or-requires : tie.Need-row-or-requires
-row-or-requires c κs = (row-inside ((c .before .before .before .before .args) .rows) ((c .before .before .before .before .args) .width) (cellIn (now ((c .before .before .before .before .args) .w)) ((c .before .before .before .before .args) .items) ((c .before .before .before .before .args) .n) ((c .before .before .before .before .args) .k)) ((c .before .before .before .before .args) .n) _ ((c .before .before .before .before .pre) .5) ((c .before .before .before .before .pre) .1), row-inside ((c .before .before .before .before .args) .rows) ((c .before .before .before .before .args) .width) ((c .before .before .before .before .args) .cells) ((c .before .before .before .before .args) .n) _ ((c .before .before .before .before .pre) .3) ((c .before .before .before .before .pre) .1), aligned-rows ((c .before .before .before .before .args) .rows) (cellIn (now ((c .before .before .before .before .args) .w)) ((c .before .before .before .before .args) .items) ((c .before .before .before .before .args) .n) ((c .before .before .before .before .args) .k)) ((c .before .before .before .before .args) .cells) ((c .before .before .before .before .args) .width))
+row-or-requires c κs =
+    let s = c .before .before .before .before .before .before .before .before .before .before in
+    let t = s .args .t in
+    let cell = cellIn (now (s .args .w)) t (s .args .k) in (
+      row-inside (t .end) (s .args .width) cell (t .n) _ (s .pre .5) (s .pre .1),
+      row-inside (t .end) (s .args .width) (s .args .cells) (t .n) _ (s .pre .3) (s .pre .1),
+      aligned-rows (t .end) cell (s .args .cells) (s .args .width),
+    )
 
 same-length : tie.Need-same-length
 same-length c = omega arith
