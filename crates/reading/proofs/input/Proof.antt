@@ -36,10 +36,18 @@ finish-requires : tie.Need-finish-requires Inv-loop μ-loop
 finish-requires c κs = (c .before .before .before .before .before .before .loop) .inv .2 .reading .held .taken .rows-length
 
 same-length : tie.Need-same-length Inv-loop μ-loop
-same-length c = (c .before .before .before .before .before .before .before .loop) .inv .2 .reading .held .taken .rows-length ∙ sym ((c .before .before .before .before .before .before .before .before .before .before .before .before .before .before .before .before .before .before .before .pre) .0)
+same-length c =
+    let s1 = c .before .before .before .before .before .before .before in
+    let s2 = s1 .before .before .before .before .before .before .before .before .before .before .before .before in
+    let p = s2 .pre in
+    (s1 .loop) .inv .2 .reading .held .taken .rows-length ∙ sym (p .0)
 
 same-length-2 : tie.Need-same-length-2 Inv-loop μ-loop
-same-length-2 c = (c .before .before .before .before .before .before .before .loop) .inv .2 .reading .held .taken .counts-length ∙ sym ((c .before .before .before .before .before .before .before .before .before .before .before .before .before .before .before .before .before .before .before .pre) .1)
+same-length-2 c =
+    let s1 = c .before .before .before .before .before .before .before in
+    let s2 = s1 .before .before .before .before .before .before .before .before .before .before .before .before in
+    let p = s2 .pre in
+    (s1 .loop) .inv .2 .reading .held .taken .counts-length ∙ sym (p .1)
 
 returns : tie.Need-returns Inv-loop μ-loop
 returns c = read-of ((c .before .before .before .before .before .before .before .loop) .inv .2) ((c .finish) .ensures)
@@ -60,7 +68,16 @@ slice-aggregate-feed-2 : tie.Need-slice-aggregate-feed-2 Inv-loop μ-loop
 slice-aggregate-feed-2 c = search needs
 
 feed-requires : tie.Need-feed-requires Inv-loop μ-loop
-feed-requires c κs = (let f = (c .before .before .before .before .before .before .before .before .before .before .before .loop) .inv .0 in omega arith, ready-less ((c .before .before .before .before .before .before .before .before .before .before .before .loop) .inv .2) _ (let p = (c .before .before .before .before .before .before .before .before .read-full) .kept .1 .0 in let q = (c .before .before .before .before .before .before .before .before .before .before .before .loop) .inv .1 in let r = (c .before .before .before .before .before .before .before .before .read-full) .ensures in let t = (c .before .before .before .before .before .before .before .before .before .before .loop-test) .taken in simp length-take (omega arith)))
+feed-requires c κs =
+    let s1 = c .before .before .before .before .before .before .before .before in
+    let read-full = s1 .read-full in
+    let s2 = s1 .before .before in
+    let s3 = s2 .before in
+    let loop = s3 .loop in (
+      let f = loop .inv .0 in omega arith,
+      ready-less (loop .inv .2) _
+          (let p = read-full .kept .1 .0 in let q = loop .inv .1 in let r = read-full .ensures in let t = (s2 .loop-test) .taken in simp length-take (omega arith)),
+    )
 
 add-turn : tie.Need-add-turn Inv-loop μ-loop
 add-turn c = let t = (c .before .before .before .before .before .before .before .before .before .before .before .before .before .before .before .before .before .loop-test) .taken in omega arith
@@ -69,7 +86,19 @@ loop-less : tie.Need-loop-less Inv-loop μ-loop
 loop-less c = let t = (c .before .before .before .before .before .before .before .before .before .before .before .before .before .before .before .before .before .loop-test) .taken in omega arith
 
 loop-again : tie.Need-loop-again Inv-loop μ-loop
-loop-again c = ((c .before .before .before .before .before .before .feed) .ensures .fields-kept ∙ (c .before .before .before .before .before .before .before .before .before .before .before .before .before .before .before .before .before .before .loop) .inv .0, (c .before .before .before .before .before .before .before .before .before .before .before .before .before .before .before .read-full) .kept .1 .0 ∙ (c .before .before .before .before .before .before .before .before .before .before .before .before .before .before .before .before .before .before .loop) .inv .1, ready-fed ((c .before .before .before .before .before .before .before .before .before .before .before .before .before .before .before .before .before .before .loop) .inv .2) ((c .before .before .before .before .before .before .feed) .ensures) _ (let p = (c .before .before .before .before .before .before .before .before .before .before .before .before .before .before .before .read-full) .kept .1 .0 in let q = (c .before .before .before .before .before .before .before .before .before .before .before .before .before .before .before .before .before .before .loop) .inv .1 in let r = (c .before .before .before .before .before .before .before .before .before .before .before .before .before .before .before .read-full) .ensures in let t = (c .before .before .before .before .before .before .before .before .before .before .before .before .before .before .before .before .before .loop-test) .taken in simp length-take (omega arith)))
+loop-again c =
+    let s1 = c .before .before .before .before .before .before in
+    let feed = s1 .feed in
+    let s2 = s1 .before .before .before .before .before .before .before .before .before in
+    let read-full = s2 .read-full in
+    let s3 = s2 .before .before in
+    let s4 = s3 .before in
+    let loop = s4 .loop in (
+      feed .ensures .fields-kept ∙ loop .inv .0,
+      read-full .kept .1 .0 ∙ loop .inv .1,
+      ready-fed (loop .inv .2) (feed .ensures) _
+          (let p = read-full .kept .1 .0 in let q = loop .inv .1 in let r = read-full .ensures in let t = (s3 .loop-test) .taken in simp length-take (omega arith)),
+    )
 
 finish-requires-2 : tie.Need-finish-requires-2 Inv-loop μ-loop
 finish-requires-2 c κs = (c .before .before .loop) .inv .2 .reading .held .taken .rows-length

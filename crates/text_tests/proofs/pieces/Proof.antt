@@ -59,13 +59,28 @@ slice-aggregate-feed-2 : tie.Need-slice-aggregate-feed-2 Inv-loop μ-loop
 slice-aggregate-feed-2 c = sym ((c .before .before .before .before .before .loop) .inv .1)
 
 feed-requires : tie.Need-feed-requires Inv-loop μ-loop
-feed-requires c κs = (seven ((c .before .before .before .before .before .before .before .loop) .inv .1), ready-less ((c .before .before .before .before .before .before .before .loop) .inv .2) _ (within _ _ _ ((c .before .before .before .before .before .piece-end) .ensures .0) ((c .before .before .before .before .before .piece-end) .ensures .1)))
+feed-requires c κs =
+    let s1 = c .before .before .before .before .before in
+    let piece-end = s1 .piece-end in
+    let s2 = s1 .before .before in
+    let loop = s2 .loop in
+    (seven (loop .inv .1), ready-less (loop .inv .2) _ (within _ _ _ (piece-end .ensures .0) (piece-end .ensures .1)))
 
 loop-less : tie.Need-loop-less Inv-loop μ-loop
-loop-less c = less ((c .before .before .before .before .before .before .before .before .before .before .before .before .piece-end) .ensures .0) ((c .before .before .before .before .before .before .before .before .before .before .before .before .piece-end) .ensures .1)
+loop-less c =
+    let s1 = c .before .before .before .before .before .before .before .before .before .before .before .before in
+    let piece-end = s1 .piece-end in
+    less (piece-end .ensures .0) (piece-end .ensures .1)
 
 loop-again : tie.Need-loop-again Inv-loop μ-loop
-loop-again c = ((c .before .before .before .before .before .before .before .before .before .before .before .before .piece-end) .ensures .1, (c .before .before .before .before .before .before .feed) .ensures .fields-kept ∙ (c .before .before .before .before .before .before .before .before .before .before .before .before .before .before .loop) .inv .1, ready-fed ((c .before .before .before .before .before .before .before .before .before .before .before .before .before .before .loop) .inv .2) ((c .before .before .before .before .before .before .feed) .ensures) _ (behind _ _ _ ((c .before .before .before .before .before .before .before .before .before .before .before .before .piece-end) .ensures .0) ((c .before .before .before .before .before .before .before .before .before .before .before .before .piece-end) .ensures .1)))
+loop-again c =
+    let s1 = c .before .before .before .before .before .before in
+    let feed = s1 .feed in
+    let s2 = s1 .before .before .before .before .before .before in
+    let piece-end = s2 .piece-end in
+    let s3 = s2 .before .before in
+    let loop = s3 .loop in
+    (piece-end .ensures .1, feed .ensures .fields-kept ∙ loop .inv .1, ready-fed (loop .inv .2) (feed .ensures) _ (behind _ _ _ (piece-end .ensures .0) (piece-end .ensures .1)))
 
 finish-requires : tie.Need-finish-requires Inv-loop μ-loop
 finish-requires c κs = (c .before .before .loop) .inv .2 .reading .held .taken .rows-length
@@ -74,7 +89,11 @@ same-length : tie.Need-same-length Inv-loop μ-loop
 same-length c = (c .before .before .before .loop) .inv .2 .reading .held .taken .rows-length ∙ sym ((c .before .before .before .before .before .before .before .before .before .before .before .before .before .before .before .before .pre) .0)
 
 same-length-2 : tie.Need-same-length-2 Inv-loop μ-loop
-same-length-2 c = (c .before .before .before .loop) .inv .2 .reading .held .taken .counts-length ∙ sym ((c .before .before .before .before .before .before .before .before .before .before .before .before .before .before .before .before .pre) .1)
+same-length-2 c =
+    let s1 = c .before .before .before in
+    let s2 = s1 .before .before .before .before .before .before .before .before .before .before .before .before .before in
+    let p = s2 .pre in
+    (s1 .loop) .inv .2 .reading .held .taken .counts-length ∙ sym (p .1)
 
 returns : tie.Need-returns Inv-loop μ-loop
 returns c = tt

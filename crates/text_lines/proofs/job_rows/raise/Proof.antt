@@ -23,7 +23,8 @@ mul-at c =
     let s2 = s1 .before .before in
     let a = s2 .args in
     let p = s2 .pre in
-    let k = count-in (a .i) (entry-of .ensures .base) (entry-of .ensures .width) (p .0) in omega (arith, p .1)
+    let k = count-in (a .i) (entry-of .ensures .base) (entry-of .ensures .width) (p .0) in
+    omega (arith, p .1)
 
 add-at : tie.Need-add-at
 add-at c =
@@ -32,7 +33,8 @@ add-at c =
     let s2 = s1 .before .before in
     let a = s2 .args in
     let p = s2 .pre in
-    let k = count-in (a .i) (entry-of .ensures .base) (entry-of .ensures .width) (p .0) in omega (arith, p .1)
+    let k = count-in (a .i) (entry-of .ensures .base) (entry-of .ensures .width) (p .0) in
+    omega (arith, p .1)
 
 mul-rows : tie.Need-mul-rows
 mul-rows c =
@@ -41,7 +43,8 @@ mul-rows c =
     let s2 = s1 .before .before in
     let a = s2 .args in
     let p = s2 .pre in
-    let k = count-in (a .i) (entry-of .ensures .base) (entry-of .ensures .width) (p .0) in omega (arith, p .1)
+    let k = count-in (a .i) (entry-of .ensures .base) (entry-of .ensures .width) (p .0) in
+    omega (arith, p .1)
 
 slice-read-rows : tie.Need-slice-read-rows
 slice-read-rows c =
@@ -50,7 +53,8 @@ slice-read-rows c =
     let s2 = s1 .before .before in
     let a = s2 .args in
     let p = s2 .pre in
-    let k = count-in (a .i) (entry-of .ensures .base) (entry-of .ensures .width) (p .0) in omega (arith, p .1)
+    let k = count-in (a .i) (entry-of .ensures .base) (entry-of .ensures .width) (p .0) in
+    omega (arith, p .1)
 
 add-rows : tie.Need-add-rows
 add-rows c =
@@ -59,7 +63,8 @@ add-rows c =
     let s2 = s1 .before .before in
     let a = s2 .args in
     let p = s2 .pre in
-    let e = ap (λ (x : ℕ). getD (now (a .rows)) x 0) (count-is (a .i) (entry-of .ensures .base) (entry-of .ensures .width) (p .0)) in omega (arith, p .2)
+    let e = ap (λ (x : ℕ). getD (now (a .rows)) x 0) (count-is (a .i) (entry-of .ensures .base) (entry-of .ensures .width) (p .0)) in
+    omega (arith, p .2)
 
 mul-rows-2 : tie.Need-mul-rows-2
 mul-rows-2 c =
@@ -68,7 +73,8 @@ mul-rows-2 c =
     let s2 = s1 .before .before in
     let a = s2 .args in
     let p = s2 .pre in
-    let k = count-in (a .i) (entry-of .ensures .base) (entry-of .ensures .width) (p .0) in omega (arith, p .1)
+    let k = count-in (a .i) (entry-of .ensures .base) (entry-of .ensures .width) (p .0) in
+    omega (arith, p .1)
 
 slice-write-rows : tie.Need-slice-write-rows
 slice-write-rows c =
@@ -77,7 +83,8 @@ slice-write-rows c =
     let s2 = s1 .before .before in
     let a = s2 .args in
     let p = s2 .pre in
-    let k = count-in (a .i) (entry-of .ensures .base) (entry-of .ensures .width) (p .0) in omega (arith, p .1)
+    let k = count-in (a .i) (entry-of .ensures .base) (entry-of .ensures .width) (p .0) in
+    omega (arith, p .1)
 
 same-length : tie.Need-same-length
 same-length c = search needs

@@ -19,13 +19,19 @@ slice-read-n : tie.Need-slice-read-n
 slice-read-n c =
     let s1 = c .before .before .before .before .before in
     let p = s1 .pre in
-    let g = p .meant .group in let l = p .counts-length in let f = few p in omega arith
+    let g = p .meant .group in
+    let l = p .counts-length in
+    let f = few p in
+    omega arith
 
 slice-read-insts : tie.Need-slice-read-insts
 slice-read-insts c =
     let s1 = c .before .before .before .before .before .before in
     let p = s1 .pre in
-    let g = p .meant .group in let l = p .counts-length in let f = few p in omega arith
+    let g = p .meant .group in
+    let l = p .counts-length in
+    let f = few p in
+    omega arith
 
 cast-insts : tie.Need-cast-insts
 cast-insts c = omega (arith, (c .slice-known4) .given 3)
@@ -34,7 +40,10 @@ cast-put : tie.Need-cast-put
 cast-put c =
     let s1 = c .before .before .before .before .before .before .before in
     let p = s1 .pre in
-    let g = p .meant .group in let l = p .counts-length in let f = few p in omega arith
+    let g = p .meant .group in
+    let l = p .counts-length in
+    let f = few p in
+    omega arith
 
 mul-put : tie.Need-mul-put
 mul-put c =
@@ -43,8 +52,12 @@ mul-put c =
     let s2 = s1 .before .before .before .before in
     let a = s2 .args in
     let p = s2 .pre in
-    let w = ap (λ (x : ℕ). x * getD (now (a .counts)) (a .k) 0) (entry-of .ensures .width) in let b = entry-of .ensures .base in let r = row-room p in let f = few p in let l
-    = p .rows-length in omega arith
+    let w = ap (λ (x : ℕ). x * getD (now (a .counts)) (a .k) 0) (entry-of .ensures .width) in
+    let b = entry-of .ensures .base in
+    let r = row-room p in
+    let f = few p in
+    let l = p .rows-length in
+    omega arith
 
 add-put : tie.Need-add-put
 add-put c =
@@ -53,8 +66,12 @@ add-put c =
     let s2 = s1 .before .before .before .before in
     let a = s2 .args in
     let p = s2 .pre in
-    let w = ap (λ (x : ℕ). x * getD (now (a .counts)) (a .k) 0) (entry-of .ensures .width) in let b = entry-of .ensures .base in let r = row-room p in let f = few p in let l
-    = p .rows-length in omega arith
+    let w = ap (λ (x : ℕ). x * getD (now (a .counts)) (a .k) 0) (entry-of .ensures .width) in
+    let b = entry-of .ensures .base in
+    let r = row-room p in
+    let f = few p in
+    let l = p .rows-length in
+    omega arith
 
 put-requires : tie.Need-put-requires
 put-requires c κs =
@@ -72,19 +89,28 @@ add-counts : tie.Need-add-counts
 add-counts c =
     let s1 = c .before .before .before .before .before .before .before .before .before .before .before .before in
     let p = s1 .pre in
-    let g = p .meant .group in let l = p .counts-length in let f = few p in omega arith
+    let g = p .meant .group in
+    let l = p .counts-length in
+    let f = few p in
+    omega arith
 
 mul-counts : tie.Need-mul-counts
 mul-counts c =
     let s1 = c .before .before .before .before .before .before .before .before .before .before .before .before in
     let p = s1 .pre in
-    let g = p .meant .group in let l = p .counts-length in let f = few p in omega arith
+    let g = p .meant .group in
+    let l = p .counts-length in
+    let f = few p in
+    omega arith
 
 slice-write-counts : tie.Need-slice-write-counts
 slice-write-counts c =
     let s1 = c .before .before .before .before .before .before .before .before .before .before .before .before in
     let p = s1 .pre in
-    let g = p .meant .group in let l = p .counts-length in let f = few p in omega arith
+    let g = p .meant .group in
+    let l = p .counts-length in
+    let f = few p in
+    omega arith
 
 raise-requires : tie.Need-raise-requires
 raise-requires c κs =

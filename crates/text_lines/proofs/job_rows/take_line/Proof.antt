@@ -48,8 +48,9 @@ mul-crowded c =
     let s4 = s3 .before .before .before .before .before .before in
     let p = s4 .pre in
     let a = s4 .args in
-    let g = (line-known (p .2) (now (a .line)) ((s3 .read-line) .ensures .answer) (sym ((s2 .accepted) .ensures) ∙ not-false _ ((s1 .if1) .left))) in let n = (p .2) .taken
-    .counts-length in omega arith
+    let g = (line-known (p .2) (now (a .line)) ((s3 .read-line) .ensures .answer) (sym ((s2 .accepted) .ensures) ∙ not-false _ ((s1 .if1) .left))) in
+    let n = (p .2) .taken .counts-length in
+    omega arith
 
 slice-read-crowded : tie.Need-slice-read-crowded
 slice-read-crowded c =
@@ -59,8 +60,9 @@ slice-read-crowded c =
     let s4 = s3 .before .before .before .before .before .before in
     let p = s4 .pre in
     let a = s4 .args in
-    let g = (line-known (p .2) (now (a .line)) ((s3 .read-line) .ensures .answer) (sym ((s2 .accepted) .ensures) ∙ not-false _ ((s1 .if1) .left))) in let n = (p .2) .taken
-    .counts-length in omega arith
+    let g = (line-known (p .2) (now (a .line)) ((s3 .read-line) .ensures .answer) (sym ((s2 .accepted) .ensures) ∙ not-false _ ((s1 .if1) .left))) in
+    let n = (p .2) .taken .counts-length in
+    omega arith
 
 crowded-requires : tie.Need-crowded-requires
 crowded-requires c κs = tt

@@ -61,7 +61,8 @@ sub-fields c =
     let s2 = s1 .before in
     let s3 = s2 .before .before .before in
     let a = s3 .args in
-    let h = (let i = index-within 44 (now (a .b)) in let o = (sym ((s2 .find) .ensures) ∙ ((s1 .if1) .left)) in longer _ (omega arith) ((c .if3) .left)) in omega arith
+    let h = (let i = index-within 44 (now (a .b)) in let o = (sym ((s2 .find) .ensures) ∙ ((s1 .if1) .left)) in longer _ (omega arith) ((c .if3) .left)) in
+    omega arith
 
 part-fields-start : tie.Need-part-fields-start
 part-fields-start c =
@@ -69,7 +70,8 @@ part-fields-start c =
     let s2 = s1 .before in
     let s3 = s2 .before .before .before in
     let a = s3 .args in
-    let h = (let i = index-within 44 (now (a .b)) in let o = (sym ((s2 .find) .ensures) ∙ ((s1 .if1) .left)) in longer _ (omega arith) ((c .if3) .left)) in omega arith
+    let h = (let i = index-within 44 (now (a .b)) in let o = (sym ((s2 .find) .ensures) ∙ ((s1 .if1) .left)) in longer _ (omega arith) ((c .if3) .left)) in
+    omega arith
 
 part-fields-end : tie.Need-part-fields-end
 part-fields-end c =
@@ -77,7 +79,8 @@ part-fields-end c =
     let s2 = s1 .before in
     let s3 = s2 .before .before .before in
     let a = s3 .args in
-    let h = (let i = index-within 44 (now (a .b)) in let o = (sym ((s2 .find) .ensures) ∙ ((s1 .if1) .left)) in longer _ (omega arith) ((c .if3) .left)) in omega arith
+    let h = (let i = index-within 44 (now (a .b)) in let o = (sym ((s2 .find) .ensures) ∙ ((s1 .if1) .left)) in longer _ (omega arith) ((c .if3) .left)) in
+    omega arith
 
 fields-requires : tie.Need-fields-requires
 fields-requires c κs = ((group-within _ _ ((c .before .before .before .before .group-of) .ensures) ((c .before .before .before .if2) .left)), (c .before .before .before .before .before .before .before .before .before .before .pre))

@@ -43,8 +43,10 @@ add-e c =
     let loop = s1 .loop in
     let s2 = s1 .before .before .before .before in
     let a = s2 .args in
-    let q = (part-found (now (a .s)) (loop .at) ((c .find) .result) _ refl ((c .find) .ensures)) in let i = index-within 44 (drop (loop .at) (now (a .s))) in let l =
-    length-drop (loop .at) (now (a .s)) in omega (arith, loop .inv .at-le)
+    let q = (part-found (now (a .s)) (loop .at) ((c .find) .result) _ refl ((c .find) .ensures)) in
+    let i = index-within 44 (drop (loop .at) (now (a .s))) in
+    let l = length-drop (loop .at) (now (a .s)) in
+    omega (arith, loop .inv .at-le)
 
 sub-field : tie.Need-sub-field Inv-loop μ-loop
 sub-field c =
@@ -52,8 +54,10 @@ sub-field c =
     let loop = s1 .loop in
     let s2 = s1 .before .before .before .before in
     let a = s2 .args in
-    let q = (part-found (now (a .s)) (loop .at) ((c .find) .result) _ refl ((c .find) .ensures)) in let i = index-within 44 (drop (loop .at) (now (a .s))) in let l =
-    length-drop (loop .at) (now (a .s)) in omega (arith, loop .inv .at-le)
+    let q = (part-found (now (a .s)) (loop .at) ((c .find) .result) _ refl ((c .find) .ensures)) in
+    let i = index-within 44 (drop (loop .at) (now (a .s))) in
+    let l = length-drop (loop .at) (now (a .s)) in
+    omega (arith, loop .inv .at-le)
 
 part-field-start : tie.Need-part-field-start Inv-loop μ-loop
 part-field-start c =
@@ -61,8 +65,10 @@ part-field-start c =
     let loop = s1 .loop in
     let s2 = s1 .before .before .before .before in
     let a = s2 .args in
-    let q = (part-found (now (a .s)) (loop .at) ((c .find) .result) _ refl ((c .find) .ensures)) in let i = index-within 44 (drop (loop .at) (now (a .s))) in let l =
-    length-drop (loop .at) (now (a .s)) in omega (arith, loop .inv .at-le)
+    let q = (part-found (now (a .s)) (loop .at) ((c .find) .result) _ refl ((c .find) .ensures)) in
+    let i = index-within 44 (drop (loop .at) (now (a .s))) in
+    let l = length-drop (loop .at) (now (a .s)) in
+    omega (arith, loop .inv .at-le)
 
 part-field-end : tie.Need-part-field-end Inv-loop μ-loop
 part-field-end c =
@@ -70,8 +76,10 @@ part-field-end c =
     let loop = s1 .loop in
     let s2 = s1 .before .before .before .before in
     let a = s2 .args in
-    let q = (part-found (now (a .s)) (loop .at) ((c .find) .result) _ refl ((c .find) .ensures)) in let i = index-within 44 (drop (loop .at) (now (a .s))) in let l =
-    length-drop (loop .at) (now (a .s)) in omega (arith, loop .inv .at-le)
+    let q = (part-found (now (a .s)) (loop .at) ((c .find) .result) _ refl ((c .find) .ensures)) in
+    let i = index-within 44 (drop (loop .at) (now (a .s))) in
+    let l = length-drop (loop .at) (now (a .s)) in
+    omega (arith, loop .inv .at-le)
 
 field-requires : tie.Need-field-requires Inv-loop μ-loop
 field-requires c κs = tt
@@ -110,14 +118,20 @@ mul-out c =
     let s1 = c .before .before .before .before .before .before .before .before in
     let loop = s1 .loop in
     let s2 = s1 .before in
-    let g = (s2 .entry-of) .ensures .fields in let r = loop .inv .room in let l = loop .inv .len in omega arith
+    let g = (s2 .entry-of) .ensures .fields in
+    let r = loop .inv .room in
+    let l = loop .inv .len in
+    omega arith
 
 slice-write-out : tie.Need-slice-write-out Inv-loop μ-loop
 slice-write-out c =
     let s1 = c .before .before .before .before .before .before .before .before in
     let loop = s1 .loop in
     let s2 = s1 .before in
-    let g = (s2 .entry-of) .ensures .fields in let r = loop .inv .room in let l = loop .inv .len in omega arith
+    let g = (s2 .entry-of) .ensures .fields in
+    let r = loop .inv .room in
+    let l = loop .inv .len in
+    omega arith
 
 add-j : tie.Need-add-j Inv-loop μ-loop
 add-j c = omega arith
@@ -154,8 +168,10 @@ add-at c =
     let loop = s2 .loop in
     let s3 = s2 .before .before .before .before in
     let a = s3 .args in
-    let q = (part-found (now (a .s)) (loop .at) (find .result) _ refl (find .ensures)) in let i = index-within 44 (drop (loop .at) (now (a .s))) in let l = length-drop
-    (loop .at) (now (a .s)) in omega (arith, loop .inv .at-le, (c .if2) .left)
+    let q = (part-found (now (a .s)) (loop .at) (find .result) _ refl (find .ensures)) in
+    let i = index-within 44 (drop (loop .at) (now (a .s))) in
+    let l = length-drop (loop .at) (now (a .s)) in
+    omega (arith, loop .inv .at-le, (c .if2) .left)
 
 loop-less : tie.Need-loop-less Inv-loop μ-loop
 loop-less c = omega arith

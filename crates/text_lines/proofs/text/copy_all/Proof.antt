@@ -33,7 +33,9 @@ cast-copy-group c =
     let loop = s2 .loop in
     let s3 = s2 .before .before .before .before .before in
     let p = s3 .pre in
-    let f = p .fitting (loop .k) (loop-test .taken) in let m = room-most (loop .k) (loop-test .taken) in omega arith
+    let f = p .fitting (loop .k) (loop-test .taken) in
+    let m = room-most (loop .k) (loop-test .taken) in
+    omega arith
 
 mul-copy-group : tie.Need-mul-copy-group Inv-loop μ-loop
 mul-copy-group c =
@@ -43,7 +45,8 @@ mul-copy-group c =
     let s3 = s2 .before in
     let s4 = s3 .before .before .before .before .before in
     let p = s4 .pre in
-    let f = few-as p ((s3 .loop) .inv) ((s2 .loop-test) .taken) _ _ _ (entry-of .ensures .base) (entry-of .ensures .width) (entry-of .ensures .room) in omega arith
+    let f = few-as p ((s3 .loop) .inv) ((s2 .loop-test) .taken) _ _ _ (entry-of .ensures .base) (entry-of .ensures .width) (entry-of .ensures .room) in
+    omega arith
 
 mul-copy-group-2 : tie.Need-mul-copy-group-2 Inv-loop μ-loop
 mul-copy-group-2 c =
@@ -53,7 +56,8 @@ mul-copy-group-2 c =
     let s3 = s2 .before in
     let s4 = s3 .before .before .before .before .before in
     let p = s4 .pre in
-    let f = room-as p ((s3 .loop) .inv) ((s2 .loop-test) .taken) _ _ _ (entry-of .ensures .base) (entry-of .ensures .width) (entry-of .ensures .room) in omega arith
+    let f = room-as p ((s3 .loop) .inv) ((s2 .loop-test) .taken) _ _ _ (entry-of .ensures .base) (entry-of .ensures .width) (entry-of .ensures .room) in
+    omega arith
 
 copy-group-requires : tie.Need-copy-group-requires Inv-loop μ-loop
 copy-group-requires c κs =
@@ -74,7 +78,10 @@ slice-write-counts c =
     let s2 = s1 .before in
     let s3 = s2 .before .before .before .before .before in
     let p = s3 .pre in
-    let t = (s1 .loop-test) .taken in let r = p .counts-room in let l = (s2 .loop) .inv .counts-are .now-is .len in omega arith
+    let t = (s1 .loop-test) .taken in
+    let r = p .counts-room in
+    let l = (s2 .loop) .inv .counts-are .now-is .len in
+    omega arith
 
 add-k : tie.Need-add-k Inv-loop μ-loop
 add-k c = let t = (c .before .before .before .before .before .before .before .before .loop-test) .taken in omega arith

@@ -31,7 +31,11 @@ shared-slice-read-rows c =
     let s2 = s1 .before in
     let s3 = s2 .before in
     let p = s3 .pre in
-    let r = p .0 in let w = p .1 in let l = (s2 .loop) .inv .now-is .len in let t = (s1 .loop-test) .taken in omega arith
+    let r = p .0 in
+    let w = p .1 in
+    let l = (s2 .loop) .inv .now-is .len in
+    let t = (s1 .loop-test) .taken in
+    omega arith
 
 add-rows-2 : tie.Need-add-rows-2 Inv-loop μ-loop
 add-rows-2 c =
@@ -39,7 +43,11 @@ add-rows-2 c =
     let s2 = s1 .before in
     let s3 = s2 .before in
     let p = s3 .pre in
-    let r = p .0 in let w = p .1 in let l = (s2 .loop) .inv .now-is .len in let t = (s1 .loop-test) .taken in omega arith
+    let r = p .0 in
+    let w = p .1 in
+    let l = (s2 .loop) .inv .now-is .len in
+    let t = (s1 .loop-test) .taken in
+    omega arith
 
 mul-rows-2 : tie.Need-mul-rows-2 Inv-loop μ-loop
 mul-rows-2 c =
@@ -47,7 +55,11 @@ mul-rows-2 c =
     let s2 = s1 .before in
     let s3 = s2 .before in
     let p = s3 .pre in
-    let r = p .0 in let w = p .1 in let l = (s2 .loop) .inv .now-is .len in let t = (s1 .loop-test) .taken in omega arith
+    let r = p .0 in
+    let w = p .1 in
+    let l = (s2 .loop) .inv .now-is .len in
+    let t = (s1 .loop-test) .taken in
+    omega arith
 
 slice-write-rows : tie.Need-slice-write-rows Inv-loop μ-loop
 slice-write-rows c =
@@ -55,7 +67,11 @@ slice-write-rows c =
     let s2 = s1 .before in
     let s3 = s2 .before in
     let p = s3 .pre in
-    let r = p .0 in let w = p .1 in let l = (s2 .loop) .inv .now-is .len in let t = (s1 .loop-test) .taken in omega arith
+    let r = p .0 in
+    let w = p .1 in
+    let l = (s2 .loop) .inv .now-is .len in
+    let t = (s1 .loop-test) .taken in
+    omega arith
 
 add-j : tie.Need-add-j Inv-loop μ-loop
 add-j c =
@@ -63,7 +79,11 @@ add-j c =
     let s2 = s1 .before in
     let s3 = s2 .before in
     let p = s3 .pre in
-    let r = p .0 in let w = p .1 in let l = (s2 .loop) .inv .now-is .len in let t = (s1 .loop-test) .taken in omega arith
+    let r = p .0 in
+    let w = p .1 in
+    let l = (s2 .loop) .inv .now-is .len in
+    let t = (s1 .loop-test) .taken in
+    omega arith
 
 loop-less : tie.Need-loop-less Inv-loop μ-loop
 loop-less c = let t = (c .before .before .loop-test) .taken in omega arith

@@ -36,7 +36,9 @@ sub-put-items c =
     let s1 = c .before .before .before .before .before .before .before .before .before .before .before .before in
     let a = s1 .args in
     let p = s1 .pre in
-    let w = whole-of (now (a .cells)) (now (a .items)) (now (a .areas)) (a .locals) p in let e = w .locals-in in omega arith
+    let w = whole-of (now (a .cells)) (now (a .items)) (now (a .areas)) (a .locals) p in
+    let e = w .locals-in in
+    omega arith
 
 put-items-requires-2 : tie.Need-put-items-requires-2
 put-items-requires-2 c κs =
@@ -75,7 +77,9 @@ sub-t16 c =
     let s1 = c .before .before .before .before .before .before .before .before .before .before .before .before .before .before .before .before .before .before .before .before in
     let a = s1 .args in
     let p = s1 .pre in
-    let w = whole-of (now (a .cells)) (now (a .items)) (now (a .areas)) (a .locals) p in let e = w .enough in omega arith
+    let w = whole-of (now (a .cells)) (now (a .items)) (now (a .areas)) (a .locals) p in
+    let e = w .enough in
+    omega arith
 
 slice-aggregate-put-line : tie.Need-slice-aggregate-put-line
 slice-aggregate-put-line c = search needs

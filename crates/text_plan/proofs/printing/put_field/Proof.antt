@@ -34,7 +34,10 @@ put-requires-2 c κs =
     let s2 = s1 .before .before .before .before in
     let s3 = s2 .before .before .before in
     let p′ = s3 .pre in
-    let h = p′ in let p = (s1 .put) .ensures .place in let q = (s2 .digits) .ensures .0 in simp (length-take, length-drop) (omega arith)
+    let h = p′ in
+    let p = (s1 .put) .ensures .place in
+    let q = (s2 .digits) .ensures .0 in
+    simp (length-take, length-drop) (omega arith)
 
 same-length : tie.Need-same-length
 same-length c = puts-length ((c .before .before .put2) .ensures) ∙ puts-length ((c .before .before .before .before .before .before .before .before .put) .ensures)

@@ -40,7 +40,10 @@ put-field-requires c κs =
     let s3 = s2 .before .before .before .before .before in
     let a = s3 .args in
     let p′ = s3 .pre in
-    let g = fields-near (now (a .ns)) (loop .i) (loop .inv .1) (p′ .1) in let p = (s2 .put) .ensures .place in let h = p′ .0 in omega arith
+    let g = fields-near (now (a .ns)) (loop .i) (loop .inv .1) (p′ .1) in
+    let p = (s2 .put) .ensures .place in
+    let h = p′ .0 in
+    omega arith
 
 add-i : tie.Need-add-i Inv-loop μ-loop
 add-i c = omega arith
@@ -68,7 +71,10 @@ put-requires-2 c κs =
     let s3 = s2 .before .before .before .before .before in
     let a = s3 .args in
     let p′ = s3 .pre in
-    let g = fields-near (now (a .ns)) (loop .i) (loop .inv .1) (p′ .1) in let p = (s2 .put) .ensures .place in let h = p′ .0 in omega arith
+    let g = fields-near (now (a .ns)) (loop .i) (loop .inv .1) (p′ .1) in
+    let p = (s2 .put) .ensures .place in
+    let h = p′ .0 in
+    omega arith
 
 same-length : tie.Need-same-length Inv-loop μ-loop
 same-length c =
