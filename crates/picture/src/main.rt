@@ -4,16 +4,18 @@ ghost use mathlib.Core.Path.{_≡_};
 ghost use Prim.Native.Nat.{_*_, _≤_};
 ghost use lib.ListN.{length};
 ghost use Rattle.text_grammar.specs.Groups.{groupCount, rowNumbers};
-ghost use Rattle.row_plans.specs.Groups.{Few};
+ghost use Rattle.planning.specs.Groups.{Few};
 use drawing::Axis;
 use drawing::axis_of;
 use drawing::height;
 use drawing::ranges;
 use job::Shared;
-use planning::held;
-use planning::planned;
+use planning::row_plans::held;
+use planning::row_plans::planned;
+use planning::row_plans::records;
 use reading::input;
 use refusals::Verdict;
+use text_grammar::BLOCKS;
 use text_grammar::GROUP_COUNT;
 use text_grammar::LOCALS;
 use text_grammar::ROW_NUMBERS;
@@ -66,13 +68,13 @@ fn plan(rows: &[u32], counts: &[u32])
     let mut areas = [0u32; 128];
     let mut work = [0u64; 8192];
     let n = held(counts, LOCALS) + held(counts, SLOTS);
-    let b = held(counts, 1);
+    let blocks = records(rows, counts, BLOCKS);
     let r = planned(rows, counts, &mut cells, &mut items, &mut areas, &mut work);
     match r {
         Shared::Plan(c, probes, depth) => {
             frame::open(c as u32, n as u32, probes, depth);
             show(
-                &rows[3..3 + 3 * b],
+                blocks,
                 &cells,
                 &items[0..4 * n],
                 &areas,

@@ -27,8 +27,7 @@ use Rattle.soundness.specs.Demand.{jobPlan}
 use Rattle.job_answers.specs.declared.Shared.{Shared}
 use Rattle.job_answers.specs.declared.Shared.the-variants.{Plan as Planned, Refused}
 use Rattle.job_answers.specs.Answers.{answered, itemRows}
-use Rattle.job.specs.Entry.{lentVerdict, verdictOf}
-use Rattle.text_grammar.specs.Groups.{groupAt, baseAt, groupCount, rowNumbers}
+use Rattle.text_grammar.specs.Groups.{groupAt, baseAt, groupCount, rowNumbers, headGroup, localGroup, slotGroup}
 use Rattle.text_grammar.specs.Lines.{linesOf}
 use Rattle.text_grammar.specs.Text.{linesVerdict, readVerdict}
 use Rattle.text_grammar.proofs.TableLaws.{room-most}
@@ -40,8 +39,9 @@ use Rattle.text_plan.specs.declared.plan_text.Written.{Written}
 use Rattle.text_plan.specs.declared.plan_text.Written.the-variants.{Bytes, Refused as WrittenRefused}
 use Rattle.text_plan.specs.Printed.{printed, refusalText, inRoom, writtenOf, PrintedTo, planText}
 use Rattle.text_plan.proofs.PlanLaws.{room-told, plan-in-room}
-use Rattle.planning.specs.Program.{told, jobText, job, refusal, printedFor, numbersIn, programText}
-use Rattle.row_plans.specs.Groups.{points, registers, budget, numbersAt, Few, SharedFor}
+use Rattle.planning.specs.Groups.{budget, job, lentFor, verdictFor, numbersAt, Few, SharedFor}
+use Rattle.planning.specs.Program.{told, jobText, refusal, printedFor, numbersIn, programText}
+use Rattle.planning.specs.Program.{cellNumbers, itemNumbers, areaNumbers, workWords}
 use Rattle.wants.proofs.TallyLaws.{not-refused}
 use Rattle.wants.proofs.SeenLaws.{cells-long}
 use Rattle.job_answers.proofs.SeenLaws.{items-long}
@@ -90,7 +90,7 @@ few-of text rows counts e F =
     let v = text-fine text F e in
     let R = F .records v in
     record {
-      head = rw (R .counted 0 (lit< tt)) (head-counted (linesOf text) (first-left (linesVerdict (linesOf text)) _ v));
+      head = rw (R .counted headGroup (lit< tt)) (head-counted (linesOf text) (first-left (linesVerdict (linesOf text)) _ v));
       few = λ k h.
           let a = accepted-few text v k h in
           let b = room-most k h in
@@ -108,8 +108,8 @@ module _ (text rows counts : List ℕ) where
   accepted {v} e F =
       let s = same-numbers (F .records (text-fine text F e)) in
       ap (printedFor (numbersAt rows counts)) (sym (text-fine text F e))
-      ∙ same-printed (numbersAt rows counts) (numbersIn text) (readVerdict text) (s 0 (lit< tt)) (s 1 (lit< tt)) (s 2 (lit< tt)) (s 3 (lit< tt)) (s 4 (lit< tt)) (s 5 (lit< tt)) (s 6 (lit< tt))
-      (s 7 (lit< tt)) (s 8 (lit< tt)) (s 9 (lit< tt)) (s 10 (lit< tt)) (s 11 (lit< tt)) (s 12 (lit< tt))
+      ∙ same-printed (numbersAt rows counts) (numbersIn text) (readVerdict text) (s 0 (lit< tt)) (s 1 (lit< tt)) (s 2 (lit< tt))
+      (s 3 (lit< tt)) (s 4 (lit< tt)) (s 5 (lit< tt)) (s 6 (lit< tt)) (s 7 (lit< tt)) (s 8 (lit< tt)) (s 9 (lit< tt)) (s 10 (lit< tt)) (s 11 (lit< tt)) (s 12 (lit< tt))
 
   pub turned-back : {v : Verdict} (r : Refusal) (i : ℕ) → v ≡ Bad r i → Finished text v rows counts → refusalText (numberOf r) i ≡ programText text
   unfolding printedFor first
@@ -147,26 +147,25 @@ module _ (rows counts : List ℕ) (long : length rows ≡ rowNumbers) (F : Few c
   abbrev J : Job
   J = job group
 
-  local-count : length (J .locals) ≡ getD counts 6 0
+  local-count : length (J .locals) ≡ getD counts localGroup 0
   local-count =
-      let f = F .few 6 (lit< tt) in
-      let l = length-part 1091 (2 * getD counts 6 0) rows (omega arith) in
-      length-records 2 makeLocal (group 6) ∙ (let z : length (group 6) / 2 ≡ getD counts 6 0 = omega arith in z)
+      let f = F .few localGroup (lit< tt) in
+      let l = length-part (baseAt localGroup) (2 * getD counts localGroup 0) rows (omega arith) in
+      length-records 2 makeLocal (group localGroup) ∙ (let z : length (group localGroup) / 2 ≡ getD counts localGroup 0 = omega arith in z)
 
-  slot-count : length (J .slots) ≡ getD counts 7 0
+  slot-count : length (J .slots) ≡ getD counts slotGroup 0
   slot-count =
-      let f = F .few 7 (lit< tt) in
-      let l = length-part 1219 (1 * getD counts 7 0) rows (omega arith) in
-      (let z : length (group 7) ≡ getD counts 7 0 = omega arith in z)
+      let f = F .few slotGroup (lit< tt) in
+      let l = length-part (baseAt slotGroup) (1 * getD counts slotGroup 0) rows (omega arith) in
+      (let z : length (group slotGroup) ≡ getD counts slotGroup 0 = omega arith in z)
 
   -- the plan that the records get
   abbrev P : Plan
   P = jobPlan J (budget group)
 
   module _ (cells items areas work : List ℕ) (r : Shared) (cells′ items′ areas′ work′ : List ℕ) (E : SharedFor group cells items areas work r cells′ items′ areas′ work′)
-      (lc : length cells ≡ 256) (li : length items ≡ 512) (la : length areas ≡ 128) (lw : length work ≡ 8192) where
-    verdict-is : verdictOf (points group) (registers group) (budget group) (group 1) (group 2) (group 3) (group 4) (group 5) (group 6) (group 7) (group 8) (group 9) (group 10) (group 11) (group 12)
-        (length cells) (length items) (length areas) (length work) ≡ refusal group
+      (lc : length cells ≡ cellNumbers) (li : length items ≡ itemNumbers) (la : length areas ≡ areaNumbers) (lw : length work ≡ workWords) where
+    verdict-is : verdictFor group (length cells) (length items) (length areas) (length work) ≡ refusal group
     verdict-is = rw (lc, li, la, lw) refl
 
     answer-is : answered r ≡ tallyOf (unless (refusal group) P)
@@ -184,8 +183,8 @@ module _ (rows counts : List ℕ) (long : length rows ≡ rowNumbers) (F : Few c
 
       printable : Printable (itemCount J) (length (J .locals)) (itemArea J) P
       printable =
-          job-printable J (budget group) (let a = local-count in let f = F .few 6 (lit< tt) in omega arith) (let a = slot-count in let f = F .few 7 (lit< tt) in omega arith)
-          (first-right (lentVerdict (points group) (registers group) (budget group) (group 1) (group 2) (group 3) (group 4) (group 5) (group 6) (group 7) (group 8) (group 9) (group 10) (group 11) (group 12) 256 512 128 8192) (itemsVerdict J 64) none-refused)
+          job-printable J (budget group) (let a = local-count in let f = F .few localGroup (lit< tt) in omega arith) (let a = slot-count in let f = F .few slotGroup (lit< tt) in omega arith)
+          (first-right (lentFor group cellNumbers itemNumbers areaNumbers workWords) (itemsVerdict J 64) none-refused)
 
       tally-is : record { cells = c; probes = p; depth = d } ≡ tallied P
       tally-is = ap held-tally (ap answered (sym re) ∙ answer-is ∙ ap (λ (v : Verdict). tallyOf (unless v P)) none-refused)
@@ -205,7 +204,7 @@ module _ (rows counts : List ℕ) (long : length rows ≡ rowNumbers) (F : Few c
           let e : c ≡ length (P .cells) = ap (λ (t : Tally). t .cells) tally-is in
           omega (arith, printable .few, printable .few-slots, printable .few-locals, printable .locals-in)
 
-      module _ (n : ℕ) (n-is : n ≡ getD counts 6 0 + getD counts 7 0) (kept : length areas′ ≡ 128) where
+      module _ (n : ℕ) (n-is : n ≡ getD counts localGroup 0 + getD counts slotGroup 0) (kept : length areas′ ≡ areaNumbers) where
         abbrev cs : List ℕ
         cs = take (2 * c - 0) (drop 0 cells′)
 
@@ -226,19 +225,19 @@ module _ (rows counts : List ℕ) (long : length rows ≡ rowNumbers) (F : Few c
         abbrev behind : List ℕ
         behind = drop (length (areaRows (itemCount J) (itemArea J))) areas
 
-        areas-kept : length (areaRows (itemCount J) (itemArea J) ++ behind) ≡ 128
+        areas-kept : length (areaRows (itemCount J) (itemArea J) ++ behind) ≡ areaNumbers
         areas-kept = ap length (sym areas-are) ∙ kept
 
-        text-is : printed cs is areas′ (getD counts 6 0) p d ≡ jobText J (budget group)
+        text-is : printed cs is areas′ (getD counts localGroup 0) p d ≡ jobText J (budget group)
         unfolding jobText
         text-is =
             printed-same cs-is is-is areas-are (sym local-count) (ap (λ (t : Tally). t .probes) tally-is) (ap (λ (t : Tally). t .depth) tally-is)
             ∙ text-before printable behind areas-kept
 
-        pub print-ready : sharedVerdict cs is areas′ (getD counts 6 0) ≡ Fine
+        pub print-ready : sharedVerdict cs is areas′ (getD counts localGroup 0) ≡ Fine
         print-ready = fine-same cs-is is-is areas-are (sym local-count) (plan-fine printable behind areas-kept)
 
-        pub plan-printed : printed cs is areas′ (getD counts 6 0) p d ≡ printedFor group Fine
+        pub plan-printed : printed cs is areas′ (getD counts localGroup 0) p d ≡ printedFor group Fine
         unfolding printedFor first
         plan-printed = text-is ∙ ap (λ (v : Verdict). told (unless v (jobText J (budget group)))) (sym none-refused)
 

@@ -5,7 +5,7 @@ use native.Mathlib.Nat.{zero-add, not-suc-le-zero}
 use mathlib.Core.Path.{_≡_, refl, ap, sym, subst, _∙_}
 use mathlib.Core.Option.{Option}
 use mathlib.Core.List.{List, [], _∷_, map}
-use lib.ListN.{length, getD, replicate, length-replicate}
+use lib.ListN.{length, getD}
 use lib.Dec.{lit≤}
 use Rattle.refusals.specs.declared.Verdict.{Verdict}
 use Rattle.refusals.specs.declared.Verdict.the-variants.{Fine}
@@ -27,15 +27,15 @@ use Rattle.soundness.specs.Walks.{Step, Legal, Separate}
 use Rattle.soundness.specs.Demand.{wantsOf, frameOf, jobPlan}
 use Rattle.soundness.proofs.Demand.{job-order, separate, uses, any-cells, demand-3}
 use Rattle.job_answers.specs.Answers.{itemRows}
-use Rattle.job.specs.Entry.{lentVerdict}
-use Rattle.job.proofs.CheckLaws.{granted}
 use Rattle.text_grammar.specs.Text.{readVerdict}
 use Rattle.text_plan.specs.Lines.{lineText}
-use Rattle.row_plans.specs.Groups.{points, registers, budget}
-use Rattle.planning.specs.Program.{told, textOf, jobText, job, refusal, printedFor, numbersIn, programText}
+use Rattle.planning.specs.Groups.{budget, job, lentFor}
+use Rattle.planning.specs.Program.{told, textOf, jobText, refusal, printedFor, numbersIn, programText}
+use Rattle.planning.specs.Program.{cellNumbers, itemNumbers, areaNumbers, workWords}
 use Rattle.planning.specs.Named.{Listed, Named, ReadsThrough}
 use Rattle.wants.proofs.SeenLaws.{cells-long}
 use Rattle.job_answers.proofs.SeenLaws.{items-long}
+use Rattle.planning.proofs.GroupLaws.{checked-for}
 use Rattle.planning.proofs.PrintLaws.{Printable}
 use Rattle.planning.proofs.TextLaws.{text-printable}
 use Rattle.planning.proofs.SizeLaws.{sizes-small}
@@ -142,10 +142,8 @@ module _ (text : List ℕ) (fine : first (readVerdict text) (refusal (numbersIn 
 
   checked : Checked J
   checked =
-      granted (points group) (registers group) (budget group) (group 1) (group 2) (group 3) (group 4) (group 5) (group 6) (group 7) (group 8) (group 9) (group 10) (group 11) (group 12) 256 512 128 (replicate 8192 0)
-      (ap (lentVerdict (points group) (registers group) (budget group) (group 1) (group 2) (group 3) (group 4) (group 5) (group 6) (group 7) (group 8) (group 9) (group 10) (group 11) (group 12) 256 512 128) (length-replicate {A = ℕ} 8192 0)
-      ∙ first-left (lentVerdict (points group) (registers group) (budget group) (group 1) (group 2) (group 3) (group 4) (group 5) (group 6) (group 7) (group 8) (group 9) (group 10) (group 11) (group 12) 256 512 128 8192) (itemsVerdict J 64)
-      (first-right (readVerdict text) (refusal group) fine)) .lent .passed .checked
+      checked-for group cellNumbers itemNumbers areaNumbers workWords
+      (first-left (lentFor group cellNumbers itemNumbers areaNumbers workWords) (itemsVerdict J 64) (first-right (readVerdict text) (refusal group) fine))
 
   printable : Printable (itemCount J) (length (J .locals)) (itemArea J) plan
   printable = text-printable text fine

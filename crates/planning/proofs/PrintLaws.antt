@@ -131,7 +131,9 @@ module _ {n locals : ℕ} {A : ℕ → Option (List Range)} {p : Plan} (P : Prin
       let g = shared-long in
       let h = local-ranges in
       let t = line-length 84 (rowCount 2 (cellRows p) ∷ (rowCount 4 (itemRows n A p) - rowCount 2 (cellRows p)) ∷ p .probes ∷ depthOf (p .cells) ∷ []) (lit≤ tt) in
-      let e₁ = length-append (cellLines (cellRows p)) (itemLines 76 (itemRows n A p) 0 locals ++ (itemLines 83 (itemRows n A p) locals (rowCount 4 (itemRows n A p) - locals) ++ (sharedLines (cellRows p) (itemRows n A p) (areaRows n A) locals ++ totalLine (cellRows p) (itemRows n A p) (p .probes) (depthOf (p .cells))))) in
+      let e₁ = length-append (cellLines (cellRows p))
+      (itemLines 76 (itemRows n A p) 0 locals ++ (itemLines 83 (itemRows n A p) locals (rowCount 4 (itemRows n A p) - locals)
+      ++ (sharedLines (cellRows p) (itemRows n A p) (areaRows n A) locals ++ totalLine (cellRows p) (itemRows n A p) (p .probes) (depthOf (p .cells))))) in
       let e₂ = length-append (itemLines 76 (itemRows n A p) 0 locals) (itemLines 83 (itemRows n A p) locals (rowCount 4 (itemRows n A p) - locals) ++ (sharedLines (cellRows p) (itemRows n A p) (areaRows n A) locals ++ totalLine (cellRows p) (itemRows n A p) (p .probes) (depthOf (p .cells)))) in
       let e₃ = length-append (itemLines 83 (itemRows n A p) locals (rowCount 4 (itemRows n A p) - locals)) (sharedLines (cellRows p) (itemRows n A p) (areaRows n A) locals ++ totalLine (cellRows p) (itemRows n A p) (p .probes) (depthOf (p .cells))) in
       let e₄ = length-append (sharedLines (cellRows p) (itemRows n A p) (areaRows n A) locals) (totalLine (cellRows p) (itemRows n A p) (p .probes) (depthOf (p .cells))) in

@@ -15,9 +15,11 @@ use Rattle.fitting.specs.Wants.{Want, wantAt, orderOf}
 use Rattle.fitting.specs.Plan.{Plan, Cell, cellAt, cellOf, lowest, settled, placedBy, put, fit, nothing}
 use Rattle.soundness.specs.Demand.{localAt, widthAt, wantOf, wantsOf, jobPlan}
 use Rattle.text_grammar.specs.Numerals.{limit}
+use Rattle.text_grammar.specs.Groups.{localGroup, slotGroup}
 use Rattle.text_grammar.specs.Lines.{linesOf}
 use Rattle.text_grammar.proofs.RowLaws.{rows-below}
-use Rattle.planning.specs.Program.{job, numbersIn}
+use Rattle.planning.specs.Groups.{job}
+use Rattle.planning.specs.Program.{numbersIn}
 use Rattle.planning.proofs.AnswerLaws.{makeLocal}
 
 module _ (m : ℕ) where
@@ -57,12 +59,12 @@ module _ (text : List ℕ) where
 
   local-small : (i : ℕ) → localAt J i .size < limit
   local-small i =
-      cut (rowCount 2 (numbersIn text 6)) i
-      (λ h. rw (List·getD-eq-default (J .locals) (record { size = 0; align = 0 }) {n = i} (let l = length-records 2 makeLocal (numbersIn text 6) in omega arith)) (lit< tt))
-      (λ h. rw (getD-records 2 makeLocal (numbersIn text 6) i (record { size = 0; align = 0 }) h) (rows-below 6 (lit< tt) (λ e. omega arith) (linesOf text) _))
+      cut (rowCount 2 (numbersIn text localGroup)) i
+      (λ h. rw (List·getD-eq-default (J .locals) (record { size = 0; align = 0 }) {n = i} (let l = length-records 2 makeLocal (numbersIn text localGroup) in omega arith)) (lit< tt))
+      (λ h. rw (getD-records 2 makeLocal (numbersIn text localGroup) i (record { size = 0; align = 0 }) h) (rows-below localGroup (lit< tt) (λ e. omega arith) (linesOf text) _))
 
   width-small : (i : ℕ) → widthAt J i < limit
-  width-small i = rows-below 7 (lit< tt) (λ e. omega arith) (linesOf text) (i - length (J .locals))
+  width-small i = rows-below slotGroup (lit< tt) (λ e. omega arith) (linesOf text) (i - length (J .locals))
 
   want-small : (i : ℕ) → wantOf J i .size < limit
   want-small i = go (ltb i (length (J .locals)))

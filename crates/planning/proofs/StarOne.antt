@@ -25,10 +25,12 @@ use Rattle.soundness.specs.Demand.{jobPlan}
 use Rattle.soundness.proofs.StarOne.{star-1-job, star-1-checked, star-1-areas, star-1 as star-1-plan}
 use Rattle.job_answers.specs.Answers.{itemRows}
 use Rattle.job.specs.Entry.{lentVerdict}
+use Rattle.planning.specs.Groups.{job, lentFor}
 use Rattle.text_grammar.proofs.Stars.{star, star-1 as star-1-read}
 use Rattle.text_plan.proofs.Stars.{star as starText, star-1 as star-1-printed}
 use Rattle.planning.proofs.PrintLaws.{printed-same}
-use Rattle.planning.specs.Program.{told, jobText, job, refusal, printedFor, numbersIn, programText}
+use Rattle.planning.specs.Program.{told, jobText, refusal, printedFor, numbersIn, programText}
+use Rattle.planning.specs.Program.{cellNumbers, itemNumbers, areaNumbers, workWords}
 use Rattle.planning.proofs.GroupLaws.{same-printed}
 
 abbrev head : List ℕ
@@ -74,7 +76,7 @@ recorded : recordsVerdict 20 0 blocks [] insts [] [] locals [] addresses [] [] [
 unfolding recordsVerdict
 recorded = first-fine _ _ counted ∙ ap (λ (J : Job). inOrder (checks J)) same-job ∙ star-1-checked
 
-lent : lentVerdict 20 0 1048576 blocks [] insts [] [] locals [] addresses [] [] [] [] 256 512 128 8192 ≡ Fine
+lent : lentFor rowsOf cellNumbers itemNumbers areaNumbers workWords ≡ Fine
 unfolding lentVerdict first
 lent = ap (λ (v : Verdict). first v Fine) recorded
 

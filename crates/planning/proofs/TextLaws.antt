@@ -13,7 +13,7 @@ use Rattle.refusals.proofs.Laws.{first-left, first-right}
 use Rattle.words.proofs.RowLaws.{length-records}
 use Rattle.areas.specs.Job.{Job, itemCount, itemArea, itemsVerdict}
 use Rattle.soundness.specs.Demand.{jobPlan}
-use Rattle.text_grammar.specs.Groups.{groupCount, rowNumbers}
+use Rattle.text_grammar.specs.Groups.{groupCount, rowNumbers, localGroup, slotGroup}
 use Rattle.text_grammar.specs.Lines.{linesOf}
 use Rattle.text_grammar.specs.Text.{readVerdict}
 use Rattle.text_grammar.proofs.RowLaws.{length-rows}
@@ -23,8 +23,8 @@ use Rattle.text_lines.proofs.WholeLaws.{read-finished}
 use Rattle.text_plan.specs.declared.plan_text.Written.{Written}
 use Rattle.text_plan.specs.Printed.{writtenOf}
 use Rattle.text_plan.proofs.LineLaws.{line-length}
-use Rattle.row_plans.specs.Groups.{budget}
-use Rattle.planning.specs.Program.{told, jobText, job, refusal, printedFor, numbersIn, programText}
+use Rattle.planning.specs.Groups.{budget, job}
+use Rattle.planning.specs.Program.{told, jobText, refusal, printedFor, numbersIn, programText}
 use Rattle.planning.specs.Answer.{Read, Tells, Answers, roomFor}
 use Rattle.planning.proofs.PrintLaws.{Printable, text-short}
 use Rattle.planning.proofs.JobLaws.{job-printable}
@@ -38,15 +38,15 @@ module _ (text : List ℕ) (e : first (readVerdict text) (refusal (numbersIn tex
 
   local-few : length (J .locals) ≤ 64
   local-few =
-      let a = accepted-few text (first-left (readVerdict text) (refusal (numbersIn text)) e) 6 (lit< tt) in
-      let b = length-rows 6 (lit< tt) (linesOf text) in
-      let c = length-records 2 makeLocal (numbersIn text 6) in
+      let a = accepted-few text (first-left (readVerdict text) (refusal (numbersIn text)) e) localGroup (lit< tt) in
+      let b = length-rows localGroup (lit< tt) (linesOf text) in
+      let c = length-records 2 makeLocal (numbersIn text localGroup) in
       omega arith
 
   slot-few : length (J .slots) ≤ 64
   slot-few =
-      let a = accepted-few text (first-left (readVerdict text) (refusal (numbersIn text)) e) 7 (lit< tt) in
-      let b = length-rows 7 (lit< tt) (linesOf text) in
+      let a = accepted-few text (first-left (readVerdict text) (refusal (numbersIn text)) e) slotGroup (lit< tt) in
+      let b = length-rows slotGroup (lit< tt) (linesOf text) in
       omega arith
 
   pub text-printable : Printable (itemCount J) (length (J .locals)) (itemArea J) (jobPlan J (budget (numbersIn text)))

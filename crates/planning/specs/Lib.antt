@@ -1,3 +1,4 @@
 pub mod Program
 pub mod Answer
 pub mod Named
+pub mod Groups

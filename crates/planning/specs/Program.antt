@@ -12,13 +12,11 @@ use Rattle.areas.specs.Job.{Job, itemCount, itemArea}
 use Rattle.fitting.specs.Plan.{Plan, depthOf}
 use Rattle.wants.specs.Entry.{cellRows}
 use Rattle.area_tables.specs.Tables.{areaRows}
-use Rattle.job_checks.specs.Job.{jobOf}
 use Rattle.soundness.specs.Demand.{jobPlan}
 use Rattle.job_answers.specs.Answers.{itemRows}
-use Rattle.job.specs.Entry.{verdictOf}
 use Rattle.text_grammar.specs.Lines.{linesOf}
 use Rattle.text_grammar.specs.Text.{rowsIn, readVerdict}
-use Rattle.row_plans.specs.Groups.{points, registers, budget}
+use Rattle.planning.specs.Groups.{budget, job, verdictFor}
 use Rattle.text_plan.specs.Printed.{printed, refusalText}
 
 -- "its area list has 64 ranges"; cells and items have room for 64 locals and 64 slots, and the work space is over W of 64 records of each group
@@ -47,20 +45,15 @@ textOf n A locals p = printed (cellRows p) (itemRows n A p) (areaRows n A) local
 unfoldable pub jobText : Job → ℕ → List ℕ
 jobText J budget = textOf (itemCount J) (itemArea J) (length (J .locals)) (jobPlan J budget)
 
--- the numbers of the records of each group, `H`'s line first
+-- the numbers of the records of each group
 module _ (group : ℕ → List ℕ) where
-  abbrev pub job : Job
-  job = jobOf (points group) (registers group) (group 1) (group 2) (group 3) (group 4) (group 5) (group 6) (group 7) (group 8) (group 9) (group 10) (group 11) (group 12)
-
   -- what the job is refused for
   abbrev pub refusal : Verdict
-  refusal =
-      verdictOf (points group) (registers group) (budget group) (group 1) (group 2) (group 3) (group 4) (group 5) (group 6) (group 7) (group 8) (group 9) (group 10) (group 11) (group 12)
-      cellNumbers itemNumbers areaNumbers workWords
+  refusal = verdictFor group cellNumbers itemNumbers areaNumbers workWords
 
   -- the reader's refusals come before the job's
   unfoldable pub printedFor : Verdict → List ℕ
-  printedFor v = told (unless (first v refusal) (jobText job (budget group)))
+  printedFor v = told (unless (first v refusal) (jobText (job group) (budget group)))
 
 -- the numbers of a group's records in a text
 abbrev pub numbersIn : List ℕ → ℕ → List ℕ

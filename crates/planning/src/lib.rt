@@ -8,14 +8,14 @@ ghost use Rattle.refusals.specs.Outcomes.{given};
 ghost use Rattle.text_grammar.specs.Groups.{rowNumbers, groupCount};
 ghost use Rattle.text_plan.specs.Printed.{refusalText, inRoom, writtenOf, PrintedTo};
 ghost use Rattle.planning.specs.Program.{printedFor};
-ghost use Rattle.row_plans.specs.Groups.{numbersAt, Few};
+ghost use Rattle.planning.specs.Groups.{numbersAt, Few};
 ghost use Rattle.planning.specs.Answer.{Read, TextPrinted, Tells, Answers, roomFor};
+use crate::row_plans::held;
+use crate::row_plans::planned;
 use job::Shared;
 use refusals::Refusal;
 use refusals::Verdict;
 use refusals::number;
-pub use row_plans::held;
-pub use row_plans::planned;
 use text_grammar::GROUP_COUNT;
 use text_grammar::LOCALS;
 use text_grammar::ROW_NUMBERS;
@@ -24,6 +24,8 @@ use text_lines::text::read_text;
 use text_plan::plan_text::Written;
 use text_plan::plan_text::print_plan;
 use text_plan::plan_text::print_refusal;
+
+pub mod row_plans; // row_plans.rt: the whole job of the records that the reader left in its list
 
 // How many bytes were written, where the text was not refused.
 fn bytes(w: Written) -> usize

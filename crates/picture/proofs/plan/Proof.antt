@@ -8,16 +8,16 @@ use Rattle.picture.proofs.plan.Statement.{statement}
 use Rattle.picture.proofs.plan.Tie as tie
 
 held-requires : tie.Need-held-requires
-held-requires c κs = ((c .before .before .pre) .1, (c .before .before .pre) .2, omega arith)
+held-requires c κs = (((c .before .before .pre)) .1, ((c .before .before .pre)) .2, omega arith)
 
 held-requires-2 : tie.Need-held-requires-2
-held-requires-2 c κs = ((c .before .before .before .pre) .1, (c .before .before .before .pre) .2, omega arith)
+held-requires-2 c κs = (((c .before .before .before .pre)) .1, ((c .before .before .before .pre)) .2, omega arith)
 
 add-n : tie.Need-add-n
-add-n c = omega (arith, (c .before .held) .ensures .1, (c .held2) .ensures .1)
+add-n c = omega (arith, ((c .before .held)) .ensures .1, ((c .held2)) .ensures .1)
 
-held-requires-3 : tie.Need-held-requires-3
-held-requires-3 c κs = ((c .before .before .before .before .pre) .1, (c .before .before .before .before .pre) .2, omega arith)
+records-requires : tie.Need-records-requires
+records-requires c κs = ((c .before .before .before .before .pre) .0, (c .before .before .before .before .pre) .1, (c .before .before .before .before .pre) .2, omega arith)
 
 slice-aggregate-planned : tie.Need-slice-aggregate-planned
 slice-aggregate-planned c = search needs
@@ -32,13 +32,20 @@ slice-aggregate-planned-4 : tie.Need-slice-aggregate-planned-4
 slice-aggregate-planned-4 c = search needs
 
 planned-requires : tie.Need-planned-requires
-planned-requires c κs = (c .before .before .before .before .before .before .before .before .before .pre)
+planned-requires c κs = ((c .before .before .before .before .before .before .before .before .before .pre))
 
 enum-known-r : tie.Need-enum-known-r
 enum-known-r c = search needs
 
 cast-open : tie.Need-cast-open
-cast-open c = let k = cells-in (now ((c .before .before .before .before .before .before .before .before .before .before .before .before .before .before .before .before .before .args) .rows)) (now ((c .before .before .before .before .before .before .before .before .before .before .before .before .before .before .before .before .before .args) .counts)) ((c .before .before .before .before .before .before .before .before .before .before .before .before .before .before .before .before .before .pre) .0) ((c .before .before .before .before .before .before .before .before .before .before .before .before .before .before .before .before .before .pre) .2) _ _ _ _ _ _ _ _ _ ((c .before .before .before .before .before .before .before .planned) .ensures) refl refl refl refl _ _ _ ((c .before .r) .given .1) in omega arith
+cast-open c =
+    let s1 = c .before in
+    let s2 = s1 .before .before .before .before .before .before in
+    let s3 = s2 .before .before .before .before .before .before .before .before .before .before in
+    let a = s3 .args in
+    let p = s3 .pre in
+    let k = cells-in (now ((a) .rows)) (now ((a) .counts)) ((p) .0) ((p) .2) _ _ _ _ _ _ _ _ _ (((s2 .planned)) .ensures) refl refl refl refl _ _ _ (((s1 .r)) .given .1) in
+    omega arith
 
 cast-open-2 : tie.Need-cast-open-2
 cast-open-2 c = search needs
@@ -46,11 +53,11 @@ cast-open-2 c = search needs
 open-requires : tie.Need-open-requires
 open-requires c κs = tt
 
+slice-aggregate-show : tie.Need-slice-aggregate-show
+slice-aggregate-show c = search needs
+
 mul-show : tie.Need-mul-show
 mul-show c = search needs
-
-add-show : tie.Need-add-show
-add-show c = search needs
 
 sub-show : tie.Need-sub-show
 sub-show c = search needs
@@ -61,21 +68,6 @@ part-show-start c = search needs
 part-show-end : tie.Need-part-show-end
 part-show-end c = search needs
 
-slice-aggregate-show : tie.Need-slice-aggregate-show
-slice-aggregate-show c = search needs
-
-mul-show-2 : tie.Need-mul-show-2
-mul-show-2 c = search needs
-
-sub-show-2 : tie.Need-sub-show-2
-sub-show-2 c = search needs
-
-part-show-start-2 : tie.Need-part-show-start-2
-part-show-start-2 c = search needs
-
-part-show-end-2 : tie.Need-part-show-end-2
-part-show-end-2 c = search needs
-
 slice-aggregate-show-2 : tie.Need-slice-aggregate-show-2
 slice-aggregate-show-2 c = search needs
 
@@ -83,13 +75,28 @@ shared-slice-read-show : tie.Need-shared-slice-read-show
 shared-slice-read-show c = search needs
 
 cast-show : tie.Need-cast-show
-cast-show c = let k = cells-in (now ((c .before .before .before .before .before .before .before .before .before .before .before .before .before .before .before .before .before .before .before .before .before .before .before .before .args) .rows)) (now ((c .before .before .before .before .before .before .before .before .before .before .before .before .before .before .before .before .before .before .before .before .before .before .before .before .args) .counts)) ((c .before .before .before .before .before .before .before .before .before .before .before .before .before .before .before .before .before .before .before .before .before .before .before .before .pre) .0) ((c .before .before .before .before .before .before .before .before .before .before .before .before .before .before .before .before .before .before .before .before .before .before .before .before .pre) .2) _ _ _ _ _ _ _ _ _ ((c .before .before .before .before .before .before .before .before .before .before .before .before .before .before .planned) .ensures) refl refl refl refl _ _ _ ((c .before .before .before .before .before .before .before .before .r) .given .1) in omega arith
+cast-show c =
+    let s1 = c .before .before .before .before .before .before .before in
+    let s2 = s1 .before .before .before .before .before .before in
+    let s3 = s2 .before .before .before .before .before .before .before .before .before .before in
+    let a = s3 .args in
+    let p = s3 .pre in
+    let k = cells-in (now ((a) .rows)) (now ((a) .counts)) ((p) .0) ((p) .2) _ _ _ _ _ _ _ _ _ (((s2 .planned)) .ensures) refl refl refl refl _ _ _ (((s1 .r)) .given .1) in
+    omega arith
 
 cast-show-2 : tie.Need-cast-show-2
 cast-show-2 c = search needs
 
 show-requires : tie.Need-show-requires
-show-requires c κs = (let k = cells-in (now ((c .before .before .before .before .before .before .before .before .before .before .before .before .before .before .before .before .before .before .before .before .before .before .before .before .args) .rows)) (now ((c .before .before .before .before .before .before .before .before .before .before .before .before .before .before .before .before .before .before .before .before .before .before .before .before .args) .counts)) ((c .before .before .before .before .before .before .before .before .before .before .before .before .before .before .before .before .before .before .before .before .before .before .before .before .pre) .0) ((c .before .before .before .before .before .before .before .before .before .before .before .before .before .before .before .before .before .before .before .before .before .before .before .before .pre) .2) _ _ _ _ _ _ _ _ _ ((c .before .before .before .before .before .before .before .before .before .before .before .before .before .before .planned) .ensures) refl refl refl refl _ _ _ ((c .before .before .before .before .before .before .before .before .r) .given .1) in let l = (c .before .before .before .before .before .before .before .before .before .before .before .before .before .before .planned) .kept .1 .1 .0 in omega arith, search needs)
+show-requires c κs =
+    let s1 = c .before .before .before .before .before .before .before in
+    let s2 = s1 .before .before .before .before .before .before in
+    let planned = s2 .planned in
+    let s3 = s2 .before .before .before .before .before .before .before .before .before .before in
+    let a = s3 .args in
+    let p = s3 .pre in
+    (let k = cells-in (now ((a) .rows)) (now ((a) .counts)) ((p) .0) ((p) .2) _ _ _ _ _ _ _ _ _ ((planned) .ensures) refl refl refl refl _ _ _ (((s1 .r)) .given .1) in let l =
+    (planned) .kept .1 .1 .0 in omega arith, search needs)
 
 enum-known-r-2 : tie.Need-enum-known-r-2
 enum-known-r-2 c = search needs
@@ -110,7 +117,7 @@ plan-spec =
     held-requires
     held-requires-2
     add-n
-    held-requires-3
+    records-requires
     slice-aggregate-planned
     slice-aggregate-planned-2
     slice-aggregate-planned-3
@@ -120,16 +127,11 @@ plan-spec =
     cast-open
     cast-open-2
     open-requires
+    slice-aggregate-show
     mul-show
-    add-show
     sub-show
     part-show-start
     part-show-end
-    slice-aggregate-show
-    mul-show-2
-    sub-show-2
-    part-show-start-2
-    part-show-end-2
     slice-aggregate-show-2
     shared-slice-read-show
     cast-show

@@ -24,13 +24,21 @@ slice-aggregate-tell-2 : tie.Need-slice-aggregate-tell-2
 slice-aggregate-tell-2 c = omega arith
 
 tell-requires : tie.Need-tell-requires
-tell-requires c κs = text-read refl refl ((c .before .before .before .before .before .read-text) .kept .1 .0) ((c .before .before .before .before .before .read-text) .kept .1 .1 .0) ((c .before .before .before .before .before .read-text) .ensures)
+tell-requires c κs =
+    let s1 = c .before .before .before .before .before in
+    let read-text = s1 .read-text in
+    text-read refl refl (read-text .kept .1 .0) (read-text .kept .1 .1 .0) (read-text .ensures)
 
 same-length : tie.Need-same-length
 same-length c = omega arith
 
 returns : tie.Need-returns
-returns c = (c .before .before .tell) .ensures (now ((c .before .before .before .before .before .before .before .before .before .before .before .before .before .args) .text)) (read-finished (lit≤ tt) (lit≤ tt) ((c .before .before .before .before .before .before .before .before .read-text) .ensures))
+returns c =
+    let s1 = c .before .before in
+    let s2 = s1 .before .before .before .before .before .before in
+    let s3 = s2 .before .before .before .before .before in
+    let a = s3 .args in
+    (s1 .tell) .ensures (now (a .text)) (read-finished (lit≤ tt) (lit≤ tt) ((s2 .read-text) .ensures))
 
 pub print-text-spec : {M : Type 1} → statement M
 print-text-spec =

@@ -9,7 +9,12 @@ enum-told : tie.Need-enum-told
 enum-told c = search needs
 
 plan-requires : tie.Need-plan-requires
-plan-requires c κs = ((c .before .before .before .before .before .before .pre) .rows-length, (c .before .before .before .before .before .before .pre) .counts-length, few-of ((c .before .before .before .before .before .before .pre) .text) (now ((c .before .before .before .before .before .before .args) .rows)) (now ((c .before .before .before .before .before .before .args) .counts)) ((c .before .enum-told) .given .1) ((c .before .before .before .before .before .before .pre) .finished))
+plan-requires c κs =
+    let s1 = c .before in
+    let s2 = s1 .before .before .before .before .before in
+    let p = s2 .pre in
+    let a = s2 .args in
+    (p .rows-length, p .counts-length, few-of (p .text) (now (a .rows)) (now (a .counts)) ((s1 .enum-told) .given .1) (p .finished))
 
 enum-known-v : tie.Need-enum-known-v
 enum-known-v c = search needs
@@ -21,13 +26,23 @@ same-length : tie.Need-same-length
 same-length c = search needs
 
 returns : tie.Need-returns
-returns c = λ text f. printed-as (accepted text (now ((c .before .before .before .before .before .before .before .before .before .args) .rows)) (now ((c .before .before .before .before .before .before .before .before .before .args) .counts)) ((c .before .before .before .before .enum-told) .given .1) f) ((c .before .before .plan) .ensures)
+returns c =
+    let s1 = c .before .before in
+    let s2 = s1 .before .before in
+    let s3 = s2 .before .before .before .before .before in
+    let a = s3 .args in
+    λ text f. printed-as (accepted text (now (a .rows)) (now (a .counts)) ((s2 .enum-told) .given .1) f) ((s1 .plan) .ensures)
 
 same-length-2 : tie.Need-same-length-2
 same-length-2 c = search needs
 
 returns-2 : tie.Need-returns-2
-returns-2 c = λ text f. printed-as (turned-back text (now ((c .before .before .before .before .before .before .before .before .before .before .args) .rows)) (now ((c .before .before .before .before .before .before .before .before .before .before .args) .counts)) _ _ ((c .before .before .before .before .before .v) .given .1) f) ((c .before .before .refuse) .ensures)
+returns-2 c =
+    let s1 = c .before .before in
+    let s2 = s1 .before .before .before in
+    let s3 = s2 .before .before .before .before .before in
+    let a = s3 .args in
+    λ text f. printed-as (turned-back text (now (a .rows)) (now (a .counts)) _ _ ((s2 .v) .given .1) f) ((s1 .refuse) .ensures)
 
 pub tell-spec : {M : Type 1} → statement M
 tell-spec =

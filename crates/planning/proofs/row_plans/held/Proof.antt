@@ -1,8 +1,8 @@
 -- `held` meets its contract.
 use native.Mathlib.Omega.{arith}
 use mathlib.Core.Path.{refl}
-use Rattle.row_plans.proofs.held.Statement.{statement}
-use Rattle.row_plans.proofs.held.Tie as tie
+use Rattle.planning.proofs.row_plans.held.Statement.{statement}
+use Rattle.planning.proofs.row_plans.held.Tie as tie
 
 mul-result : tie.Need-mul-result
 mul-result c = omega (arith, (c .pre) .0, (c .pre) .2)

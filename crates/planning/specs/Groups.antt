@@ -1,0 +1,56 @@
+-- The records of each group by the group's name, and the whole job of them.
+use Prim.Native.Nat.{ℕ, _*_, _≤_, _<_}
+use mathlib.Core.List.{List}
+use lib.ListN.{getD}
+use Rattle.refusals.specs.declared.Verdict.{Verdict}
+use Rattle.words.specs.Regions.{part}
+use Rattle.areas.specs.Job.{Job}
+use Rattle.job_checks.specs.Job.{jobOf}
+use Rattle.job_answers.specs.declared.Shared.{Shared}
+use Rattle.job.specs.Entry.{lentVerdict, verdictOf, SharedAs}
+use Rattle.text_grammar.specs.Groups.{groupAt, baseAt, groupCount, allowed, headGroup, blockGroup, edgeGroup, instGroup, operandGroup, crossingGroup}
+use Rattle.text_grammar.specs.Groups.{localGroup, slotGroup, addressGroup, endGroup, pieceGroup, assignedGroup, moveGroup}
+
+-- the numbers of the records of each group
+module _ (group : ℕ → List ℕ) where
+  -- "`H,points,V,budget`"
+  abbrev pub points : ℕ
+  points = getD (group headGroup) 0 0
+
+  abbrev pub registers : ℕ
+  registers = getD (group headGroup) 1 0
+
+  abbrev pub budget : ℕ
+  budget = getD (group headGroup) 2 0
+
+  -- the job that they describe
+  abbrev pub job : Job
+  job = jobOf points registers
+      (group blockGroup) (group edgeGroup) (group instGroup) (group operandGroup) (group crossingGroup) (group localGroup)
+      (group slotGroup) (group addressGroup) (group endGroup) (group pieceGroup) (group assignedGroup) (group moveGroup)
+
+  -- what is refused before anything is measured, and all that is refused, where the answer lists and the work space have so many numbers
+  abbrev pub lentFor : ℕ → ℕ → ℕ → ℕ → Verdict
+  lentFor = lentVerdict points registers budget
+      (group blockGroup) (group edgeGroup) (group instGroup) (group operandGroup) (group crossingGroup) (group localGroup)
+      (group slotGroup) (group addressGroup) (group endGroup) (group pieceGroup) (group assignedGroup) (group moveGroup)
+
+  abbrev pub verdictFor : ℕ → ℕ → ℕ → ℕ → Verdict
+  verdictFor = verdictOf points registers budget
+      (group blockGroup) (group edgeGroup) (group instGroup) (group operandGroup) (group crossingGroup) (group localGroup)
+      (group slotGroup) (group addressGroup) (group endGroup) (group pieceGroup) (group assignedGroup) (group moveGroup)
+
+  -- what the whole job answers
+  abbrev pub SharedFor : List ℕ → List ℕ → List ℕ → List ℕ → Shared → List ℕ → List ℕ → List ℕ → List ℕ → Type 0
+  SharedFor = SharedAs points registers budget
+      (group blockGroup) (group edgeGroup) (group instGroup) (group operandGroup) (group crossingGroup) (group localGroup)
+      (group slotGroup) (group addressGroup) (group endGroup) (group pieceGroup) (group assignedGroup) (group moveGroup)
+
+-- the numbers of a group's records in the reader's lists
+abbrev pub numbersAt : List ℕ → List ℕ → ℕ → List ℕ
+numbersAt rows counts k = part (baseAt k) (groupAt k .width * getD counts k 0) rows
+
+-- there is a head, and of each group no more than the program allows
+pub record Few (counts : List ℕ) : Type 0 where
+  pub head : 0 < getD counts headGroup 0
+  pub few : (k : ℕ) → k < groupCount → getD counts k 0 ≤ allowed
