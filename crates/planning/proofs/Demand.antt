@@ -29,7 +29,7 @@ use Rattle.soundness.proofs.Demand.{job-order, separate, uses, any-cells, deman
 use Rattle.job_answers.specs.Answers.{itemRows}
 use Rattle.text_grammar.specs.Text.{readVerdict}
 use Rattle.text_plan.specs.Lines.{lineText}
-use Rattle.planning.specs.Groups.{budget, job, lentFor}
+use Rattle.planning.specs.Groups.{termsFor, job, lentFor}
 use Rattle.planning.specs.Program.{told, textOf, jobText, refusal, printedFor, numbersIn, programText}
 use Rattle.planning.specs.Program.{cellNumbers, itemNumbers, areaNumbers, workWords}
 use Rattle.planning.specs.Named.{Listed, Named, ReadsThrough}
@@ -134,11 +134,11 @@ module _ (text : List ℕ) (fine : first (readVerdict text) (refusal (numbersIn 
   J = job group
 
   abbrev plan : Plan
-  plan = jobPlan J (budget group)
+  plan = jobPlan J (termsFor group .budget)
 
   text-is : textOf (itemCount J) (itemArea J) (length (J .locals)) plan ≡ programText text
   unfolding printedFor jobText
-  text-is = ap (λ (v : Verdict). told (unless v (jobText J (budget group)))) (sym fine)
+  text-is = ap (λ (v : Verdict). told (unless v (jobText J (termsFor group .budget)))) (sym fine)
 
   checked : Checked J
   checked =
@@ -149,7 +149,7 @@ module _ (text : List ℕ) (fine : first (readVerdict text) (refusal (numbersIn 
   printable = text-printable text fine
 
   small : (c : ℕ) → cellAt (plan .cells) c .size < 4294967296
-  small c = sizes-small text (budget group) c
+  small c = sizes-small text (termsFor group .budget) c
 
   -- the printed lines name the plan's cells and their sizes
   pub program-names : Named J (programText text) (plan .cell) (λ c. cellAt (plan .cells) c .size)
@@ -179,7 +179,7 @@ module _ (text : List ℕ) (fine : first (readVerdict text) (refusal (numbersIn 
         ∙ ap (λ (c : ℕ). cellAt (plan .cells) c .size) (same-cell i h)
 
     apart : Separate (frameOf J) cell
-    apart i j h k d e = separate J (budget group) (orderOf (wantsOf J)) (job-order J) i j h k d (sym (same-cell i h) ∙ e ∙ same-cell j k)
+    apart i j h k d e = separate J (termsFor group .budget) (orderOf (wantsOf J)) (job-order J) i j h k d (sym (same-cell i h) ∙ e ∙ same-cell j k)
 
     -- Demand 3: every walk over the text's job reads through the printed cells as through private ones, each byte below the printed size
     pub printed-reads-as-private : (start : ℕ) (w : List Step) → Legal (frameOf J) start w → ReadsThrough J cell size start w
@@ -187,6 +187,6 @@ module _ (text : List ℕ) (fine : first (readVerdict text) (refusal (numbersIn 
       alike = any-cells J checked cell apart start w L .0;
       runs = any-cells J checked cell apart start w L .1;
       below = λ n i b u.
-          let a = demand-3 J checked (budget group) start w L .below n i b u in
+          let a = demand-3 J checked (termsFor group .budget) start w L .below n i b u in
           rw (same-size i (uses (frameOf J) start w L n i b u .item)) a;
     }

@@ -18,7 +18,8 @@ use Rattle.job.proofs.CheckLaws.{granted}
 use Rattle.text_grammar.specs.Groups.{groupAt, baseAt, groupCount, allowed, rowNumbers, headGroup, blockGroup, edgeGroup, instGroup, operandGroup, crossingGroup}
 use Rattle.text_grammar.specs.Groups.{localGroup, slotGroup, addressGroup, endGroup, pieceGroup, assignedGroup, moveGroup}
 use Rattle.text_grammar.proofs.TableLaws.{at}
-use Rattle.planning.specs.Groups.{points, registers, budget, job, lentFor, SharedFor, numbersAt, Few}
+use Rattle.job_space.specs.Rows.{rowsOf}
+use Rattle.planning.specs.Groups.{rowsFor, termsFor, job, lentFor, SharedFor, numbersAt, Few}
 use Rattle.planning.specs.Program.{printedFor}
 
 -- ---- in the reader's list
@@ -59,10 +60,10 @@ reads-in rows i h e = omega arith
 
 -- the job of lists that are the groups'
 pub shared-for : (group : ℕ → List ℕ) {p v b : ℕ} {g1 g2 g3 g4 g5 g6 g7 g8 g9 g10 g11 g12 : List ℕ} {cells items areas work : List ℕ} {r : Shared} {cells′ items′ areas′ work′ : List ℕ}
-    → p ≡ points group → v ≡ registers group → b ≡ budget group
+    → p ≡ rowsFor group .points → v ≡ rowsFor group .v → b ≡ termsFor group .budget
     → g1 ≡ group blockGroup → g2 ≡ group edgeGroup → g3 ≡ group instGroup → g4 ≡ group operandGroup → g5 ≡ group crossingGroup → g6 ≡ group localGroup
     → g7 ≡ group slotGroup → g8 ≡ group addressGroup → g9 ≡ group endGroup → g10 ≡ group pieceGroup → g11 ≡ group assignedGroup → g12 ≡ group moveGroup
-    → SharedAs p v b g1 g2 g3 g4 g5 g6 g7 g8 g9 g10 g11 g12 cells items areas work r cells′ items′ areas′ work′
+    → SharedAs (rowsOf p v g1 g2 g3 g4 g5 g6 g7 g8 g9 g10 g11 g12) (record { budget = b }) cells items areas work r cells′ items′ areas′ work′
     → SharedFor group cells items areas work r cells′ items′ areas′ work′
 shared-for group a b c e1 e2 e3 e4 e5 e6 e7 e8 e9 e10 e11 e12 E =
     rw (sym a, sym b, sym c, sym e1, sym e2, sym e3, sym e4, sym e5, sym e6, sym e7, sym e8, sym e9, sym e10, sym e11, sym e12) E
@@ -70,9 +71,7 @@ shared-for group a b c e1 e2 e3 e4 e5 e6 e7 e8 e9 e10 e11 e12 E =
 -- where nothing is refused, the job is as the whole job asks
 pub checked-for : (group : ℕ → List ℕ) (cells items areas work : ℕ) → lentFor group cells items areas work ≡ Fine → Checked (job group)
 checked-for group cells items areas work e =
-    granted (points group) (registers group) (budget group)
-    (group blockGroup) (group edgeGroup) (group instGroup) (group operandGroup) (group crossingGroup) (group localGroup)
-    (group slotGroup) (group addressGroup) (group endGroup) (group pieceGroup) (group assignedGroup) (group moveGroup)
+    granted (rowsFor group) (termsFor group)
     cells items areas (replicate work 0)
     (ap (lentFor group cells items areas) (length-replicate {A = ℕ} work 0) ∙ e) .lent .passed .checked
 

@@ -1,6 +1,6 @@
 -- ★1 from its text to the printed text: each part's own ★1, put together.
 use Prim.Native.Nat.{ℕ}
-use mathlib.Core.Path.{_≡_, refl, ap, _∙_}
+use mathlib.Core.Path.{_≡_, refl, sym, ap, _∙_}
 use mathlib.Core.Option.{Option, some, Option·some-injective}
 use mathlib.Core.List.{List, [], _∷_}
 use lib.ListN.{getD}
@@ -20,12 +20,14 @@ use Rattle.fitting.specs.Plan.{Plan}
 use Rattle.wants.specs.Entry.{cellRows}
 use Rattle.area_tables.specs.Tables.{areaRows}
 use Rattle.carry_checks.specs.Checks.{carryCounts}
-use Rattle.job_checks.specs.Job.{otherCounts, countVerdict, recordsVerdict}
+use Rattle.job_checks.specs.Job.{otherCounts, countVerdict}
+use Rattle.job_checks.proofs.CheckLaws.{placedOf, placed-checks}
 use Rattle.soundness.specs.Demand.{jobPlan}
 use Rattle.soundness.proofs.StarOne.{star-1-job, star-1-checked, star-1-areas, star-1 as star-1-plan}
 use Rattle.job_answers.specs.Answers.{itemRows}
-use Rattle.job.specs.Entry.{lentVerdict}
-use Rattle.planning.specs.Groups.{job, lentFor}
+use Rattle.job_space.specs.Space.{sizesOf}
+use Rattle.job.proofs.CheckLaws.{by-space}
+use Rattle.planning.specs.Groups.{rowsFor, termsFor, job, lentFor}
 use Rattle.text_grammar.proofs.Stars.{star, star-1 as star-1-read}
 use Rattle.text_plan.proofs.Stars.{star as starText, star-1 as star-1-printed}
 use Rattle.planning.proofs.PrintLaws.{printed-same}
@@ -68,17 +70,15 @@ same-job = refl
 
 -- ---- nothing is refused
 
-counted : countVerdict 0 blocks [] insts [] [] locals [] addresses [] [] [] [] 128 ≡ Fine
+counted : countVerdict (rowsFor rowsOf) areaNumbers ≡ Fine
 unfolding countVerdict carryCounts otherCounts instCounts codeCounts first sumOf
 counted = refl
 
-recorded : recordsVerdict 20 0 blocks [] insts [] [] locals [] addresses [] [] [] [] 128 ≡ Fine
-unfolding recordsVerdict
-recorded = first-fine _ _ counted ∙ ap (λ (J : Job). inOrder (checks J)) same-job ∙ star-1-checked
+placed : placedOf (rowsFor rowsOf) ≡ Fine
+placed = placed-checks (rowsFor rowsOf) ∙ ap (λ (J : Job). inOrder (checks J)) same-job ∙ star-1-checked
 
 lent : lentFor rowsOf cellNumbers itemNumbers areaNumbers workWords ≡ Fine
-unfolding lentVerdict first
-lent = ap (λ (v : Verdict). first v Fine) recorded
+lent = sym (by-space (rowsFor rowsOf) (termsFor rowsOf) cellNumbers itemNumbers areaNumbers workWords (sizesOf (rowsFor rowsOf) areaNumbers) refl counted placed refl refl)
 
 -- two items with the areas a and b, both in cell 0
 module _ (A : ℕ → Option (List Range)) (p : Plan) (one : A 0 ≡ some (range 2 3 ∷ [])) (two : A 1 ≡ some (range 6 7 ∷ [])) where

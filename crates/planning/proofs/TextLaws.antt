@@ -23,7 +23,7 @@ use Rattle.text_lines.proofs.WholeLaws.{read-finished}
 use Rattle.text_plan.specs.declared.plan_text.Written.{Written}
 use Rattle.text_plan.specs.Printed.{writtenOf}
 use Rattle.text_plan.proofs.LineLaws.{line-length}
-use Rattle.planning.specs.Groups.{budget, job}
+use Rattle.planning.specs.Groups.{termsFor, job}
 use Rattle.planning.specs.Program.{told, jobText, refusal, printedFor, numbersIn, programText}
 use Rattle.planning.specs.Answer.{Read, Tells, Answers, roomFor}
 use Rattle.planning.proofs.PrintLaws.{Printable, text-short}
@@ -49,13 +49,13 @@ module _ (text : List ℕ) (e : first (readVerdict text) (refusal (numbersIn tex
       let b = length-rows slotGroup (lit< tt) (linesOf text) in
       omega arith
 
-  pub text-printable : Printable (itemCount J) (length (J .locals)) (itemArea J) (jobPlan J (budget (numbersIn text)))
+  pub text-printable : Printable (itemCount J) (length (J .locals)) (itemArea J) (jobPlan J (termsFor (numbersIn text) .budget))
   text-printable =
-      job-printable J (budget (numbersIn text)) local-few slot-few
+      job-printable J (termsFor (numbersIn text) .budget) local-few slot-few
       (first-right _ (itemsVerdict J 64)
       (first-right (readVerdict text) (refusal (numbersIn text)) e))
 
-  plan-short : length (jobText J (budget (numbersIn text))) ≤ roomFor
+  plan-short : length (jobText J (termsFor (numbersIn text) .budget)) ≤ roomFor
   unfolding jobText
   plan-short = text-short text-printable
 
@@ -65,7 +65,7 @@ pub program-short : (text : List ℕ) → length (programText text) ≤ roomFor
 unfolding printedFor
 program-short text = go (first (readVerdict text) (refusal (numbersIn text))) (plan-short text)
   where
-    go : (v : Verdict) → (v ≡ Fine → length (jobText (job (numbersIn text)) (budget (numbersIn text))) ≤ roomFor) → length (told (unless v (jobText (job (numbersIn text)) (budget (numbersIn text))))) ≤ roomFor
+    go : (v : Verdict) → (v ≡ Fine → length (jobText (job (numbersIn text)) (termsFor (numbersIn text) .budget)) ≤ roomFor) → length (told (unless v (jobText (job (numbersIn text)) (termsFor (numbersIn text) .budget)))) ≤ roomFor
     go Fine h = h refl
     go (Bad r i) h = let l = line-length 78 (numberOf r ∷ i ∷ []) (lit≤ tt) in omega arith
 

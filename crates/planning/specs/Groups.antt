@@ -5,6 +5,8 @@ use lib.ListN.{getD}
 use Rattle.refusals.specs.declared.Verdict.{Verdict}
 use Rattle.words.specs.Regions.{part}
 use Rattle.areas.specs.Job.{Job}
+use Rattle.job_space.specs.declared.Terms.{Terms}
+use Rattle.job_space.specs.Rows.{Rows, rowsOf}
 use Rattle.job_checks.specs.Job.{jobOf}
 use Rattle.job_answers.specs.declared.Shared.{Shared}
 use Rattle.job.specs.Entry.{lentVerdict, verdictOf, SharedAs}
@@ -13,38 +15,29 @@ use Rattle.text_grammar.specs.Groups.{localGroup, slotGroup, addressGroup, endG
 
 -- the numbers of the records of each group
 module _ (group : ℕ → List ℕ) where
-  -- "`H,points,V,budget`"
-  abbrev pub points : ℕ
-  points = getD (group headGroup) 0 0
+  -- what the job is lent, with "`H,points,V,budget`"
+  abbrev pub rowsFor : Rows
+  rowsFor = rowsOf (getD (group headGroup) 0 0) (getD (group headGroup) 1 0)
+      (group blockGroup) (group edgeGroup) (group instGroup) (group operandGroup) (group crossingGroup) (group localGroup)
+      (group slotGroup) (group addressGroup) (group endGroup) (group pieceGroup) (group assignedGroup) (group moveGroup)
 
-  abbrev pub registers : ℕ
-  registers = getD (group headGroup) 1 0
-
-  abbrev pub budget : ℕ
-  budget = getD (group headGroup) 2 0
+  abbrev pub termsFor : Terms
+  termsFor = record { budget = getD (group headGroup) 2 0 }
 
   -- the job that they describe
   abbrev pub job : Job
-  job = jobOf points registers
-      (group blockGroup) (group edgeGroup) (group instGroup) (group operandGroup) (group crossingGroup) (group localGroup)
-      (group slotGroup) (group addressGroup) (group endGroup) (group pieceGroup) (group assignedGroup) (group moveGroup)
+  job = jobOf rowsFor
 
   -- what is refused before anything is measured, and all that is refused, where the answer lists and the work space have so many numbers
   abbrev pub lentFor : ℕ → ℕ → ℕ → ℕ → Verdict
-  lentFor = lentVerdict points registers budget
-      (group blockGroup) (group edgeGroup) (group instGroup) (group operandGroup) (group crossingGroup) (group localGroup)
-      (group slotGroup) (group addressGroup) (group endGroup) (group pieceGroup) (group assignedGroup) (group moveGroup)
+  lentFor = lentVerdict rowsFor termsFor
 
   abbrev pub verdictFor : ℕ → ℕ → ℕ → ℕ → Verdict
-  verdictFor = verdictOf points registers budget
-      (group blockGroup) (group edgeGroup) (group instGroup) (group operandGroup) (group crossingGroup) (group localGroup)
-      (group slotGroup) (group addressGroup) (group endGroup) (group pieceGroup) (group assignedGroup) (group moveGroup)
+  verdictFor = verdictOf rowsFor termsFor
 
   -- what the whole job answers
   abbrev pub SharedFor : List ℕ → List ℕ → List ℕ → List ℕ → Shared → List ℕ → List ℕ → List ℕ → List ℕ → Type 0
-  SharedFor = SharedAs points registers budget
-      (group blockGroup) (group edgeGroup) (group instGroup) (group operandGroup) (group crossingGroup) (group localGroup)
-      (group slotGroup) (group addressGroup) (group endGroup) (group pieceGroup) (group assignedGroup) (group moveGroup)
+  SharedFor = SharedAs rowsFor termsFor
 
 -- the numbers of a group's records in the reader's lists
 abbrev pub numbersAt : List ℕ → List ℕ → ℕ → List ℕ

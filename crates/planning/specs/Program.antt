@@ -16,7 +16,7 @@ use Rattle.soundness.specs.Demand.{jobPlan}
 use Rattle.job_answers.specs.Answers.{itemRows}
 use Rattle.text_grammar.specs.Lines.{linesOf}
 use Rattle.text_grammar.specs.Text.{rowsIn, readVerdict}
-use Rattle.planning.specs.Groups.{budget, job, verdictFor}
+use Rattle.planning.specs.Groups.{termsFor, job, verdictFor}
 use Rattle.text_plan.specs.Printed.{printed, refusalText}
 
 -- "its area list has 64 ranges"; cells and items have room for 64 locals and 64 slots, and the work space is over W of 64 records of each group
@@ -53,7 +53,7 @@ module _ (group : ℕ → List ℕ) where
 
   -- the reader's refusals come before the job's
   unfoldable pub printedFor : Verdict → List ℕ
-  printedFor v = told (unless (first v refusal) (jobText (job group) (budget group)))
+  printedFor v = told (unless (first v refusal) (jobText (job group) (termsFor group .budget)))
 
 -- the numbers of a group's records in a text
 abbrev pub numbersIn : List ℕ → ℕ → List ℕ

@@ -5,6 +5,8 @@ ghost use lib.ListN.{length, getD};
 ghost use Rattle.text_grammar.specs.Groups.{rowNumbers, groupCount, allowed};
 ghost use Rattle.planning.specs.Groups.{numbersAt, Few, SharedFor};
 use job::Shared;
+use job_space::Head;
+use job_space::Terms;
 use text_grammar::ADDRESSES;
 use text_grammar::ASSIGNED;
 use text_grammar::BLOCKS;
@@ -55,10 +57,15 @@ pub fn planned(
         (now (cells .entry)) (now (items .entry)) (now (areas .entry)) (now (work .entry)) r
         (now (cells .exit)) (now (items .exit)) (now (areas .exit)) (now (work .exit)) ⌝ }
 {
+    let points = rows[POINTS];
+    let v = rows[REGISTERS];
+    let budget = rows[BUDGET];
     job::share(
-        rows[POINTS],
-        rows[REGISTERS],
-        rows[BUDGET],
+        Head {
+            points: points,
+            v: v,
+            terms: Terms { budget: budget },
+        },
         records(rows, counts, BLOCKS),
         records(rows, counts, EDGES),
         records(rows, counts, INSTS),

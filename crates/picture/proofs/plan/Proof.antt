@@ -94,9 +94,11 @@ show-requires c κs =
     let planned = s2 .planned in
     let s3 = s2 .before .before .before .before .before .before .before .before .before .before in
     let a = s3 .args in
-    let p = s3 .pre in
-    (let k = cells-in (now ((a) .rows)) (now ((a) .counts)) ((p) .0) ((p) .2) _ _ _ _ _ _ _ _ _ ((planned) .ensures) refl refl refl refl _ _ _ (((s1 .r)) .given .1) in let l =
-    (planned) .kept .1 .1 .0 in omega arith, search needs)
+    let p = s3 .pre in (
+      let k = cells-in (now ((a) .rows)) (now ((a) .counts)) ((p) .0) ((p) .2) _ _ _ _ _ _ _ _ _ ((planned) .ensures) refl refl refl refl _ _ _ (((s1 .r)) .given .1) in let l =
+          (planned) .kept .1 .1 .0 in omega arith,
+      search needs,
+    )
 
 enum-known-r-2 : tie.Need-enum-known-r-2
 enum-known-r-2 c = search needs

@@ -7,84 +7,84 @@ use Rattle.planning.proofs.GroupLaws.{head-at, reads-in, shared-for}
 use Rattle.planning.proofs.row_plans.planned.Statement.{statement}
 use Rattle.planning.proofs.row_plans.planned.Tie as tie
 
-shared-slice-read-share : tie.Need-shared-slice-read-share
-shared-slice-read-share c = reads-in (now ((c .before .before .before .before .before .before .before .args) .rows)) 0 (lit< tt) ((c .before .before .before .before .before .before .before .pre) .0)
+shared-slice-read-points : tie.Need-shared-slice-read-points
+shared-slice-read-points c = reads-in (now ((c .before .before .before .before .before .before .before .args) .rows)) 0 (lit< tt) ((c .before .before .before .before .before .before .before .pre) .0)
 
-shared-slice-read-share-2 : tie.Need-shared-slice-read-share-2
-shared-slice-read-share-2 c = reads-in (now ((c .before .before .before .before .before .before .before .before .args) .rows)) 1 (lit< tt) ((c .before .before .before .before .before .before .before .before .pre) .0)
+shared-slice-read-v : tie.Need-shared-slice-read-v
+shared-slice-read-v c = reads-in (now ((c .before .before .before .before .before .before .before .before .args) .rows)) 1 (lit< tt) ((c .before .before .before .before .before .before .before .before .pre) .0)
 
-shared-slice-read-share-3 : tie.Need-shared-slice-read-share-3
-shared-slice-read-share-3 c = reads-in (now ((c .before .before .before .before .before .before .before .before .before .args) .rows)) 2 (lit< tt) ((c .before .before .before .before .before .before .before .before .before .pre) .0)
+shared-slice-read-budget : tie.Need-shared-slice-read-budget
+shared-slice-read-budget c = reads-in (now ((c .before .before .before .before .before .before .before .before .before .args) .rows)) 2 (lit< tt) ((c .before .before .before .before .before .before .before .before .before .pre) .0)
 
 records-requires : tie.Need-records-requires
 records-requires c κs =
-    let s1 = c .before .before .before .before .before .before .before .before .before in
+    let s1 = (c .before .before .before .before .before .before .before .before .before) in
     let p = s1 .pre in
     (p .0, p .1, p .2, lit< tt)
 
 records-requires-2 : tie.Need-records-requires-2
 records-requires-2 c κs =
-    let s1 = c .before .before .before .before .before .before .before .before .before .before in
+    let s1 = (c .before .before .before .before .before .before .before .before .before .before) in
     let p = s1 .pre in
     (p .0, p .1, p .2, lit< tt)
 
 records-requires-3 : tie.Need-records-requires-3
 records-requires-3 c κs =
-    let s1 = c .before .before .before .before .before .before .before .before .before .before .before in
+    let s1 = (c .before .before .before .before .before .before .before .before .before .before .before) in
     let p = s1 .pre in
     (p .0, p .1, p .2, lit< tt)
 
 records-requires-4 : tie.Need-records-requires-4
 records-requires-4 c κs =
-    let s1 = c .before .before .before .before .before .before .before .before .before .before .before .before in
+    let s1 = (c .before .before .before .before .before .before .before .before .before .before .before .before) in
     let p = s1 .pre in
     (p .0, p .1, p .2, lit< tt)
 
 records-requires-5 : tie.Need-records-requires-5
 records-requires-5 c κs =
-    let s1 = c .before .before .before .before .before .before .before .before .before .before .before .before .before in
+    let s1 = (c .before .before .before .before .before .before .before .before .before .before .before .before .before) in
     let p = s1 .pre in
     (p .0, p .1, p .2, lit< tt)
 
 records-requires-6 : tie.Need-records-requires-6
 records-requires-6 c κs =
-    let s1 = c .before .before .before .before .before .before .before .before .before .before .before .before .before .before in
+    let s1 = (c .before .before .before .before .before .before .before .before .before .before .before .before .before .before) in
     let p = s1 .pre in
     (p .0, p .1, p .2, lit< tt)
 
 records-requires-7 : tie.Need-records-requires-7
 records-requires-7 c κs =
-    let s1 = c .before .before .before .before .before .before .before .before .before .before .before .before .before .before .before in
+    let s1 = (c .before .before .before .before .before .before .before .before .before .before .before .before .before .before .before) in
     let p = s1 .pre in
     (p .0, p .1, p .2, lit< tt)
 
 records-requires-8 : tie.Need-records-requires-8
 records-requires-8 c κs =
-    let s1 = c .before .before .before .before .before .before .before .before .before .before .before .before .before .before .before .before in
+    let s1 = (c .before .before .before .before .before .before .before .before .before .before .before .before .before .before .before .before) in
     let p = s1 .pre in
     (p .0, p .1, p .2, lit< tt)
 
 records-requires-9 : tie.Need-records-requires-9
 records-requires-9 c κs =
-    let s1 = c .before .before .before .before .before .before .before .before .before .before .before .before .before .before .before .before .before in
+    let s1 = (c .before .before .before .before .before .before .before .before .before .before .before .before .before .before .before .before .before) in
     let p = s1 .pre in
     (p .0, p .1, p .2, lit< tt)
 
 records-requires-10 : tie.Need-records-requires-10
 records-requires-10 c κs =
-    let s1 = c .before .before .before .before .before .before .before .before .before .before .before .before .before .before .before .before .before .before in
+    let s1 = (c .before .before .before .before .before .before .before .before .before .before .before .before .before .before .before .before .before .before) in
     let p = s1 .pre in
     (p .0, p .1, p .2, lit< tt)
 
 records-requires-11 : tie.Need-records-requires-11
 records-requires-11 c κs =
-    let s1 = c .before .before .before .before .before .before .before .before .before .before .before .before .before .before .before .before .before .before .before in
+    let s1 = (c .before .before .before .before .before .before .before .before .before .before .before .before .before .before .before .before .before .before .before) in
     let p = s1 .pre in
     (p .0, p .1, p .2, lit< tt)
 
 records-requires-12 : tie.Need-records-requires-12
 records-requires-12 c κs =
-    let s1 = c .before .before .before .before .before .before .before .before .before .before .before .before .before .before .before .before .before .before .before .before in
+    let s1 = (c .before .before .before .before .before .before .before .before .before .before .before .before .before .before .before .before .before .before .before .before) in
     let p = s1 .pre in
     (p .0, p .1, p .2, lit< tt)
 
@@ -118,7 +118,7 @@ returns c =
     let s11 = s10 .before in
     let s12 = s11 .before in
     let s13 = s12 .before in
-    let s14 = s13 .before .before .before .before .before .before .before .before .before .before in
+    let s14 = (c .before .before .before .before .before .before .before .before .before .before .before .before .before .before .before .before .before .before .before .before .before .before .before .before .before .before .before .before .before .before .before .before .before .before) in
     let a = s14 .args in
     let p = s14 .pre in
     shared-for (numbersAt (now (a .rows)) (now (a .counts))) (head-at (now (a .rows)) (now (a .counts)) (p .2) 0 (lit< tt))
@@ -130,9 +130,9 @@ pub planned-spec : {M : Type 1} → statement M
 planned-spec =
     tie.close
     (tie.spec
-    shared-slice-read-share
-    shared-slice-read-share-2
-    shared-slice-read-share-3
+    shared-slice-read-points
+    shared-slice-read-v
+    shared-slice-read-budget
     records-requires
     records-requires-2
     records-requires-3
