@@ -12,6 +12,7 @@ ghost use mathlib.Core.Path.{_≡_};
 ghost use lib.ListN.{length};
 ghost use Rattle.cases.specs.Cuts.{Ordered};
 use cases::Cuts;
+use fitting::Terms;
 use queries::Crowd;
 use queries::Place;
 use queries::Saving;
@@ -30,11 +31,12 @@ fn fit(wants: &[u32], areas: &[u32], locals: u32, budget: u32) {
     let mut cells = [7u32; 8];
     let mut items = [7u32; 16];
     let mut work = [7u64; 60];
+    let terms = Terms { budget: budget };
     fitted(wants::fit_wants(
         wants,
         areas,
         locals,
-        budget,
+        terms,
         &mut cells,
         &mut items,
         &mut work,

@@ -5,6 +5,7 @@ ghost use Rattle.wants.specs.Entry.{answerOf};
 ghost use Rattle.want_codes.specs.Plans.{PlanTold, codedOutcome, PlanCoded};
 use codes::refused;
 use codes::tell;
+use fitting::Terms;
 use refusals::Refusal;
 use wants::Fitted;
 
@@ -44,8 +45,9 @@ pub fn fit_wants(
         }
         return refused(Refusal::Space, 0);
     }
+    let terms = Terms { budget: budget };
     plan(
         counts,
-        wants::fit_wants(wants, areas, locals, budget, cells, items, work),
+        wants::fit_wants(wants, areas, locals, terms, cells, items, work),
     )
 }

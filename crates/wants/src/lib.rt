@@ -1,12 +1,13 @@
 // Fitting alone: the lowest fitting cell for each of the wants that are lent.
 ghost use lib.ListN.{length};
-ghost use Rattle.wants.specs.Entry.{planFor, outcome, FittedAlone};
+ghost use Rattle.wants.specs.Entry.{planFor, outcomeBy, FittedAlone};
 ghost use Rattle.want_checks.specs.Checks.{Granted};
 ghost use Rattle.wants.specs.Inner.{Answered};
 use fit_tables::CELLS;
 use fit_tables::Counts;
 use fit_tables::HOMES;
 use fit_tables::Tables;
+use fitting::Terms;
 use refusals::Refusal;
 use refusals::Verdict;
 
@@ -25,20 +26,20 @@ pub fn fit_wants(
     wants: &[u32],
     areas: &[u32],
     locals: u32,
-    budget: u32,
+    terms: Terms,
     cells: &mut [u32],
     items: &mut [u32],
     work: &mut [u64],
 ) -> Fitted
     ensures { λ r. ⌜ FittedAlone (now (wants .entry)) (now (areas .entry))
-        (outcome (now (wants .entry)) (now (areas .entry)) locals budget (length (now (cells .entry))) (length (now (items .entry))) (length (now (work .entry))))
+        (outcomeBy (now (wants .entry)) (now (areas .entry)) locals terms (length (now (cells .entry))) (length (now (items .entry))) (length (now (work .entry))))
         (now (cells .entry)) (now (items .entry)) (now (work .entry)) r (now (cells .exit)) (now (items .exit)) (now (work .exit)) ⌝ }
 {
     let v = want_checks::refusal(
         wants,
         areas,
         locals,
-        budget,
+        terms.budget,
         cells.len(),
         items.len(),
         work.len(),
@@ -46,7 +47,7 @@ pub fn fit_wants(
     if let Verdict::Bad(r, i) = v {
         return Fitted::Refused(r, i);
     }
-    let f = answer(wants, areas, budget, cells, items, work);
+    let f = answer(wants, areas, terms, cells, items, work);
     Fitted::Plan(f.cells, f.probes, f.depth)
 }
 
@@ -54,13 +55,13 @@ pub fn fit_wants(
 fn answer(
     wants: &[u32],
     areas: &[u32],
-    budget: u32,
+    terms: Terms,
     cells: &mut [u32],
     items: &mut [u32],
     work: &mut [u64],
 ) -> Counts
     requires { ⌜ Granted (now wants) (now areas) (length (now cells)) (length (now items)) (length (now work)) ⌝ }
-    ensures { λ r. ⌜ Answered (now (wants .entry)) (now (areas .entry)) (planFor (now (wants .entry)) (now (areas .entry)) budget)
+    ensures { λ r. ⌜ Answered (now (wants .entry)) (now (areas .entry)) (planFor (now (wants .entry)) (now (areas .entry)) (terms .budget))
         (now (cells .entry)) (now (items .entry)) (now (work .entry)) r (now (cells .exit)) (now (items .exit)) (now (work .exit)) ⌝ }
 {
     let n = wants.len() / 5;
@@ -73,7 +74,7 @@ fn answer(
         n: n,
         end: end,
     };
-    let f = fit_cells::fit(work, t, budget as u64);
+    let f = fit_cells::fit(work, t, terms.budget as u64);
     want_tables::write_cells(cells, work, ranges + CELLS * n, f.cells);
     want_tables::write_items(items, work, wants, ranges + HOMES * n, n);
     words::clear(work, end);

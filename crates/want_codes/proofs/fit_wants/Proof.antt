@@ -14,13 +14,17 @@ refused-requires : tie.Need-refused-requires
 refused-requires c κs = search needs
 
 returns : tie.Need-returns
-returns c = few-count (now ((c .before .before .before .before .before .before .before .before .before .before .args) .wants)) (now ((c .before .before .before .before .before .before .before .before .before .before .args) .areas)) ((c .before .before .before .before .before .before .before .before .before .before .args) .locals) ((c .before .before .before .before .before .before .before .before .before .before .args) .budget) ((c .before .before .before .before .before .before .before .before .before .before .args) .cells .now) ((c .before .before .before .before .before .before .before .before .before .before .args) .items .now) ((c .before .before .before .before .before .before .before .before .before .before .args) .counts .now) ((c .before .before .before .before .before .before .before .before .before .before .args) .work .now) (omega arith) (sym ((c .before .before .bad-count) .ensures) ∙ (c .before .if2) .taken) ((c .refused) .ensures)
+returns c =
+    let s = c .before .before .before .before .before .before .before .before .before .before in
+    few-count (now (s .args .wants)) (now (s .args .areas)) (s .args .locals) (s .args .budget) (s .args .cells .now) (s .args .items .now) (s .args .counts .now) (s .args .work .now) (omega arith) (sym (c .before .before .bad-count .ensures) ∙ (c .before .if2) .taken) (c .refused .ensures)
 
 refused-requires-2 : tie.Need-refused-requires-2
 refused-requires-2 c κs = search needs
 
 returns-2 : tie.Need-returns-2
-returns-2 c = few-space (now ((c .before .before .before .before .before .before .before .before .before .before .args) .wants)) (now ((c .before .before .before .before .before .before .before .before .before .before .args) .areas)) ((c .before .before .before .before .before .before .before .before .before .before .args) .locals) ((c .before .before .before .before .before .before .before .before .before .before .args) .budget) ((c .before .before .before .before .before .before .before .before .before .before .args) .cells .now) ((c .before .before .before .before .before .before .before .before .before .before .args) .items .now) ((c .before .before .before .before .before .before .before .before .before .before .args) .counts .now) ((c .before .before .before .before .before .before .before .before .before .before .args) .work .now) (omega arith) (sym ((c .before .before .bad-count) .ensures) ∙ (c .before .if2) .left) ((c .refused2) .ensures)
+returns-2 c =
+    let s = c .before .before .before .before .before .before .before .before .before .before in
+    few-space (now (s .args .wants)) (now (s .args .areas)) (s .args .locals) (s .args .budget) (s .args .cells .now) (s .args .items .now) (s .args .counts .now) (s .args .work .now) (omega arith) (sym (c .before .before .bad-count .ensures) ∙ (c .before .if2) .left) (c .refused2 .ensures)
 
 fit-wants-requires : tie.Need-fit-wants-requires
 fit-wants-requires c κs = search needs
@@ -41,7 +45,10 @@ same-length-4 : tie.Need-same-length-4
 same-length-4 c = search needs
 
 returns-3 : tie.Need-returns-3
-returns-3 c = plan-coded (now ((c .before .before .before .before .before .before .before .before .before .before .before .before .before .before .before .before .before .before .before .before .before .args) .wants)) (now ((c .before .before .before .before .before .before .before .before .before .before .before .before .before .before .before .before .before .before .before .before .before .args) .areas)) ((c .before .before .before .before .before .before .before .before .before .before .before .before .before .before .before .before .before .before .before .before .before .args) .locals) ((c .before .before .before .before .before .before .before .before .before .before .before .before .before .before .before .before .before .before .before .before .before .args) .budget) ((c .before .before .before .before .before .before .before .before .before .before .before .before .before .before .before .before .before .before .before .before .before .args) .cells .now) ((c .before .before .before .before .before .before .before .before .before .before .before .before .before .before .before .before .before .before .before .before .before .args) .items .now) ((c .before .before .before .before .before .before .before .before .before .before .before .before .before .before .before .before .before .before .before .before .before .args) .counts .now) ((c .before .before .before .before .before .before .before .before .before .before .before .before .before .before .before .before .before .before .before .before .before .args) .work .now) (omega arith) ((c .before .before .before .before .before .before .before .before .before .fit-wants) .ensures) ((c .before .before .plan) .ensures)
+returns-3 c =
+    let s = c .before .before .before .before .before .before .before .before .before .before .before .before .before .before .before .before .before .before .before .before .before in
+    let the-fit-wants = c .before .before .before .before .before .before .before .before .before .fit-wants in
+    plan-coded (now (s .args .wants)) (now (s .args .areas)) (s .args .locals) (s .args .budget) (s .args .cells .now) (s .args .items .now) (s .args .counts .now) (s .args .work .now) (omega arith) (the-fit-wants .ensures) (c .before .before .plan .ensures)
 
 pub fit-wants-spec : {M : Type 1} → statement M
 fit-wants-spec =

@@ -19,9 +19,9 @@ enum-known-v c = search needs
 returns : tie.Need-returns
 returns c =
     let s = c .before .before .before .before .before .before .before .before .before in
-    let a = s .args in
-    refused-alone _ _ (verdict (now (a .wants)) (now (a .areas)) (a .locals) (a .budget) (length (now (a .cells))) (length (now (a .items))) (length (now (a .work))))
-    (planFor (now (a .wants)) (now (a .areas)) (a .budget)) _ _ _ _ _ (sym (c .before .before .before .refusal .ensures) ∙ (c .before .v) .given .1)
+    let a = (s .args) in
+    refused-alone _ _ (verdict (now (a .wants)) (now (a .areas)) (a .locals) (a .terms .budget) (length (now (a .cells))) (length (now (a .items))) (length (now (a .work))))
+    (planFor (now (a .wants)) (now (a .areas)) (a .terms .budget)) _ _ _ _ _ (sym (c .before .before .before .refusal .ensures) ∙ (c .before .v) .given .1)
 
 enum-told : tie.Need-enum-told
 enum-told c = search needs
@@ -30,8 +30,8 @@ answer-requires : tie.Need-answer-requires
 answer-requires c κs =
     let s = c .before .before .before .before .before .before .before .before .before .before .before in
     let the-refusal = c .before .before .before .before .before .refusal in
-    let a = s .args in
-    granted (now (a .wants)) (now (a .areas)) (a .locals) (a .budget) (length (now (a .cells))) (length (now (a .items))) (length (now (a .work))) (sym (the-refusal .ensures) ∙ (c .before .before .before .enum-told) .given .1)
+    let a = (s .args) in
+    granted (now (a .wants)) (now (a .areas)) (a .locals) (a .terms .budget) (length (now (a .cells))) (length (now (a .items))) (length (now (a .work))) (sym (the-refusal .ensures) ∙ (c .before .before .before .enum-told) .given .1)
 
 same-length : tie.Need-same-length
 same-length c = search needs
@@ -48,9 +48,9 @@ returns-2 c =
     let the-refusal = c .before .before .before .before .before .before .before .before .before .before .before .before .refusal in
     let the-enum-told = c .before .before .before .before .before .before .before .before .before .before .enum-told in
     let the-answer = c .before .before .before .before .before .before .answer in
-    let a = s .args in
-    answered-alone _ _ (verdict (now (a .wants)) (now (a .areas)) (a .locals) (a .budget) (length (now (a .cells))) (length (now (a .items))) (length (now (a .work))))
-    (planFor (now (a .wants)) (now (a .areas)) (a .budget)) _ _ _ _ _ _ _ (sym (the-refusal .ensures) ∙ the-enum-told .given .1) (the-answer .ensures)
+    let a = (s .args) in
+    answered-alone _ _ (verdict (now (a .wants)) (now (a .areas)) (a .locals) (a .terms .budget) (length (now (a .cells))) (length (now (a .items))) (length (now (a .work))))
+    (planFor (now (a .wants)) (now (a .areas)) (a .terms .budget)) _ _ _ _ _ _ _ (sym (the-refusal .ensures) ∙ the-enum-told .given .1) (the-answer .ensures)
 
 pub fit-wants-spec : {M : Type 1} → statement M
 fit-wants-spec =
