@@ -8,7 +8,7 @@ use Rattle.refusals.specs.Outcomes.{Outcome, given, refused, unless, after}
 use Rattle.words.specs.Rows.{rowCount, field, records, tabulate, flat}
 use Rattle.words.specs.Regions.{cleared}
 use Rattle.ranges.specs.declared.Range.{Range}
-use Rattle.fitting.specs.declared.Terms.{Terms}
+use Rattle.job_space.specs.declared.Terms.{Terms}
 use Rattle.fitting.specs.Wants.{Want, orderOf}
 use Rattle.fitting.specs.Plan.{Cell, Plan, planOf, depthOf}
 use Rattle.fitting.specs.Queries.{areasOf, partOf}

@@ -7,7 +7,7 @@ use fit_tables::CELLS;
 use fit_tables::Counts;
 use fit_tables::HOMES;
 use fit_tables::Tables;
-use fitting::Terms;
+use job_space::Terms;
 use refusals::Refusal;
 use refusals::Verdict;
 
