@@ -21,7 +21,7 @@ use Rattle.words.specs.Regions.{part}
 use Rattle.words.proofs.RegionLaws.{getD-part}
 use Rattle.words.proofs.Points.{cut}
 use Rattle.words.proofs.Bools.{or-right, or-neither, never}
-use Rattle.text_grammar.specs.Groups.{groupAt, baseAt, groupCount, mayFollow}
+use Rattle.text_grammar.specs.Groups.{groupAt, baseAt, groupCount, mayFollow, headGroup}
 use Rattle.text_grammar.specs.Lines.{newline, linesOf, groupOf, ended, body, formed, wellFormed, lineGroup, lineFields}
 use Rattle.text_grammar.specs.Text.{placeBefore, malformed, badLine, linesVerdict, rowsIn, rowWith, operandsAfter, countOf, registers, crowded, tooMany, readVerdict}
 use Rattle.text_grammar.proofs.RowLaws.{group-fits, length-row}
@@ -121,13 +121,13 @@ first-fine : (l : List ℕ) (ls : List (List ℕ)) → soFar (l ∷ ls) ≡ Fine
 unfolding badLine
 first-fine l ls e = scan-fine TextRefused (badLine (l ∷ ls)) (length (l ∷ ls)) e 0 (omega arith)
 
-head-rows : (l : List ℕ) (ls : List (List ℕ)) → soFar (l ∷ ls) ≡ Fine → rowsIn 0 (l ∷ ls) ≡ rowWith 0 (lineFields l) (operandsAfter ls) ∷ rowsIn 0 ls
+head-rows : (l : List ℕ) (ls : List (List ℕ)) → soFar (l ∷ ls) ≡ Fine → rowsIn headGroup (l ∷ ls) ≡ rowWith headGroup (lineFields l) (operandsAfter ls) ∷ rowsIn headGroup ls
 unfolding rowsIn
 head-rows l ls e =
     let w = follows-of 0 l (first-fine l ls e) in
-    ap (λ (t : Bool). cond t (rowWith 0 (lineFields l) (operandsAfter ls) ∷ rowsIn 0 ls) (rowsIn 0 ls)) (eq-eqb (lineGroup l) 0 (head-only (lineGroup l) (w .0) (w .1)))
+    ap (λ (t : Bool). cond t (rowWith headGroup (lineFields l) (operandsAfter ls) ∷ rowsIn headGroup ls) (rowsIn headGroup ls)) (eq-eqb (lineGroup l) 0 (head-only (lineGroup l) (w .0) (w .1)))
 
-head-length : (l : List ℕ) (ls : List (List ℕ)) → soFar (l ∷ ls) ≡ Fine → length (rowWith 0 (lineFields l) (operandsAfter ls)) ≡ 3
+head-length : (l : List ℕ) (ls : List (List ℕ)) → soFar (l ∷ ls) ≡ Fine → length (rowWith headGroup (lineFields l) (operandsAfter ls)) ≡ 3
 head-length l ls e =
     let w = follows-of 0 l (first-fine l ls e) in
     let g = head-only (lineGroup l) (w .0) (w .1) in
@@ -141,10 +141,10 @@ flat-first x xs i h = List·getD-append x (flat xs) 0 i h
 registers-at : (ls : List (List ℕ)) (rows counts : List ℕ) → 0 < length ls → soFar ls ≡ Fine → Stored ls rows counts → getD rows 1 0 ≡ registers ls
 registers-at [] rows counts h e s = absurd (not-suc-le-zero h)
 registers-at (l ∷ ls) rows counts h e s =
-    let c : countOf 0 (l ∷ ls) ≡ suc (countOf 0 ls) = ap length (head-rows l ls e) in
-    sym (getD-part 0 (3 * countOf 0 (l ∷ ls)) rows 1 (omega arith))
+    let c : countOf headGroup (l ∷ ls) ≡ suc (countOf headGroup ls) = ap length (head-rows l ls e) in
+    sym (getD-part 0 (3 * countOf headGroup (l ∷ ls)) rows 1 (omega arith))
     ∙ ap (λ (x : List ℕ). getD x 1 0) (s .rows-are 0 (lit< tt) ∙ ap flat (head-rows l ls e))
-    ∙ flat-first (rowWith 0 (lineFields l) (operandsAfter ls)) (rowsIn 0 ls) 1 (let n = head-length l ls e in omega arith)
+    ∙ flat-first (rowWith headGroup (lineFields l) (operandsAfter ls)) (rowsIn headGroup ls) 1 (let n = head-length l ls e in omega arith)
     ∙ ap (λ (x : List (List ℕ)). getD (getD x 0 []) 1 0) (sym (head-rows l ls e))
 
 -- ---- a line that has not ended
@@ -276,10 +276,10 @@ module _ {text line rows counts : List ℕ} {r : Reader} {n : ℕ} (d : Reading 
       }
 
 -- an accepted text has its head
-pub head-counted : (ls : List (List ℕ)) → linesVerdict ls ≡ Fine → 0 < countOf 0 ls
+pub head-counted : (ls : List (List ℕ)) → linesVerdict ls ≡ Fine → 0 < countOf headGroup ls
 head-counted [] e = not-fine (sym e ∙ verdict-none)
 head-counted (l ∷ ls) e =
-    let c : countOf 0 (l ∷ ls) ≡ suc (countOf 0 ls) = ap length (head-rows l ls (sym (verdict-some (l ∷ ls) (omega arith)) ∙ e)) in
+    let c : countOf headGroup (l ∷ ls) ≡ suc (countOf headGroup ls) = ap length (head-rows l ls (sym (verdict-some (l ∷ ls) (omega arith)) ∙ e)) in
     omega arith
 
 -- ---- for programs that read pieces in a loop

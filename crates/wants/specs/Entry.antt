@@ -8,7 +8,6 @@ use Rattle.refusals.specs.Outcomes.{Outcome, given, refused, unless, after}
 use Rattle.words.specs.Rows.{rowCount, field, records, tabulate, flat}
 use Rattle.words.specs.Regions.{cleared}
 use Rattle.ranges.specs.declared.Range.{Range}
-use Rattle.job_space.specs.declared.Terms.{Terms}
 use Rattle.fitting.specs.Wants.{Want, orderOf}
 use Rattle.fitting.specs.Plan.{Cell, Plan, planOf, depthOf}
 use Rattle.fitting.specs.Queries.{areasOf, partOf}
@@ -29,10 +28,6 @@ planFor wants areas budget = planOf (wantsOf (areasOf areas) wants) budget (orde
 abbrev pub outcome : List ℕ → List ℕ → ℕ → ℕ → ℕ → ℕ → ℕ → Outcome Plan
 outcome wants areas locals budget cells items work =
     unless (verdict wants areas locals budget cells items work) (planFor wants areas budget)
-
--- the same, by what the fitting is asked to keep to
-abbrev pub outcomeBy : List ℕ → List ℕ → ℕ → Terms → ℕ → ℕ → ℕ → Outcome Plan
-outcomeBy wants areas locals terms cells items work = outcome wants areas locals (terms .budget) cells items work
 
 -- a plan's counts: its cells, the probes spent, the depth
 pub record Tally : Type 0 where

@@ -1,6 +1,6 @@
 // Fitting alone: the lowest fitting cell for each of the wants that are lent.
 ghost use lib.ListN.{length};
-ghost use Rattle.wants.specs.Entry.{planFor, outcomeBy, FittedAlone};
+ghost use Rattle.wants.specs.Entry.{planFor, outcome, FittedAlone};
 ghost use Rattle.want_checks.specs.Checks.{Granted};
 ghost use Rattle.wants.specs.Inner.{Answered};
 use fit_tables::CELLS;
@@ -32,7 +32,7 @@ pub fn fit_wants(
     work: &mut [u64],
 ) -> Fitted
     ensures { λ r. ⌜ FittedAlone (now (wants .entry)) (now (areas .entry))
-        (outcomeBy (now (wants .entry)) (now (areas .entry)) locals terms (length (now (cells .entry))) (length (now (items .entry))) (length (now (work .entry))))
+        (outcome (now (wants .entry)) (now (areas .entry)) locals (terms .budget) (length (now (cells .entry))) (length (now (items .entry))) (length (now (work .entry))))
         (now (cells .entry)) (now (items .entry)) (now (work .entry)) r (now (cells .exit)) (now (items .exit)) (now (work .exit)) ⌝ }
 {
     let v = want_checks::refusal(
