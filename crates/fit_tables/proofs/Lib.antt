@@ -6,3 +6,4 @@ pub mod TableLaws
 pub mod CodeLaws
 pub mod MarkLaws
 pub mod DrawLaws
+pub mod WantLaws

@@ -1,3 +1,4 @@
 pub mod Keys
 pub mod Tables
 pub mod Inner
+pub mod WantTables

@@ -46,6 +46,10 @@ listTable t = t .items + 7 * t .n
 abbrev pub behind : Tables → ℕ
 behind t = t .items + 8 * t .n
 
+-- tables from `room` on, over areas from 0 on, with nothing behind them
+abbrev pub tablesAt : ℕ → ℕ → Tables
+tablesAt room n = record { at = 0; items = room; n = n; end = room + 8 * n }
+
 -- an item's word: 0 where it has no area, else one more than its part of the areas, the first range above, the count in the low 32 bits
 abbrev pub firstOf : ℕ → ℕ
 firstOf x = (x - 1) / 2 ^ 32

@@ -5,6 +5,7 @@ ghost use Prim.Native.Nat.{max};
 pub mod order; // order.rt: the items in order
 pub mod sample_rows; // sample_rows.rt: one item's row of sample points
 pub mod samples; // samples.rt: sample points that rule cells out
+pub mod want_tables; // want_tables.rt: from the lent rows into the tables, and from there into the answer lists
 
 // Where they stand: the areas' ranges from `at` on, up to `items`; from there on eight tables of `n` words; behind them, up to `end`, the cells' lists.
 pub struct Tables {

@@ -23,7 +23,7 @@ use Rattle.answer_rows.specs.Rows.{rowsIn}
 use Rattle.area_tables.specs.Tables.{areaRows, listing}
 use Rattle.area_tables.proofs.RowLaws.{ranges-below, rows-areas, rows-long}
 use Rattle.wants.specs.Entry.{tallied, cellRow, cellRows}
-use Rattle.want_tables.specs.Tables.{cellRowsIn}
+use Rattle.fit_tables.specs.WantTables.{cellRowsIn}
 use Rattle.wants.proofs.EntryLaws.{rows-cells}
 use Rattle.item_lists.specs.Lists.{itemRow}
 use Rattle.item_lists.proofs.TableLaws.{word-row, row-long, list-full, list-fine}

@@ -14,7 +14,7 @@ use Rattle.fitting.specs.Wants.{Want, orderOf}
 use Rattle.fitting.specs.Plan.{Plan, planOf, depthOf}
 use Rattle.fit_tables.specs.declared.Counts.{Counts}
 use Rattle.fit_tables.specs.declared.Tables.{Tables}
-use Rattle.fit_tables.specs.Tables.{Shown}
+use Rattle.fit_tables.specs.Tables.{tablesAt, Shown}
 use Rattle.area_measure.specs.Locals.{wordOf, ListedBy}
 use Rattle.area_tables.specs.Tables.{listing}
 
@@ -71,7 +71,7 @@ pub record Holds (p : Plan) (count room : ℕ) (w : List ℕ) (r : Counts) : Typ
   pub cells : r .cells ≡ length (p .cells)
   pub probes : r .probes ≡ p .probes
   pub depth : r .depth ≡ depthOf (p .cells)
-  pub shown : Shown w (tablesFor count room (room + 8 * count)) p
+  pub shown : Shown w (tablesAt room count) p
 
 -- the plan of the items' wants, whatever the areas are that stand there; these stand there still, and nothing from `end` on has changed
 pub record FittedFor (locals slots : List ℕ) (budget room end : ℕ) (w₀ w : List ℕ) (r : Counts) : Type 0 where

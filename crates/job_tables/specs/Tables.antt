@@ -4,7 +4,8 @@ use mathlib.Core.Path.{_≡_}
 use mathlib.Core.List.{List, _∷_, _++_}
 use lib.ListN.{length, getD, drop}
 use Rattle.words.specs.Rows.{tabulate, flat}
-use Rattle.want_tables.specs.Tables.{cellRowsIn}
+use Rattle.fit_tables.specs.Tables.{tablesAt, cellTable, homeTable, behind}
+use Rattle.fit_tables.specs.WantTables.{cellRowsIn}
 use Rattle.answer_rows.specs.Rows.{rowsIn}
 use Rattle.answer_rows.specs.Tables.{rowOf as partOf}
 
@@ -23,10 +24,10 @@ pub record Listable (cells items areas : ℕ) (w : List ℕ) (n used total : ℕ
   pub used-few : used ≤ n
   pub in-items : 4 * n ≤ items
   pub in-areas : total ≤ areas / 2
-  pub in-work : areas / 2 + 8 * n ≤ length w
-  pub small : (i : ℕ) → i < n → getD w (areas / 2 + 6 * n + i) 0 < 2 ^ 32
+  pub in-work : behind (tablesAt (areas / 2) n) ≤ length w
+  pub small : (i : ℕ) → i < n → getD w (homeTable (tablesAt (areas / 2) n) + i) 0 < 2 ^ 32
 
 pub record Written (cells items areas w : List ℕ) (n used total : ℕ) (cells′ items′ areas′ : List ℕ) : Type 0 where
-  pub in-cells : cells′ ≡ cellRowsIn w (length areas / 2 + 5 * n) used ++ drop (2 * used) cells
-  pub in-items : items′ ≡ rowsOf w (length areas / 2) (length areas / 2 + 6 * n) n ++ drop (4 * n) items
+  pub in-cells : cells′ ≡ cellRowsIn w (cellTable (tablesAt (length areas / 2) n)) used ++ drop (2 * used) cells
+  pub in-items : items′ ≡ rowsOf w (length areas / 2) (homeTable (tablesAt (length areas / 2) n)) n ++ drop (4 * n) items
   pub in-areas : areas′ ≡ rowsIn w 0 total 0 ++ drop (2 * total) areas

@@ -6,6 +6,8 @@ ghost use lib.ListN.{length, getD, drop};
 ghost use Rattle.words.specs.Rows.{rowPut};
 ghost use Rattle.answer_rows.specs.Tables.{itemOf};
 ghost use Rattle.job_tables.specs.Tables.{rowsOf, Listable, Written};
+use fit_tables::CELLS;
+use fit_tables::HOMES;
 
 // One item's row of four numbers: its cell, then its part of the area list by its word.
 fn put_item(out: &mut [u32], at: usize, cell: u64, word: u64)
@@ -45,7 +47,7 @@ pub fn write(
     ensures { λ _. ⌜ Written (now (cells .entry)) (now (items .entry)) (now (areas .entry)) (now (w .entry)) n used total (now (cells .exit)) (now (items .exit)) (now (areas .exit)) ⌝ }
 {
     let room = areas.len() / 2;
-    want_tables::write_cells(cells, w, room + 5 * n, used);
-    write_items(items, w, room, room + 6 * n, n);
+    fit_tables::want_tables::write_cells(cells, w, room + CELLS * n, used);
+    write_items(items, w, room, room + HOMES * n, n);
     answer_rows::write_rows(areas, w, 0, total, 0);
 }

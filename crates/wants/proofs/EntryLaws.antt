@@ -24,9 +24,9 @@ use Rattle.fit_tables.specs.declared.Tables.{Tables}
 use Rattle.fit_tables.specs.Tables.{cellTable, homeTable, wantIn, wantsIn, planIn, Shown, Fitted}
 use Rattle.wants.specs.declared.Fitted.the-variants.{Plan as Planned, Refused}
 use Rattle.wants.specs.Entry.{wantsOf, planFor, tallied, cellRow, cellRows, itemRows, FittedAlone}
-use Rattle.want_tables.specs.Tables.{itemRow, Loaded, cellRowsIn, itemRowsIn}
+use Rattle.fit_tables.specs.WantTables.{itemRow, Loaded, cellRowsIn, itemRowsIn}
 use Rattle.wants.specs.Inner.{tablesFor, Answered}
-use Rattle.want_tables.proofs.TableLaws.{item-wide}
+use Rattle.fit_tables.proofs.WantLaws.{item-wide}
 use Rattle.words.proofs.FlatLaws.{flat-length}
 use Rattle.words.proofs.RegionLaws.{drop-same}
 

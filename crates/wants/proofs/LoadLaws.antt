@@ -25,8 +25,8 @@ use Rattle.wants.specs.Inner.{tablesFor}
 use Rattle.fit_tables.proofs.TableLaws.{area-none, area-some}
 use Rattle.wants.specs.Entry.{wantsOf}
 use Rattle.want_checks.specs.Checks.{badWant}
-use Rattle.want_tables.specs.Tables.{itemWordAt, Loaded}
-use Rattle.want_tables.proofs.TableLaws.{word-none, word-some, area-word}
+use Rattle.fit_tables.specs.WantTables.{itemWordAt, Loaded}
+use Rattle.fit_tables.proofs.WantLaws.{word-none, word-some, area-word}
 use Rattle.want_checks.proofs.PartLaws.{part-length, part-at, part-fine, areas-length}
 
 -- a part that is in the area list begins no later than its end

@@ -28,8 +28,8 @@ use Rattle.queries.proofs.SeenLaws.{RowsHold, roomAt, itemOf, answered-seen, cu
 use Rattle.want_checks.specs.Checks.{verdict, badWant}
 use Rattle.want_checks.proofs.CheckLaws.{granted, counts-fine}
 use Rattle.want_checks.proofs.PartLaws.{part-fine, areas-length}
-use Rattle.want_tables.specs.Tables.{itemRow}
-use Rattle.want_tables.proofs.TableLaws.{item-wide, row-absent, row-present}
+use Rattle.fit_tables.specs.WantTables.{itemRow}
+use Rattle.fit_tables.proofs.WantLaws.{item-wide, row-absent, row-present}
 use Rattle.wants.specs.declared.Fitted.the-variants.{Plan as Planned}
 use Rattle.wants.specs.Entry.{wantsOf, planFor, outcome, Tally, tallied, tallyOf, cellRow, cellRows, itemRows, FittedAlone}
 use Rattle.wants.proofs.EntryLaws.{rows-cells}

@@ -12,7 +12,7 @@ use Rattle.fitting.specs.Wants.{Want, orderOf}
 use Rattle.fitting.specs.Plan.{Cell, Plan, planOf, depthOf}
 use Rattle.fitting.specs.Queries.{areasOf, partOf}
 use Rattle.want_checks.specs.Checks.{spaceOf, verdict}
-use Rattle.want_tables.specs.Tables.{itemRow}
+use Rattle.fit_tables.specs.WantTables.{itemRow}
 use Rattle.wants.specs.declared.Fitted.{Fitted}
 use Rattle.wants.specs.declared.Fitted.the-variants.{Plan as Planned, Refused}
 

@@ -66,7 +66,7 @@ fn answer(
 {
     let n = wants.len() / 5;
     let ranges = areas.len() / 2;
-    want_tables::load(work, wants, areas, n, ranges);
+    fit_tables::want_tables::load(work, wants, areas, n, ranges);
     let end = 8 * (n + ranges);
     let t = Tables {
         at: 0,
@@ -75,8 +75,8 @@ fn answer(
         end: end,
     };
     let f = fit_cells::fit(work, t, terms.budget as u64);
-    want_tables::write_cells(cells, work, ranges + CELLS * n, f.cells);
-    want_tables::write_items(items, work, wants, ranges + HOMES * n, n);
+    fit_tables::want_tables::write_cells(cells, work, ranges + CELLS * n, f.cells);
+    fit_tables::want_tables::write_items(items, work, wants, ranges + HOMES * n, n);
     words::clear(work, end);
     f
 }

@@ -184,7 +184,7 @@ enter-requires-2 c κs =
     let s = c .before .before .before .before .before .before .before .before .before .before .before .before .before .before .before .before .before .before .before .before .before .before in
     let the-least = c .before .before .before .before .before .before .before .before .before .before .before .before .least in
     let the-probe = c .before .before .before .before .before .before .before .before .before .probe in
-    entering (s .pre .0) (met (s .pre .0) _ _ (the-least .ensures) (the-probe .ensures .within))
+    omega (arith, entering (s .pre .0) (met (s .pre .0) _ _ (the-least .ensures) (the-probe .ensures .within)))
 
 fold-requires : tie.Need-fold-requires
 fold-requires c κs =

@@ -1,8 +1,8 @@
 -- `load` meets its contract: three tables.
-use Rattle.want_tables.proofs.TableLaws.{loaded}
+use Rattle.fit_tables.proofs.WantLaws.{loaded}
 use borrow.Author.Needs.{needs}
-use Rattle.want_tables.proofs.load.Statement.{statement}
-use Rattle.want_tables.proofs.load.Tie as tie
+use Rattle.fit_tables.proofs.want_tables.load.Statement.{statement}
+use Rattle.fit_tables.proofs.want_tables.load.Tie as tie
 
 load-areas-requires : tie.Need-load-areas-requires
 load-areas-requires c κs = search needs

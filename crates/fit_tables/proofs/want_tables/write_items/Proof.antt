@@ -1,16 +1,16 @@
 -- `write_items` meets its contract: a row more is written each turn.
 use Rattle.words.proofs.PasteLaws.{Filling}
 use Rattle.words.specs.Rows.{field}
-use Rattle.want_tables.specs.Tables.{itemRow}
-use Rattle.want_tables.specs.Tables.{itemRowsIn}
+use Rattle.fit_tables.specs.WantTables.{itemRow}
+use Rattle.fit_tables.specs.WantTables.{itemRowsIn}
 use Rattle.words.proofs.FlatLaws.{flat-start, flat-done, four-more}
-use Rattle.want_tables.proofs.TableLaws.{item-row-wide, row-absent, row-present}
+use Rattle.fit_tables.proofs.WantLaws.{item-row-wide, row-absent, row-present}
 use denote.Ref.{now}
 use native.Mathlib.Omega.{arith}
 use Prim.Native.Nat.{_+_, _-_, _*_, _≤_}
 use lib.ListN.{getD}
-use Rattle.want_tables.proofs.write_items.Statement.{statement}
-use Rattle.want_tables.proofs.write_items.Tie as tie
+use Rattle.fit_tables.proofs.want_tables.write_items.Statement.{statement}
+use Rattle.fit_tables.proofs.want_tables.write_items.Tie as tie
 
 abbrev Inv-loop : tie.InvT-loop
 Inv-loop items₀ w wants from n i₀ items i = (i ≤ n) × Filling items₀ 0 (itemRowsIn w wants from n) (4 * n) items (4 * i)

@@ -5,9 +5,8 @@ ghost use mathlib.Core.List.{_++_};
 ghost use lib.ListN.{length, getD, drop};
 ghost use Rattle.words.specs.Rows.{rowCount, field, rowPut};
 ghost use Rattle.words.specs.Regions.{Region};
-ghost use Rattle.want_tables.specs.Tables.{itemWord, areaWordAt, itemWordAt, wantWordAt, Loaded, cellRowsIn, itemRowsIn};
-
-const HALF: u64 = 0x1_0000_0000;
+ghost use Rattle.fit_tables.specs.WantTables.{itemWord, areaWordAt, itemWordAt, wantWordAt, Loaded, cellRowsIn, itemRowsIn};
+use crate::HALF;
 
 fn load_areas(w: &mut [u64], areas: &[u32], n: usize)
     requires { ⌜ (n ≤ length (now w)) × (n ≤ rowCount 2 (now areas)) ⌝ }

@@ -1,10 +1,10 @@
 -- `item_word` meets its contract, by the two forms of an item's word.
-use Rattle.want_tables.proofs.TableLaws.{word-none, word-some}
+use Rattle.fit_tables.proofs.WantLaws.{word-none, word-some}
 use native.Mathlib.Omega.{arith}
 use mathlib.Core.Path.{sym}
 use borrow.Author.Needs.{needs}
-use Rattle.want_tables.proofs.item_word.Statement.{statement}
-use Rattle.want_tables.proofs.item_word.Tie as tie
+use Rattle.fit_tables.proofs.want_tables.item_word.Statement.{statement}
+use Rattle.fit_tables.proofs.want_tables.item_word.Tie as tie
 
 returns : tie.Need-returns
 returns c = sym (word-none _ _ _ ((c .if1) .taken))

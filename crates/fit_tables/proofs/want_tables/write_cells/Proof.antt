@@ -1,7 +1,7 @@
 -- `write_cells` meets its contract: a row more is written each turn.
 use Rattle.words.proofs.PasteLaws.{Filling}
 use Rattle.fit_tables.specs.Keys.{sizeOf, alignOf}
-use Rattle.want_tables.specs.Tables.{cellRowsIn}
+use Rattle.fit_tables.specs.WantTables.{cellRowsIn}
 use Rattle.words.proofs.FlatLaws.{flat-start, flat-done, two-more}
 use mathlib.Core.List.{[], _∷_}
 use denote.Ref.{now}
@@ -9,8 +9,8 @@ use native.Mathlib.Omega.{arith}
 use Prim.Native.Nat.{_+_, _-_, _*_, _≤_}
 use mathlib.Core.Path.{refl}
 use lib.ListN.{getD, length-set}
-use Rattle.want_tables.proofs.write_cells.Statement.{statement}
-use Rattle.want_tables.proofs.write_cells.Tie as tie
+use Rattle.fit_tables.proofs.want_tables.write_cells.Statement.{statement}
+use Rattle.fit_tables.proofs.want_tables.write_cells.Tie as tie
 
 abbrev Inv-loop : tie.InvT-loop
 Inv-loop cells₀ w from n i₀ cells i = (i ≤ n) × Filling cells₀ 0 (cellRowsIn w from n) (2 * n) cells (2 * i)

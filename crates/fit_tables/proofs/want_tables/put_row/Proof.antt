@@ -2,8 +2,8 @@
 use native.Mathlib.Omega.{arith}
 use lib.ListN.{length-set}
 use borrow.Author.Needs.{needs}
-use Rattle.want_tables.proofs.put_row.Statement.{statement}
-use Rattle.want_tables.proofs.put_row.Tie as tie
+use Rattle.fit_tables.proofs.want_tables.put_row.Statement.{statement}
+use Rattle.fit_tables.proofs.want_tables.put_row.Tie as tie
 
 mul-items : tie.Need-mul-items
 mul-items c = search needs

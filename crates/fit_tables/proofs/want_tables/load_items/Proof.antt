@@ -1,11 +1,11 @@
 -- `load_items` meets its contract: a turn keeps `Done`.
 use Rattle.words.proofs.RegionLaws.{Done, done-start, done-more, done-all}
-use Rattle.want_tables.specs.Tables.{itemWordAt}
+use Rattle.fit_tables.specs.WantTables.{itemWordAt}
 use native.Mathlib.Omega.{arith}
 use Prim.Native.Nat.{_-_}
 use mathlib.Core.Path.{refl}
-use Rattle.want_tables.proofs.load_items.Statement.{statement}
-use Rattle.want_tables.proofs.load_items.Tie as tie
+use Rattle.fit_tables.proofs.want_tables.load_items.Statement.{statement}
+use Rattle.fit_tables.proofs.want_tables.load_items.Tie as tie
 
 abbrev Inv-loop : tie.InvT-loop
 Inv-loop w₀ at wants n i₀ w i = Done w₀ w at n (itemWordAt wants) i

@@ -10,7 +10,7 @@ use lib.Dec.{eqb}
 use borrow.Author.Tests.{eq-eqb, ne-eqb}
 use Rattle.words.specs.Rows.{field}
 use Rattle.words.specs.Regions.{Region}
-use Rattle.want_tables.specs.Tables.{itemRow, itemWord, areaWordAt, itemWordAt, wantWordAt, Loaded}
+use Rattle.fit_tables.specs.WantTables.{itemRow, itemWord, areaWordAt, itemWordAt, wantWordAt, Loaded}
 
 -- ---- words
 
