@@ -22,7 +22,14 @@ same-length : tie.Need-same-length
 same-length c = omega arith
 
 returns-4 : tie.Need-returns-4
-returns-4 c = let a = (c .before .before .before .before .before .before .before .before .args) in capped-told (now (a .cells)) _ (a .count) (a .most) (simp (eq-eqb _ _ ((c .before .before .before .before .before .before .if1) .left), le-ltb _ _ ((c .before .before .before .before .before .if2) .left), le-ltb _ _ ((c .before .before .before .before .if3) .left))) ((c .before .before .lower) .ensures)
+returns-4 c =
+    let a = (c .before .before .before .before .before .before .before .before .args) in
+    capped-told (now (a .cells)) _ (a .count) (a .most) (simp (
+      eq-eqb _ _ ((c .before .before .before .before .before .before .if1) .left),
+      le-ltb _ _
+          ((c .before .before .before .before .before .if2) .left),
+      le-ltb _ _ ((c .before .before .before .before .if3) .left),
+    )) ((c .before .before .lower) .ensures)
 
 pub cap-spec : {M : Type 1} → statement M
 cap-spec = tie.close (tie.spec returns returns-2 returns-3 lower-requires same-length returns-4)

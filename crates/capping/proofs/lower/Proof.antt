@@ -72,7 +72,14 @@ loop-less : tie.Need-loop-less Inv-loop μ-loop
 loop-less c = omega arith
 
 loop-again : tie.Need-loop-again Inv-loop μ-loop
-loop-again c = let a = (c .before .before .before .before .before .before .args) in (omega arith, two-more (a .count) (capRow (now (a .cells)) (a .most)) _ _ ((c .before .before .before .before .loop) .i) (omega arith) (λ j h. refl) ((c .before .before .before .before .loop) .inv .1) _ _ ((c .lowered) .ensures .0 ∙ row-was (a .count) ((c .before .before .before .before .loop) .i) ((c .before .before .before .before .loop) .inv .1) .0) ((c .lowered) .ensures .1 ∙ ap (λ (x : ℕ). min x (a .most)) (row-was (a .count) ((c .before .before .before .before .loop) .i) ((c .before .before .before .before .loop) .inv .1) .1)))
+loop-again c =
+    let s = c .before .before .before .before in
+    let a = (s .before .before .args) in (
+      omega arith,
+      two-more (a .count) (capRow (now (a .cells)) (a .most)) _ _ (s .loop .i) (omega arith) (λ j h. refl) (s .loop .inv .1) _ _
+          (c .lowered .ensures .0 ∙ row-was (a .count) (s .loop .i) (s .loop .inv .1) .0)
+          (c .lowered .ensures .1 ∙ ap (λ (x : ℕ). min x (a .most)) (row-was (a .count) (s .loop .i) (s .loop .inv .1) .1)),
+    )
 
 same-length : tie.Need-same-length Inv-loop μ-loop
 same-length c = (c .before .loop) .inv .1 .len

@@ -24,7 +24,9 @@ until-requires : tie.Need-until-requires
 until-requires c κs = ((c .before .before .before .before .pre) .1 .ends-fit, (c .before .before .before .before .pre) .1 .rising)
 
 returns : tie.Need-returns
-returns c = λ es start. covers-is ((c .before .before .before .before .before .args) .blocks .now) (endsAt ((c .before .before .before .before .before .args) .s) ((c .before .before .before .before .before .args) .work .now)) _ start _ _ _ es ((c .before .before .before .before .before .pre) .0) ((c .before .smaller) .ensures) ((c .until) .ensures)
+returns c =
+    let t = c .before .before .before .before .before in
+    λ es start. covers-is (t .args .blocks .now) (endsAt (t .args .s) (t .args .work .now)) _ start _ _ _ es (t .pre .0) (c .before .smaller .ensures) (c .until .ensures)
 
 pub covers-bottom-spec : {M : Type 1} → statement M
 covers-bottom-spec =

@@ -18,7 +18,9 @@ abbrev μ-loop : tie.MeasureT-loop
 μ-loop blocks work₀ s c at i₀ work i = s .count - i
 
 loop-holds : tie.Need-loop-holds Inv-loop μ-loop
-loop-holds c = (sweep-start (λ t k. leavesBy (lineOf ((c .before .before .args) .blocks .now) []) (endsAt ((c .before .before .args) .s) ((c .before .before .args) .work .now)) k t) ((c .before .before .pre) .0), omega arith)
+loop-holds c =
+    let u = c .before .before in
+    (sweep-start (λ t k. leavesBy (lineOf (u .args .blocks .now) []) (endsAt (u .args .s) (u .args .work .now)) k t) (u .pre .0), omega arith)
 
 add-x : tie.Need-add-x Inv-loop μ-loop
 add-x c = omega (arith, (c .before .before .loop) .inv .0 .stand, (c .before .before .loop) .inv .0 .put .kept .len)
@@ -36,7 +38,10 @@ end-of-requires : tie.Need-end-of-requires Inv-loop μ-loop
 end-of-requires c κs = omega arith
 
 mark-leave-requires : tie.Need-mark-leave-requires Inv-loop μ-loop
-mark-leave-requires c κs = ((c .before .before .before .before .before .before .before .before .before .pre) .0 .line, (c .before .before .before .before .before .before .before .before .before .pre) .0 .places, (c .before .before .before .before .before .before .loop) .inv .0 .fits, still-stand ((c .before .before .before .before .before .before .before .before .before .pre) .0) ((c .before .before .before .before .before .before .before .before .before .pre) .1) ((c .before .before .before .before .before .before .loop) .inv .0 .put .kept) ((c .before .before .before .before .before .before .before .before .before .pre) .2))
+mark-leave-requires c κs =
+    let s = c .before .before .before .before .before .before in
+    let t = s .before .before .before in
+    (t .pre .0 .line, t .pre .0 .places, s .loop .inv .0 .fits, still-stand (t .pre .0) (t .pre .1) (s .loop .inv .0 .put .kept) (t .pre .2))
 
 add-i : tie.Need-add-i Inv-loop μ-loop
 add-i c = omega arith
@@ -45,13 +50,23 @@ loop-less : tie.Need-loop-less Inv-loop μ-loop
 loop-less c = omega arith
 
 loop-again : tie.Need-loop-again Inv-loop μ-loop
-loop-again c = (sweep-more ((c .before .before .before .before .before .before .before .before .before .loop) .inv .0) _ _ (omega arith) ((c .before .before .before .before .start-of) .ensures) ((c .before .before .before .end-of) .ensures) (leave-as ((c .before .before .before .before .before .before .before .before .before .before .before .before .pre) .0) ((c .before .before .before .before .before .before .before .before .before .before .before .before .pre) .1) ((c .before .before .before .before .before .before .before .before .before .loop) .inv .0 .put .kept) (range ((c .before .before .before .before .start-of) .result) ((c .before .before .before .end-of) .result)) ((c .before .before .mark-leave) .ensures)), omega arith)
+loop-again c =
+    let s = c .before .before .before in
+    let t = s .before in
+    let u = t .before .before .before .before .before in
+    let p = u .before .before .before in (
+      sweep-more (u .loop .inv .0) _ _ (omega arith) (t .start-of .ensures) (s .end-of .ensures)
+          (leave-as (p .pre .0) (p .pre .1) (u .loop .inv .0 .put .kept) (range (t .start-of .result) (s .end-of .result)) (c .before .before .mark-leave .ensures)),
+      omega arith,
+    )
 
 same-length : tie.Need-same-length Inv-loop μ-loop
 same-length c = (c .before .before .loop) .inv .0 .put .kept .len
 
 returns : tie.Need-returns Inv-loop μ-loop
-returns c = leaves-done ((c .before .before .before .before .before .args) .blocks .now) ((c .before .before .before .before .before .args) .s) (sweep-done ((c .before .before .loop) .inv .0) (omega arith))
+returns c =
+    let t = c .before .before .before .before .before in
+    leaves-done (t .args .blocks .now) (t .args .s) (sweep-done (c .before .before .loop .inv .0) (omega arith))
 
 pub mark-leaving-spec : {M : Type 1} → statement M
 mark-leaving-spec =

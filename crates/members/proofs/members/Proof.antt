@@ -28,7 +28,10 @@ shared-slice-read-if1 : tie.Need-shared-slice-read-if1 Inv-loop μ-loop
 shared-slice-read-if1 c = omega arith
 
 add-m : tie.Need-add-m Inv-loop μ-loop
-add-m c = omega (arith, (c .before .before .before .loop) .inv .1, members-le (now ((c .before .before .before .before .args) .items)) ((c .before .before .before .before .args) .cell) ((c .before .before .before .loop) .i))
+add-m c =
+    let s = c .before .before .before in
+    let t = s .before in
+    omega (arith, s .loop .inv .1, members-le (now (t .args .items)) (t .args .cell) (s .loop .i))
 
 add-i : tie.Need-add-i Inv-loop μ-loop
 add-i c = omega arith
@@ -37,7 +40,10 @@ loop-less : tie.Need-loop-less Inv-loop μ-loop
 loop-less c = omega arith
 
 loop-again : tie.Need-loop-again Inv-loop μ-loop
-loop-again c = (omega arith, ap (λ (x : ℕ). x + 1) ((c .before .before .before .loop) .inv .1) ∙ sym (members-hit (now ((c .before .before .before .before .args) .items)) ((c .before .before .before .before .args) .cell) ((c .before .before .before .loop) .i) ((c .if1) .taken)))
+loop-again c =
+    let s = c .before .before .before in
+    let t = s .before in
+    (omega arith, ap (λ (x : ℕ). x + 1) (s .loop .inv .1) ∙ sym (members-hit (now (t .args .items)) (t .args .cell) (s .loop .i) (c .if1 .taken)))
 
 add-i-2 : tie.Need-add-i-2 Inv-loop μ-loop
 add-i-2 c = omega arith
@@ -46,10 +52,15 @@ loop-less-2 : tie.Need-loop-less-2 Inv-loop μ-loop
 loop-less-2 c = omega arith
 
 loop-again-2 : tie.Need-loop-again-2 Inv-loop μ-loop
-loop-again-2 c = (omega arith, (c .before .before .before .loop) .inv .1 ∙ sym (members-miss (now ((c .before .before .before .before .args) .items)) ((c .before .before .before .before .args) .cell) ((c .before .before .before .loop) .i) ((c .if1) .left)))
+loop-again-2 c =
+    let s = c .before .before .before in
+    let t = s .before in
+    (omega arith, s .loop .inv .1 ∙ sym (members-miss (now (t .args .items)) (t .args .cell) (s .loop .i) (c .if1 .left)))
 
 returns : tie.Need-returns Inv-loop μ-loop
-returns c = let e : (c .before .loop) .i ≡ rowCount 4 (now ((c .before .before .args) .items)) = omega arith in (c .before .loop) .inv .1 ∙ ap (members (now ((c .before .before .args) .items)) ((c .before .before .args) .cell)) e
+returns c =
+    let s = c .before .before in
+    let e : (c .before .loop) .i ≡ rowCount 4 (now (s .args .items)) = omega arith in (c .before .loop) .inv .1 ∙ ap (members (now (s .args .items)) (s .args .cell)) e
 
 pub members-spec : {M : Type 1} → statement M
 members-spec =

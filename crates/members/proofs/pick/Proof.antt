@@ -38,10 +38,14 @@ cast-c : tie.Need-cast-c Inv-loop μ-loop
 cast-c c = omega (arith, (c .shared-slice-known) .given (4 * ((c .before .before .before .args) .locals + (c .before .before .loop) .s)))
 
 mul-if1 : tie.Need-mul-if1 Inv-loop μ-loop
-mul-if1 c = omega (arith, slot-known ((c .before .before .before .args) .locals) ((c .before .before .loop) .s) ((c .before .before .before .pre) .0) (omega arith))
+mul-if1 c =
+    let t = c .before .before .before in
+    omega (arith, slot-known (t .args .locals) (c .before .before .loop .s) (t .pre .0) (omega arith))
 
 shared-slice-read-if1 : tie.Need-shared-slice-read-if1 Inv-loop μ-loop
-shared-slice-read-if1 c = omega (arith, slot-known ((c .before .before .before .before .args) .locals) ((c .before .before .before .loop) .s) ((c .before .before .before .before .pre) .0) (omega arith))
+shared-slice-read-if1 c =
+    let t = c .before .before .before .before in
+    omega (arith, slot-known (t .args .locals) (c .before .before .before .loop .s) (t .pre .0) (omega arith))
 
 cast-out : tie.Need-cast-out Inv-loop μ-loop
 cast-out c = omega arith
@@ -50,7 +54,9 @@ mul-out : tie.Need-mul-out Inv-loop μ-loop
 mul-out c = omega arith
 
 slice-write-out : tie.Need-slice-write-out Inv-loop μ-loop
-slice-write-out c = omega (arith, (c .before .before .before .before .loop) .inv .1 .k-le, (c .before .before .before .before .loop) .inv .1 .room, (c .before .before .before .before .loop) .inv .1 .len)
+slice-write-out c =
+    let s = c .before .before .before .before in
+    omega (arith, s .loop .inv .1 .k-le, s .loop .inv .1 .room, s .loop .inv .1 .len)
 
 add-k : tie.Need-add-k Inv-loop μ-loop
 add-k c = omega (arith, (c .before .before .before .before .loop) .inv .1 .k-le)
@@ -62,7 +68,10 @@ loop-less : tie.Need-loop-less Inv-loop μ-loop
 loop-less c = omega arith
 
 loop-again : tie.Need-loop-again Inv-loop μ-loop
-loop-again c = (omega arith, picking-hit ((c .before .before .before .before .loop) .inv .1) (omega arith) (sym (slot-test ((c .before .before .before .before .before .args) .locals) ((c .before .before .before .before .loop) .s) ((c .before .before .before .before .before .pre) .0) (omega arith)) ∙ lt-ltb _ _ ((c .if1) .taken)))
+loop-again c =
+    let t = c .before .before .before .before in
+    let u = t .before in
+    (omega arith, picking-hit (t .loop .inv .1) (omega arith) (sym (slot-test (u .args .locals) (t .loop .s) (u .pre .0) (omega arith)) ∙ lt-ltb _ _ (c .if1 .taken)))
 
 add-s-2 : tie.Need-add-s-2 Inv-loop μ-loop
 add-s-2 c = omega arith
@@ -71,7 +80,10 @@ loop-less-2 : tie.Need-loop-less-2 Inv-loop μ-loop
 loop-less-2 c = omega arith
 
 loop-again-2 : tie.Need-loop-again-2 Inv-loop μ-loop
-loop-again-2 c = (omega arith, picking-miss ((c .before .before .before .before .loop) .inv .1) (omega arith) (sym (slot-test ((c .before .before .before .before .before .args) .locals) ((c .before .before .before .before .loop) .s) ((c .before .before .before .before .before .pre) .0) (omega arith)) ∙ le-ltb _ _ ((c .if1) .left)))
+loop-again-2 c =
+    let t = c .before .before .before .before in
+    let u = t .before in
+    (omega arith, picking-miss (t .loop .inv .1) (omega arith) (sym (slot-test (u .args .locals) (t .loop .s) (u .pre .0) (omega arith)) ∙ le-ltb _ _ (c .if1 .left)))
 
 same-length : tie.Need-same-length Inv-loop μ-loop
 same-length c = (c .before .loop) .inv .1 .len
