@@ -12,6 +12,7 @@ use Rattle.refusals.specs.declared.Refusal.the-variants.{Count, Inst, Space, In
 use Rattle.refusals.specs.Verdicts.{check}
 use Rattle.refusals.proofs.Laws.{first-left, first-right, check-told}
 use Rattle.words.specs.Rows.{tabulate}
+use Rattle.words.specs.Widths.{mentionWidth, touchWidth, partWidth, rangeWidth}
 use Rattle.areas.specs.Job.{rangesOf}
 use Rattle.area_layout.specs.Layout.{spaceFor}
 use Rattle.area_checks.specs.Checks.{sizesOf, rowCounts, lentVerdict}
@@ -35,24 +36,24 @@ module _ (blocks edges : List ℕ) (points : ℕ) (kinds touches ends : List ℕ
   local-areas-fits =
       order-fit
       (next-fits (most-fits 2048 (length kinds))
-      (λ k. next-fits (rows-fits 3 65536 (length touches))
-      (λ _. next-fits (rows-fits 2 65536 (length ends))
-      (λ _. next-fits (rows-fits 2 65536 areas)
-      (λ _. next-fits (rows-fits 3 items items)
+      (λ k. next-fits (rows-fits touchWidth 65536 (length touches))
+      (λ _. next-fits (rows-fits mentionWidth 65536 (length ends))
+      (λ _. next-fits (rows-fits rangeWidth 65536 areas)
+      (λ _. next-fits (rows-fits partWidth items items)
       (λ _. graph-fit blocks edges points _
       (next-fits (few-fits Inst _ (length kinds) (omega (arith, ltb-false 2048 (length kinds) (check-told Count (ltb 2048 (length kinds)) k))))
-      (λ _. next-fits (check-fits Space (ltb work (spaceFor (sizesOf blocks edges (length kinds) (length touches) (length ends) areas)) || ltb (items / 3) (length kinds)))
+      (λ _. next-fits (check-fits Space (ltb work (spaceFor (sizesOf blocks edges (length kinds) (length touches) (length ends) areas)) || ltb (items / partWidth) (length kinds)))
       (λ _. next-fits (check-fits Inverted (someInverted (graphFor blocks edges) kinds touches (length kinds)))
-      (λ _. next-fits (check-fits ListWord (ltb (areas / 2) ranges)) (λ _. no-more)))))))))))
+      (λ _. next-fits (check-fits ListWord (ltb (areas / rangeWidth) ranges)) (λ _. no-more)))))))))))
 
   -- the area list has at most 65,536 ranges
-  room-few : lentVerdict blocks edges points kinds (length touches) (length ends) areas items work ≡ Fine → areas / 2 < 2 ^ 32
+  room-few : lentVerdict blocks edges points kinds (length touches) (length ends) areas items work ≡ Fine → areas / rangeWidth < 2 ^ 32
   unfolding lentVerdict rowCounts
   room-few e =
       let a = first-left (rowCounts (length kinds) (length touches) (length ends) areas items) _ e in
-      let b = first-right (rowsVerdict 3 65536 (length touches)) _ (first-right (mostVerdict 2048 (length kinds)) _ a) in
-      let c = first-left (rowsVerdict 2 65536 areas) _ (first-right (rowsVerdict 2 65536 (length ends)) _ b) in
-      omega (arith, rows-few 2 65536 areas c)
+      let b = first-right (rowsVerdict touchWidth 65536 (length touches)) _ (first-right (mostVerdict 2048 (length kinds)) _ a) in
+      let c = first-left (rowsVerdict rangeWidth 65536 areas) _ (first-right (rowsVerdict mentionWidth 65536 (length ends)) _ b) in
+      omega (arith, rows-few rangeWidth 65536 areas c)
 
   -- as many ranges as the area list holds
   pub local-areas-few : verdictOf blocks edges points kinds touches ends areas items work ≡ Fine → ranges < 2 ^ 32
@@ -60,5 +61,5 @@ module _ (blocks edges : List ℕ) (points : ℕ) (kinds touches ends : List ℕ
       let f = sym (local-verdict blocks edges points kinds touches ends areas items work) ∙ e in
       let a = room-few (first-left (lentVerdict blocks edges points kinds (length touches) (length ends) areas items work) _ f) in
       let b = first-right (check Inverted (someInverted (graphFor blocks edges) kinds touches (length kinds))) _ (first-right (lentVerdict blocks edges points kinds (length touches) (length ends) areas items work) _ f) in
-      let c = ltb-false (areas / 2) ranges (check-told ListWord (ltb (areas / 2) ranges) b) in
+      let c = ltb-false (areas / rangeWidth) ranges (check-told ListWord (ltb (areas / rangeWidth) ranges) b) in
       omega arith

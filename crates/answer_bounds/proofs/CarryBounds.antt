@@ -11,7 +11,7 @@ use Rattle.refusals.specs.declared.Verdict.the-variants.{Fine}
 use Rattle.refusals.specs.declared.Refusal.the-variants.{Count, Space}
 use Rattle.refusals.specs.Verdicts.{inOrder}
 use Rattle.refusals.proofs.Laws.{first-left, first-right}
-use Rattle.words.specs.Rows.{rowCount}
+use Rattle.words.specs.Widths.{localCount, mentionWidth, addressCount, endCount, assignedWidth, assignedCount, moveWidth, moveCount}
 use Rattle.words.proofs.RowLaws.{length-records}
 use Rattle.ranges.specs.declared.Range.{Range}
 use Rattle.graph.specs.Line.{Stretch, blocksOf}
@@ -43,8 +43,8 @@ module _ (points v : ℕ) (blocks insts operands crossings locals addresses ends
       order-fit
       (next-fits (carry-counts-fit v blocks insts operands crossings locals addresses ends)
       (λ e. let c = counted v blocks insts operands crossings locals addresses ends e in
-      let a : length (mentionsOf addresses) ≡ rowCount 2 addresses = length-records 2 (λ f. record { inst = f 0; local = f 1 }) addresses in
-      let b : length (mentionsOf ends) ≡ rowCount 2 ends = length-records 2 (λ f. record { inst = f 0; local = f 1 }) ends in
+      let a : length (mentionsOf addresses) ≡ addressCount addresses = length-records mentionWidth (λ f. record { inst = f 0; local = f 1 }) addresses in
+      let b : length (mentionsOf ends) ≡ endCount ends = length-records mentionWidth (λ f. record { inst = f 0; local = f 1 }) ends in
       next-fits (line-fits (blocksOf blocks) points (omega (arith, c .few, blocks-length blocks)))
       (λ _. next-fits (inst-fits (blocksOf blocks) v (instsOf insts operands) (omega (arith, c .few-insts, insts-length insts operands)))
       (λ _. next-fits (crossing-fits v crossings (c .few-crossings))
@@ -53,12 +53,12 @@ module _ (points v : ℕ) (blocks insts operands crossings locals addresses ends
       (λ _. next-fits (check-fits Space (ltb lent most || ltb work (carrySpace v blocks insts operands crossings locals addresses ends)))
       (λ _. no-more))))))))
 
-  carry-counted : carryVerdict points v blocks insts operands crossings locals addresses ends lent most work ≡ Fine → (rowCount 2 locals ≤ 2048) × (v ≤ 65535)
+  carry-counted : carryVerdict points v blocks insts operands crossings locals addresses ends lent most work ≡ Fine → (localCount locals ≤ 2048) × (v ≤ 65535)
   unfolding carryVerdict inOrder
   carry-counted e = let c = counted v blocks insts operands crossings locals addresses ends (first-left _ _ e) in (c .few-locals, c .registers)
 
   -- `reach` answers how many locals there are
-  pub few-locals : carryVerdict points v blocks insts operands crossings locals addresses ends lent most work ≡ Fine → rowCount 2 locals < 2 ^ 32
+  pub few-locals : carryVerdict points v blocks insts operands crossings locals addresses ends lent most work ≡ Fine → localCount locals < 2 ^ 32
   few-locals e = let c = carry-counted e .0 in omega arith
 
   pub few-registers : carryVerdict points v blocks insts operands crossings locals addresses ends lent most work ≡ Fine → v ≤ 65535
@@ -78,7 +78,7 @@ module _ (points v : ℕ) (blocks insts operands moves : List ℕ) (lent work : 
   unfolding movedCounts
   moved-counts-fit =
       first-fits _ _ (most-fits 65535 v)
-      (λ _. first-fits _ _ (blocks-fit blocks) (λ _. first-fits _ _ (insts-fit insts operands) (λ _. first-fits _ _ (rows-fits 4 65536 (length moves)) (λ _. check-fits Count (not (eqb (lent % 2) 0))))))
+      (λ _. first-fits _ _ (blocks-fit blocks) (λ _. first-fits _ _ (insts-fit insts operands) (λ _. first-fits _ _ (rows-fits moveWidth 65536 (length moves)) (λ _. check-fits Count (not (eqb (lent % 2) 0))))))
 
   pub moved-fits : Fits (movedVerdict points v blocks insts operands moves lent work)
   unfolding movedVerdict
@@ -86,13 +86,13 @@ module _ (points v : ℕ) (blocks insts operands moves : List ℕ) (lent work : 
       order-fit
       (next-fits moved-counts-fit
       (λ e. let c = moved-counted v blocks insts operands moves lent e in
-      let m : length (movesOf moves) ≡ rowCount 4 moves = length-records 4 (λ f. record { kind = f 0; number = f 1; to = f 2; from = f 3 }) moves in
+      let m : length (movesOf moves) ≡ moveCount moves = length-records moveWidth (λ f. record { kind = f 0; number = f 1; to = f 2; from = f 3 }) moves in
       next-fits (line-fits (blocksOf blocks) points (omega (arith, c .few, blocks-length blocks)))
       (λ _. next-fits (inst-fits (blocksOf blocks) v (instsOf insts operands) (omega (arith, c .few-insts, insts-length insts operands)))
       (λ _. next-fits (move-fits (blocksOf blocks) (instsOf insts operands) (movesOf moves) (omega (arith, c .few-moves, m)))
-      (λ _. next-fits (check-fits Space (ltb lent (4 * rowCount 4 moves) || ltb work (movedSpace v blocks insts operands moves))) (λ _. no-more))))))
+      (λ _. next-fits (check-fits Space (ltb lent (4 * moveCount moves) || ltb work (movedSpace v blocks insts operands moves))) (λ _. no-more))))))
 
-  few-moves : movedVerdict points v blocks insts operands moves lent work ≡ Fine → rowCount 4 moves ≤ 65536
+  few-moves : movedVerdict points v blocks insts operands moves lent work ≡ Fine → moveCount moves ≤ 65536
   unfolding movedVerdict inOrder
   few-moves e = moved-counted v blocks insts operands moves lent (first-left _ _ e) .few-moves
 
@@ -116,7 +116,7 @@ moved-two points bs is (m ∷ ms) s =
 pub moved-few : (points v : ℕ) (blocks insts operands moves : List ℕ) (s lent work : ℕ) → movedVerdict points v blocks insts operands moves lent work ≡ Fine
     → length (moved points (blocksOf blocks) (instsOf insts operands) (movesOf moves) s) < 2 ^ 32
 moved-few points v blocks insts operands moves s lent work e =
-    let m : length (movesOf moves) ≡ rowCount 4 moves = length-records 4 (λ f. record { kind = f 0; number = f 1; to = f 2; from = f 3 }) moves in
+    let m : length (movesOf moves) ≡ moveCount moves = length-records moveWidth (λ f. record { kind = f 0; number = f 1; to = f 2; from = f 3 }) moves in
     omega (arith, m, few-moves points v blocks insts operands moves lent work e, moved-two points (blocksOf blocks) (instsOf insts operands) (movesOf moves) s)
 
 -- ---- `spilled`
@@ -124,20 +124,20 @@ moved-few points v blocks insts operands moves s lent work e =
 module _ (v slots : ℕ) (assigned : List ℕ) (lent work : ℕ) where
   spilled-counts-fit : Fits (spilledCounts v slots assigned)
   unfolding spilledCounts
-  spilled-counts-fit = first-fits _ _ (most-fits 65535 v) (λ _. first-fits _ _ (most-fits 2048 slots) (λ _. rows-fits 2 65536 (length assigned)))
+  spilled-counts-fit = first-fits _ _ (most-fits 65535 v) (λ _. first-fits _ _ (most-fits 2048 slots) (λ _. rows-fits assignedWidth 65536 (length assigned)))
 
-  spilled-counted : spilledCounts v slots assigned ≡ Fine → (slots ≤ 2048) × (rowCount 2 assigned ≤ 65536)
+  spilled-counted : spilledCounts v slots assigned ≡ Fine → (slots ≤ 2048) × (assignedCount assigned ≤ 65536)
   unfolding spilledCounts
   spilled-counted e =
       let a = first-right (mostVerdict 65535 v) _ e in
-      (most-few 2048 slots (first-left (mostVerdict 2048 slots) _ a), rows-few 2 65536 (length assigned) (first-right (mostVerdict 2048 slots) _ a))
+      (most-few 2048 slots (first-left (mostVerdict 2048 slots) _ a), rows-few assignedWidth 65536 (length assigned) (first-right (mostVerdict 2048 slots) _ a))
 
   pub spilled-fits : Fits (spilledVerdict v slots assigned lent work)
   unfolding spilledVerdict
   spilled-fits =
       order-fit
       (next-fits spilled-counts-fit
-      (λ e. let m : length (assignedOf assigned) ≡ rowCount 2 assigned = length-records 2 (λ f. record { register = f 0; slot = f 1 }) assigned in
+      (λ e. let m : length (assignedOf assigned) ≡ assignedCount assigned = length-records assignedWidth (λ f. record { register = f 0; slot = f 1 }) assigned in
       next-fits (assigned-fits v (assignedOf assigned) (omega (arith, m, spilled-counted e .1)))
       (λ _. next-fits (check-fits Space (ltb lent slots || ltb work (spilledSpace v assigned))) (λ _. no-more))))
 

@@ -11,7 +11,7 @@ use Rattle.refusals.specs.declared.Verdict.{Verdict}
 use Rattle.refusals.specs.declared.Verdict.the-variants.{Fine}
 use Rattle.refusals.specs.Verdicts.{inOrder, check}
 use Rattle.refusals.proofs.Laws.{first-left}
-use Rattle.words.specs.Rows.{rowCount}
+use Rattle.words.specs.Widths.{blockCount, edgeCount}
 use Rattle.graph.specs.Line.{blocksOf, jumpsOf}
 use Rattle.graph.specs.Checks.{badCount, graphChecks, spaceOf}
 use Rattle.graph.proofs.Line.{blocks-length, jumps-length}
@@ -36,19 +36,19 @@ module _ (blocks edges : List ℕ) (points : ℕ) where
   pub components-fits : (answer work : ℕ) → Fits (orderVerdict blocks edges points answer work)
   unfolding orderVerdict
   components-fits answer work =
-      order-fit (graph-fit _ (next-fits (check-fits Space (ltb answer (rowCount 3 blocks) || ltb work (spaceOf (rowCount 3 blocks) (rowCount 2 edges) 0))) (λ _. no-more)))
+      order-fit (graph-fit _ (next-fits (check-fits Space (ltb answer (blockCount blocks) || ltb work (spaceOf (blockCount blocks) (edgeCount edges) 0))) (λ _. no-more)))
 
   -- there are no more components than blocks
-  pub few-blocks : (answer work : ℕ) → orderVerdict blocks edges points answer work ≡ Fine → rowCount 3 blocks ≤ 4096
+  pub few-blocks : (answer work : ℕ) → orderVerdict blocks edges points answer work ≡ Fine → blockCount blocks ≤ 4096
   unfolding orderVerdict inOrder
   few-blocks answer work e = counts blocks edges (first-left (check Count (badCount blocks edges)) _ e) .few
 
   -- `flowed` and `spread`
   rows-fit : (lent words answer work : ℕ) → AllFit (flowedChecks blocks edges points lent words answer work)
   rows-fit lent words answer work =
-      next-fits (check-fits Count (not (eqb lent (rowCount 3 blocks * words))))
+      next-fits (check-fits Count (not (eqb lent (blockCount blocks * words))))
       (λ _. graph-fit _
-      (next-fits (check-fits Space (ltb answer (rowCount 3 blocks * words) || ltb work (spaceOf (rowCount 3 blocks) (rowCount 2 edges) (rowCount 3 blocks * words)))) (λ _. no-more)))
+      (next-fits (check-fits Space (ltb answer (blockCount blocks * words) || ltb work (spaceOf (blockCount blocks) (edgeCount edges) (blockCount blocks * words)))) (λ _. no-more)))
 
   pub flowed-fits : (lent words answer work : ℕ) → Fits (rowVerdict blocks edges points lent words answer work)
   unfolding rowVerdict
@@ -57,4 +57,4 @@ module _ (blocks edges : List ℕ) (points : ℕ) where
   pub spread-fits : (leaving passing words answer work : ℕ) → Fits (spreadVerdict blocks edges points leaving passing words answer work)
   unfolding spreadVerdict
   spread-fits leaving passing words answer work =
-      order-fit (next-fits (check-fits Count (not (eqb passing (rowCount 3 blocks * words)))) (λ _. rows-fit leaving words answer work))
+      order-fit (next-fits (check-fits Count (not (eqb passing (blockCount blocks * words)))) (λ _. rows-fit leaving words answer work))

@@ -12,7 +12,9 @@ use Rattle.refusals.specs.declared.Verdict.the-variants.{Fine}
 use Rattle.refusals.specs.declared.Refusal.the-variants.{Count, Space, List as ListWord}
 use Rattle.refusals.specs.Verdicts.{inOrder}
 use Rattle.refusals.proofs.Laws.{first-left, first-right, check-told}
-use Rattle.words.specs.Rows.{rowCount, tabulate}
+use Rattle.words.specs.Rows.{tabulate}
+use Rattle.words.specs.Widths.{edgeWidth, mentionWidth, addressCount, endCount, pieceWidth, pieceCount, assignedWidth, assignedCount, moveWidth, moveCount, cellWidth, itemWidth, partWidth}
+use Rattle.words.specs.Widths.{rangeWidth}
 use Rattle.words.proofs.RowLaws.{length-records}
 use Rattle.graph.specs.Line.{blocksOf, jumpsOf}
 use Rattle.graph.proofs.Line.{blocks-length, jumps-length}
@@ -42,22 +44,22 @@ module _ (R : Rows) (areas : ℕ) where
   unfolding countVerdict otherCounts
   counts-fit =
       first-fits _ _ (carry-counts-fit (R .v) (R .blocks) (R .insts) (R .operands) (R .crossings) (R .locals) (R .addresses) (R .ends))
-      (λ _. first-fits _ _ (rows-fits 2 16384 (length (R .edges)))
+      (λ _. first-fits _ _ (rows-fits edgeWidth 16384 (length (R .edges)))
       (λ _. first-fits _ _ (most-fits 2048 (length (R .slots)))
-      (λ _. first-fits _ _ (rows-fits 3 65536 (length (R .pieces)))
-      (λ _. first-fits _ _ (rows-fits 2 65536 (length (R .assigned)))
-      (λ _. first-fits _ _ (rows-fits 4 65536 (length (R .moves)))
-      (λ _. rows-fits 2 65536 areas))))))
+      (λ _. first-fits _ _ (rows-fits pieceWidth 65536 (length (R .pieces)))
+      (λ _. first-fits _ _ (rows-fits assignedWidth 65536 (length (R .assigned)))
+      (λ _. first-fits _ _ (rows-fits moveWidth 65536 (length (R .moves)))
+      (λ _. rows-fits rangeWidth 65536 areas))))))
 
   -- numbers 2 to 6, after number 1 passed, and what is checked behind them
   checks-fit : (rest : List Verdict) → countVerdict R areas ≡ Fine → AllFit rest → AllFit (checks (jobOf R) ++ rest)
   checks-fit rest e h =
       let z = told R areas e .small in
-      let a : length (mentionsOf (R .addresses)) ≡ rowCount 2 (R .addresses) = length-records 2 (λ f. record { inst = f 0; local = f 1 }) (R .addresses) in
-      let b : length (mentionsOf (R .ends)) ≡ rowCount 2 (R .ends) = length-records 2 (λ f. record { inst = f 0; local = f 1 }) (R .ends) in
-      let m : length (movesOf (R .moves)) ≡ rowCount 4 (R .moves) = length-records 4 (λ f. record { kind = f 0; number = f 1; to = f 2; from = f 3 }) (R .moves) in
-      let p : length (piecesOf (R .pieces)) ≡ rowCount 3 (R .pieces) = length-records 3 (λ f. record { register = f 0; start = f 1; end = f 2 }) (R .pieces) in
-      let s : length (assignedOf (R .assigned)) ≡ rowCount 2 (R .assigned) = length-records 2 (λ f. record { register = f 0; slot = f 1 }) (R .assigned) in
+      let a : length (mentionsOf (R .addresses)) ≡ addressCount (R .addresses) = length-records mentionWidth (λ f. record { inst = f 0; local = f 1 }) (R .addresses) in
+      let b : length (mentionsOf (R .ends)) ≡ endCount (R .ends) = length-records mentionWidth (λ f. record { inst = f 0; local = f 1 }) (R .ends) in
+      let m : length (movesOf (R .moves)) ≡ moveCount (R .moves) = length-records moveWidth (λ f. record { kind = f 0; number = f 1; to = f 2; from = f 3 }) (R .moves) in
+      let p : length (piecesOf (R .pieces)) ≡ pieceCount (R .pieces) = length-records pieceWidth (λ f. record { register = f 0; start = f 1; end = f 2 }) (R .pieces) in
+      let s : length (assignedOf (R .assigned)) ≡ assignedCount (R .assigned) = length-records assignedWidth (λ f. record { register = f 0; slot = f 1 }) (R .assigned) in
       next-fits (line-fits (blocksOf (R .blocks)) (R .points) (omega (arith, z .few-blocks, blocks-length (R .blocks))))
       (λ _. next-fits (edge-fits (blocksOf (R .blocks)) (jumpsOf (R .edges)) (omega (arith, z .few-edges, jumps-length (R .edges))))
       (λ _. next-fits (inst-fits (blocksOf (R .blocks)) (R .v) (instsOf (R .insts) (R .operands)) (omega (arith, z .few-insts, insts-length (R .insts) (R .operands))))
@@ -79,22 +81,22 @@ module _ (R : Rows) (areas : ℕ) where
   pub item-areas-fits : (items work : ℕ) → Fits (inOrder (itemChecks R areas items work))
   item-areas-fits items work =
       order-fit
-      (next-fits (rows-fits 3 items items)
+      (next-fits (rows-fits partWidth items items)
       (λ _. next-fits counts-fit
       (λ e. checks-fit _ e
-      (next-fits (check-fits Space (ltb work (spaceOf z) || ltb (items / 3) (z .locals + z .slots)))
-      (λ _. next-fits (check-fits ListWord (ltb (areas / 2) (rangesOf (tabulate (itemCount own) (itemArea own))))) (λ _. no-more))))))
+      (next-fits (check-fits Space (ltb work (spaceOf z) || ltb (items / partWidth) (z .locals + z .slots)))
+      (λ _. next-fits (check-fits ListWord (ltb (areas / rangeWidth) (rangesOf (tabulate (itemCount own) (itemArea own))))) (λ _. no-more))))))
 
   -- as many ranges as the area list holds, which has at most 65,536
-  lent-ranges : (items work : ℕ) → areasLent R areas items work ≡ Fine → areas / 2 ≤ 65536
+  lent-ranges : (items work : ℕ) → areasLent R areas items work ≡ Fine → areas / rangeWidth ≤ 65536
   unfolding areasLent
-  lent-ranges items work e = told R areas (lent-counted R areas (rowsVerdict 3 items items) (areasSpace (sizesOf R areas) items work) e) .small .few-ranges
+  lent-ranges items work e = told R areas (lent-counted R areas (rowsVerdict partWidth items items) (areasSpace (sizesOf R areas) items work) e) .small .few-ranges
 
   pub item-areas-few : (items work : ℕ) → inOrder (itemChecks R areas items work) ≡ Fine → rangesOf (tabulate (itemCount own) (itemArea own)) < 2 ^ 32
   item-areas-few items work e =
       let f = sym (item-verdict R areas items work) ∙ e in
       let a = lent-ranges items work (first-left (areasLent R areas items work) _ f) in
-      let b = ltb-false (areas / 2) (rangesOf (tabulate (itemCount own) (itemArea own))) (check-told ListWord _ (first-right (areasLent R areas items work) _ f)) in
+      let b = ltb-false (areas / rangeWidth) (rangesOf (tabulate (itemCount own) (itemArea own))) (check-told ListWord _ (first-right (areasLent R areas items work) _ f)) in
       omega arith
 
 -- the whole job
@@ -109,9 +111,9 @@ module _ (R : Rows) (t : Terms) (cells items areas counts work : ℕ) where
       (next-fits (check-fits Count (badShape t cells items))
       (λ _. next-fits (counts-fit R areas)
       (λ e. checks-fit R areas _ e
-      (next-fits (check-fits Space (ltb work (spaceOf y) || (ltb (cells / 2) (y .locals + y .slots) || ltb (items / 4) (y .locals + y .slots)))) (λ _. no-more)))))
+      (next-fits (check-fits Space (ltb work (spaceOf y) || (ltb (cells / cellWidth) (y .locals + y .slots) || ltb (items / itemWidth) (y .locals + y .slots)))) (λ _. no-more)))))
 
   pub job-fits : Fits (codedVerdict R t cells items areas counts work)
   job-fits =
       first-fits _ _ (first-fits _ _ lent-fits (λ _. check-fits Space (fewCounts counts)))
-      (λ _. check-fits ListWord (ltb (areas / 2) (rangesOf (tabulate (itemCount (jobOf R)) (itemArea (jobOf R))))))
+      (λ _. check-fits ListWord (ltb (areas / rangeWidth) (rangesOf (tabulate (itemCount (jobOf R)) (itemArea (jobOf R))))))

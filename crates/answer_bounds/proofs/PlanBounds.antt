@@ -11,11 +11,12 @@ use Rattle.refusals.specs.declared.Verdict.the-variants.{Fine}
 use Rattle.refusals.specs.declared.Refusal.the-variants.{Count, Space, Want as WantWord}
 use Rattle.refusals.specs.Verdicts.{inOrder, check}
 use Rattle.refusals.proofs.Laws.{check-told, first-left}
-use Rattle.words.specs.Rows.{rowCount, wholeRows}
+use Rattle.words.specs.Rows.{wholeRows}
+use Rattle.words.specs.Widths.{localCount, cellWidth, cellCount, itemWidth, itemRowCount, rangeCount, wantCount, slotCount}
 use Rattle.words.proofs.Bools.{or-neither}
 use Rattle.words.proofs.RowLaws.{length-tabulate}
 use Rattle.fitting.specs.Queries.{Item, Slots, areasOf, itemsOf, slotsOf, crowd, crowded, crowdedFrom}
-use Rattle.want_checks.specs.Checks.{badWant, badSpace, badCount as wantCount}
+use Rattle.want_checks.specs.Checks.{badWant, badSpace, badCount as wantCounts}
 use Rattle.want_checks.proofs.CheckLaws.{count-fine}
 use Rattle.want_codes.specs.Plans.{fewCounts, codedVerdict}
 use Rattle.query_checks.specs.Checks.{badCount, noCell, surplus, badAreas, badItem, planVerdict, crowdedVerdict, toldVerdict}
@@ -29,25 +30,25 @@ use Rattle.answer_bounds.proofs.Steps.{no-more, order-fit, next-fits, f
 pub wants-fit : (wants areas : List ℕ) (locals budget cells items counts work : ℕ) → Fits (codedVerdict wants areas locals budget cells items counts work)
 wants-fit wants areas locals budget cells items counts work =
     order-fit
-    (next-fits (check-fits Count (wantCount wants areas locals budget cells items))
+    (next-fits (check-fits Count (wantCounts wants areas locals budget cells items))
     (λ e. next-fits (check-fits Space (badSpace wants areas cells items work || fewCounts counts))
     (λ _. next-fits
-    (few-fits WantWord (badWant (areasOf areas) wants) (rowCount 5 wants) (omega (arith, count-fine wants areas locals budget cells items (check-told Count (wantCount wants areas locals budget cells items) e) .0)))
+    (few-fits WantWord (badWant (areasOf areas) wants) (wantCount wants) (omega (arith, count-fine wants areas locals budget cells items (check-told Count (wantCounts wants areas locals budget cells items) e) .0)))
     (λ _. no-more))))
 
 -- ---- queries: at most 4,096 items
 
-few-items : (cells items : List ℕ) (locals : ℕ) → badCount cells items locals ≡ false → rowCount 4 items ≤ 4096
+few-items : (cells items : List ℕ) (locals : ℕ) → badCount cells items locals ≡ false → itemRowCount items ≤ 4096
 few-items cells items locals c =
-    let (a, b) = or-neither (not (wholeRows 2 cells)) _ c in
-    let (d, f) = or-neither (not (wholeRows 4 items)) _ b in
-    let (g, h) = or-neither (ltb (rowCount 4 items) locals) _ f in
+    let (a, b) = or-neither (not (wholeRows cellWidth cells)) _ c in
+    let (d, f) = or-neither (not (wholeRows itemWidth items)) _ b in
+    let (g, h) = or-neither (ltb (itemRowCount items) locals) _ f in
     let (k, l) = or-neither (ltb 2048 locals) _ h in
-    omega (arith, ltb-false (rowCount 4 items) locals g, ltb-false 2048 locals k, ltb-false 2048 (rowCount 4 items - locals) l)
+    omega (arith, ltb-false (itemRowCount items) locals g, ltb-false 2048 locals k, ltb-false 2048 (itemRowCount items - locals) l)
 
 module _ (cells items : List ℕ) (locals : ℕ) where
-  surplus-fits : rowCount 4 items ≤ 4096 → Fits (surplus cells items)
-  surplus-fits h = named-fits WantWord (ltb (rowCount 4 items) (rowCount 2 cells)) (rowCount 4 items) (omega arith)
+  surplus-fits : itemRowCount items ≤ 4096 → Fits (surplus cells items)
+  surplus-fits h = named-fits WantWord (ltb (itemRowCount items) (cellCount cells)) (itemRowCount items) (omega arith)
 
   -- `local`, `slot` and `saved`
   pub plan-fits : Fits (planVerdict cells items locals)
@@ -56,7 +57,7 @@ module _ (cells items : List ℕ) (locals : ℕ) where
       order-fit
       (next-fits (check-fits Count (badCount cells items locals))
       (λ e. let n = few-items cells items locals (check-told Count (badCount cells items locals) e) in
-      next-fits (few-fits WantWord (noCell cells items) (rowCount 4 items) (omega arith)) (λ _. next-fits (surplus-fits n) (λ _. no-more))))
+      next-fits (few-fits WantWord (noCell cells items) (itemRowCount items) (omega arith)) (λ _. next-fits (surplus-fits n) (λ _. no-more))))
 
   -- `shared`, its part told in a list
   pub told-fits : (areas : List ℕ) (room : ℕ) → Fits (toldVerdict cells items areas locals room)
@@ -66,7 +67,7 @@ module _ (cells items : List ℕ) (locals : ℕ) where
       (next-fits (check-fits Count (badCount cells items locals || badAreas areas))
       (λ e. let n = few-items cells items locals (or-neither (badCount cells items locals) (badAreas areas) (check-told Count (badCount cells items locals || badAreas areas) e) .0) in
       next-fits (check-fits Space (ltb room 2))
-      (λ _. next-fits (few-fits WantWord (badItem cells items (rowCount 2 areas)) (rowCount 4 items) (omega arith)) (λ _. next-fits (surplus-fits n) (λ _. no-more)))))
+      (λ _. next-fits (few-fits WantWord (badItem cells items (rangeCount areas)) (itemRowCount items) (omega arith)) (λ _. next-fits (surplus-fits n) (λ _. no-more)))))
 
   pub crowded-fits : (room : ℕ) → Fits (crowdedVerdict cells items locals room)
   unfolding crowdedVerdict
@@ -74,10 +75,10 @@ module _ (cells items : List ℕ) (locals : ℕ) where
       order-fit
       (next-fits (check-fits Count (badCount cells items locals))
       (λ e. let n = few-items cells items locals (check-told Count (badCount cells items locals) e) in
-      next-fits (check-fits Space (ltb room (rowCount 4 items - locals)))
-      (λ _. next-fits (few-fits WantWord (noCell cells items) (rowCount 4 items) (omega arith)) (λ _. next-fits (surplus-fits n) (λ _. no-more)))))
+      next-fits (check-fits Space (ltb room (itemRowCount items - locals)))
+      (λ _. next-fits (few-fits WantWord (noCell cells items) (itemRowCount items) (omega arith)) (λ _. next-fits (surplus-fits n) (λ _. no-more)))))
 
-  few-slots : (room : ℕ) → crowdedVerdict cells items locals room ≡ Fine → rowCount 4 items ≤ 4096
+  few-slots : (room : ℕ) → crowdedVerdict cells items locals room ≡ Fine → itemRowCount items ≤ 4096
   unfolding crowdedVerdict inOrder
   few-slots room e = few-items cells items locals (check-told Count (badCount cells items locals) (first-left (check Count (badCount cells items locals)) _ e))
 
@@ -93,16 +94,16 @@ crowded-within S n (i ∷ is) = go (crowd S (i .cell)) (crowded-within S (suc n)
 -- no more than there are slots
 pub crowded-few : (cells items : List ℕ) (locals room : ℕ) → crowdedVerdict cells items locals room ≡ Fine → length (crowded (slotsOf locals cells items [])) < 2 ^ 32
 crowded-few cells items locals room e =
-    let d : length (itemsOf (areasOf []) items) ≡ rowCount 4 items = length-tabulate (rowCount 4 items) _ in
+    let d : length (itemsOf (areasOf []) items) ≡ itemRowCount items = length-tabulate (itemRowCount items) _ in
     omega (arith, d, few-slots cells items locals room e, crowded-within (slotsOf locals cells items []) 0 (slotsOf locals cells items [] .slots), length-drop locals (itemsOf (areasOf []) items))
 
 -- ---- `cap` and `apart`: every index is 0
 
 pub cap-fits : (cells : List ℕ) (count : ℕ) → Fits (capVerdict cells count)
-cap-fits cells count = check-fits Count (not (wholeRows 2 cells) || (ltb (rowCount 2 cells) count || ltb 4096 count))
+cap-fits cells count = check-fits Count (not (wholeRows cellWidth cells) || (ltb (cellCount cells) count || ltb 4096 count))
 
 pub apart-fits : (locals slots : List ℕ) (cells items : ℕ) → Fits (apartVerdict locals slots cells items)
 unfolding apartVerdict
 apart-fits locals slots cells items =
     order-fit
-    (next-fits (check-fits Count (apartCount locals slots cells items)) (λ _. next-fits (check-fits Space (apartSpace (rowCount 2 locals + length slots) cells items)) (λ _. no-more)))
+    (next-fits (check-fits Count (apartCount locals slots cells items)) (λ _. next-fits (check-fits Space (apartSpace (localCount locals + slotCount slots) cells items)) (λ _. no-more)))

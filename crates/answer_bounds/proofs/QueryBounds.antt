@@ -8,7 +8,7 @@ use lib.ListN.{getD}
 use Rattle.refusals.specs.declared.Verdict.{Verdict}
 use Rattle.refusals.specs.declared.Verdict.the-variants.{Fine, Bad}
 use Rattle.refusals.specs.Outcomes.{Outcome, given, refused, unless}
-use Rattle.words.specs.Rows.{rowCount, field}
+use Rattle.words.specs.Widths.{cellCount, itemWidth, itemRowCount, itemCell}
 use Rattle.words.proofs.Points.{cut}
 use Rattle.fitting.specs.Queries.{slotsOf, local, slot, saved}
 use Rattle.queries.specs.Entry.{localOf, slotOf, savedBy}
@@ -27,11 +27,11 @@ countOf (given n) = n
 countOf (refused k i) = 0
 
 module _ (cells items : List ℕ) (locals : ℕ) where
-  cell-small : planVerdict cells items locals ≡ Fine → (k : ℕ) → k < rowCount 4 items → getD items (4 * k) 0 < 4096
+  cell-small : planVerdict cells items locals ≡ Fine → (k : ℕ) → k < itemRowCount items → getD items (itemWidth * k) 0 < 4096
   cell-small e k h =
       let s = sound cells items locals e in
-      let a : field 4 items k 0 < rowCount 2 cells = named cells items locals e k h in
-      let b : getD items (4 * k) 0 ≡ field 4 items k 0 = cell-at [] cells items locals s k in
+      let a : itemCell items k < cellCount cells = named cells items locals e k h in
+      let b : getD items (itemWidth * k) 0 ≡ itemCell items k = cell-at [] cells items locals s k in
       omega (arith, s .whole .1, s .enough)
 
   local-in : (i : ℕ) (v : Verdict) → planVerdict cells items locals ≡ v → cellOf (unless v (local (slotsOf locals cells items []) i)) < 4096
@@ -46,7 +46,7 @@ module _ (cells items : List ℕ) (locals : ℕ) where
   slot-in i (Bad r k) e = omega arith
   slot-in i Fine e =
       let s = sound cells items locals e in
-      cut (rowCount 4 items) (locals + i)
+      cut (itemRowCount items) (locals + i)
       (λ h. subst (λ (o : Option ℕ). cellOf (given o) < 4096) (sym (slot-none [] cells items locals s i h)) (omega arith))
       (λ h. subst (λ (o : Option ℕ). cellOf (given o) < 4096) (sym (slot-at [] cells items locals s i h)) (cell-small e (locals + i) h))
 
@@ -54,7 +54,7 @@ module _ (cells items : List ℕ) (locals : ℕ) where
   saved-in (Bad r k) e = omega arith
   saved-in Fine e =
       let s = sound cells items locals e in
-      let a : saved (slotsOf locals cells items []) ≡ rowCount 4 items - rowCount 2 cells = saved-is [] cells items locals s in
+      let a : saved (slotsOf locals cells items []) ≡ itemRowCount items - cellCount cells = saved-is [] cells items locals s in
       omega (arith, s .whole .1)
 
   pub local-small : (i c : ℕ) → localOf cells items locals i ≡ given (some c) → c < 4096

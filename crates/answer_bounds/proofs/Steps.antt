@@ -11,7 +11,7 @@ use Rattle.refusals.specs.declared.Refusal.the-variants.{Count}
 use Rattle.refusals.specs.declared.Verdict.{Verdict}
 use Rattle.refusals.specs.declared.Verdict.the-variants.{Fine}
 use Rattle.refusals.specs.Verdicts.{first, inOrder, scan}
-use Rattle.words.specs.Rows.{rowCount}
+use Rattle.words.specs.Widths.{blockWidth, blockCount, instWidth, instCount, operandWidth, operandCount, localWidth, mentionWidth}
 use Rattle.graph.specs.Line.{Stretch, Jump, lineVerdict, edgeVerdict}
 use Rattle.carrying.specs.Insts.{Inst}
 use Rattle.carrying.specs.Carried.{Mention, Piece}
@@ -48,13 +48,13 @@ pub most-fits : (m n : ℕ) → Fits (mostVerdict m n)
 most-fits m n = check-fits Count (ltb m n)
 
 pub blocks-fit : (blocks : List ℕ) → Fits (blockCounts blocks)
-blocks-fit blocks = first-fits _ _ (rows-fits 3 4096 (length blocks)) (λ _. check-fits Count (ltb (rowCount 3 blocks) 1))
+blocks-fit blocks = first-fits _ _ (rows-fits blockWidth 4096 (length blocks)) (λ _. check-fits Count (ltb (blockCount blocks) 1))
 
 pub insts-fit : (insts operands : List ℕ) → Fits (instCounts insts operands)
 unfolding instCounts
 insts-fit insts operands =
-    first-fits _ _ (rows-fits 9 65536 (length insts))
-    (λ _. first-fits _ _ (rows-fits 2 262144 (length operands)) (λ _. check-fits Count (not (eqb (offset insts (rowCount 9 insts)) (rowCount 2 operands)))))
+    first-fits _ _ (rows-fits instWidth 65536 (length insts))
+    (λ _. first-fits _ _ (rows-fits operandWidth 262144 (length operands)) (λ _. check-fits Count (not (eqb (offset insts (instCount insts)) (operandCount operands)))))
 
 pub carry-counts-fit : (v : ℕ) (blocks insts operands crossings locals addresses ends : List ℕ) → Fits (carryCounts v blocks insts operands crossings locals addresses ends)
 unfolding carryCounts codeCounts
@@ -63,9 +63,9 @@ carry-counts-fit v blocks insts operands crossings locals addresses ends =
     (λ _. first-fits _ _ (most-fits 65535 v)
     (λ _. first-fits _ _ (insts-fit insts operands)
     (λ _. first-fits _ _ (most-fits 65536 (length crossings))
-    (λ _. first-fits _ _ (rows-fits 2 2048 (length locals))
-    (λ _. first-fits _ _ (rows-fits 2 65536 (length addresses))
-    (λ _. rows-fits 2 65536 (length ends)))))))
+    (λ _. first-fits _ _ (rows-fits localWidth 2048 (length locals))
+    (λ _. first-fits _ _ (rows-fits mentionWidth 65536 (length addresses))
+    (λ _. rows-fits mentionWidth 65536 (length ends)))))))
 
 -- ---- numbers 2 to 6, of a group of at most 65,536 records
 

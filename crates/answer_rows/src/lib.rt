@@ -5,19 +5,22 @@ ghost use Prim.Native.Nat.{ℕ, _+_, _*_, _≤_, _<_};
 ghost use lib.ListN.{length, getD, drop};
 ghost use Rattle.answer_rows.specs.Rows.{rowsIn};
 ghost use Rattle.answer_rows.specs.Tables.{itemOf, rowsOf};
+ghost use Rattle.words.specs.Widths.{partWidth, rangeWidth};
+use words::widths::part;
+use words::widths::range;
 
 const HALF: u64 = 0x1_0000_0000;
 
 // A row of two numbers for each of the `n` words from `from` on, less `less`: its upper and its lower half.
 pub fn write_rows(out: &mut [u32], w: &[u64], from: usize, n: usize, less: u64)
-    requires { ⌜ (2 * n ≤ length (now out)) × (from + n ≤ length (now w)) × ((i : ℕ) → i < n → less ≤ getD (now w) (from + i) 0) ⌝ }
-    ensures { λ _. ⌜ now (out .exit) ≡ rowsIn (now (w .entry)) from n less ++ drop (2 * n) (now (out .entry)) ⌝ }
+    requires { ⌜ (rangeWidth * n ≤ length (now out)) × (from + n ≤ length (now w)) × ((i : ℕ) → i < n → less ≤ getD (now w) (from + i) 0) ⌝ }
+    ensures { λ _. ⌜ now (out .exit) ≡ rowsIn (now (w .entry)) from n less ++ drop (rangeWidth * n) (now (out .entry)) ⌝ }
 {
     let mut i = 0;
     while i < n {
         let x = w[from + i] - less;
-        out[2 * i] = (x / HALF) as u32;
-        out[2 * i + 1] = (x % HALF) as u32;
+        out[range::WIDTH * i] = (x / HALF) as u32;
+        out[range::WIDTH * i + range::END] = (x % HALF) as u32;
         i += 1;
     }
 }
@@ -49,15 +52,15 @@ pub fn part(x: u64) -> Item
 
 // A row of three numbers for each of the `n` words from `from` on.
 pub fn write_items(out: &mut [u32], w: &[u64], from: usize, n: usize)
-    requires { ⌜ (3 * n ≤ length (now out)) × (from + n ≤ length (now w)) ⌝ }
-    ensures { λ _. ⌜ now (out .exit) ≡ rowsOf (now (w .entry)) from n ++ drop (3 * n) (now (out .entry)) ⌝ }
+    requires { ⌜ (partWidth * n ≤ length (now out)) × (from + n ≤ length (now w)) ⌝ }
+    ensures { λ _. ⌜ now (out .exit) ≡ rowsOf (now (w .entry)) from n ++ drop (partWidth * n) (now (out .entry)) ⌝ }
 {
     let mut i = 0;
     while i < n {
         let t = part(w[from + i]);
-        out[3 * i] = t.present;
-        out[3 * i + 1] = t.first;
-        out[3 * i + 2] = t.count;
+        out[part::WIDTH * i] = t.present;
+        out[part::WIDTH * i + part::FIRST] = t.first;
+        out[part::WIDTH * i + part::RANGES] = t.count;
         i += 1;
     }
 }

@@ -14,7 +14,8 @@ use Rattle.refusals.specs.declared.Refusal.the-variants.{Count, Space}
 use Rattle.refusals.specs.Verdicts.{check}
 use Rattle.refusals.specs.Outcomes.{numbered}
 use Rattle.refusals.proofs.Laws.{check-bad, check-fine, check-last}
-use Rattle.words.specs.Rows.{rowCount, wholeRows, field, tabulate, flat}
+use Rattle.words.specs.Rows.{wholeRows, tabulate, flat}
+use Rattle.words.specs.Widths.{localWidth, localCount, localSize, localAlign, cellWidth, itemWidth, slotCount, slotSize}
 use Rattle.words.proofs.RowLaws.{length-tabulate, tabulate-eq, tabulate-add, tabulate-getD, map-tabulate}
 use Rattle.words.proofs.FlatLaws.{flat-length}
 use Rattle.words.proofs.Bools.{or-neither}
@@ -26,44 +27,44 @@ use Rattle.apart.specs.Apart.{localsOf, widthsOf, apartCount, apartSpace
 module _ (locals slots : List ℕ) (cells items : ℕ) where
   pub apart-count : apartCount locals slots cells items ≡ true → Bad Count 0 ≡ apartVerdict locals slots cells items
   unfolding apartVerdict
-  apart-count e = sym (check-bad Count (apartCount locals slots cells items) (check Space (apartSpace (rowCount 2 locals + length slots) cells items) ∷ []) e)
+  apart-count e = sym (check-bad Count (apartCount locals slots cells items) (check Space (apartSpace (localCount locals + slotCount slots) cells items) ∷ []) e)
 
   module _ (e : apartCount locals slots cells items ≡ false) where
-    rest : apartVerdict locals slots cells items ≡ check Space (apartSpace (rowCount 2 locals + length slots) cells items)
+    rest : apartVerdict locals slots cells items ≡ check Space (apartSpace (localCount locals + slotCount slots) cells items)
     unfolding apartVerdict
-    rest = check-fine Count (apartCount locals slots cells items) (check Space (apartSpace (rowCount 2 locals + length slots) cells items) ∷ []) e
-        ∙ check-last (check Space (apartSpace (rowCount 2 locals + length slots) cells items))
+    rest = check-fine Count (apartCount locals slots cells items) (check Space (apartSpace (localCount locals + slotCount slots) cells items) ∷ []) e
+        ∙ check-last (check Space (apartSpace (localCount locals + slotCount slots) cells items))
 
-    pub apart-space : apartSpace (rowCount 2 locals + length slots) cells items ≡ true → Bad Space 0 ≡ apartVerdict locals slots cells items
+    pub apart-space : apartSpace (localCount locals + slotCount slots) cells items ≡ true → Bad Space 0 ≡ apartVerdict locals slots cells items
     apart-space f = sym (rest ∙ ap (check Space) f)
 
-    pub apart-fine : apartSpace (rowCount 2 locals + length slots) cells items ≡ false → Fine ≡ apartVerdict locals slots cells items
+    pub apart-fine : apartSpace (localCount locals + slotCount slots) cells items ≡ false → Fine ≡ apartVerdict locals slots cells items
     apart-fine f = sym (rest ∙ ap (check Space) f)
 
   -- what holds where nothing is refused
   pub record Spare : Type 0 where
-    pub few-locals : rowCount 2 locals ≤ 2048
+    pub few-locals : localCount locals ≤ 2048
     pub few-slots : length slots ≤ 2048
-    pub few : rowCount 2 locals + length slots ≤ 4096
-    pub in-cells : 2 * (rowCount 2 locals + length slots) ≤ cells
-    pub in-items : 4 * (rowCount 2 locals + length slots) ≤ items
+    pub few : localCount locals + slotCount slots ≤ 4096
+    pub in-cells : cellWidth * (localCount locals + slotCount slots) ≤ cells
+    pub in-items : itemWidth * (localCount locals + slotCount slots) ≤ items
 
   pub apart-passed : apartVerdict locals slots cells items ≡ Fine → Spare
-  apart-passed e = go (apartCount locals slots cells items) refl (apartSpace (rowCount 2 locals + length slots) cells items) refl
+  apart-passed e = go (apartCount locals slots cells items) refl (apartSpace (localCount locals + slotCount slots) cells items) refl
     where
-      go : (b : Bool) → apartCount locals slots cells items ≡ b → (s : Bool) → apartSpace (rowCount 2 locals + length slots) cells items ≡ s → Spare
+      go : (b : Bool) → apartCount locals slots cells items ≡ b → (s : Bool) → apartSpace (localCount locals + slotCount slots) cells items ≡ s → Spare
       go true f s g = let q = apart-count f in let z : _≡_ {A = ℕ} 0 1 = cc in absurd (omega arith)
       go false f true g = let q = apart-space f g in let z : _≡_ {A = ℕ} 0 1 = cc in absurd (omega arith)
       go false f false g =
-          let (a, b) = or-neither (not (wholeRows 2 locals)) _ f in
-          let (c, d) = or-neither (not (eqb (cells % 2) 0)) _ b in
-          let (h, k) = or-neither (not (eqb (items % 4) 0)) _ d in
-          let (l, m) = or-neither (ltb 2048 (rowCount 2 locals)) (ltb 2048 (length slots)) k in
-          let (s, t) = or-neither (ltb (cells / 2) (rowCount 2 locals + length slots)) _ g in
-          let u = ltb-false 2048 (rowCount 2 locals) l in
+          let (a, b) = or-neither (not (wholeRows localWidth locals)) _ f in
+          let (c, d) = or-neither (not (eqb (cells % cellWidth) 0)) _ b in
+          let (h, k) = or-neither (not (eqb (items % itemWidth) 0)) _ d in
+          let (l, m) = or-neither (ltb 2048 (localCount locals)) (ltb 2048 (slotCount slots)) k in
+          let (s, t) = or-neither (ltb (cells / cellWidth) (localCount locals + slotCount slots)) _ g in
+          let u = ltb-false 2048 (localCount locals) l in
           let v = ltb-false 2048 (length slots) m in
-          let w = ltb-false (cells / 2) (rowCount 2 locals + length slots) s in
-          let x = ltb-false (items / 4) (rowCount 2 locals + length slots) t in
+          let w = ltb-false (cells / cellWidth) (localCount locals + slotCount slots) s in
+          let x = ltb-false (items / itemWidth) (localCount locals + slotCount slots) t in
           record { few-locals = u; few-slots = v; few = omega arith; in-cells = omega arith; in-items = omega arith }
 
 -- two tables one after the other
@@ -73,47 +74,47 @@ tables {A} l m a b c f g =
 
 module _ (locals slots : List ℕ) where
   abbrev pub localAt : ℕ → Want
-  localAt i = record { size = field 2 locals i 0; align = field 2 locals i 1; area = none }
+  localAt i = record { size = localSize locals i; align = localAlign locals i; area = none }
 
   abbrev pub slotAt : ℕ → Want
-  slotAt i = record { size = getD slots i 0; align = getD slots i 0; area = none }
+  slotAt i = record { size = slotSize slots i; align = slotSize slots i; area = none }
 
   pub widths-are : widthsOf slots ≡ tabulate (length slots) slotAt
-  widths-are = ap widthsOf (sym (tabulate-getD slots 0)) ∙ map-tabulate _ (length slots) (λ i. getD slots i 0)
+  widths-are = ap widthsOf (sym (tabulate-getD slots 0)) ∙ map-tabulate _ (length slots) (λ i. slotSize slots i)
 
   abbrev pub roomAt : ℕ → Room
-  roomAt i = cond (ltb i (rowCount 2 locals)) (roomOf (localAt i)) (roomOf (slotAt (i - rowCount 2 locals)))
+  roomAt i = cond (ltb i (localCount locals)) (roomOf (localAt i)) (roomOf (slotAt (i - localCount locals)))
 
-  pub rooms-are : apart (localsOf locals) (widthsOf slots) .cells ≡ tabulate (rowCount 2 locals + length slots) roomAt
+  pub rooms-are : apart (localsOf locals) (widthsOf slots) .cells ≡ tabulate (localCount locals + slotCount slots) roomAt
   rooms-are =
-      ap (λ (l : List Room). l ++ map roomOf (widthsOf slots)) (map-tabulate roomOf (rowCount 2 locals) localAt)
-      ∙ ap (λ (l : List Want). tabulate (rowCount 2 locals) (λ i. roomOf (localAt i)) ++ map roomOf l) widths-are
-      ∙ ap (λ (l : List Room). tabulate (rowCount 2 locals) (λ i. roomOf (localAt i)) ++ l) (map-tabulate roomOf (length slots) slotAt)
-      ∙ tables (rowCount 2 locals) (length slots) (λ i. roomOf (localAt i)) (λ i. roomOf (slotAt i)) roomAt
-      (λ i h. sym (ap (λ (t : Bool). cond t (roomOf (localAt i)) (roomOf (slotAt (i - rowCount 2 locals)))) (lt-ltb i (rowCount 2 locals) h)))
-      (λ i h. let e : rowCount 2 locals + i - rowCount 2 locals ≡ i = omega arith in
-      sym (ap (λ (t : Bool). cond t (roomOf (localAt (rowCount 2 locals + i))) (roomOf (slotAt (rowCount 2 locals + i - rowCount 2 locals)))) (le-ltb (rowCount 2 locals + i) (rowCount 2 locals) (omega arith))
+      ap (λ (l : List Room). l ++ map roomOf (widthsOf slots)) (map-tabulate roomOf (localCount locals) localAt)
+      ∙ ap (λ (l : List Want). tabulate (localCount locals) (λ i. roomOf (localAt i)) ++ map roomOf l) widths-are
+      ∙ ap (λ (l : List Room). tabulate (localCount locals) (λ i. roomOf (localAt i)) ++ l) (map-tabulate roomOf (length slots) slotAt)
+      ∙ tables (localCount locals) (length slots) (λ i. roomOf (localAt i)) (λ i. roomOf (slotAt i)) roomAt
+      (λ i h. sym (ap (λ (t : Bool). cond t (roomOf (localAt i)) (roomOf (slotAt (i - localCount locals)))) (lt-ltb i (localCount locals) h)))
+      (λ i h. let e : localCount locals + i - localCount locals ≡ i = omega arith in
+      sym (ap (λ (t : Bool). cond t (roomOf (localAt (localCount locals + i))) (roomOf (slotAt (localCount locals + i - localCount locals)))) (le-ltb (localCount locals + i) (localCount locals) (omega arith))
       ∙ ap (λ (k : ℕ). roomOf (slotAt k)) e))
 
   pub row-is : (i : ℕ) → roomRow (roomAt i) ≡ ownCell locals slots i
-  row-is i = go (ltb i (rowCount 2 locals))
+  row-is i = go (ltb i (localCount locals))
     where
-      go : (t : Bool) → roomRow (cond t (roomOf (localAt i)) (roomOf (slotAt (i - rowCount 2 locals))))
-          ≡ cond t (field 2 locals i 0 ∷ field 2 locals i 1 ∷ []) (getD slots (i - rowCount 2 locals) 0 ∷ getD slots (i - rowCount 2 locals) 0 ∷ [])
+      go : (t : Bool) → roomRow (cond t (roomOf (localAt i)) (roomOf (slotAt (i - localCount locals))))
+          ≡ cond t (localSize locals i ∷ localAlign locals i ∷ []) (slotSize slots (i - localCount locals) ∷ slotSize slots (i - localCount locals) ∷ [])
       go true = refl
       go false = refl
 
   pub cells-are : roomRows (apart (localsOf locals) (widthsOf slots)) ≡ ownCells locals slots
   cells-are =
-      ap flat (ap (map roomRow) rooms-are ∙ map-tabulate roomRow (rowCount 2 locals + length slots) roomAt
-      ∙ tabulate-eq (rowCount 2 locals + length slots) _ (ownCell locals slots) (λ i h. row-is i))
+      ap flat (ap (map roomRow) rooms-are ∙ map-tabulate roomRow (localCount locals + slotCount slots) roomAt
+      ∙ tabulate-eq (localCount locals + slotCount slots) _ (ownCell locals slots) (λ i h. row-is i))
 
   abbrev pub lone : ℕ → List ℕ
   lone i = i ∷ 0 ∷ 0 ∷ 0 ∷ []
 
-  pub items-are : loneRows (apart (localsOf locals) (widthsOf slots)) ≡ ownItems (rowCount 2 locals + length slots)
+  pub items-are : loneRows (apart (localsOf locals) (widthsOf slots)) ≡ ownItems (localCount locals + slotCount slots)
   items-are =
-      let a : length (localsOf locals) ≡ rowCount 2 locals = length-tabulate (rowCount 2 locals) localAt in
+      let a : length (localsOf locals) ≡ localCount locals = length-tabulate (localCount locals) localAt in
       let b : length (widthsOf slots) ≡ length slots = ap length widths-are ∙ length-tabulate (length slots) slotAt in
       ap flat
       (ap (λ (l : List (List ℕ)). l ++ map loneRow (tabulate (length (widthsOf slots)) (λ i. record { cell = length (localsOf locals) + i; area = none })))
@@ -124,21 +125,21 @@ module _ (locals slots : List ℕ) where
       ∙ ap (λ (k : ℕ). tabulate k lone) (omega (arith, a, b)))
 
   own-wide : (i : ℕ) → length (ownCell locals slots i) ≡ 2
-  own-wide i = go (ltb i (rowCount 2 locals))
+  own-wide i = go (ltb i (localCount locals))
     where
-      go : (t : Bool) → length (cond t (field 2 locals i 0 ∷ field 2 locals i 1 ∷ []) (getD slots (i - rowCount 2 locals) 0 ∷ getD slots (i - rowCount 2 locals) 0 ∷ [])) ≡ 2
+      go : (t : Bool) → length (cond t (localSize locals i ∷ localAlign locals i ∷ []) (slotSize slots (i - localCount locals) ∷ slotSize slots (i - localCount locals) ∷ [])) ≡ 2
       go true = refl
       go false = refl
 
-  pub cell-wide : (i : ℕ) → i < rowCount 2 locals + length slots → length (ownCell locals slots i) ≡ 2
+  pub cell-wide : (i : ℕ) → i < localCount locals + slotCount slots → length (ownCell locals slots i) ≡ 2
   cell-wide i h = own-wide i
 
   -- an item's cell, by its index
-  pub own-local : (i : ℕ) → i < rowCount 2 locals → ownCell locals slots i ≡ field 2 locals i 0 ∷ field 2 locals i 1 ∷ []
-  own-local i h = ap (λ (t : Bool). cond t (field 2 locals i 0 ∷ field 2 locals i 1 ∷ []) (getD slots (i - rowCount 2 locals) 0 ∷ getD slots (i - rowCount 2 locals) 0 ∷ [])) (lt-ltb i (rowCount 2 locals) h)
+  pub own-local : (i : ℕ) → i < localCount locals → ownCell locals slots i ≡ localSize locals i ∷ localAlign locals i ∷ []
+  own-local i h = ap (λ (t : Bool). cond t (localSize locals i ∷ localAlign locals i ∷ []) (slotSize slots (i - localCount locals) ∷ slotSize slots (i - localCount locals) ∷ [])) (lt-ltb i (localCount locals) h)
 
-  pub own-slot : (i : ℕ) → rowCount 2 locals ≤ i → ownCell locals slots i ≡ getD slots (i - rowCount 2 locals) 0 ∷ getD slots (i - rowCount 2 locals) 0 ∷ []
-  own-slot i h = ap (λ (t : Bool). cond t (field 2 locals i 0 ∷ field 2 locals i 1 ∷ []) (getD slots (i - rowCount 2 locals) 0 ∷ getD slots (i - rowCount 2 locals) 0 ∷ [])) (le-ltb i (rowCount 2 locals) h)
+  pub own-slot : (i : ℕ) → localCount locals ≤ i → ownCell locals slots i ≡ slotSize slots (i - localCount locals) ∷ slotSize slots (i - localCount locals) ∷ []
+  own-slot i h = ap (λ (t : Bool). cond t (localSize locals i ∷ localAlign locals i ∷ []) (slotSize slots (i - localCount locals) ∷ slotSize slots (i - localCount locals) ∷ [])) (le-ltb i (localCount locals) h)
 
   module _ (cells items : List ℕ) where
     pub apart-refused : (r : Refusal) (k : ℕ) → apartVerdict locals slots (length cells) (length items) ≡ Bad r k
@@ -146,13 +147,13 @@ module _ (locals slots : List ℕ) where
     apart-refused r k e = record { answer = ap numbered (sym e); in-cells = rw e; in-items = rw e }
 
     pub apart-told : (cells′ items′ : List ℕ) → apartVerdict locals slots (length cells) (length items) ≡ Fine
-        → cells′ ≡ ownCells locals slots ++ drop (2 * (rowCount 2 locals + length slots)) cells
-        → items′ ≡ ownItems (rowCount 2 locals + length slots) ++ drop (4 * (rowCount 2 locals + length slots)) items
+        → cells′ ≡ ownCells locals slots ++ drop (cellWidth * (localCount locals + slotCount slots)) cells
+        → items′ ≡ ownItems (localCount locals + slotCount slots) ++ drop (itemWidth * (localCount locals + slotCount slots)) items
         → ApartBy (apartVerdict locals slots (length cells) (length items)) (apartOf locals slots (length cells) (length items)) cells items Fine cells′ items′
     apart-told cells′ items′ e f g = record {
       answer = ap numbered (sym e);
-      in-cells = f ∙ ap (λ (k : ℕ). ownCells locals slots ++ drop k cells) (sym (flat-length 2 (rowCount 2 locals + length slots) (ownCell locals slots) cell-wide))
+      in-cells = f ∙ ap (λ (k : ℕ). ownCells locals slots ++ drop k cells) (sym (flat-length 2 (localCount locals + slotCount slots) (ownCell locals slots) cell-wide))
           ∙ ap (λ (l : List ℕ). l ++ drop (length l) cells) (sym cells-are) ∙ rw e;
-      in-items = g ∙ ap (λ (k : ℕ). ownItems (rowCount 2 locals + length slots) ++ drop k items) (sym (flat-length 4 (rowCount 2 locals + length slots) lone (λ i h. refl)))
+      in-items = g ∙ ap (λ (k : ℕ). ownItems (localCount locals + slotCount slots) ++ drop k items) (sym (flat-length 4 (localCount locals + slotCount slots) lone (λ i h. refl)))
           ∙ ap (λ (l : List ℕ). l ++ drop (length l) items) (sym items-are) ∙ rw e;
     }

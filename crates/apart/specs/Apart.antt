@@ -10,14 +10,15 @@ use Rattle.refusals.specs.declared.Verdict.{Verdict}
 use Rattle.refusals.specs.declared.Refusal.the-variants.{Count, Space}
 use Rattle.refusals.specs.Verdicts.{inOrder, check}
 use Rattle.refusals.specs.Outcomes.{Outcome, unless, numbered, after}
-use Rattle.words.specs.Rows.{rowCount, wholeRows, field, records, tabulate, flat}
+use Rattle.words.specs.Rows.{wholeRows, records, tabulate, flat}
+use Rattle.words.specs.Widths.{localWidth, localCount, localSize, localAlign, cellWidth, itemWidth, slotCount, slotSize}
 use Rattle.fitting.specs.Wants.{Want}
 use Rattle.fitting.specs.Queries.{Item, Slots, apart}
 use Rattle.capping.specs.Cap.{roomRow}
 
 -- locals 2 numbers: size, align; a slot's size and alignment are its width
 abbrev pub localsOf : List ℕ → List Want
-localsOf s = records 2 (λ f. record { size = f 0; align = f 1; area = none }) s
+localsOf s = records localWidth (λ f. record { size = f 0; align = f 1; area = none }) s
 
 abbrev pub widthsOf : List ℕ → List Want
 widthsOf s = map (λ w. record { size = w; align = w; area = none }) s
@@ -25,14 +26,14 @@ widthsOf s = map (λ w. record { size = w; align = w; area = none }) s
 -- number 1, by the lengths of the answer lists: a list that is no whole rows, or a count over its limit
 abbrev pub apartCount : List ℕ → List ℕ → ℕ → ℕ → Bool
 apartCount locals slots cells items =
-    not (wholeRows 2 locals) || (not (eqb (cells % 2) 0) || (not (eqb (items % 4) 0) || (ltb 2048 (rowCount 2 locals) || ltb 2048 (length slots))))
+    not (wholeRows localWidth locals) || (not (eqb (cells % cellWidth) 0) || (not (eqb (items % itemWidth) 0) || (ltb 2048 (localCount locals) || ltb 2048 (slotCount slots))))
 
 -- number 7: "cell or item list under the item count"
 abbrev pub apartSpace : ℕ → ℕ → ℕ → Bool
-apartSpace n cells items = ltb (cells / 2) n || ltb (items / 4) n
+apartSpace n cells items = ltb (cells / cellWidth) n || ltb (items / itemWidth) n
 
 abbrev pub apartChecks : List ℕ → List ℕ → ℕ → ℕ → List Verdict
-apartChecks locals slots cells items = check Count (apartCount locals slots cells items) ∷ check Space (apartSpace (rowCount 2 locals + length slots) cells items) ∷ []
+apartChecks locals slots cells items = check Count (apartCount locals slots cells items) ∷ check Space (apartSpace (localCount locals + slotCount slots) cells items) ∷ []
 
 unfoldable pub apartVerdict : List ℕ → List ℕ → ℕ → ℕ → Verdict
 apartVerdict locals slots cells items = inOrder (apartChecks locals slots cells items)
@@ -59,10 +60,10 @@ pub record ApartBy (v : Verdict) (o : Outcome Slots) (cells items : List ℕ) (r
 -- item i's rows where each item has its own cell
 abbrev pub ownCell : List ℕ → List ℕ → ℕ → List ℕ
 ownCell locals slots i =
-    cond (ltb i (rowCount 2 locals)) (field 2 locals i 0 ∷ field 2 locals i 1 ∷ []) (getD slots (i - rowCount 2 locals) 0 ∷ getD slots (i - rowCount 2 locals) 0 ∷ [])
+    cond (ltb i (localCount locals)) (localSize locals i ∷ localAlign locals i ∷ []) (slotSize slots (i - localCount locals) ∷ slotSize slots (i - localCount locals) ∷ [])
 
 abbrev pub ownCells : List ℕ → List ℕ → List ℕ
-ownCells locals slots = flat (tabulate (rowCount 2 locals + length slots) (ownCell locals slots))
+ownCells locals slots = flat (tabulate (localCount locals + slotCount slots) (ownCell locals slots))
 
 abbrev pub ownItems : ℕ → List ℕ
 ownItems n = flat (tabulate n (λ i. i ∷ 0 ∷ 0 ∷ 0 ∷ []))

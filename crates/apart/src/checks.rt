@@ -3,6 +3,9 @@ ghost use mathlib.Core.Path.{_≡_};
 ghost use Rattle.apart.specs.Apart.{apartCount, apartSpace, apartVerdict};
 use refusals::Refusal;
 use refusals::Verdict;
+use words::widths::cell;
+use words::widths::item;
+use words::widths::local;
 
 // The most locals and slots.
 const MOST: usize = 2048;
@@ -10,16 +13,16 @@ const MOST: usize = 2048;
 fn apart_count(locals: &[u32], slots: &[u32], cells: usize, items: usize) -> bool
     ensures { λ r. ⌜ r ≡ apartCount (now (locals .entry)) (now (slots .entry)) cells items ⌝ }
 {
-    if locals.len() % 2 != 0 {
+    if locals.len() % local::WIDTH != 0 {
         return true;
     }
-    if cells % 2 != 0 {
+    if cells % cell::WIDTH != 0 {
         return true;
     }
-    if items % 4 != 0 {
+    if items % item::WIDTH != 0 {
         return true;
     }
-    if MOST < locals.len() / 2 {
+    if MOST < locals.len() / local::WIDTH {
         return true;
     }
     MOST < slots.len()
@@ -28,10 +31,10 @@ fn apart_count(locals: &[u32], slots: &[u32], cells: usize, items: usize) -> boo
 fn apart_space(n: usize, cells: usize, items: usize) -> bool
     ensures { λ r. ⌜ r ≡ apartSpace n cells items ⌝ }
 {
-    if cells / 2 < n {
+    if cells / cell::WIDTH < n {
         return true;
     }
-    items / 4 < n
+    items / item::WIDTH < n
 }
 
 // Of `apart`, by the lengths of its answer lists.
@@ -41,7 +44,7 @@ pub fn apart(locals: &[u32], slots: &[u32], cells: usize, items: usize) -> Verdi
     if apart_count(locals, slots, cells, items) {
         return Verdict::Bad(Refusal::Count, 0);
     }
-    if apart_space(locals.len() / 2 + slots.len(), cells, items) {
+    if apart_space(locals.len() / local::WIDTH + slots.len(), cells, items) {
         return Verdict::Bad(Refusal::Space, 0);
     }
     Verdict::Fine

@@ -3,9 +3,12 @@ ghost use mathlib.Core.Path.{_≡_};
 ghost use Prim.Native.Nat.{_+_, _*_, _≤_};
 ghost use mathlib.Core.List.{_++_};
 ghost use lib.ListN.{length, drop};
-ghost use Rattle.words.specs.Rows.{rowCount};
+ghost use Rattle.words.specs.Widths.{localCount, cellWidth, itemWidth, slotCount};
 ghost use Rattle.apart.specs.Apart.{apartVerdict, apartOf, ApartBy, ownCells, ownItems};
 use refusals::Verdict;
+use words::widths::cell;
+use words::widths::item;
+use words::widths::local;
 
 mod checks; // checks.rt: refusals 1 and 7
 
@@ -21,41 +24,42 @@ pub fn apart(locals: &[u32], slots: &[u32], cells: &mut [u32], items: &mut [u32]
         return Verdict::Bad(r, k);
     }
     own_cells(cells, locals, slots);
-    own_items(items, locals.len() / 2 + slots.len());
+    own_items(items, locals.len() / local::WIDTH + slots.len());
     Verdict::Fine
 }
 
 fn own_cells(cells: &mut [u32], locals: &[u32], slots: &[u32])
-    requires { ⌜ (2 * (rowCount 2 (now locals) + length (now slots)) ≤ length (now cells)) × (rowCount 2 (now locals) + length (now slots) ≤ 4096) ⌝ }
-    ensures { λ _. ⌜ now (cells .exit) ≡ ownCells (now (locals .entry)) (now (slots .entry)) ++ drop (2 * (rowCount 2 (now (locals .entry)) + length (now (slots .entry)))) (now (cells .entry)) ⌝ }
+    requires { ⌜ (cellWidth * (localCount (now locals) + slotCount (now slots)) ≤ length (now cells)) × (localCount (now locals) + slotCount (now slots) ≤ 4096) ⌝ }
+    ensures { λ _. ⌜ now (cells .exit) ≡ ownCells (now (locals .entry)) (now (slots .entry))
+        ++ drop (cellWidth * (localCount (now (locals .entry)) + slotCount (now (slots .entry)))) (now (cells .entry)) ⌝ }
 {
-    let l = locals.len() / 2;
+    let l = locals.len() / local::WIDTH;
     let n = l + slots.len();
     let mut i = 0;
     while i < n {
         if i < l {
-            cells[2 * i] = locals[2 * i];
-            cells[2 * i + 1] = locals[2 * i + 1];
+            cells[cell::WIDTH * i] = locals[local::WIDTH * i];
+            cells[cell::WIDTH * i + cell::ALIGN] = locals[local::WIDTH * i + local::ALIGN];
             i += 1;
         } else {
             let width = slots[i - l];
-            cells[2 * i] = width;
-            cells[2 * i + 1] = width;
+            cells[cell::WIDTH * i] = width;
+            cells[cell::WIDTH * i + cell::ALIGN] = width;
             i += 1;
         }
     }
 }
 
 fn own_items(items: &mut [u32], n: usize)
-    requires { ⌜ (4 * n ≤ length (now items)) × (n ≤ 4096) ⌝ }
-    ensures { λ _. ⌜ now (items .exit) ≡ ownItems n ++ drop (4 * n) (now (items .entry)) ⌝ }
+    requires { ⌜ (itemWidth * n ≤ length (now items)) × (n ≤ 4096) ⌝ }
+    ensures { λ _. ⌜ now (items .exit) ≡ ownItems n ++ drop (itemWidth * n) (now (items .entry)) ⌝ }
 {
     let mut i = 0;
     while i < n {
-        items[4 * i] = i as u32;
-        items[4 * i + 1] = 0;
-        items[4 * i + 2] = 0;
-        items[4 * i + 3] = 0;
+        items[item::WIDTH * i] = i as u32;
+        items[item::WIDTH * i + item::PRESENT] = 0;
+        items[item::WIDTH * i + item::FIRST] = 0;
+        items[item::WIDTH * i + item::RANGES] = 0;
         i += 1;
     }
 }

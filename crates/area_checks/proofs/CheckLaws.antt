@@ -15,6 +15,7 @@ use Rattle.refusals.specs.declared.Refusal.the-variants.{Count, Inst, Space}
 use Rattle.refusals.specs.Verdicts.{first, scan}
 use Rattle.refusals.proofs.Laws.{first-fine, first-bad, first-left, first-right, check-told}
 use Rattle.words.specs.Rows.{rowCount, field}
+use Rattle.words.specs.Widths.{touchWidth, stopWidth, partWidth, rangeWidth}
 use Rattle.graph.specs.Checks.{graphVerdict}
 use Rattle.line_checks.proofs.Refusals.{passed}
 use Rattle.insts.specs.Counts.{badRows, rowsVerdict, mostVerdict}
@@ -27,28 +28,28 @@ rows-told : (width limit n : ℕ) → rowsVerdict width limit n ≡ Fine → n /
 rows-told width limit n e = ltb-false limit (n / width) (or-neither (not (eqb (n % width) 0)) _ (check-told Count (badRows width limit n) e) .1)
 
 module _ (kinds touches ends areas items : ℕ) where
-  pub counts-chain : {a b c d e r₁ r₂ r₃ r : Verdict} → a ≡ mostVerdict 2048 kinds → b ≡ rowsVerdict 3 65536 touches → c ≡ rowsVerdict 2 65536 ends → d ≡ rowsVerdict 2 65536 areas → e ≡ rowsVerdict 3 items items
+  pub counts-chain : {a b c d e r₁ r₂ r₃ r : Verdict} → a ≡ mostVerdict 2048 kinds → b ≡ rowsVerdict touchWidth 65536 touches → c ≡ rowsVerdict stopWidth 65536 ends → d ≡ rowsVerdict rangeWidth 65536 areas → e ≡ rowsVerdict partWidth items items
       → r₁ ≡ first d e → r₂ ≡ first c r₁ → r₃ ≡ first b r₂ → r ≡ first a r₃ → r ≡ rowCounts kinds touches ends areas items
   unfolding rowCounts
   counts-chain ea eb ec ed ee e₁ e₂ e₃ e₄ = cc
 
   pub record Counted : Type 0 where
     pub few-kinds : kinds ≤ 2048
-    pub few-touches : touches / 3 ≤ 65536
-    pub few-ends : ends / 2 ≤ 65536
-    pub few-ranges : areas / 2 ≤ 65536
+    pub few-touches : touches / touchWidth ≤ 65536
+    pub few-ends : ends / stopWidth ≤ 65536
+    pub few-ranges : areas / rangeWidth ≤ 65536
 
   pub counted : rowCounts kinds touches ends areas items ≡ Fine → Counted
   unfolding rowCounts
   counted e =
       let b = first-right (mostVerdict 2048 kinds) _ e in
-      let c = first-right (rowsVerdict 3 65536 touches) _ b in
-      let d = first-right (rowsVerdict 2 65536 ends) _ c in
+      let c = first-right (rowsVerdict touchWidth 65536 touches) _ b in
+      let d = first-right (rowsVerdict stopWidth 65536 ends) _ c in
       record {
         few-kinds = ltb-false 2048 kinds (check-told Count (ltb 2048 kinds) (first-left (mostVerdict 2048 kinds) _ e));
-        few-touches = rows-told 3 65536 touches (first-left (rowsVerdict 3 65536 touches) _ b);
-        few-ends = rows-told 2 65536 ends (first-left (rowsVerdict 2 65536 ends) _ c);
-        few-ranges = rows-told 2 65536 areas (first-left (rowsVerdict 2 65536 areas) _ d);
+        few-touches = rows-told touchWidth 65536 touches (first-left (rowsVerdict touchWidth 65536 touches) _ b);
+        few-ends = rows-told stopWidth 65536 ends (first-left (rowsVerdict stopWidth 65536 ends) _ c);
+        few-ranges = rows-told rangeWidth 65536 areas (first-left (rowsVerdict rangeWidth 65536 areas) _ d);
       }
 
 -- ---- number 4
@@ -66,11 +67,11 @@ module _ (z : Sizes) (items work : ℕ) where
   pub short-work : work < spaceFor z → Bad Space 0 ≡ spaceVerdict z items work
   short-work h = simp (lt-ltb work (spaceFor z) h)
 
-  pub short-items : spaceFor z ≤ work → items / 3 < z .locals → Bad Space 0 ≡ spaceVerdict z items work
-  short-items h m = simp (le-ltb work (spaceFor z) h, lt-ltb (items / 3) (z .locals) m)
+  pub short-items : spaceFor z ≤ work → items / partWidth < z .locals → Bad Space 0 ≡ spaceVerdict z items work
+  short-items h m = simp (le-ltb work (spaceFor z) h, lt-ltb (items / partWidth) (z .locals) m)
 
-  pub enough : spaceFor z ≤ work → z .locals ≤ items / 3 → Fine ≡ spaceVerdict z items work
-  enough h m = simp (le-ltb work (spaceFor z) h, le-ltb (items / 3) (z .locals) m)
+  pub enough : spaceFor z ≤ work → z .locals ≤ items / partWidth → Fine ≡ spaceVerdict z items work
+  enough h m = simp (le-ltb work (spaceFor z) h, le-ltb (items / partWidth) (z .locals) m)
 
 -- ---- all of them
 
@@ -108,7 +109,7 @@ module _ (blocks edges : List ℕ) (points : ℕ) (kinds : List ℕ) (touches en
 -- where nothing is refused
 module _ (blocks edges : List ℕ) (points : ℕ) (kinds touches ends : List ℕ) (areas items : ℕ) (w : List ℕ) where
   pub lent : lentVerdict blocks edges points kinds (length touches) (length ends) areas items (length w) ≡ Fine
-      → Lent blocks edges kinds touches ends areas w × (3 * length kinds ≤ items)
+      → Lent blocks edges kinds touches ends areas w × (partWidth * length kinds ≤ items)
   unfolding lentVerdict
   lent e =
       let c = first-left (rowCounts (length kinds) (length touches) (length ends) areas items) _ e in
@@ -117,12 +118,12 @@ module _ (blocks edges : List ℕ) (points : ℕ) (kinds touches ends : List ℕ
       let k = first-right (graphVerdict blocks edges points) _ f in
       let p = passed blocks edges points g in
       let z = sizesOf blocks edges (length kinds) (length touches) (length ends) areas in
-      let (a, b) = or-neither (ltb (length w) (spaceFor z)) _ (check-told Space (ltb (length w) (spaceFor z) || ltb (items / 3) (length kinds)) (first-right (kindsVerdict kinds) _ k)) in (
+      let (a, b) = or-neither (ltb (length w) (spaceFor z)) _ (check-told Space (ltb (length w) (spaceFor z) || ltb (items / partWidth) (length kinds)) (first-right (kindsVerdict kinds) _ k)) in (
         record {
           small = small blocks edges points kinds (length touches) (length ends) areas items (length w) c g;
           sound = p .sound;
           edges-fine = p .edges-fine;
           space = ltb-false (length w) (spaceFor z) a;
         },
-        omega (arith, ltb-false (items / 3) (length kinds) b),
+        omega (arith, ltb-false (items / partWidth) (length kinds) b),
       )

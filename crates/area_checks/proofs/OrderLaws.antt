@@ -14,10 +14,11 @@ use Rattle.graph.specs.Checks.{badCount, graphChecks, graphVerdict}
 use Rattle.insts.specs.Counts.{badRows, rowsVerdict, mostVerdict}
 use Rattle.area_layout.specs.Layout.{spaceFor}
 use Rattle.area_checks.specs.Checks.{rowCounts, sizesOf, kindsVerdict, spaceVerdict, lentVerdict, lentChecks, lentGive}
+use Rattle.words.specs.Widths.{touchWidth, stopWidth, partWidth, rangeWidth}
 
 module _ (blocks edges : List ℕ) (points : ℕ) (kinds : List ℕ) (touches ends areas items work : ℕ) where
   abbrev counts : List Verdict
-  counts = mostVerdict 2048 (length kinds) ∷ rowsVerdict 3 65536 touches ∷ rowsVerdict 2 65536 ends ∷ rowsVerdict 2 65536 areas ∷ rowsVerdict 3 items items ∷ []
+  counts = mostVerdict 2048 (length kinds) ∷ rowsVerdict touchWidth 65536 touches ∷ rowsVerdict stopWidth 65536 ends ∷ rowsVerdict rangeWidth 65536 areas ∷ rowsVerdict partWidth items items ∷ []
 
   abbrev graph : List Verdict
   graph = graphChecks blocks edges points
@@ -28,9 +29,9 @@ module _ (blocks edges : List ℕ) (points : ℕ) (kinds : List ℕ) (touches en
   counts-order : rowCounts (length kinds) touches ends areas items ≡ inOrder counts
   unfolding rowCounts
   counts-order =
-      order-more _ (rowsVerdict 3 65536 touches ∷ rowsVerdict 2 65536 ends ∷ rowsVerdict 2 65536 areas ∷ rowsVerdict 3 items items ∷ [])
-      (order-more _ (rowsVerdict 2 65536 ends ∷ rowsVerdict 2 65536 areas ∷ rowsVerdict 3 items items ∷ [])
-      (order-more _ (rowsVerdict 2 65536 areas ∷ rowsVerdict 3 items items ∷ []) (order-two _ _)))
+      order-more _ (rowsVerdict touchWidth 65536 touches ∷ rowsVerdict stopWidth 65536 ends ∷ rowsVerdict rangeWidth 65536 areas ∷ rowsVerdict partWidth items items ∷ [])
+      (order-more _ (rowsVerdict stopWidth 65536 ends ∷ rowsVerdict rangeWidth 65536 areas ∷ rowsVerdict partWidth items items ∷ [])
+      (order-more _ (rowsVerdict rangeWidth 65536 areas ∷ rowsVerdict partWidth items items ∷ []) (order-two _ _)))
 
   graph-order : graphVerdict blocks edges points ≡ inOrder graph
   unfolding graphVerdict
@@ -48,13 +49,13 @@ module _ (blocks edges : List ℕ) (points : ℕ) (kinds : List ℕ) (touches en
   lent-give = (
     check-gives Count (ltb 2048 (length kinds)),
     (
-      check-gives Count (badRows 3 65536 touches),
+      check-gives Count (badRows touchWidth 65536 touches),
       (
-        check-gives Count (badRows 2 65536 ends),
+        check-gives Count (badRows stopWidth 65536 ends),
         (
-          check-gives Count (badRows 2 65536 areas),
+          check-gives Count (badRows rangeWidth 65536 areas),
           (
-            check-gives Count (badRows 3 items items),
+            check-gives Count (badRows partWidth items items),
             (
               check-gives Count (badCount blocks edges),
               (
@@ -63,7 +64,7 @@ module _ (blocks edges : List ℕ) (points : ℕ) (kinds : List ℕ) (touches en
                   scan-gives Edge _ _,
                   (
                     scan-gives Inst _ _,
-                    (check-gives Space (ltb work (spaceFor (sizesOf blocks edges (length kinds) touches ends areas)) || ltb (items / 3) (length kinds)), tt),
+                    (check-gives Space (ltb work (spaceFor (sizesOf blocks edges (length kinds) touches ends areas)) || ltb (items / partWidth) (length kinds)), tt),
                   ),
                 ),
               ),

@@ -9,7 +9,7 @@ use Rattle.refusals.specs.declared.Verdict.{Verdict}
 use Rattle.refusals.specs.declared.Refusal.{Refusal}
 use Rattle.refusals.specs.declared.Refusal.the-variants.{Count, Line, Edge, Inst, Space}
 use Rattle.refusals.specs.Verdicts.{first, check, scan}
-use Rattle.words.specs.Rows.{rowCount}
+use Rattle.words.specs.Widths.{blockCount, edgeCount, touchWidth, stopWidth, partWidth, rangeWidth}
 use Rattle.graph.specs.Checks.{countVerdict, graphVerdict}
 use Rattle.insts.specs.Counts.{rowsVerdict, mostVerdict}
 use Rattle.area_layout.specs.declared.Sizes.{Sizes}
@@ -20,12 +20,13 @@ use Rattle.graph.specs.Line.{blocksOf, jumpsOf, lineVerdict, edgeVerdict, Sound
 -- number 1: "locals 2,048; ends and the area list 65,536", and as many touches; an answer list that is no whole rows
 unfoldable pub rowCounts : ℕ → ℕ → ℕ → ℕ → ℕ → Verdict
 rowCounts kinds touches ends areas items =
-    first (mostVerdict 2048 kinds) (first (rowsVerdict 3 65536 touches) (first (rowsVerdict 2 65536 ends) (first (rowsVerdict 2 65536 areas) (rowsVerdict 3 items items))))
+    first (mostVerdict 2048 kinds) (first (rowsVerdict touchWidth 65536 touches) (first (rowsVerdict stopWidth 65536 ends) (first (rowsVerdict rangeWidth 65536 areas)
+    (rowsVerdict partWidth items items))))
 
 -- how many records are lent, and how many ranges the area list holds; the other lists are given by their lengths
 abbrev pub sizesOf : List ℕ → List ℕ → ℕ → ℕ → ℕ → ℕ → Sizes
 sizesOf blocks edges kinds touches ends areas =
-    record { blocks = rowCount 3 blocks; edges = rowCount 2 edges; locals = kinds; touches = touches / 3; ends = ends / 2; room = areas / 2 }
+    record { blocks = blockCount blocks; edges = edgeCount edges; locals = kinds; touches = touches / touchWidth; ends = ends / stopWidth; room = areas / rangeWidth }
 
 -- number 4, "a flag out of range": a kind over 2, at that local
 abbrev pub kindsVerdict : List ℕ → Verdict
@@ -33,7 +34,7 @@ kindsVerdict kinds = scan Inst (λ l. ltb 2 (getD kinds l 0)) (length kinds)
 
 -- number 7: work space under W, item list under the item count
 abbrev pub spaceVerdict : Sizes → ℕ → ℕ → Verdict
-spaceVerdict z items work = check Space (ltb work (spaceFor z) || ltb (items / 3) (z .locals))
+spaceVerdict z items work = check Space (ltb work (spaceFor z) || ltb (items / partWidth) (z .locals))
 
 -- numbers 1, 2, 3, 4 and 7: what is refused before anything is measured
 unfoldable pub lentVerdict : List ℕ → List ℕ → ℕ → List ℕ → ℕ → ℕ → ℕ → ℕ → ℕ → Verdict
@@ -44,7 +45,7 @@ lentVerdict blocks edges points kinds touches ends areas items work =
 -- the same as a list of checks, and the refusal that each of them gives
 abbrev pub lentChecks : List ℕ → List ℕ → ℕ → List ℕ → ℕ → ℕ → ℕ → ℕ → ℕ → List Verdict
 lentChecks blocks edges points kinds touches ends areas items work =
-    mostVerdict 2048 (length kinds) ∷ rowsVerdict 3 65536 touches ∷ rowsVerdict 2 65536 ends ∷ rowsVerdict 2 65536 areas ∷ rowsVerdict 3 items items
+    mostVerdict 2048 (length kinds) ∷ rowsVerdict touchWidth 65536 touches ∷ rowsVerdict stopWidth 65536 ends ∷ rowsVerdict rangeWidth 65536 areas ∷ rowsVerdict partWidth items items
     ∷ countVerdict blocks edges ∷ lineVerdict (blocksOf blocks) points ∷ edgeVerdict (blocksOf blocks) (jumpsOf edges) ∷ kindsVerdict kinds
     ∷ spaceVerdict (sizesOf blocks edges (length kinds) touches ends areas) items work ∷ []
 

@@ -5,16 +5,22 @@ ghost use Rattle.area_checks.specs.Checks.{rowCounts, kindsVerdict, spac
 use area_layout::Sizes;
 use refusals::Refusal;
 use refusals::Verdict;
+use words::widths::block;
+use words::widths::edge;
+use words::widths::part;
+use words::widths::range;
+use words::widths::stop;
+use words::widths::touch;
 
 // Refusal 1 of the locals, the touches, the ends, the area list and the list of items, by their lengths.
 fn counts(kinds: usize, touches: usize, ends: usize, areas: usize, items: usize) -> Verdict
     ensures { λ r. ⌜ r ≡ rowCounts kinds touches ends areas items ⌝ }
 {
     let a = insts::counts::most(kinds, 2048);
-    let b = insts::counts::rows(touches, 3, 65536);
-    let c = insts::counts::rows(ends, 2, 65536);
-    let d = insts::counts::rows(areas, 2, 65536);
-    let e = insts::counts::rows(items, 3, items);
+    let b = insts::counts::rows(touches, touch::WIDTH, 65536);
+    let c = insts::counts::rows(ends, stop::WIDTH, 65536);
+    let d = insts::counts::rows(areas, range::WIDTH, 65536);
+    let e = insts::counts::rows(items, part::WIDTH, items);
     refusals::earlier(
         a,
         refusals::earlier(b, refusals::earlier(c, refusals::earlier(d, e))),
@@ -59,7 +65,7 @@ fn short(z: Sizes, items: usize, work: usize) -> Verdict
     if work < needed(z) {
         return Verdict::Bad(Refusal::Space, 0);
     }
-    if items / 3 < z.locals {
+    if items / part::WIDTH < z.locals {
         return Verdict::Bad(Refusal::Space, 0);
     }
     Verdict::Fine
@@ -88,12 +94,12 @@ pub fn refusal(
         return Verdict::Bad(r, i);
     }
     let z = Sizes {
-        blocks: blocks.len() / 3,
-        edges: edges.len() / 2,
+        blocks: blocks.len() / block::WIDTH,
+        edges: edges.len() / edge::WIDTH,
         locals: kinds.len(),
-        touches: touches / 3,
-        ends: ends / 2,
-        room: areas / 2,
+        touches: touches / touch::WIDTH,
+        ends: ends / stop::WIDTH,
+        room: areas / range::WIDTH,
     };
     let kind = known(kinds);
     let space = short(z, items, work);

@@ -8,6 +8,7 @@ use lib.ListN.{length, getD, take, set, length-set}
 use lib.Seq.{take-all}
 use borrow.Author.Tests.{eq-eqb, ne-eqb}
 use Rattle.words.specs.Regions.{part}
+use Rattle.words.specs.Widths.{blockCount, blockStart, blockEnd}
 use Rattle.words.proofs.RegionLaws.{kept-part-list}
 use Rattle.ranges.specs.declared.Range.{Range}
 use Rattle.ranges.specs.Points.{range}
@@ -30,12 +31,12 @@ use Rattle.area_pieces.proofs.SpanLaws.{rises, through-none, through-some, take
 
 -- ---- what the code works out
 
-module _ (blocks es : List ℕ) (k y : ℕ) (h : k < length blocks / 3) (small : getD blocks (3 * k + 2) 0 < 2 ^ 32) where
-  pub arrival-is : (end : ℕ) → end ≡ until es (getD blocks (3 * k + 1) 0) (getD blocks (3 * k + 2) 0) → y ≡ pack (range (getD blocks (3 * k + 1) 0) end)
+module _ (blocks es : List ℕ) (k y : ℕ) (h : k < blockCount blocks) (small : blockEnd blocks k < 2 ^ 32) where
+  pub arrival-is : (end : ℕ) → end ≡ until es (blockStart blocks k) (blockEnd blocks k) → y ≡ pack (range (blockStart blocks k) end)
       → unpack y ≡ arrival (lineOf blocks []) es k
   arrival-is end ee e =
-      let l : end ≤ getD blocks (3 * k + 2) 0 = rw ee (until-le es (getD blocks (3 * k + 1) 0) (getD blocks (3 * k + 2) 0)) in
-      ap unpack e ∙ unpack-pack (getD blocks (3 * k + 1) 0) end (omega arith)
+      let l : end ≤ blockEnd blocks k = rw ee (until-le es (blockStart blocks k) (blockEnd blocks k)) in
+      ap unpack e ∙ unpack-pack (blockStart blocks k) end (omega arith)
       ∙ rw (start-is blocks k h, end-is blocks k h, ee)
 
 -- ---- touches and ends that stand before what is written

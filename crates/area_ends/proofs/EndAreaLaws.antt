@@ -5,6 +5,7 @@ use mathlib.Core.Path.{_≡_, sym, ap, _∙_}
 use mathlib.Core.List.{List, [], _++_}
 use lib.ListN.{length, getD}
 use Rattle.words.specs.Regions.{part}
+use Rattle.words.specs.Widths.{blockCount}
 use Rattle.words.proofs.RegionLaws.{kept-part-list}
 use Rattle.bits.specs.Bits.{bitOf}
 use Rattle.ranges.specs.declared.Range.{Range}
@@ -28,10 +29,10 @@ use Rattle.area_pieces.proofs.AreaLaws.{unpacked-both}
 use Rattle.area_ends.proofs.CoverLaws.{ends-kept, stand-kept}
 use Rattle.area_ends.proofs.EndPieceLaws.{ending-is, arrivals-row}
 
-module _ (blocks : List ℕ) (t : Spots) (s : Local) {w₀ w₁ : List ℕ} {m : ℕ} (a : Laid t s (length blocks / 3) (3 * t .count + length blocks / 3) w₀) (p : Stand t w₀) (d : Bounded s (length blocks / 3) w₀)
+module _ (blocks : List ℕ) (t : Spots) (s : Local) {w₀ w₁ : List ℕ} {m : ℕ} (a : Laid t s (blockCount blocks) (3 * t .count + blockCount blocks) w₀) (p : Stand t w₀) (d : Bounded s (blockCount blocks) w₀)
     (co : (es : List Edge) → Covers (lineOf blocks es) (endsAt t w₀) s (touchesAt t w₀) m w₀ w₁) where
   abbrev n : ℕ
-  n = length blocks / 3
+  n = blockCount blocks
 
   few : m ≤ 3 * t .count
   few = let z = co [] .count in let y = touches-length t w₀ (p .touches-fit) in omega arith

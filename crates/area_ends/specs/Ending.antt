@@ -4,6 +4,7 @@ use mathlib.Core.Path.{_≡_}
 use mathlib.Core.List.{List}
 use lib.ListN.{length}
 use Rattle.words.specs.Regions.{part}
+use Rattle.words.specs.Widths.{blockCount}
 use Rattle.ranges.specs.declared.Range.{Range}
 use Rattle.ranges.specs.Forms.{unpacked}
 use Rattle.graph.specs.Paths.{Edge}
@@ -13,7 +14,7 @@ use Rattle.areas.specs.Pieces.{arrivesRow, endingArea}
 use Rattle.spots.specs.declared.Spots.{Spots}
 use Rattle.spots.specs.Spots.{lineOf, touchesAt, endsAt}
 use Rattle.area_pieces.specs.declared.Local.{Local}
-use Rattle.area_pieces.specs.Local.{blockCount, ownBit, Unmarked}
+use Rattle.area_pieces.specs.Local.{ownBit, Unmarked}
 
 -- the local's own row is that of the blocks it arrives at
 pub record EndRow (G : Graph) (s : Local) (ts : List Range) (es : List ℕ) (w : List ℕ) : Type 0 where

@@ -12,8 +12,10 @@ ghost use Rattle.spots.specs.Spots.{lineOf, touchesAt, endsAt, Stand};
 ghost use Rattle.area_pieces.specs.Local.{ownBit, markBit, Laid, Bounded, Upright};
 ghost use Rattle.area_ends.specs.Ending.{EndingIn};
 ghost use Rattle.area_ends.specs.Inner.{arrival, Covered, Covers, Arrived, Arriving, Arrivable};
+ghost use Rattle.words.specs.Widths.{blockCount};
 use area_pieces::Local;
 use spots::Spots;
+use words::widths::block;
 
 // Puts the pieces of a touch behind the m pieces: its covers in its first and its last block, and its between-piece.
 fn cover_touch(blocks: &[u32], work: &mut [u64], t: Spots, s: Local, x: u64, m: usize) -> usize
@@ -41,7 +43,7 @@ fn cover_touch(blocks: &[u32], work: &mut [u64], t: Spots, s: Local, x: u64, m: 
 
 // The pieces of the touches, from `to` on; how many there are.
 fn covers(blocks: &[u32], work: &mut [u64], t: Spots, s: Local) -> usize
-    requires { ⌜ Sound (blocksOf (now blocks)) × Laid t s (length (now blocks) / 3) (3 * t .count) (now work) × Stand t (now work) × Upright (now blocks) (touchesAt t (now work)) ⌝ }
+    requires { ⌜ Sound (blocksOf (now blocks)) × Laid t s (blockCount (now blocks)) (3 * t .count) (now work) × Stand t (now work) × Upright (now blocks) (touchesAt t (now work)) ⌝ }
     ensures { λ r. ⌜ ((es : List Edge) → Covers (lineOf (now (blocks .entry)) es) (endsAt t (now (work .entry))) s (touchesAt t (now (work .entry))) r (now (work .entry)) (now (work .exit))) ⌝ }
 {
     let mut m = 0;
@@ -56,19 +58,25 @@ fn covers(blocks: &[u32], work: &mut [u64], t: Spots, s: Local) -> usize
 
 // A block arrived at, from its top to its first end.
 fn arrival(blocks: &[u32], work: &[u64], t: Spots, k: usize) -> u64
-    requires { ⌜ (k < length (now blocks) / 3) × Stand t (now work) ⌝ }
+    requires { ⌜ (k < blockCount (now blocks)) × Stand t (now work) ⌝ }
     ensures { λ r. ⌜ unpack r ≡ arrival (lineOf (now (blocks .entry)) []) (endsAt t (now (work .entry))) k ⌝ }
 {
-    let top = blocks[3 * k + 1];
-    let end = spots::until(work, t.ends, t.stops, top, blocks[3 * k + 2]);
+    let top = blocks[block::WIDTH * k + block::START];
+    let end = spots::until(
+        work,
+        t.ends,
+        t.stops,
+        top,
+        blocks[block::WIDTH * k + block::END],
+    );
     packed::pack(top, end)
 }
 
 // The pieces of the marked blocks, from `from` on; how many there are. The marks are taken away.
 fn arrive(blocks: &[u32], work: &mut [u64], t: Spots, s: Local, from: usize) -> usize
-    requires { ⌜ Arriving t s (length (now blocks) / 3) from (now work) ⌝ }
+    requires { ⌜ Arriving t s (blockCount (now blocks)) from (now work) ⌝ }
     ensures { λ r. ⌜ ((es : List Edge) → Arrived (lineOf (now (blocks .entry)) es) (endsAt t (now (work .entry))) (markBit s (now (work .entry))) s
-        (length (now (blocks .entry)) / 3) from r (now (work .entry)) (now (work .exit))) ⌝ }
+        (blockCount (now (blocks .entry))) from r (now (work .entry)) (now (work .exit))) ⌝ }
 {
     let end = s.wide * 64;
     let mut n = 0;
@@ -85,9 +93,9 @@ fn arrive(blocks: &[u32], work: &mut [u64], t: Spots, s: Local, from: usize) -> 
 
 // The blocks that the local arrives at by its own row, from `from` on; how many there are.
 fn arrived(blocks: &[u32], work: &mut [u64], t: Spots, s: Local, from: usize) -> usize
-    requires { ⌜ Arrivable t s (length (now blocks) / 3) from (now work) ⌝ }
+    requires { ⌜ Arrivable t s (blockCount (now blocks)) from (now work) ⌝ }
     ensures { λ r. ⌜ ((es : List Edge) → Arrived (lineOf (now (blocks .entry)) es) (endsAt t (now (work .entry))) (ownBit s (now (work .entry))) s
-        (length (now (blocks .entry)) / 3) from r (now (work .entry)) (now (work .exit))) ⌝ }
+        (blockCount (now (blocks .entry))) from r (now (work .entry)) (now (work .exit))) ⌝ }
 {
     words::copy(work, s.row, s.mark, s.wide);
     arrive(blocks, work, t, s, from)
@@ -95,8 +103,8 @@ fn arrived(blocks: &[u32], work: &mut [u64], t: Spots, s: Local, from: usize) ->
 
 // The area of an ending local, from `to` on; how many ranges it has. From `to` on it needs three words a touch and a word a block.
 pub fn ending(blocks: &[u32], work: &mut [u64], t: Spots, s: Local) -> usize
-    requires { ⌜ Sound (blocksOf (now blocks)) × Laid t s (length (now blocks) / 3) (3 * t .count + length (now blocks) / 3) (now work) × Stand t (now work) ⌝ }
-    requires { ⌜ Bounded s (length (now blocks) / 3) (now work) × Upright (now blocks) (touchesAt t (now work)) ⌝ }
+    requires { ⌜ Sound (blocksOf (now blocks)) × Laid t s (blockCount (now blocks)) (3 * t .count + blockCount (now blocks)) (now work) × Stand t (now work) ⌝ }
+    requires { ⌜ Bounded s (blockCount (now blocks)) (now work) × Upright (now blocks) (touchesAt t (now work)) ⌝ }
     ensures { λ r. ⌜ EndingIn (now (blocks .entry)) t s (now (work .entry)) (now (work .exit)) r ⌝ }
 {
     let m = covers(blocks, work, t, s);

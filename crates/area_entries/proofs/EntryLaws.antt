@@ -12,6 +12,7 @@ use Rattle.refusals.specs.declared.Refusal.the-variants.{Inverted as InvertedWo
 use Rattle.refusals.specs.Verdicts.{first, check}
 use Rattle.refusals.proofs.Laws.{first-fine, first-bad}
 use Rattle.words.specs.Regions.{cleared}
+use Rattle.words.specs.Widths.{rangeCount}
 use Rattle.ranges.specs.declared.Range.{Range}
 use Rattle.graph.specs.Work.{Within}
 use Rattle.components.proofs.Entries.{cleared-same}
@@ -57,20 +58,20 @@ module _ (blocks edges : List ℕ) (points : ℕ) (kinds touches ends areas item
   abbrev space : ℕ
   space = spaceFor (sizesOf blocks edges (length kinds) (length touches) (length ends) (length areas))
 
-  by-parts : verdictOf blocks edges points kinds touches ends (length areas) (length items) (length work) ≡ first lentV (areaVerdict (graphFor blocks edges) kinds touches (areaFor (graphFor blocks edges) kinds touches ends) (length areas / 2))
+  by-parts : verdictOf blocks edges points kinds touches ends (length areas) (length items) (length work) ≡ first lentV (areaVerdict (graphFor blocks edges) kinds touches (areaFor (graphFor blocks edges) kinds touches ends) (rangeCount areas))
   by-parts = local-verdict blocks edges points kinds touches ends (length areas) (length items) (length work)
 
   pub refused-entry : (r : Refusal) (i : ℕ) → lentV ≡ Bad r i → LocalAreas blocks edges points kinds touches ends areas items work (Refused r i) areas items work
   refused-entry r i e = record {
-    lists = rw (by-parts ∙ first-bad lentV (areaVerdict (graphFor blocks edges) kinds touches (areaFor (graphFor blocks edges) kinds touches ends) (length areas / 2)) r i e) (record { answer = refl; in-areas = refl; in-items = refl });
+    lists = rw (by-parts ∙ first-bad lentV (areaVerdict (graphFor blocks edges) kinds touches (areaFor (graphFor blocks edges) kinds touches ends) (rangeCount areas)) r i e) (record { answer = refl; in-areas = refl; in-items = refl });
     in-work = rw e refl;
   }
 
   pub answered-entry : lentV ≡ Fine → {r : Answer} {areas′ items′ w work′ : List ℕ}
-      → AnsweredBy (areaVerdict (graphFor blocks edges) kinds touches (areaFor (graphFor blocks edges) kinds touches ends) (length areas / 2)) (length kinds) (areaFor (graphFor blocks edges) kinds touches ends) areas items r areas′ items′
+      → AnsweredBy (areaVerdict (graphFor blocks edges) kinds touches (areaFor (graphFor blocks edges) kinds touches ends) (rangeCount areas)) (length kinds) (areaFor (graphFor blocks edges) kinds touches ends) areas items r areas′ items′
       → Within 0 space work w → {n : ℕ} → n ≡ space → work′ ≡ cleared n w → LocalAreas blocks edges points kinds touches ends areas items work r areas′ items′ work′
   answered-entry e {r} {areas′} {items′} {w} {work′} B K {n} en Z = record {
-    lists = rw (by-parts ∙ first-fine lentV (areaVerdict (graphFor blocks edges) kinds touches (areaFor (graphFor blocks edges) kinds touches ends) (length areas / 2)) e) B;
+    lists = rw (by-parts ∙ first-fine lentV (areaVerdict (graphFor blocks edges) kinds touches (areaFor (graphFor blocks edges) kinds touches ends) (rangeCount areas)) e) B;
     in-work = rw e (Z ∙ ap (λ (k : ℕ). cleared k w) en ∙ cleared-same space work w K
         ∙ ap (λ (k : ℕ). replicate space 0 ++ drop k work) (sym (length-replicate space 0)));
   }

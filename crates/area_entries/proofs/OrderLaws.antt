@@ -10,6 +10,7 @@ use Rattle.refusals.specs.Verdicts.{numberOf, first, inOrder, check}
 use Rattle.refusals.specs.Orders.{Giving, Ordered}
 use Rattle.refusals.proofs.Orders.{check-gives, giving-append, order-two, order-append}
 use Rattle.words.specs.Rows.{tabulate}
+use Rattle.words.specs.Widths.{rangeWidth}
 use Rattle.areas.specs.Job.{rangesOf, areasVerdict}
 use Rattle.local_marks.specs.Marks.{someInverted}
 use Rattle.area_measure.specs.Locals.{areaFor}
@@ -21,19 +22,19 @@ use Rattle.area_entries.specs.Entry.{areaVerdict, localChecks, localGive
 module _ (blocks edges : List ℕ) (points : ℕ) (kinds touches ends : List ℕ) (areas items work : ℕ) where
   -- what is refused before measuring, then numbers 8 and 9
   pub local-verdict : verdictOf blocks edges points kinds touches ends areas items work
-      ≡ first (lentVerdict blocks edges points kinds (length touches) (length ends) areas items work) (areaVerdict (graphFor blocks edges) kinds touches (areaFor (graphFor blocks edges) kinds touches ends) (areas / 2))
+      ≡ first (lentVerdict blocks edges points kinds (length touches) (length ends) areas items work) (areaVerdict (graphFor blocks edges) kinds touches (areaFor (graphFor blocks edges) kinds touches ends) (areas / rangeWidth))
   local-verdict =
-      order-append (lentChecks blocks edges points kinds (length touches) (length ends) areas items work) (check Inverted (someInverted (graphFor blocks edges) kinds touches (length kinds)) ∷ areasVerdict (length kinds) (areaFor (graphFor blocks edges) kinds touches ends) (areas / 2) ∷ [])
+      order-append (lentChecks blocks edges points kinds (length touches) (length ends) areas items work) (check Inverted (someInverted (graphFor blocks edges) kinds touches (length kinds)) ∷ areasVerdict (length kinds) (areaFor (graphFor blocks edges) kinds touches ends) (areas / rangeWidth) ∷ [])
       ∙ ap (first (inOrder (lentChecks blocks edges points kinds (length touches) (length ends) areas items work))) (sym (order-two _ _))
-      ∙ ap (λ (v : Verdict). first v (areaVerdict (graphFor blocks edges) kinds touches (areaFor (graphFor blocks edges) kinds touches ends) (areas / 2))) (sym (lent-order blocks edges points kinds (length touches) (length ends) areas items work))
+      ∙ ap (λ (v : Verdict). first v (areaVerdict (graphFor blocks edges) kinds touches (areaFor (graphFor blocks edges) kinds touches ends) (areas / rangeWidth))) (sym (lent-order blocks edges points kinds (length touches) (length ends) areas items work))
 
   local-gives : Giving localGive (localChecks blocks edges points kinds touches ends areas items work)
   local-gives =
       giving-append lentGive (Inverted ∷ ListWord ∷ []) (lentChecks blocks edges points kinds (length touches) (length ends) areas items work)
-      (check Inverted (someInverted (graphFor blocks edges) kinds touches (length kinds)) ∷ areasVerdict (length kinds) (areaFor (graphFor blocks edges) kinds touches ends) (areas / 2) ∷ [])
+      (check Inverted (someInverted (graphFor blocks edges) kinds touches (length kinds)) ∷ areasVerdict (length kinds) (areaFor (graphFor blocks edges) kinds touches ends) (areas / rangeWidth) ∷ [])
       (lent-give blocks edges points kinds (length touches) (length ends) areas items work) (
         check-gives Inverted (someInverted (graphFor blocks edges) kinds touches (length kinds)),
-        (check-gives ListWord (ltb (areas / 2) (rangesOf (tabulate (length kinds) (areaFor (graphFor blocks edges) kinds touches ends)))), tt),
+        (check-gives ListWord (ltb (areas / rangeWidth) (rangesOf (tabulate (length kinds) (areaFor (graphFor blocks edges) kinds touches ends)))), tt),
       )
 
   pub local-ordered : Ordered numberOf localGive (localChecks blocks edges points kinds touches ends areas items work)

@@ -19,6 +19,7 @@ use Rattle.area_layout.specs.Layout.{spaceFor}
 use Rattle.area_checks.specs.Checks.{sizesOf, lentVerdict, lentChecks, lentGive}
 use Rattle.lent_areas.specs.Areas.{graphFor}
 use Rattle.areas.specs.Job.{areasVerdict}
+use Rattle.words.specs.Widths.{rangeWidth}
 
 -- numbers 8 and 9: 8 of any local before 9
 abbrev pub areaVerdict : Graph → List ℕ → List ℕ → (ℕ → Option (List Range)) → ℕ → Verdict
@@ -29,7 +30,7 @@ abbrev pub localChecks : List ℕ → List ℕ → ℕ → List ℕ → List ℕ
 localChecks blocks edges points kinds touches ends areas items work =
     lentChecks blocks edges points kinds (length touches) (length ends) areas items work
     ++ (check Inverted (someInverted (graphFor blocks edges) kinds touches (length kinds))
-    ∷ areasVerdict (length kinds) (areaFor (graphFor blocks edges) kinds touches ends) (areas / 2) ∷ [])
+    ∷ areasVerdict (length kinds) (areaFor (graphFor blocks edges) kinds touches ends) (areas / rangeWidth) ∷ [])
 
 abbrev pub localGive : List Refusal
 localGive = lentGive ++ (Inverted ∷ ListWord ∷ [])

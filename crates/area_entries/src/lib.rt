@@ -12,16 +12,23 @@ ghost use Rattle.area_entries.specs.Entry.{LocalAreas};
 ghost use Rattle.lent_areas.specs.Areas.{FoundAs};
 ghost use Rattle.area_entries.specs.Inner.{Held};
 ghost use Rattle.areas.specs.Job.{areasVerdict};
+ghost use Rattle.words.specs.Widths.{partWidth, rangeCount};
 pub use item_lists::Answer;
 use lent_areas::Found;
 use refusals::Refusal;
 use refusals::Verdict;
+use words::widths::block;
+use words::widths::edge;
+use words::widths::range;
+use words::widths::stop;
+use words::widths::touch;
 
 // Writes the areas and the items, or number 8, or 9.
 fn tell(f: Found, areas: &mut [u32], items: &mut [u32], work: &[u64], locals: usize) -> Answer
-    requires { ⌜ Held locals (length (now areas) / 2) (now work) f × (3 * locals ≤ length (now items)) × (length (now areas) / 2 ≤ 65536) × (length (now areas) / 2 + locals ≤ length (now work)) ⌝ }
-    ensures { λ r. ⌜ ((bad : Bool) (A : ℕ → Option (List Range)) → FoundAs bad A locals (length (now (areas .entry)) / 2) (now (work .entry)) f
-        → AnsweredBy (first (check Inverted bad) (areasVerdict locals A (length (now (areas .entry)) / 2))) locals A (now (areas .entry)) (now (items .entry)) r (now (areas .exit))
+    requires { ⌜ Held locals (rangeCount (now areas)) (now work) f × (partWidth * locals ≤ length (now items)) × (rangeCount (now areas) ≤ 65536)
+        × (rangeCount (now areas) + locals ≤ length (now work)) ⌝ }
+    ensures { λ r. ⌜ ((bad : Bool) (A : ℕ → Option (List Range)) → FoundAs bad A locals (rangeCount (now (areas .entry))) (now (work .entry)) f
+        → AnsweredBy (first (check Inverted bad) (areasVerdict locals A (rangeCount (now (areas .entry))))) locals A (now (areas .entry)) (now (items .entry)) r (now (areas .exit))
         (now (items .exit))) ⌝ }
 {
     match f {
@@ -65,12 +72,12 @@ pub fn local_areas(
         return Answer::Refused(r, i);
     }
     let w = area_checks::needed(area_layout::Sizes {
-        blocks: blocks.len() / 3,
-        edges: edges.len() / 2,
+        blocks: blocks.len() / block::WIDTH,
+        edges: edges.len() / edge::WIDTH,
         locals: kinds.len(),
-        touches: touches.len() / 3,
-        ends: ends.len() / 2,
-        room: areas.len() / 2,
+        touches: touches.len() / touch::WIDTH,
+        ends: ends.len() / stop::WIDTH,
+        room: areas.len() / range::WIDTH,
     });
     let f = lent_areas::solve(blocks, edges, kinds, touches, ends, work, areas.len());
     let r = tell(f, areas, items, work, kinds.len());

@@ -7,6 +7,7 @@ use mathlib.Core.Bool.{Bool, true, false, _&&_, _||_, or-false}
 use mathlib.Core.List.{List}
 use lib.ListN.{length, getD}
 use Rattle.words.specs.Regions.{Region}
+use Rattle.words.specs.Widths.{blockCount}
 use Rattle.words.proofs.RegionLaws.{row-before}
 use Rattle.words.proofs.Bools.{not-both}
 use Rattle.bits.specs.Bits.{bitOf}
@@ -191,7 +192,7 @@ module _ (es : List Edge) (g : Grid) (n e : ℕ) {w₀ w₁ : List ℕ} (L : Lai
 -- ---- the rows of one local, by its touches and its ends
 
 -- the blocks lent are as many as the line's
-pub by-line : {es : List Edge} {g : Grid} {w₀ w : List ℕ} (blocks : List ℕ) → AreaRows es g (length blocks / 3) w₀ w → AreaRows es g (length (blocksOf blocks)) w₀ w
+pub by-line : {es : List Edge} {g : Grid} {w₀ w : List ℕ} (blocks : List ℕ) → AreaRows es g (blockCount blocks) w₀ w → AreaRows es g (length (blocksOf blocks)) w₀ w
 by-line {es} {g} {w₀} {w} blocks A = subst (λ (n : ℕ). AreaRows es g n w₀ w) (sym (blocks-length blocks)) A
 
 module _ (G : Graph) (g : Grid) {w₀ w : List ℕ} (A : AreaRows (G .edges) g (length (G .blocks)) w₀ w) (ts : List Range) (ends : List ℕ) (l k : ℕ) (local : l < g .locals) (long : l < g .words * 64) (h : k < length (G .blocks)) where

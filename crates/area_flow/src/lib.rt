@@ -9,10 +9,13 @@ ghost use Rattle.components.specs.Entry.{edgesIn};
 ghost use Rattle.flow.specs.Entry.{wayOf};
 ghost use Rattle.area_flow.specs.Grid.{Laid, Unmarked, Quiet, AreaRows};
 ghost use Rattle.area_flow.specs.Inner.{Linked, FlowedOver, ArrivedAt, Flowing, Still, Blocked};
+ghost use Rattle.words.specs.Widths.{blockCount, edgeCount};
 use flow::Over;
 use flow_rows::Flow;
 use row_turns::Turn;
 use spread_rows::Layout;
+use words::widths::block;
+use words::widths::edge;
 
 // Where the rows of n places stand in the work space: edge columns and edge rows from `base` on, Tarjan's arrays from `tarjan` on; rows of `words` words, a bit a local,
 // that are touched, left and passed, what is written and read, what waits and arrives; rows of `width` words, a bit a place, of `locals` locals from `to` on.
@@ -45,8 +48,8 @@ pub fn clear_marks(work: &mut [u64], g: Grid, n: usize)
 // The rows of the edges that are followed.
 fn lay(over: Over, blocks: &[u32], edges: &[u32], work: &mut [u64], base: usize)
     requires { ⌜ Sound (blocksOf (now blocks)) × (edgeVerdict (blocksOf (now blocks)) (jumpsOf (now edges)) ≡ Fine) ⌝ }
-    requires { ⌜ base + length (now edges) / 2 + length (now edges) / 2 + (length (now blocks) / 3 + 1 + length (now edges) / 2) ≤ length (now work) ⌝ }
-    ensures { λ _. ⌜ Neighbours (wayOf over (edgesIn (now (blocks .entry)) (now (edges .entry)))) (length (now (blocks .entry)) / 3) (length (now (edges .entry)) / 2) base
+    requires { ⌜ base + edgeCount (now edges) + edgeCount (now edges) + (blockCount (now blocks) + 1 + edgeCount (now edges)) ≤ length (now work) ⌝ }
+    ensures { λ _. ⌜ Neighbours (wayOf over (edgesIn (now (blocks .entry)) (now (edges .entry)))) (blockCount (now (blocks .entry))) (edgeCount (now (edges .entry))) base
         (now (work .entry)) (now (work .exit)) ⌝ }
 {
     match over {
@@ -57,13 +60,13 @@ fn lay(over: Over, blocks: &[u32], edges: &[u32], work: &mut [u64], base: usize)
 
 // `flowed` of the touched rows, into the rows from `out` on.
 fn flow_over(over: Over, blocks: &[u32], edges: &[u32], work: &mut [u64], g: Grid, out: usize)
-    requires { ⌜ Sound (blocksOf (now blocks)) × (edgeVerdict (blocksOf (now blocks)) (jumpsOf (now edges)) ≡ Fine) × Laid g (length (now blocks) / 3) (length (now edges) / 2) (now work) ⌝ }
-    requires { ⌜ (g .touched + length (now blocks) / 3 * g .words ≤ out) × (out + length (now blocks) / 3 * g .words ≤ length (now work)) ⌝ }
-    ensures { λ _. ⌜ FlowedOver over (edgesIn (now (blocks .entry)) (now (edges .entry))) g (length (now (blocks .entry)) / 3) (length (now (edges .entry)) / 2) out (now (work .entry))
+    requires { ⌜ Sound (blocksOf (now blocks)) × (edgeVerdict (blocksOf (now blocks)) (jumpsOf (now edges)) ≡ Fine) × Laid g (blockCount (now blocks)) (edgeCount (now edges)) (now work) ⌝ }
+    requires { ⌜ (g .touched + blockCount (now blocks) * g .words ≤ out) × (out + blockCount (now blocks) * g .words ≤ length (now work)) ⌝ }
+    ensures { λ _. ⌜ FlowedOver over (edgesIn (now (blocks .entry)) (now (edges .entry))) g (blockCount (now (blocks .entry))) (edgeCount (now (edges .entry))) out (now (work .entry))
         (now (work .exit)) ⌝ }
 {
-    let n = blocks.len() / 3;
-    let e = edges.len() / 2;
+    let n = blocks.len() / block::WIDTH;
+    let e = edges.len() / edge::WIDTH;
     let at = g.base + e + e;
     lay(over, blocks, edges, work, g.base);
     tarjan::components(work, n, at, g.tarjan);
@@ -105,11 +108,11 @@ fn arrive(work: &mut [u64], g: Grid, n: usize, e: usize)
 
 // What is written above each place, what is read below it, and what arrives.
 fn flow_rows(blocks: &[u32], edges: &[u32], work: &mut [u64], g: Grid)
-    requires { ⌜ Sound (blocksOf (now blocks)) × (edgeVerdict (blocksOf (now blocks)) (jumpsOf (now edges)) ≡ Fine) × Laid g (length (now blocks) / 3) (length (now edges) / 2) (now work) ⌝ }
-    ensures { λ _. ⌜ Flowing (edgesIn (now (blocks .entry)) (now (edges .entry))) g (length (now (blocks .entry)) / 3) (now (work .entry)) (now (work .exit)) ⌝ }
+    requires { ⌜ Sound (blocksOf (now blocks)) × (edgeVerdict (blocksOf (now blocks)) (jumpsOf (now edges)) ≡ Fine) × Laid g (blockCount (now blocks)) (edgeCount (now edges)) (now work) ⌝ }
+    ensures { λ _. ⌜ Flowing (edgesIn (now (blocks .entry)) (now (edges .entry))) g (blockCount (now (blocks .entry))) (now (work .entry)) (now (work .exit)) ⌝ }
 {
-    let n = blocks.len() / 3;
-    let e = edges.len() / 2;
+    let n = blocks.len() / block::WIDTH;
+    let e = edges.len() / edge::WIDTH;
     flow_over(Over::Predecessors, blocks, edges, work, g, g.written);
     flow_over(Over::Successors, blocks, edges, work, g, g.read);
     arrive(work, g, n, e);
@@ -150,10 +153,10 @@ fn turn_rows(work: &mut [u64], g: Grid, n: usize)
 
 // From the touched, leaving and passing rows to what is written, read and arrives at each place, and to the blocks of each local.
 pub fn area_rows(blocks: &[u32], edges: &[u32], work: &mut [u64], g: Grid)
-    requires { ⌜ Sound (blocksOf (now blocks)) × (edgeVerdict (blocksOf (now blocks)) (jumpsOf (now edges)) ≡ Fine) × Laid g (length (now blocks) / 3) (length (now edges) / 2) (now work) ⌝ }
-    requires { ⌜ Quiet g (length (now blocks) / 3) (now work) ⌝ }
-    ensures { λ _. ⌜ AreaRows (edgesIn (now (blocks .entry)) (now (edges .entry))) g (length (now (blocks .entry)) / 3) (now (work .entry)) (now (work .exit)) ⌝ }
+    requires { ⌜ Sound (blocksOf (now blocks)) × (edgeVerdict (blocksOf (now blocks)) (jumpsOf (now edges)) ≡ Fine) × Laid g (blockCount (now blocks)) (edgeCount (now edges)) (now work) ⌝ }
+    requires { ⌜ Quiet g (blockCount (now blocks)) (now work) ⌝ }
+    ensures { λ _. ⌜ AreaRows (edgesIn (now (blocks .entry)) (now (edges .entry))) g (blockCount (now (blocks .entry))) (now (work .entry)) (now (work .exit)) ⌝ }
 {
     flow_rows(blocks, edges, work, g);
-    turn_rows(work, g, blocks.len() / 3);
+    turn_rows(work, g, blocks.len() / block::WIDTH);
 }

@@ -8,8 +8,8 @@ use mathlib.Core.Option.{Option, some, none}
 use mathlib.Core.List.{List}
 use lib.ListN.{length, getD, set, length-set}
 use Rattle.words.specs.Sort.{sortOf}
-use Rattle.words.specs.Rows.{rowCount}
 use Rattle.words.specs.Regions.{part}
+use Rattle.words.specs.Widths.{blockCount, touchCount, stopCount}
 use Rattle.words.proofs.Points.{stored}
 use Rattle.words.proofs.RegionLaws.{row-before}
 use Rattle.bits.specs.Bits.{bit, bitOf}
@@ -24,7 +24,6 @@ use Rattle.areas.specs.Blocks.{Graph, inverted}
 use Rattle.areas.specs.Job.{areaBy, rangesIn}
 use Rattle.spots.specs.declared.Spots.{Spots}
 use Rattle.spots.specs.Spots.{lineOf, touchesAt, endsAt}
-use Rattle.area_pieces.specs.Local.{blockCount}
 use Rattle.area_pieces.proofs.PushLaws.{set-other}
 use Rattle.area_flow.specs.declared.Grid.{Grid}
 use Rattle.area_flow.specs.Grid.{rowBit, blockBit}
@@ -50,7 +49,7 @@ present G ts es (suc zero) h = (_, refl)
 present G ts es (suc (suc n)) h = (_, refl)
 
 -- the chains, where their words stay
-pub chains-kept : (touches ends : List ℕ) (p : Places) {w₀ w : List ℕ} → Laid p (rowCount 3 touches) (rowCount 2 ends) w₀ → ((i : ℕ) → p .heads ≤ i → i < p .at → getD w i 0 ≡ getD w₀ i 0) → Chains p touches ends w₀ → Chains p touches ends w
+pub chains-kept : (touches ends : List ℕ) (p : Places) {w₀ w : List ℕ} → Laid p (touchCount touches) (stopCount ends) w₀ → ((i : ℕ) → p .heads ≤ i → i < p .at → getD w i 0 ≡ getD w₀ i 0) → Chains p touches ends w₀ → Chains p touches ends w
 chains-kept touches ends p L S C = record {
   touches-chain = record {
     head = λ l h. S (p .heads + l) (omega arith) (omega (arith, L .heads-fit, L .nexts-fit)) ∙ C .touches-chain .head l h;
@@ -58,7 +57,7 @@ chains-kept touches ends p L S C = record {
   };
   ends-chain = record {
     head = λ l h. S (p .heads + p .locals + l) (omega arith) (omega (arith, L .heads-fit, L .nexts-fit)) ∙ C .ends-chain .head l h;
-    next = λ i h m. S (p .nexts + rowCount 3 touches + i) (omega (arith, L .heads-fit)) (omega (arith, L .nexts-fit)) ∙ C .ends-chain .next i h m;
+    next = λ i h m. S (p .nexts + touchCount touches + i) (omega (arith, L .heads-fit)) (omega (arith, L .nexts-fit)) ∙ C .ends-chain .next i h m;
   };
 }
 
@@ -193,7 +192,7 @@ module _ (blocks kinds touches ends : List ℕ) (p : Places) (g : Grid) (mark : 
     pub next-ready : Ready blocks kinds touches ends p g mark o w₁
     next-ready = ready-kept D fetch-spares marks-stay
 
-    pub count-in : t .count ≤ rowCount 3 touches
+    pub count-in : t .count ≤ touchCount touches
     count-in = omega (arith, C .touches-low, C .touches-high)
 
     pub next-measurable : Measurable blocks (getD kinds l 0) t (localAt g n mark l) w₁

@@ -6,8 +6,9 @@ use mathlib.Core.Bool.{false, _&&_}
 use mathlib.Core.Option.{Option, some, none}
 use mathlib.Core.List.{List, []}
 use lib.ListN.{length, getD}
-use Rattle.words.specs.Rows.{rowCount, tabulate}
+use Rattle.words.specs.Rows.{tabulate}
 use Rattle.words.specs.Regions.{part}
+use Rattle.words.specs.Widths.{blockCount, touchCount, stopCount}
 use Rattle.bits.specs.Bits.{bit}
 use Rattle.ranges.specs.declared.Range.{Range}
 use Rattle.ranges.specs.Forms.{unpacked}
@@ -17,7 +18,7 @@ use Rattle.areas.specs.Blocks.{Graph}
 use Rattle.areas.specs.Job.{areaBy, rangesIn, rangesOf}
 use Rattle.spots.specs.Spots.{lineOf}
 use Rattle.area_pieces.specs.declared.Local.{Local}
-use Rattle.area_pieces.specs.Local.{blockCount, Upright}
+use Rattle.area_pieces.specs.Local.{Upright}
 use Rattle.area_flow.specs.declared.Grid.{Grid}
 use Rattle.area_flow.specs.Grid.{rowBit, blockBit}
 use Rattle.local_spots.specs.declared.Places.{Places}
@@ -47,7 +48,7 @@ localAt g n mark l =
 
 -- the most ranges that one local's area is made of
 abbrev pub mostIn : List ℕ → List ℕ → ℕ
-mostIn blocks touches = 3 * rowCount 3 touches + blockCount blocks
+mostIn blocks touches = 3 * touchCount touches + blockCount blocks
 
 -- the areas of the first l items: their ranges one behind another where they fit, and for each a word, by the first of its ranges and its area
 pub record ListedBy (word : ℕ → Option (List Range) → ℕ) (o : Listing) (A : ℕ → Option (List Range)) (l total : ℕ) (w : List ℕ) : Type 0 where
@@ -65,8 +66,8 @@ pub record Fits (blocks kinds touches ends : List ℕ) (p : Places) (g : Grid) (
   pub locals-are : p .locals ≡ length kinds
   pub areas-fit : o .areas + o .room ≤ o .items
   pub items-fit : o .items + length kinds ≤ p .heads
-  pub spots : Laid p (rowCount 3 touches) (rowCount 2 ends) w
-  pub spots-fit : p .ends + rowCount 2 ends ≤ g .written
+  pub spots : Laid p (touchCount touches) (stopCount ends) w
+  pub spots-fit : p .ends + stopCount ends ≤ g .written
   pub written-fits : g .written + blockCount blocks * g .words ≤ g .read
   pub read-fits : g .read + blockCount blocks * g .words ≤ g .to
   pub to-fits : g .to + length kinds * g .width ≤ mark
@@ -99,7 +100,7 @@ RowsOf blocks kinds touches ends g mark w es l =
 pub record Spared (blocks touches ends : List ℕ) (p : Places) (g : Grid) (mark : ℕ) (w₀ w : List ℕ) : Type 0 where
   pub len : length w ≡ length w₀
   pub chains : (i : ℕ) → p .heads ≤ i → i < p .at → getD w i 0 ≡ getD w₀ i 0
-  pub rows : (i : ℕ) → p .ends + rowCount 2 ends ≤ i → i < mark → getD w i 0 ≡ getD w₀ i 0
+  pub rows : (i : ℕ) → p .ends + stopCount ends ≤ i → i < mark → getD w i 0 ≡ getD w₀ i 0
   pub past : (i : ℕ) → mark + g .width + blockCount blocks + mostIn blocks touches ≤ i → getD w i 0 ≡ getD w₀ i 0
 
 -- the area of the next local, l

@@ -6,6 +6,7 @@ use mathlib.Core.Option.{some}
 use mathlib.Core.List.{List}
 use lib.ListN.{length, getD}
 use Rattle.words.specs.Regions.{part}
+use Rattle.words.specs.Widths.{blockCount}
 use Rattle.ranges.specs.declared.Range.{Range}
 use Rattle.ranges.specs.Forms.{unpacked}
 use Rattle.graph.specs.Paths.{Edge}
@@ -15,7 +16,7 @@ use Rattle.areas.specs.Job.{areaBy, rangesIn}
 use Rattle.spots.specs.declared.Spots.{Spots}
 use Rattle.spots.specs.Spots.{lineOf, touchesAt, endsAt, Stand}
 use Rattle.area_pieces.specs.declared.Local.{Local}
-use Rattle.area_pieces.specs.Local.{blockCount, Laid, Flowing, Unmarked, Bounded, Both, Upright, PlainRows}
+use Rattle.area_pieces.specs.Local.{Laid, Flowing, Unmarked, Bounded, Both, Upright, PlainRows}
 use Rattle.area_ends.specs.Ending.{EndRow}
 use Rattle.kind_numbers.specs.Numbers.{kindBy}
 use Rattle.area_measure.specs.declared.Listing.{Listing}

@@ -7,6 +7,7 @@ use crate::Listing;
 use area_flow::Grid;
 use area_pieces::Local;
 use local_spots::Places;
+use words::widths::block;
 
 // Fetches local l's touches and ends and puts its area behind the `total` ranges so far; an unfollowed local has none.
 fn measure_next(
@@ -33,7 +34,7 @@ fn measure_next(
     }
     let row = g.to + l * g.width;
     let span = mark + g.width;
-    let to = span + blocks.len() / 3;
+    let to = span + blocks.len() / block::WIDTH;
     let t = local_spots::fetch(touches, ends, work, p, l);
     crate::measure_one(
         blocks,

@@ -7,6 +7,7 @@ use mathlib.Core.List.{List, [], _++_}
 use lib.ListN.{length, getD, take, drop}
 use lib.Seq.{take-add, drop-drop}
 use Rattle.words.specs.Regions.{part}
+use Rattle.words.specs.Widths.{blockCount}
 use Rattle.words.proofs.RegionLaws.{kept-part-list}
 use Rattle.bits.specs.Bits.{bitOf}
 use Rattle.ranges.specs.declared.Range.{Range}
@@ -101,7 +102,7 @@ module _ (blocks : List ℕ) (t : Spots) (s : Local) (n : ℕ) {w₀ w₁ : List
         let q = li .swept .count in
         omega arith
 
-    behind : (es : List Edge) → PlainRows (lineOf blocks es) s (touchesAt t w₀) w₀ → n ≡ length blocks / 3
+    behind : (es : List Edge) → PlainRows (lineOf blocks es) s (touchesAt t w₀) w₀ → n ≡ blockCount blocks
         → unpacked (part (s .to) (m + r) w₂) ≡ throughs (lineOf blocks es) (touchesAt t w₀) ++ linePieces (lineOf blocks es) (touchesAt t w₀) (beforeRow (lineOf blocks es) (touchesAt t w₀)) (afterRow (lineOf blocks es) (touchesAt t w₀)) n
     behind es p en =
         unpacked-both w₂ (s .to) m r
@@ -121,7 +122,7 @@ module _ (blocks : List ℕ) (t : Spots) (s : Local) (n : ℕ) {w₀ w₁ : List
             let z = few in
             kept-part-list {w₀ = w₁} {w = w₂} {at = s .to} {n = m} (record { same = λ i h l. li .swept .between i (omega arith) l }) (omega arith) (li .swept .len)
 
-    pub plain-done : n ≡ length blocks / 3 → {w : List ℕ} {q : ℕ} → length w ≡ length w₂ → MergedIn w₂ w (s .to) (m + r) q → PlainIn blocks t s w₀ w q
+    pub plain-done : n ≡ blockCount blocks → {w : List ℕ} {q : ℕ} → length w ≡ length w₂ → MergedIn w₂ w (s .to) (m + r) q → PlainIn blocks t s w₀ w q
     plain-done en {w} {q} lw g =
         let c = a .free in
         let z = few in

@@ -7,6 +7,7 @@ use mathlib.Core.Bool.{Bool, true, false, cond, _&&_, _||_, true≢false, false�
 use mathlib.Core.List.{List, [], _∷_}
 use lib.ListN.{length, getD}
 use Rattle.words.specs.Regions.{part}
+use Rattle.words.specs.Widths.{blockCount, blockStart, blockEnd}
 use Rattle.words.proofs.RegionLaws.{row-before}
 use Rattle.words.proofs.Points.{cut, same}
 use borrow.Author.Tests.{eq-eqb}
@@ -77,14 +78,14 @@ module _ (s : Local) (n : ℕ) (w₀ w : List ℕ) (f : Flowing s n) (before : (
   piece-kept G k h r l word = rw (own-kept r k l, written-kept k h, read-kept k h, word)
 
 -- what the code works out of a block with both bits, and of one with a span
-module _ (blocks : List ℕ) (s : Local) (w : List ℕ) (k y : ℕ) (h : k < length blocks / 3) (small : getD blocks (3 * k + 2) 0 < 2 ^ 32) where
-  pub piece-whole : ownBit s w k ≡ true → y ≡ pack (range (getD blocks (3 * k + 1) 0) (getD blocks (3 * k + 2) 0)) → unpack y ≡ pieceAt (lineOf blocks []) s w k
+module _ (blocks : List ℕ) (s : Local) (w : List ℕ) (k y : ℕ) (h : k < blockCount blocks) (small : blockEnd blocks k < 2 ^ 32) where
+  pub piece-whole : ownBit s w k ≡ true → y ≡ pack (range (blockStart blocks k) (blockEnd blocks k)) → unpack y ≡ pieceAt (lineOf blocks []) s w k
   piece-whole o e =
-      ap unpack e ∙ unpack-pack (getD blocks (3 * k + 1) 0) (getD blocks (3 * k + 2) 0) small
+      ap unpack e ∙ unpack-pack (blockStart blocks k) (blockEnd blocks k) small
       ∙ rw (o, start-is blocks k h, end-is blocks k h)
 
   pub piece-part : ownBit s w k ≡ false → (from to : Bool) → from ≡ writtenBit s w k → to ≡ readBit s w k
-      → unpack y ≡ range (cond from (getD blocks (3 * k + 1) 0) (unpack (getD w (s .span + k) 0) .start)) (cond to (getD blocks (3 * k + 2) 0) (unpack (getD w (s .span + k) 0) .end))
+      → unpack y ≡ range (cond from (blockStart blocks k) (unpack (getD w (s .span + k) 0) .start)) (cond to (blockEnd blocks k) (unpack (getD w (s .span + k) 0) .end))
       → unpack y ≡ pieceAt (lineOf blocks []) s w k
   piece-part o from to ef et e = e ∙ rw (o, ef, et, start-is blocks k h, end-is blocks k h)
 

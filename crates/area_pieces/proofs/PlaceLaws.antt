@@ -11,6 +11,7 @@ use Rattle.words.proofs.RegionLaws.{row-before}
 use Rattle.area_pieces.specs.declared.Local.{Local}
 use Rattle.area_pieces.specs.Local.{Free, Flowing}
 use Rattle.area_pieces.specs.Inner.{Spannable}
+use Rattle.words.specs.Widths.{blockWidth}
 
 pub one-lt : 1 < 3
 one-lt = omega arith
@@ -20,10 +21,10 @@ two-lt = omega arith
 
 -- one field of a block's row
 pub record Field (k f n : ℕ) : Type 0 where
-  pub row : Fits w64 (3 * k)
-  pub at : Fits w64 (3 * k + f)
-  pub in-bytes : Fits w64 ((3 * k + f) * 4)
-  pub inside : 3 * k + f < n
+  pub row : Fits w64 (blockWidth * k)
+  pub at : Fits w64 (blockWidth * k + f)
+  pub in-bytes : Fits w64 ((blockWidth * k + f) * 4)
+  pub inside : blockWidth * k + f < n
 
 pub field : (k f n : ℕ) → k < n / 3 → f < 3 → n * 4 < 2 ^ 63 → Field k f n
 field k f n h l r = record { row = omega arith; at = omega arith; in-bytes = omega arith; inside = omega arith }

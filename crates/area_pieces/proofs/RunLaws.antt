@@ -19,6 +19,7 @@ use Rattle.spots.specs.Spots.{lineOf}
 use Rattle.area_pieces.specs.declared.Local.{Local}
 use Rattle.area_pieces.specs.Local.{ownBit}
 use Rattle.area_pieces.specs.Inner.{Run}
+use Rattle.words.specs.Widths.{blockCount, blockStart, blockEnd}
 
 -- each digit of the largest number with d digits is 1
 full-digit : (k d x : ℕ) → k < d → x + 1 ≡ 2 ^ d → digit k x ≡ 1
@@ -53,8 +54,8 @@ owned-more s w k e d o c i j = same c e (λ q. ap (λ (y : ℕ). ownBit s w y) q
 pub run-owned : (s : Local) (w : List ℕ) (k e : ℕ) → k < e → e ≤ k / 64 * 64 + 64 → Owned s w k e → Run s k e w
 run-owned s w k e h l o = record { some = h; word = l; own = λ q. o }
 
-pub run-is : (blocks : List ℕ) (k e y : ℕ) → k < e → e ≤ length blocks / 3 → getD blocks (3 * (e - 1) + 2) 0 < 2 ^ 32
-    → y ≡ pack (range (getD blocks (3 * k + 1) 0) (getD blocks (3 * (e - 1) + 2) 0)) → unpack y ≡ range (top (lineOf blocks []) k) (bottom (lineOf blocks []) (e - 1))
+pub run-is : (blocks : List ℕ) (k e y : ℕ) → k < e → e ≤ blockCount blocks → blockEnd blocks (e - 1) < 2 ^ 32
+    → y ≡ pack (range (blockStart blocks k) (blockEnd blocks (e - 1))) → unpack y ≡ range (top (lineOf blocks []) k) (bottom (lineOf blocks []) (e - 1))
 run-is blocks k e y h n small q =
-    ap unpack q ∙ unpack-pack (getD blocks (3 * k + 1) 0) (getD blocks (3 * (e - 1) + 2) 0) small
+    ap unpack q ∙ unpack-pack (blockStart blocks k) (blockEnd blocks (e - 1)) small
     ∙ rw (start-is blocks k (omega arith), end-is blocks (e - 1) (omega arith))

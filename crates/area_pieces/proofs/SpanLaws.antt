@@ -11,6 +11,7 @@ use lib.Seq.{getD-set-same, take-suc, take-all}
 use lib.Dec.{ltb}
 use borrow.Author.Tests.{eq-eqb, ne-eqb, lt-ltb, le-ltb}
 use Rattle.words.specs.Regions.{part}
+use Rattle.words.specs.Widths.{blockCount, blockStart, blockEnd}
 use Rattle.words.proofs.Points.{same}
 use Rattle.words.proofs.RegionLaws.{length-part, getD-part, kept-part-list}
 use Rattle.bits.specs.Bits.{bitOf, PutBit}
@@ -91,14 +92,14 @@ pub spannable : {s : Local} {n room : ℕ} (w₀ w : List ℕ) → Free s n room
 spannable w₀ w f e k h = record { marked-in = omega arith; span-in = omega arith; mark-fits = f .mark-fits; fits = omega arith }
 
 -- what the code works out of a touch and a block
-pub clipped : (blocks : List ℕ) (k x first last start end : ℕ) → k < length blocks / 3 → start ≡ x / 2 ^ 32 → end ≡ x % 2 ^ 32
-    → first ≡ max start (getD blocks (3 * k + 1) 0) → last ≡ min end (getD blocks (3 * k + 2) 0) → range first last ≡ clip (lineOf blocks []) k (unpack x)
+pub clipped : (blocks : List ℕ) (k x first last start end : ℕ) → k < blockCount blocks → start ≡ x / 2 ^ 32 → end ≡ x % 2 ^ 32
+    → first ≡ max start (blockStart blocks k) → last ≡ min end (blockEnd blocks k) → range first last ≡ clip (lineOf blocks []) k (unpack x)
 clipped blocks k x first last start end h p q f l = rw (start-is blocks k h, end-is blocks k h, f, l, p, q)
 
-pub between-is : (blocks : List ℕ) (f l y : ℕ) → f + 1 < l → l < length blocks / 3 → getD blocks (3 * (l - 1) + 2) 0 < 2 ^ 32
-    → y ≡ pack (range (getD blocks (3 * (f + 1) + 1) 0) (getD blocks (3 * (l - 1) + 2) 0)) → unpack y ≡ range (top (lineOf blocks []) (f + 1)) (bottom (lineOf blocks []) (l - 1))
+pub between-is : (blocks : List ℕ) (f l y : ℕ) → f + 1 < l → l < blockCount blocks → blockEnd blocks (l - 1) < 2 ^ 32
+    → y ≡ pack (range (blockStart blocks (f + 1)) (blockEnd blocks (l - 1))) → unpack y ≡ range (top (lineOf blocks []) (f + 1)) (bottom (lineOf blocks []) (l - 1))
 between-is blocks f l y h n small e =
-    ap unpack e ∙ unpack-pack (getD blocks (3 * (f + 1) + 1) 0) (getD blocks (3 * (l - 1) + 2) 0) small
+    ap unpack e ∙ unpack-pack (blockStart blocks (f + 1)) (blockEnd blocks (l - 1)) small
     ∙ rw (start-is blocks (f + 1) (omega arith), end-is blocks (l - 1) (omega arith))
 
 module _ (G : Graph) (S : Sound (G .blocks)) (s : Local) (x m : ℕ) (up : inverted G (unpack x) ≡ false) where

@@ -5,6 +5,7 @@ use mathlib.Core.Bool.{Bool, false, _&&_}
 use mathlib.Core.List.{List}
 use lib.ListN.{length, getD}
 use Rattle.words.specs.Regions.{part}
+use Rattle.words.specs.Widths.{blockCount}
 use Rattle.bits.specs.Bits.{bit}
 use Rattle.ranges.specs.declared.Range.{Range}
 use Rattle.ranges.specs.Forms.{unpacked}
@@ -16,10 +17,6 @@ use Rattle.areas.specs.Pieces.{beforeRow, afterRow, plainArea}
 use Rattle.spots.specs.declared.Spots.{Spots}
 use Rattle.spots.specs.Spots.{lineOf, touchesAt}
 use Rattle.area_pieces.specs.declared.Local.{Local}
-
--- how many blocks there are
-abbrev pub blockCount : List ℕ → ℕ
-blockCount blocks = length blocks / 3
 
 -- the local's bit in its own row over the blocks, and in the written and the read row of block k
 abbrev pub ownBit : Local → List ℕ → ℕ → Bool

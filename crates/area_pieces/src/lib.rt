@@ -13,7 +13,9 @@ ghost use Rattle.areas.specs.Blocks.{top, bottom, clip, inverted};
 ghost use Rattle.spots.specs.Spots.{lineOf, touchesAt};
 ghost use Rattle.area_pieces.specs.Local.{ownBit, Appended, Free, Laid, Unmarked, Upright, Flowing, Both, PlainIn};
 ghost use Rattle.area_pieces.specs.Inner.{Spannable, Widened, Put, Spanned, pieceAt, Run, RunPiece, Taken, Covered, Visitable, Visited, Lined};
+ghost use Rattle.words.specs.Widths.{blockCount};
 use spots::Spots;
+use words::widths::block;
 
 // A word with every bit set.
 const FULL: u64 = 0xffff_ffff_ffff_ffff;
@@ -72,26 +74,29 @@ fn widen(work: &mut [u64], s: Local, k: usize, start: u32, end: u32)
 
 // The same with a touch, clipped to the block.
 fn clip(blocks: &[u32], work: &mut [u64], s: Local, k: usize, x: u64)
-    requires { ⌜ (k < length (now blocks) / 3) × Spannable s k (now work) ⌝ }
+    requires { ⌜ (k < blockCount (now blocks)) × Spannable s k (now work) ⌝ }
     ensures { λ _. ⌜ Widened s k (clip (lineOf (now (blocks .entry)) []) k (unpack x)) (now (work .entry)) (now (work .exit)) ⌝ }
 {
-    let start = spots::larger(packed::start_of(x), blocks[3 * k + 1]);
-    let end = spots::smaller(packed::end_of(x), blocks[3 * k + 2]);
+    let start = spots::larger(packed::start_of(x), blocks[block::WIDTH * k + block::START]);
+    let end = spots::smaller(packed::end_of(x), blocks[block::WIDTH * k + block::END]);
     widen(work, s, k, start, end);
 }
 
 // The blocks between a touch's first and last, as one piece.
 pub fn between(blocks: &[u32], first: usize, last: usize) -> u64
-    requires { ⌜ (first + 1 < last) × (last < length (now blocks) / 3) ⌝ }
+    requires { ⌜ (first + 1 < last) × (last < blockCount (now blocks)) ⌝ }
     ensures { λ r. ⌜ unpack r ≡ range (top (lineOf (now (blocks .entry)) []) (first + 1)) (bottom (lineOf (now (blocks .entry)) []) (last - 1)) ⌝ }
 {
-    packed::pack(blocks[3 * (first + 1) + 1], blocks[3 * (last - 1) + 2])
+    packed::pack(
+        blocks[block::WIDTH * (first + 1) + block::START],
+        blocks[block::WIDTH * (last - 1) + block::END],
+    )
 }
 
 // Puts a touch to the spans of its first and its last block, and its between-piece behind the m pieces.
 fn touch(blocks: &[u32], work: &mut [u64], s: Local, x: u64, m: usize) -> usize
-    requires { ⌜ Sound (blocksOf (now blocks)) × Free s (length (now blocks) / 3) (m + 1) (now work) × ((es : List Edge) → inverted (lineOf (now blocks) es) (unpack x) ≡ false) ⌝ }
-    ensures { λ r. ⌜ ((es : List Edge) → Put (lineOf (now (blocks .entry)) es) s (length (now (blocks .entry)) / 3) x m r (now (work .entry)) (now (work .exit))) ⌝ }
+    requires { ⌜ Sound (blocksOf (now blocks)) × Free s (blockCount (now blocks)) (m + 1) (now work) × ((es : List Edge) → inverted (lineOf (now blocks) es) (unpack x) ≡ false) ⌝ }
+    ensures { λ r. ⌜ ((es : List Edge) → Put (lineOf (now (blocks .entry)) es) s (blockCount (now (blocks .entry))) x m r (now (work .entry)) (now (work .exit))) ⌝ }
 {
     let first = spots::holding(blocks, packed::start_of(x)).0;
     let last = spots::holding(blocks, packed::end_of(x)).0;
@@ -109,8 +114,8 @@ fn touch(blocks: &[u32], work: &mut [u64], s: Local, x: u64, m: usize) -> usize
 
 // The spans of the touches by block, and their between-pieces from `to` on; how many of these there are.
 fn spans(blocks: &[u32], work: &mut [u64], t: Spots, s: Local) -> usize
-    requires { ⌜ Sound (blocksOf (now blocks)) × Laid t s (length (now blocks) / 3) (t .count) (now work) × Unmarked s (now work) × Upright (now blocks) (touchesAt t (now work)) ⌝ }
-    ensures { λ r. ⌜ ((es : List Edge) → Spanned (lineOf (now (blocks .entry)) es) s (length (now (blocks .entry)) / 3) (touchesAt t (now (work .entry))) r (now (work .entry)) (now (work .exit))) ⌝ }
+    requires { ⌜ Sound (blocksOf (now blocks)) × Laid t s (blockCount (now blocks)) (t .count) (now work) × Unmarked s (now work) × Upright (now blocks) (touchesAt t (now work)) ⌝ }
+    ensures { λ r. ⌜ ((es : List Edge) → Spanned (lineOf (now (blocks .entry)) es) s (blockCount (now (blocks .entry))) (touchesAt t (now (work .entry))) r (now (work .entry)) (now (work .exit))) ⌝ }
 {
     let mut m = 0;
     let mut i = 0;
@@ -125,12 +130,12 @@ fn spans(blocks: &[u32], work: &mut [u64], t: Spots, s: Local) -> usize
 // The piece of block k: all of it where the local's own row has the bit, else its span, from the top by the written bit and to the bottom
 // by the read one.
 fn piece(blocks: &[u32], work: &[u64], s: Local, k: usize) -> u64
-    requires { ⌜ (k < length (now blocks) / 3) × (k < s .wide * 64) × (s .row + s .wide ≤ length (now work)) × (s .span + k < length (now work)) ⌝ }
-    requires { ⌜ Flowing s (length (now blocks) / 3) × (s .mark ≤ length (now work)) ⌝ }
+    requires { ⌜ (k < blockCount (now blocks)) × (k < s .wide * 64) × (s .row + s .wide ≤ length (now work)) × (s .span + k < length (now work)) ⌝ }
+    requires { ⌜ Flowing s (blockCount (now blocks)) × (s .mark ≤ length (now work)) ⌝ }
     ensures { λ r. ⌜ unpack r ≡ pieceAt (lineOf (now (blocks .entry)) []) s (now (work .entry)) k ⌝ }
 {
-    let top = blocks[3 * k + 1];
-    let bottom = blocks[3 * k + 2];
+    let top = blocks[block::WIDTH * k + block::START];
+    let bottom = blocks[block::WIDTH * k + block::END];
     if bits::test(work, s.row, k) {
         return packed::pack(top, bottom);
     }
@@ -173,14 +178,17 @@ fn run(work: &[u64], s: Local, k: usize) -> usize
 
 // The piece of the blocks from k up to e.
 fn stretch(blocks: &[u32], work: &[u64], s: Local, k: usize, e: usize) -> u64
-    requires { ⌜ (k < e) × (e ≤ length (now blocks) / 3) × (k < s .wide * 64) × (s .row + s .wide ≤ length (now work)) × (s .span + k < length (now work)) ⌝ }
-    requires { ⌜ Flowing s (length (now blocks) / 3) × (s .mark ≤ length (now work)) ⌝ }
+    requires { ⌜ (k < e) × (e ≤ blockCount (now blocks)) × (k < s .wide * 64) × (s .row + s .wide ≤ length (now work)) × (s .span + k < length (now work)) ⌝ }
+    requires { ⌜ Flowing s (blockCount (now blocks)) × (s .mark ≤ length (now work)) ⌝ }
     ensures { λ r. ⌜ RunPiece (lineOf (now (blocks .entry)) []) s (now (work .entry)) k e (unpack r) ⌝ }
 {
     if e == k + 1 {
         return piece(blocks, work, s, k);
     }
-    packed::pack(blocks[3 * k + 1], blocks[3 * (e - 1) + 2])
+    packed::pack(
+        blocks[block::WIDTH * k + block::START],
+        blocks[block::WIDTH * (e - 1) + block::END],
+    )
 }
 
 // Takes away the marks of the blocks from k up to e, of one word: where e is its end, none is left in it.
@@ -201,8 +209,8 @@ fn unmark(work: &mut [u64], s: Local, k: usize, e: usize)
 
 // The pieces of the marked blocks in line order, from `from` on, joined; how many there are. The marks are taken away.
 fn visit(blocks: &[u32], work: &mut [u64], s: Local, from: usize) -> usize
-    requires { ⌜ Visitable s (length (now blocks) / 3) from (now work) × Covered s (now work) × Sound (blocksOf (now blocks)) ⌝ }
-    ensures { λ r. ⌜ Visited (now (blocks .entry)) s (length (now (blocks .entry)) / 3) from r (now (work .entry)) (now (work .exit)) ⌝ }
+    requires { ⌜ Visitable s (blockCount (now blocks)) from (now work) × Covered s (now work) × Sound (blocksOf (now blocks)) ⌝ }
+    ensures { λ r. ⌜ Visited (now (blocks .entry)) s (blockCount (now (blocks .entry))) from r (now (work .entry)) (now (work .exit)) ⌝ }
 {
     let end = s.wide * 64;
     let mut n = 0;
@@ -219,8 +227,8 @@ fn visit(blocks: &[u32], work: &mut [u64], s: Local, from: usize) -> usize
 
 // The pieces of the blocks in line order, from `from` on: of the blocks with both bits or a span, no other is visited.
 fn line(blocks: &[u32], work: &mut [u64], s: Local, from: usize) -> usize
-    requires { ⌜ Visitable s (length (now blocks) / 3) from (now work) × Both s (length (now blocks) / 3) (now work) × Sound (blocksOf (now blocks)) ⌝ }
-    ensures { λ r. ⌜ Lined (now (blocks .entry)) s (length (now (blocks .entry)) / 3) from r (now (work .entry)) (now (work .exit)) ⌝ }
+    requires { ⌜ Visitable s (blockCount (now blocks)) from (now work) × Both s (blockCount (now blocks)) (now work) × Sound (blocksOf (now blocks)) ⌝ }
+    ensures { λ r. ⌜ Lined (now (blocks .entry)) s (blockCount (now (blocks .entry))) from r (now (work .entry)) (now (work .exit)) ⌝ }
 {
     bits::row_or(work, s.mark, s.row, s.wide);
     visit(blocks, work, s, from)
@@ -228,8 +236,8 @@ fn line(blocks: &[u32], work: &mut [u64], s: Local, from: usize) -> usize
 
 // The area of a plain local, from `to` on; how many ranges it has. From `to` on it needs a word a touch and a word a block.
 pub fn plain(blocks: &[u32], work: &mut [u64], t: Spots, s: Local) -> usize
-    requires { ⌜ Sound (blocksOf (now blocks)) × Laid t s (length (now blocks) / 3) (t .count + length (now blocks) / 3) (now work) × Flowing s (length (now blocks) / 3) ⌝ }
-    requires { ⌜ Unmarked s (now work) × Both s (length (now blocks) / 3) (now work) × Upright (now blocks) (touchesAt t (now work)) ⌝ }
+    requires { ⌜ Sound (blocksOf (now blocks)) × Laid t s (blockCount (now blocks)) (t .count + blockCount (now blocks)) (now work) × Flowing s (blockCount (now blocks)) ⌝ }
+    requires { ⌜ Unmarked s (now work) × Both s (blockCount (now blocks)) (now work) × Upright (now blocks) (touchesAt t (now work)) ⌝ }
     ensures { λ r. ⌜ PlainIn (now (blocks .entry)) t s (now (work .entry)) (now (work .exit)) r ⌝ }
 {
     let m = spans(blocks, work, t, s);

@@ -8,6 +8,7 @@ use mathlib.Core.List.{List, [], _∷_, _++_, map}
 use lib.ListN.{length, getD, length-append, List·getD-append}
 use lib.Seq.{getD-append-add}
 use Rattle.words.specs.Rows.{tabulate, flat, field}
+use Rattle.words.specs.Widths.{rangeWidth, rangeStart, rangeEnd}
 use Rattle.words.proofs.RowLaws.{tabulate-getD, map-tabulate, tabulate-add}
 use Rattle.words.proofs.FlatLaws.{flat-length, flat-at}
 use Rattle.ranges.specs.declared.Range.{Range}
@@ -34,12 +35,12 @@ module _ (L : List Range) (old : List ℕ) where
   rows-are =
       ap (λ (m : List Range). flat (map rangeRow m)) (sym (tabulate-getD L (range 0 0))) ∙ ap flat (map-tabulate rangeRow (length L) (λ k. rangeAt L k))
 
-  rows-length : length (flat (map rangeRow L)) ≡ 2 * length L
+  rows-length : length (flat (map rangeRow L)) ≡ rangeWidth * length L
   rows-length = ap length rows-are ∙ flat-length 2 (length L) (λ k. rangeRow (rangeAt L k)) (λ k h. refl)
 
-  row-field : (k f : ℕ) → k < length L → f < 2 → field 2 (flat (map rangeRow L) ++ old) k f ≡ getD (rangeRow (rangeAt L k)) f 0
+  row-field : (k f : ℕ) → k < length L → f < 2 → field rangeWidth (flat (map rangeRow L) ++ old) k f ≡ getD (rangeRow (rangeAt L k)) f 0
   row-field k f h l =
-      List·getD-append (flat (map rangeRow L)) old 0 (2 * k + f) (omega (arith, rows-length)) ∙ ap (λ (m : List ℕ). getD m (2 * k + f) 0) rows-are
+      List·getD-append (flat (map rangeRow L)) old 0 (rangeWidth * k + f) (omega (arith, rows-length)) ∙ ap (λ (m : List ℕ). getD m (rangeWidth * k + f) 0) rows-are
       ∙ flat-at 2 (length L) (λ j. rangeRow (rangeAt L j)) (λ j q. refl) k f h l
 
 -- ---- item i's part
@@ -71,7 +72,7 @@ module _ (A : ℕ → Option (List Range)) (n i : ℕ) (h : i < n) (old : List �
       ap (λ (m : List Range). rangeAt m (rangesOf (tabulate i A) + k)) e ∙ List·getD-append (before ++ listed (A i)) rest (range 0 0) (rangesOf (tabulate i A) + k) (omega arith)
       ∙ ap (λ (m : ℕ). rangeAt (before ++ listed (A i)) (m + k)) (sym b) ∙ getD-append-add before (listed (A i)) k (range 0 0)
 
-  own-field : (k f : ℕ) → k < rangesIn (A i) → f < 2 → field 2 (areaRows n A ++ old) (rangesOf (tabulate i A) + k) f ≡ getD (rangeRow (rangeAt (listed (A i)) k)) f 0
+  own-field : (k f : ℕ) → k < rangesIn (A i) → f < 2 → field rangeWidth (areaRows n A ++ old) (rangesOf (tabulate i A) + k) f ≡ getD (rangeRow (rangeAt (listed (A i)) k)) f 0
   own-field k f l q =
       row-field all old (rangesOf (tabulate i A) + k) f (omega (arith, gathered-long (tabulate n A), ranges-below A i n h)) q
       ∙ ap (λ (r : Range). getD (rangeRow r) f 0) (own-range k l)
@@ -86,8 +87,8 @@ module _ (A : ℕ → Option (List Range)) (n i : ℕ) (h : i < n) (old : List �
       let l : k < rangesIn (A i) = omega arith in
       let s = own-field k 0 l (omega arith) in
       let t = own-field k 1 l (omega arith) in
-      let u : field 2 (areaRows n A ++ old) (first + k) 0 ≤ x = rw z (p .begun) in
-      let v : x ≤ field 2 (areaRows n A ++ old) (first + k) 1 = rw z (p .lasting) in
+      let u : rangeStart (areaRows n A ++ old) (first + k) ≤ x = rw z (p .begun) in
+      let v : x ≤ rangeEnd (areaRows n A ++ old) (first + k) = rw z (p .lasting) in
       (rangeAt (listed (A i)) k, mem-at (listed (A i)) k (range 0 0) (omega (arith, listed-long (A i))), omega arith, omega arith)
 
   part-has : (x : ℕ) → Point (listed (A i)) x → PartPoint (areaRows n A ++ old) (rangesOf (tabulate i A)) (rangesIn (A i)) x
@@ -102,7 +103,7 @@ module _ (A : ℕ → Option (List Range)) (n i : ℕ) (h : i < n) (old : List �
   pub part-exact : (x : ℕ) → PartPoint (areaRows n A ++ old) (rangesOf (tabulate i A)) (rangesIn (A i)) x ↔ Point (listed (A i)) x
   part-exact x = (part-only x, part-has x)
 
-  pub part-inside : 2 * (rangesOf (tabulate i A) + rangesIn (A i)) ≤ length (areaRows n A ++ old)
+  pub part-inside : rangeWidth * (rangesOf (tabulate i A) + rangesIn (A i)) ≤ length (areaRows n A ++ old)
   part-inside =
       omega (arith, length-append (areaRows n A) old, rows-length all old, gathered-long (tabulate n A), ranges-below A i n h)
 

@@ -5,6 +5,7 @@ use mathlib.Core.Logic.{_↔_}
 use mathlib.Core.List.{List}
 use lib.ListN.{length}
 use Rattle.words.specs.Rows.{field}
+use Rattle.words.specs.Widths.{rangeWidth, rangeStart, rangeEnd}
 use Rattle.areas.specs.Job.{Job, itemCount}
 use Rattle.area_points.specs.Points.{ItemPoint, NoArea}
 
@@ -13,14 +14,14 @@ pub record PartPoint (areas : List ℕ) (first count x : ℕ) : Type 0 where
   pub row : ℕ
   pub from : first ≤ row
   pub under : row < first + count
-  pub begun : field 2 areas row 0 ≤ x
-  pub lasting : x ≤ field 2 areas row 1
+  pub begun : rangeStart areas row ≤ x
+  pub lasting : x ≤ rangeEnd areas row
 
 -- what the numbers of an item's row tell: its area's points, and that it has none
 pub record Tells (J : Job) (i : ℕ) (areas : List ℕ) (present first count : ℕ) : Type 0 where
   pub points : (x : ℕ) → PartPoint areas first count x ↔ ItemPoint J i x
   pub absent : (present ≡ 0) ↔ NoArea J i
-  pub inside : 2 * (first + count) ≤ length areas
+  pub inside : rangeWidth * (first + count) ≤ length areas
 
 -- the rows of all items, of `wide` numbers each, tell it of every item: present, first and count stand from number `at` of a row on
 pub record AreasTold (J : Job) (wide at : ℕ) (items areas : List ℕ) : Type 0 where

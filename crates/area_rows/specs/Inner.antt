@@ -13,6 +13,7 @@ use Rattle.areas.specs.Blocks.{Graph, InBlock, bottom, blockOf, bounds, between
 use Rattle.spots.specs.Spots.{lineOf}
 use Rattle.area_rows.specs.declared.Column.{Column}
 use Rattle.area_rows.specs.Marks.{marked}
+use Rattle.words.specs.Widths.{blockCount}
 
 -- at the places of S the local's bit is v, at the others as it was, and nothing else has changed
 pub record Put (c : Column) (v : Bool) (S : ℕ → Type 0) (w₀ w : List ℕ) : Type 0 where
@@ -31,5 +32,5 @@ leavesBy G es k t = between G k t || bounds G k t && leb (bottom G k) (cover G e
 
 -- r is the place of the block that has the point, where one has it
 pub record Stopped (blocks : List ℕ) (point r : ℕ) : Type 0 where
-  pub has : r < length blocks / 3 → InBlock (lineOf blocks []) r point
+  pub has : r < blockCount blocks → InBlock (lineOf blocks []) r point
   pub only : (k : ℕ) → InBlock (lineOf blocks []) k point → k ≡ r

@@ -10,6 +10,7 @@ use Rattle.graph.specs.Line.{blocksOf, Sound}
 use Rattle.graph.specs.Work.{Within}
 use Rattle.spots.specs.declared.Spots.{Spots}
 use Rattle.area_rows.specs.declared.Column.{Column}
+use Rattle.words.specs.Widths.{blockCount}
 
 -- the local's bit of the row of place k
 abbrev pub marked : Column → List ℕ → ℕ → Bool
@@ -29,14 +30,14 @@ pub record Marked (c : Column) (g : ℕ → Bool) (w₀ w : List ℕ) : Type 0 w
 -- the touches, or the ends, stand in the work space apart from the rows of the line's places
 pub record TouchesReady (blocks : List ℕ) (s : Spots) (c : Column) (w : List ℕ) : Type 0 where
   pub line : Sound (blocksOf blocks)
-  pub places : c .n ≡ length blocks / 3
+  pub places : c .n ≡ blockCount blocks
   pub fits : Fits c w
   pub stand : s .at + s .count ≤ length w
   pub apart : (s .at + s .count ≤ c .base) ⊎ (c .base + c .n * c .words ≤ s .at)
 
 pub record EndsReady (blocks : List ℕ) (s : Spots) (c : Column) (w : List ℕ) : Type 0 where
   pub line : Sound (blocksOf blocks)
-  pub places : c .n ≡ length blocks / 3
+  pub places : c .n ≡ blockCount blocks
   pub fits : Fits c w
   pub stand : s .ends + s .stops ≤ length w
   pub apart : (s .ends + s .stops ≤ c .base) ⊎ (c .base + c .n * c .words ≤ s .ends)

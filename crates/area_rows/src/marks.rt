@@ -12,6 +12,7 @@ ghost use Rattle.areas.specs.Blocks.{inverted, touched};
 ghost use Rattle.spots.specs.Spots.{lineOf, touchesAt};
 ghost use Rattle.area_rows.specs.Marks.{Fits, marked, Marked, TouchesReady};
 ghost use Rattle.area_rows.specs.Inner.{Put, spans};
+ghost use Rattle.words.specs.Widths.{blockCount};
 use crate::Column;
 use spots::Spots;
 
@@ -38,7 +39,7 @@ pub fn mark_places(work: &mut [u64], c: Column, from: usize, to: usize)
 
 // Sets the bit where a touch lies: in its first block, its last, and those between.
 fn mark_touch(blocks: &[u32], work: &mut [u64], c: Column, start: u32, end: u32)
-    requires { ⌜ Sound (blocksOf (now blocks)) × (c .n ≡ length (now blocks) / 3) × Fits c (now work) ⌝ }
+    requires { ⌜ Sound (blocksOf (now blocks)) × (c .n ≡ blockCount (now blocks)) × Fits c (now work) ⌝ }
     ensures { λ _. ⌜ Put c true (λ j. spans (lineOf (now (blocks .entry)) []) (range start end) j ≡ true) (now (work .entry)) (now (work .exit)) ⌝ }
 {
     let first = spots::holding(blocks, start).0;

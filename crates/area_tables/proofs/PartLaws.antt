@@ -7,7 +7,8 @@ use mathlib.Core.Option.{Option, some}
 use mathlib.Core.List.{List, [], _∷_, _++_, map, append-assoc}
 use lib.ListN.{length, getD, take, drop}
 use lib.Seq.{take-append-seam, drop-at}
-use Rattle.words.specs.Rows.{field, tabulate, flat}
+use Rattle.words.specs.Rows.{tabulate, flat}
+use Rattle.words.specs.Widths.{rangeWidth, rangeCount, rangeStart, rangeEnd}
 use Rattle.words.proofs.RowLaws.{tabulate-eq, tabulate-add}
 use Rattle.ranges.specs.declared.Range.{Range}
 use Rattle.ranges.specs.Points.{range}
@@ -24,15 +25,15 @@ use Rattle.area_tables.proofs.RowLaws.{gathered-long}
 row-range : (a b : ℕ) (s : List ℕ) → areasOf (a ∷ b ∷ s) ≡ range a b ∷ areasOf s
 unfolding tabulate
 row-range a b s =
-    let e : length (a ∷ b ∷ s) / 2 ≡ suc (length s / 2) = omega arith in
-    ap (λ (k : ℕ). tabulate k (λ i. range (field 2 (a ∷ b ∷ s) i 0) (field 2 (a ∷ b ∷ s) i 1))) e
-    ∙ ap (λ (l : List Range). range a b ∷ l) (tabulate-eq (length s / 2) _ _ (λ i h. later i))
+    let e : rangeCount (a ∷ b ∷ s) ≡ suc (rangeCount s) = omega arith in
+    ap (λ (k : ℕ). tabulate k (λ i. range (rangeStart (a ∷ b ∷ s) i) (rangeEnd (a ∷ b ∷ s) i))) e
+    ∙ ap (λ (l : List Range). range a b ∷ l) (tabulate-eq (rangeCount s) _ _ (λ i h. later i))
   where
-    later : (i : ℕ) → range (field 2 (a ∷ b ∷ s) (suc i) 0) (field 2 (a ∷ b ∷ s) (suc i) 1) ≡ range (field 2 s i 0) (field 2 s i 1)
+    later : (i : ℕ) → range (rangeStart (a ∷ b ∷ s) (suc i)) (rangeEnd (a ∷ b ∷ s) (suc i)) ≡ range (rangeStart s i) (rangeEnd s i)
     later i =
-        let e : 2 * suc i + 0 ≡ suc (suc (2 * i + 0)) = omega arith in
-        let f : 2 * suc i + 1 ≡ suc (suc (2 * i + 1)) = omega arith in
-        ap (λ (k : ℕ). range (getD (a ∷ b ∷ s) k 0) (getD (a ∷ b ∷ s) (2 * suc i + 1) 0)) e ∙ ap (λ (k : ℕ). range (getD s (2 * i + 0) 0) (getD (a ∷ b ∷ s) k 0)) f
+        let e : rangeWidth * suc i + 0 ≡ suc (suc (rangeWidth * i + 0)) = omega arith in
+        let f : rangeWidth * suc i + 1 ≡ suc (suc (rangeWidth * i + 1)) = omega arith in
+        ap (λ (k : ℕ). range (getD (a ∷ b ∷ s) k 0) (rangeEnd (a ∷ b ∷ s) (suc i))) e ∙ ap (λ (k : ℕ). range (rangeStart s i) (getD (a ∷ b ∷ s) k 0)) f
 
 pub rows-ranges : (rs : List Range) (more : List ℕ) → areasOf (flat (map (λ (r : Range). r .start ∷ r .end ∷ []) rs) ++ more) ≡ rs ++ areasOf more
 unfolding flat
@@ -66,10 +67,10 @@ module _ (A : ℕ → Option (List Range)) (i n : ℕ) (h : i < n) where
 
 -- ---- how long the rows are
 
-ranges-long : (rs : List Range) → length (flat (map (λ (r : Range). r .start ∷ r .end ∷ []) rs)) ≡ 2 * length rs
+ranges-long : (rs : List Range) → length (flat (map (λ (r : Range). r .start ∷ r .end ∷ []) rs)) ≡ rangeWidth * length rs
 unfolding flat
 ranges-long [] = refl
 ranges-long (r ∷ rs) = omega (arith, ranges-long rs)
 
-pub areas-long : (n : ℕ) (A : ℕ → Option (List Range)) → length (areaRows n A) ≡ 2 * rangesOf (tabulate n A)
-areas-long n A = ranges-long (gather listed (tabulate n A)) ∙ ap (λ (k : ℕ). 2 * k) (gathered-long (tabulate n A))
+pub areas-long : (n : ℕ) (A : ℕ → Option (List Range)) → length (areaRows n A) ≡ rangeWidth * rangesOf (tabulate n A)
+areas-long n A = ranges-long (gather listed (tabulate n A)) ∙ ap (λ (k : ℕ). rangeWidth * k) (gathered-long (tabulate n A))

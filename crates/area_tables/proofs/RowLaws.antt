@@ -7,6 +7,7 @@ use mathlib.Core.List.{List, [], _∷_, map}
 use lib.ListN.{length, getD, length-append}
 use Rattle.words.specs.Rows.{tabulate, flat}
 use Rattle.words.specs.Regions.{part}
+use Rattle.words.specs.Widths.{rangeWidth}
 use Rattle.words.proofs.RowLaws.{tabulate-getD, tabulate-eq, map-tabulate, tabulate-add}
 use Rattle.words.proofs.RegionLaws.{length-part, getD-part}
 use Rattle.words.proofs.FlatLaws.{flat-length}
@@ -36,7 +37,7 @@ packed-rows w n h =
 pub rows-areas : (n : ℕ) (A : ℕ → Option (List Range)) (w : List ℕ) (total : ℕ) → total ≤ length w → unpacked (part 0 total w) ≡ gather listed (tabulate n A) → rowsIn w 0 total 0 ≡ areaRows n A
 rows-areas n A w total h e = sym (packed-rows w total h) ∙ ap (λ (m : List Range). flat (map rangeRow m)) e
 
-pub rows-long : (w : List ℕ) (from n less : ℕ) → length (rowsIn w from n less) ≡ 2 * n
+pub rows-long : (w : List ℕ) (from n less : ℕ) → length (rowsIn w from n less) ≡ rangeWidth * n
 rows-long w from n less = flat-length 2 n (λ i. halves (getD w (from + i) 0 - less)) (λ i h. refl)
 
 -- the ranges of one item are some of all

@@ -11,6 +11,7 @@ use Rattle.refusals.specs.declared.Verdict.the-variants.{Fine}
 use Rattle.refusals.specs.declared.Refusal.the-variants.{List as ListWord}
 use Rattle.refusals.specs.Verdicts.{check, inOrder}
 use Rattle.words.specs.Rows.{records, tabulate}
+use Rattle.words.specs.Widths.{localWidth}
 use Rattle.ranges.specs.declared.Range.{Range}
 use Rattle.graph.specs.Line.{Stretch, Jump, edgesOf, lineVerdict, edgeVerdict}
 use Rattle.carrying.specs.declared.Kind.{Kind}
@@ -27,7 +28,7 @@ pub record Local : Type 0 where
   pub align : ℕ
 
 abbrev pub localsOf : List ℕ → List Local
-localsOf s = records 2 (λ f. record { size = f 0; align = f 1 }) s
+localsOf s = records localWidth (λ f. record { size = f 0; align = f 1 }) s
 
 -- the records of a job; `H`'s numbers are points, V (in the code) and the budget, which only fitting takes
 pub record Job : Type 0 where

@@ -9,6 +9,7 @@ use Rattle.refusals.specs.declared.Verdict.{Verdict}
 use Rattle.refusals.specs.declared.Refusal.the-variants.{Stray, Piece as PieceWord}
 use Rattle.refusals.specs.Verdicts.{scan}
 use Rattle.words.specs.Rows.{records}
+use Rattle.words.specs.Widths.{assignedWidth, moveWidth}
 use Rattle.ranges.specs.declared.Range.{Range}
 use Rattle.ranges.specs.Points.{range}
 use Rattle.ranges.specs.Merged.{merged}
@@ -30,10 +31,10 @@ pub record Move : Type 0 where
   pub from : ℕ
 
 abbrev pub assignedOf : List ℕ → List Assigned
-assignedOf s = records 2 (λ f. record { register = f 0; slot = f 1 }) s
+assignedOf s = records assignedWidth (λ f. record { register = f 0; slot = f 1 }) s
 
 abbrev pub movesOf : List ℕ → List Move
-movesOf s = records 4 (λ f. record { kind = f 0; number = f 1; to = f 2; from = f 3 }) s
+movesOf s = records moveWidth (λ f. record { kind = f 0; number = f 1; to = f 2; from = f 3 }) s
 
 -- "its position is one of four kinds: 0 before an instruction (early), 1 after (late), 2 start, 3 end of a block"
 abbrev pub position : List Stretch → List Inst → ℕ → ℕ → ℕ

@@ -11,28 +11,29 @@ use Rattle.refusals.specs.declared.Verdict.the-variants.{Fine, Bad}
 use Rattle.refusals.specs.declared.Refusal.the-variants.{Count}
 use Rattle.refusals.specs.Verdicts.{check}
 use Rattle.refusals.specs.Outcomes.{unless, numbered, after}
-use Rattle.words.specs.Rows.{rowCount, wholeRows, field}
+use Rattle.words.specs.Rows.{wholeRows}
+use Rattle.words.specs.Widths.{cellWidth, cellCount, cellSize, cellAlign}
 use Rattle.words.proofs.PasteLaws.{Filling, fill-above}
 use Rattle.words.proofs.FlatLaws.{flat-length}
 use Rattle.fitting.specs.Queries.{cap}
 use Rattle.capping.specs.Cap.{roomRow, capRows, CappedBy}
 
 abbrev pub capRow : List ℕ → ℕ → ℕ → List ℕ
-capRow cells most i = roomRow (cap most (record { size = field 2 cells i 0; align = field 2 cells i 1 }))
+capRow cells most i = roomRow (cap most (record { size = cellSize cells i; align = cellAlign cells i }))
 
 -- what stands from the next row on is as it was
-pub row-was : {d s m : List ℕ} (n i : ℕ) → Filling d 0 m (2 * n) s (2 * i) → (getD s (2 * i) 0 ≡ field 2 d i 0) × (getD s (2 * i + 1) 0 ≡ field 2 d i 1)
+pub row-was : {d s m : List ℕ} (n i : ℕ) → Filling d 0 m (cellWidth * n) s (cellWidth * i) → (getD s (cellWidth * i) 0 ≡ cellSize d i) × (cellAlign s i ≡ cellAlign d i)
 row-was {d} {s} {m} n i f =
-    (fill-above f (2 * i) (omega arith) ∙ ap (λ (k : ℕ). getD d k 0) (sym (add-zero (2 * i))), fill-above f (2 * i + 1) (omega arith))
+    (fill-above f (cellWidth * i) (omega arith) ∙ ap (λ (k : ℕ). getD d k 0) (sym (add-zero (cellWidth * i))), fill-above f (cellWidth * i + 1) (omega arith))
 
-pub capped-refused : (cells : List ℕ) (count most : ℕ) → not (wholeRows 2 cells) || (ltb (rowCount 2 cells) count || ltb 4096 count) ≡ true → CappedBy cells count most (Bad Count 0) cells
+pub capped-refused : (cells : List ℕ) (count most : ℕ) → not (wholeRows cellWidth cells) || (ltb (cellCount cells) count || ltb 4096 count) ≡ true → CappedBy cells count most (Bad Count 0) cells
 capped-refused cells count most e = record {
   answer = sym (ap (λ (t : Bool). numbered (check Count t)) e);
   in-cells = sym (ap (λ (t : Bool). after (unless (check Count t) (capRows cells count most)) (λ l. l) cells) e);
 }
 
-pub capped-told : (cells cells′ : List ℕ) (count most : ℕ) → not (wholeRows 2 cells) || (ltb (rowCount 2 cells) count || ltb 4096 count) ≡ false
-    → cells′ ≡ capRows cells count most ++ drop (2 * count) cells → CappedBy cells count most Fine cells′
+pub capped-told : (cells cells′ : List ℕ) (count most : ℕ) → not (wholeRows cellWidth cells) || (ltb (cellCount cells) count || ltb 4096 count) ≡ false
+    → cells′ ≡ capRows cells count most ++ drop (cellWidth * count) cells → CappedBy cells count most Fine cells′
 capped-told cells cells′ count most e f =
     record {
       answer = sym (ap (λ (t : Bool). numbered (check Count t)) e);

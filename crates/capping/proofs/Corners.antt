@@ -6,12 +6,13 @@ use lib.ListN.{length}
 use Rattle.refusals.specs.declared.Verdict.the-variants.{Fine, Bad}
 use Rattle.refusals.specs.declared.Refusal.the-variants.{Count}
 use Rattle.words.specs.Rows.{tabulate, flat}
+use Rattle.words.specs.Widths.{cellWidth}
 use Rattle.capping.specs.Cap.{capVerdict, capRows}
 
 pub counts : (capVerdict (16 ∷ 8 ∷ 4 ∷ 2 ∷ []) 2 ≡ Fine) × (capVerdict (16 ∷ 8 ∷ 4 ∷ 2 ∷ []) 3 ≡ Bad Count 0) × (capVerdict (16 ∷ 8 ∷ 4 ∷ []) 1 ≡ Bad Count 0)
 counts = (refl, refl, refl)
 
-pub limit : (cells : List ℕ) → length cells ≡ 2 * 5000 → (capVerdict cells 4096 ≡ Fine) × (capVerdict cells 4097 ≡ Bad Count 0)
+pub limit : (cells : List ℕ) → length cells ≡ cellWidth * 5000 → (capVerdict cells 4096 ≡ Fine) × (capVerdict cells 4097 ≡ Bad Count 0)
 limit cells e = (rw e refl, rw e refl)
 
 -- "`cap` lowers each lent cell's alignment to a maximum", of the cells counted

@@ -6,7 +6,8 @@ use mathlib.Core.List.{List}
 use lib.ListN.{length, getD}
 use borrow.Author.Tests.{le-ltb, eq-eqb}
 use Rattle.refusals.specs.declared.Verdict.the-variants.{Fine}
-use Rattle.words.specs.Rows.{rowCount, field, tabulate}
+use Rattle.words.specs.Rows.{field, tabulate}
+use Rattle.words.specs.Widths.{cellWidth, cellCount, cellSize, cellAlign}
 use Rattle.words.proofs.RowLaws.{map-tabulate}
 use Rattle.words.proofs.FlatLaws.{flat-length, flat-at}
 use Rattle.fitting.specs.Queries.{Room, Item, Slots, cap}
@@ -19,16 +20,16 @@ module _ {cells items areas : List ℕ} {locals c n : ℕ} {room : ℕ → Room}
   pub cap-passes : capVerdict cells c ≡ Fine
   cap-passes =
       simp (
-        eq-eqb (length cells % 2) 0 (omega (arith, H .cells-long)),
-        le-ltb (rowCount 2 cells) c (omega (arith, H .cells-long)),
+        eq-eqb (length cells % cellWidth) 0 (omega (arith, H .cells-long)),
+        le-ltb (cellCount cells) c (omega (arith, H .cells-long)),
         le-ltb 4096 c (omega (arith, H .few-cells, H .locals-in, H .few-locals, H .few-slots)),
       )
 
   module _ (most : ℕ) where
-    row-at : (i f : ℕ) → i < c → f < 2 → field 2 (capRows cells c most) i f ≡ getD (capRow cells most i) f 0
+    row-at : (i f : ℕ) → i < c → f < 2 → field cellWidth (capRows cells c most) i f ≡ getD (capRow cells most i) f 0
     row-at i f h k = flat-at 2 c (capRow cells most) (λ j q. refl) i f h k
 
-    room-capped : (i : ℕ) → i < c → record { size = field 2 (capRows cells c most) i 0; align = field 2 (capRows cells c most) i 1 } ≡ cap most (room i)
+    room-capped : (i : ℕ) → i < c → record { size = cellSize (capRows cells c most) i; align = cellAlign (capRows cells c most) i } ≡ cap most (room i)
     room-capped i h = two (row-at i 0 h (omega arith)) (row-at i 1 h (omega arith)) ∙ ap (cap most) (H .room-is i h)
       where
         two : {x y a b : ℕ} → x ≡ a → y ≡ b → _≡_ {A = Room} (record { size = x; align = y }) (record { size = a; align = b })

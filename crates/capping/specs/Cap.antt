@@ -8,7 +8,8 @@ use Rattle.refusals.specs.declared.Verdict.{Verdict}
 use Rattle.refusals.specs.declared.Refusal.the-variants.{Count}
 use Rattle.refusals.specs.Verdicts.{check}
 use Rattle.refusals.specs.Outcomes.{unless, numbered, after}
-use Rattle.words.specs.Rows.{rowCount, wholeRows, field, tabulate, flat}
+use Rattle.words.specs.Rows.{wholeRows, tabulate, flat}
+use Rattle.words.specs.Widths.{cellWidth, cellCount, cellSize, cellAlign}
 use Rattle.fitting.specs.Queries.{Room, Slots, cap}
 use Rattle.capping.specs.declared.Cell.{Cell}
 
@@ -22,14 +23,14 @@ roomBy c = record { size = c .size; align = c .align }
 
 -- `cap`: number 1, a list that is no whole rows or has fewer than the cells counted, or more cells than a plan can have
 abbrev pub capVerdict : List ℕ → ℕ → Verdict
-capVerdict cells count = check Count (not (wholeRows 2 cells) || (ltb (rowCount 2 cells) count || ltb 4096 count))
+capVerdict cells count = check Count (not (wholeRows cellWidth cells) || (ltb (cellCount cells) count || ltb 4096 count))
 
 abbrev pub capChecks : List ℕ → ℕ → List Verdict
 capChecks cells count = capVerdict cells count ∷ []
 
 -- the first `count` cells, each with its alignment lowered
 abbrev pub capRows : List ℕ → ℕ → ℕ → List ℕ
-capRows cells count most = flat (tabulate count (λ i. roomRow (cap most (record { size = field 2 cells i 0; align = field 2 cells i 1 }))))
+capRows cells count most = flat (tabulate count (λ i. roomRow (cap most (record { size = cellSize cells i; align = cellAlign cells i }))))
 
 -- "sizes and entries past the count unchanged": a refusal changes nothing
 pub record CappedBy (cells : List ℕ) (count most : ℕ) (r : Verdict) (cells′ : List ℕ) : Type 0 where

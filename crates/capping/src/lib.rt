@@ -5,8 +5,10 @@ ghost use mathlib.Core.List.{_++_};
 ghost use lib.ListN.{length, drop};
 ghost use Rattle.fitting.specs.Queries.{cap};
 ghost use Rattle.capping.specs.Cap.{roomBy, CappedBy, capRows};
+ghost use Rattle.words.specs.Widths.{cellWidth};
 use refusals::Refusal;
 use refusals::Verdict;
+use words::widths::cell;
 
 // A cell of a plan, by value.
 pub struct Cell {
@@ -39,10 +41,10 @@ pub fn cap_cell(cell: &mut Cell, most: u32)
 pub fn cap(cells: &mut [u32], count: u32, most: u32) -> Verdict
     ensures { λ r. ⌜ CappedBy (now (cells .entry)) count most r (now (cells .exit)) ⌝ }
 {
-    if cells.len() % 2 != 0 {
+    if cells.len() % cell::WIDTH != 0 {
         return Verdict::Bad(Refusal::Count, 0);
     }
-    if cells.len() / 2 < count as usize {
+    if cells.len() / cell::WIDTH < count as usize {
         return Verdict::Bad(Refusal::Count, 0);
     }
     if 4096 < count {
@@ -53,20 +55,20 @@ pub fn cap(cells: &mut [u32], count: u32, most: u32) -> Verdict
 }
 
 fn lower(cells: &mut [u32], count: usize, most: u32)
-    requires { ⌜ 2 * count ≤ length (now cells) ⌝ }
-    ensures { λ _. ⌜ now (cells .exit) ≡ capRows (now (cells .entry)) count most ++ drop (2 * count) (now (cells .entry)) ⌝ }
+    requires { ⌜ cellWidth * count ≤ length (now cells) ⌝ }
+    ensures { λ _. ⌜ now (cells .exit) ≡ capRows (now (cells .entry)) count most ++ drop (cellWidth * count) (now (cells .entry)) ⌝ }
 {
     let mut i = 0;
     while i < count {
         let c = lowered(
             Cell {
-                size: cells[2 * i],
-                align: cells[2 * i + 1],
+                size: cells[cell::WIDTH * i],
+                align: cells[cell::WIDTH * i + cell::ALIGN],
             },
             most,
         );
-        cells[2 * i] = c.size;
-        cells[2 * i + 1] = c.align;
+        cells[cell::WIDTH * i] = c.size;
+        cells[cell::WIDTH * i + cell::ALIGN] = c.align;
         i += 1;
     }
 }

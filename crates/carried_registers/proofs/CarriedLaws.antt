@@ -12,9 +12,10 @@ use Rattle.refusals.specs.declared.Verdict.{Verdict}
 use Rattle.refusals.specs.declared.Verdict.the-variants.{Fine, Bad}
 use Rattle.refusals.specs.declared.Refusal.{Refusal}
 use Rattle.refusals.specs.Outcomes.{given, after}
-use Rattle.words.specs.Rows.{tabulate, rowCount}
+use Rattle.words.specs.Rows.{tabulate}
 use Rattle.words.specs.Sort.{sortOf}
 use Rattle.words.specs.Regions.{Region, part, cleared}
+use Rattle.words.specs.Widths.{instCount, operandCount, localCount, addressCount}
 use Rattle.words.proofs.RowLaws.{tabulate-getD}
 use Rattle.words.proofs.SortLaws.{mem-sort, mem-of-sort, length-sort}
 use Rattle.words.proofs.RegionLaws.{length-part, getD-part, region-front}
@@ -137,11 +138,11 @@ module _ (points v : ℕ) (blocks insts operands crossings locals addresses ends
 
   pub carried-absent : {work : List ℕ} (m : ℕ) → m ≡ mostOf v insts
       → carryVerdict points v blocks insts operands crossings locals addresses ends (length answer₀) m (length work₀) ≡ Fine
-      → rowCount 2 locals ≤ l → (words : ℕ) → words ≡ carrySpace v blocks insts operands crossings locals addresses ends → work ≡ cleared words work₀
+      → localCount locals ≤ l → (words : ℕ) → words ≡ carrySpace v blocks insts operands crossings locals addresses ends → work ≡ cleared words work₀
       → CarriedTo points v blocks insts operands crossings locals addresses ends l answer₀ work₀ Absent answer₀ work
   carried-absent {work} m em f h words ew c =
       let e : Given ≡ Fine = ap (λ (x : ℕ). carryVerdict points v blocks insts operands crossings locals addresses ends (length answer₀) x (length work₀)) (sym em) ∙ f in
-      let g = le-ltb l (rowCount 2 locals) h in
+      let g = le-ltb l (localCount locals) h in
       record {
         outcome = rw (e, g);
         list = rw (e, g);
@@ -150,13 +151,13 @@ module _ (points v : ℕ) (blocks insts operands crossings locals addresses ends
 
   pub carried-given : {answer work₁ work : List ℕ} (m : ℕ) → m ≡ mostOf v insts
       → carryVerdict points v blocks insts operands crossings locals addresses ends (length answer₀) m (length work₀) ≡ Fine
-      → l < rowCount 2 locals → (n : ℕ)
-      → Registers C₀ l (usedOf (wordsOf v) (rowCount 9 insts) (rowCount 2 operands) (rowCount 2 locals) (rowCount 2 addresses)) n answer₀ answer work₀ work₁
+      → l < localCount locals → (n : ℕ)
+      → Registers C₀ l (usedOf (wordsOf v) (instCount insts) (operandCount operands) (localCount locals) (addressCount addresses)) n answer₀ answer work₀ work₁
       → (words : ℕ) → words ≡ carrySpace v blocks insts operands crossings locals addresses ends → work ≡ cleared words work₁
       → CarriedTo points v blocks insts operands crossings locals addresses ends l answer₀ work₀ (Listed n) answer work
   carried-given {answer} {work₁} {work} m em f h n r words ew c =
       let e : Given ≡ Fine = ap (λ (x : ℕ). carryVerdict points v blocks insts operands crossings locals addresses ends (length answer₀) x (length work₀)) (sym em) ∙ f in
-      let g = lt-ltb l (rowCount 2 locals) h in
+      let g = lt-ltb l (localCount locals) h in
       record {
         outcome = rw (e, g) (ap (λ (x : ℕ). given (some x)) (r .count));
         list = rw (e, g) (region-front (r .list) (r .room)

@@ -9,8 +9,8 @@ use lib.Dec.{ltb}
 use Rattle.refusals.specs.declared.Verdict.{Verdict}
 use Rattle.refusals.specs.Verdicts.{numberOf}
 use Rattle.refusals.specs.Outcomes.{Outcome, given, refused, unless, after}
-use Rattle.words.specs.Rows.{rowCount}
 use Rattle.words.specs.Regions.{Region}
+use Rattle.words.specs.Widths.{instCount, localCount}
 use Rattle.graph.specs.Work.{Within}
 use Rattle.carrying.specs.Carried.{Code, carried}
 use Rattle.reach.specs.Prepared.{codeOf}
@@ -26,7 +26,7 @@ told (Refused r i) = refused (numberOf r) i
 
 -- the most there can be: each is numbered, and the def of an instruction
 abbrev pub mostOf : ℕ → List ℕ → ℕ
-mostOf v insts = min v (rowCount 9 insts)
+mostOf v insts = min v (instCount insts)
 
 -- "a local number past the end" is absent
 abbrev pub countOf : Code → ℕ → ℕ → Option ℕ
@@ -54,8 +54,8 @@ verdictOf points v blocks insts operands crossings locals addresses ends lent wo
 -- the answer of `carried`, its list and the work space afterwards
 pub record CarriedTo (points v : ℕ) (blocks insts operands crossings locals addresses ends : List ℕ) (l : ℕ) (answer₀ work₀ : List ℕ) (r : Carrying) (answer work : List ℕ) : Type 0 where
   pub outcome : told r ≡ unless (verdictOf points v blocks insts operands crossings locals addresses ends (length answer₀) (length work₀))
-      (countOf (codeOf v insts operands crossings addresses ends) (rowCount 2 locals) l)
+      (countOf (codeOf v insts operands crossings addresses ends) (localCount locals) l)
   pub list : answer ≡ after (unless (verdictOf points v blocks insts operands crossings locals addresses ends (length answer₀) (length work₀))
-      (registersOf (codeOf v insts operands crossings addresses ends) (rowCount 2 locals) l)) (λ rs. rs) answer₀
+      (registersOf (codeOf v insts operands crossings addresses ends) (localCount locals) l)) (λ rs. rs) answer₀
   pub space : work ≡ after (unless (verdictOf points v blocks insts operands crossings locals addresses ends (length answer₀) (length work₀))
       (carrySpace v blocks insts operands crossings locals addresses ends)) (λ n. replicate n 0) work₀

@@ -5,11 +5,16 @@ ghost use lib.ListN.{length};
 ghost use Rattle.reach.specs.Prepared.{wordsOf, codeOf};
 ghost use Rattle.carry_checks.specs.Layout.{usedOf, Checked};
 ghost use Rattle.carried_registers.specs.Carried.{mostOf, Registers, CarriedTo};
+ghost use Rattle.words.specs.Widths.{instCount, operandCount, localCount, addressCount};
 use carry_checks::checks;
 use carry_checks::layout;
 use follow::Sizes;
 use refusals::Refusal;
 use refusals::Verdict;
+use words::widths::inst;
+use words::widths::local;
+use words::widths::mention;
+use words::widths::operand;
 
 // How many registers carry the local's address, that there is no such local, or the refusal.
 pub enum Carrying {
@@ -42,14 +47,20 @@ fn list(
     answer: &mut [u32],
     work: &mut [u64],
 ) -> usize
-    requires { ⌜ Checked v (now insts) (now operands) (now locals) (now addresses) (now ends) (length (now work)) × (mostOf v (now insts) ≤ length (now answer)) × (local < length (now locals) / 2) ⌝ }
+    requires { ⌜ Checked v (now insts) (now operands) (now locals) (now addresses) (now ends) (length (now work)) × (mostOf v (now insts) ≤ length (now answer)) × (local < localCount (now locals)) ⌝ }
     ensures { λ r. ⌜ Registers (codeOf v (now (insts .entry)) (now (operands .entry)) (now (crossings .entry)) (now (addresses .entry)) (now (ends .entry))) local
-        (usedOf (wordsOf v) (length (now (insts .entry)) / 9) (length (now (operands .entry)) / 2) (length (now (locals .entry)) / 2) (length (now (addresses .entry)) / 2)) r
+        (usedOf (wordsOf v) (instCount (now (insts .entry))) (operandCount (now (operands .entry))) (localCount (now (locals .entry))) (addressCount (now (addresses .entry)))) r
         (now (answer .entry)) (now (answer .exit)) (now (work .entry)) (now (work .exit)) ⌝ }
 {
-    let i = insts.len() / 9;
-    let l = locals.len() / 2;
-    let lay = layout::layout(v, i, operands.len() / 2, l, addresses.len() / 2);
+    let i = insts.len() / inst::WIDTH;
+    let l = locals.len() / local::WIDTH;
+    let lay = layout::layout(
+        v,
+        i,
+        operands.len() / operand::WIDTH,
+        l,
+        addresses.len() / mention::WIDTH,
+    );
     let e = preparing::prepare(insts, operands, crossings, l, addresses, ends, v, work, lay);
     let z = Sizes {
         v: v,
@@ -83,7 +94,7 @@ pub fn carried(
     ensures { λ r. ⌜ CarriedTo points v (now (blocks .entry)) (now (insts .entry)) (now (operands .entry)) (now (crossings .entry)) (now (locals .entry)) (now (addresses .entry))
         (now (ends .entry)) local (now (answer .entry)) (now (work .entry)) r (now (answer .exit)) (now (work .exit)) ⌝ }
 {
-    let most = least(v, insts.len() / 9);
+    let most = least(v, insts.len() / inst::WIDTH);
     let verdict = checks::refusal(
         points,
         v,
@@ -111,7 +122,7 @@ pub fn carried(
         addresses,
         ends,
     );
-    if local >= locals.len() / 2 {
+    if local >= locals.len() / local::WIDTH {
         words::clear(work, w);
         return Carrying::Absent;
     }

@@ -27,6 +27,7 @@ use Rattle.reach.proofs.ReadyLaws.{mentions-count}
 use Rattle.rooms.proofs.RoomLaws.{room-answer, room-work}
 use Rattle.carry_checks.specs.Checks.{carryCounts, placeVerdict, strayVerdict, carrySpace, roomVerdict, carryVerdict}
 use Rattle.carry_checks.specs.Layout.{Checked}
+use Rattle.words.specs.Widths.{blockCount, instCount, operandCount, localWidth, localCount, mentionWidth, addressCount, endCount}
 
 -- ---- number 7
 
@@ -53,14 +54,14 @@ module _ (v : ℕ) (blocks insts operands crossings locals addresses ends : List
 
   pub record Counted : Type 0 where
     pub registers : v ≤ 65535
-    pub some : 1 ≤ length blocks / 3
-    pub few : length blocks / 3 ≤ 4096
-    pub few-insts : length insts / 9 ≤ 65536
-    pub few-operands : length operands / 2 ≤ 262144
+    pub some : 1 ≤ blockCount blocks
+    pub few : blockCount blocks ≤ 4096
+    pub few-insts : instCount insts ≤ 65536
+    pub few-operands : operandCount operands ≤ 262144
     pub few-crossings : length crossings ≤ 65536
-    pub few-locals : length locals / 2 ≤ 2048
-    pub few-addresses : length addresses / 2 ≤ 65536
-    pub few-ends : length ends / 2 ≤ 65536
+    pub few-locals : localCount locals ≤ 2048
+    pub few-addresses : addressCount addresses ≤ 65536
+    pub few-ends : endCount ends ≤ 65536
     pub adds : AddsUp insts operands
 
   pub counted : carryCounts v blocks insts operands crossings locals addresses ends ≡ Fine → Counted
@@ -72,7 +73,7 @@ module _ (v : ℕ) (blocks insts operands crossings locals addresses ends : List
       let i = insts-counted insts operands (first-left (instCounts insts operands) _ d) in
       let f = first-right (instCounts insts operands) _ d in
       let g = first-right (mostVerdict 65536 (length crossings)) _ f in
-      let h = first-right (rowsVerdict 2 2048 (length locals)) _ g in
+      let h = first-right (rowsVerdict localWidth 2048 (length locals)) _ g in
       record {
         registers = most-few 65535 v (first-left _ _ c);
         some = blocks-some blocks b;
@@ -80,9 +81,9 @@ module _ (v : ℕ) (blocks insts operands crossings locals addresses ends : List
         few-insts = i .few;
         few-operands = i .few-operands;
         few-crossings = most-few 65536 (length crossings) (first-left _ _ f);
-        few-locals = rows-few 2 2048 (length locals) (first-left _ _ g);
-        few-addresses = rows-few 2 65536 (length addresses) (first-left _ _ h);
-        few-ends = rows-few 2 65536 (length ends) (first-right (rowsVerdict 2 65536 (length addresses)) _ h);
+        few-locals = rows-few localWidth 2048 (length locals) (first-left _ _ g);
+        few-addresses = rows-few mentionWidth 65536 (length addresses) (first-left _ _ h);
+        few-ends = rows-few mentionWidth 65536 (length ends) (first-right (rowsVerdict mentionWidth 65536 (length addresses)) _ h);
         adds = i .adds;
       }
 
@@ -94,12 +95,12 @@ module _ (insts operands addresses ends : List ℕ) where
       ap (λ (x : Verdict). first x (endVerdict (instsOf insts []) (mentionsOf ends))) (address-whatever insts operands addresses)
       ∙ ap (first (addressVerdict (instsOf insts operands) (mentionsOf addresses))) (end-whatever insts operands ends)
 
-  present : (n : ℕ) → absent (instsOf insts operands) n ≡ false → n < length insts / 9
-  present n e = cut (length insts / 9) n
+  present : (n : ℕ) → absent (instsOf insts operands) n ≡ false → n < instCount insts
+  present n e = cut (instCount insts) n
       (λ h. absurd (true≢false (sym (le-leb (length (instsOf insts operands)) n (let q = insts-length insts operands in omega arith)) ∙ e)))
       (λ h. h)
 
-  pub addresses-found : strayVerdict insts operands addresses ends ≡ Fine → (a : ℕ) → a < length addresses / 2 → getD addresses (2 * a) 0 < length insts / 9
+  pub addresses-found : strayVerdict insts operands addresses ends ≡ Fine → (a : ℕ) → a < addressCount addresses → getD addresses (mentionWidth * a) 0 < instCount insts
   addresses-found e a h =
       let f = first-left (addressVerdict (instsOf insts operands) (mentionsOf addresses)) _ e in
       let t = scan-fine Stray (λ n. absent (instsOf insts operands) (mentionAt (mentionsOf addresses) n .inst) || not (isSet (instAt (instsOf insts operands) (mentionAt (mentionsOf addresses) n .inst) .placed)))
@@ -108,7 +109,7 @@ module _ (insts operands addresses ends : List ℕ) where
       let g = present (mentionAt (mentionsOf addresses) a .inst) (or-neither _ _ t .0) in
       omega arith
 
-  pub ends-found : strayVerdict insts operands addresses ends ≡ Fine → (k : ℕ) → k < length ends / 2 → getD ends (2 * k) 0 < length insts / 9
+  pub ends-found : strayVerdict insts operands addresses ends ≡ Fine → (k : ℕ) → k < endCount ends → getD ends (mentionWidth * k) 0 < instCount insts
   ends-found e k h =
       let f = first-right (addressVerdict (instsOf insts operands) (mentionsOf addresses)) _ e in
       let t = scan-fine Stray (λ n. absent (instsOf insts operands) (mentionAt (mentionsOf ends) n .inst)) (length (mentionsOf ends)) f k (let q = mentions-count ends in omega arith) in

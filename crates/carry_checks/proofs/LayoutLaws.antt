@@ -5,6 +5,7 @@ use mathlib.Core.Path.{_≡_, refl, sym, ap, _∙_}
 use mathlib.Core.List.{List, _++_}
 use lib.ListN.{length, drop, replicate, length-replicate}
 use Rattle.words.specs.Regions.{cleared}
+use Rattle.words.specs.Widths.{instCount, operandCount, localCount, addressCount}
 use Rattle.words.proofs.RegionLaws.{drop-same}
 use Rattle.graph.specs.Work.{Within}
 use Rattle.reach.specs.declared.Lay.{Lay}
@@ -29,11 +30,11 @@ laid-longer d m h = record {
 
 module _ (v : ℕ) (insts operands crossings locals addresses ends : List ℕ) (lay : Lay) (n : ℕ) {w₀ w₁ : List ℕ}
     (c : Checked v insts operands locals addresses ends (length w₀))
-    (a : Laid lay v (length insts / 9) (length operands / 2) (length locals / 2) (length addresses / 2) (usedOf (wordsOf v) (length insts / 9) (length operands / 2) (length locals / 2) (length addresses / 2)))
-    (b : Readied (codeOf v insts operands crossings addresses ends) lay (length operands / 2) (length locals / 2) n w₀ w₁) where
-  pub measure-ready : Ready lay (record { v = v; insts = length insts / 9; locals = length locals / 2; edges = n }) insts addresses w₁
+    (a : Laid lay v (instCount insts) (operandCount operands) (localCount locals) (addressCount addresses) (usedOf (wordsOf v) (instCount insts) (operandCount operands) (localCount locals) (addressCount addresses)))
+    (b : Readied (codeOf v insts operands crossings addresses ends) lay (operandCount operands) (localCount locals) n w₀ w₁) where
+  pub measure-ready : Ready lay (record { v = v; insts = instCount insts; locals = localCount locals; edges = n }) insts addresses w₁
   measure-ready =
-      made-ready insts operands crossings addresses ends lay (record { v = v; insts = length insts / 9; locals = length locals / 2; edges = n }) (length operands / 2) b refl
+      made-ready insts operands crossings addresses ends lay (record { v = v; insts = instCount insts; locals = localCount locals; edges = n }) (operandCount operands) b refl
       (laid-longer a (length w₀) (c .room)) (c .registers) (c .few-insts) (c .found)
 
 -- the work space after an answer

@@ -10,7 +10,7 @@ use Rattle.refusals.specs.declared.Refusal.the-variants.{Count, Line, Inst, Str
 use Rattle.refusals.specs.Verdicts.{numberOf, first, check}
 use Rattle.refusals.specs.Orders.{Gives, Ordered}
 use Rattle.refusals.proofs.Orders.{check-gives, first-gives, scan-gives}
-use Rattle.words.specs.Rows.{rowCount}
+use Rattle.words.specs.Widths.{blockWidth, blockCount, instWidth, instCount, operandWidth, operandCount, localWidth, mentionWidth}
 use Rattle.insts.specs.Counts.{badRows, rowsVerdict, mostVerdict, offset, addUp, blockCounts, instCounts, codeCounts}
 use Rattle.carry_checks.specs.Checks.{carryCounts, carrySpace, carryChecks}
 
@@ -18,18 +18,18 @@ module _ (v : ℕ) (blocks insts operands crossings locals addresses ends : List
   insts-give : Gives Count (instCounts insts operands)
   unfolding instCounts
   insts-give =
-      first-gives Count (rowsVerdict 9 65536 (length insts)) (first (rowsVerdict 2 262144 (length operands)) (addUp insts operands)) (check-gives Count (badRows 9 65536 (length insts)))
-      (first-gives Count (rowsVerdict 2 262144 (length operands)) (addUp insts operands) (check-gives Count (badRows 2 262144 (length operands)))
-      (check-gives Count (not (eqb (offset insts (rowCount 9 insts)) (rowCount 2 operands)))))
+      first-gives Count (rowsVerdict instWidth 65536 (length insts)) (first (rowsVerdict operandWidth 262144 (length operands)) (addUp insts operands)) (check-gives Count (badRows instWidth 65536 (length insts)))
+      (first-gives Count (rowsVerdict operandWidth 262144 (length operands)) (addUp insts operands) (check-gives Count (badRows operandWidth 262144 (length operands)))
+      (check-gives Count (not (eqb (offset insts (instCount insts)) (operandCount operands)))))
 
   -- the lists that name the code
   abbrev Named : Verdict
-  Named = first (rowsVerdict 2 2048 (length locals)) (first (rowsVerdict 2 65536 (length addresses)) (rowsVerdict 2 65536 (length ends)))
+  Named = first (rowsVerdict localWidth 2048 (length locals)) (first (rowsVerdict mentionWidth 65536 (length addresses)) (rowsVerdict mentionWidth 65536 (length ends)))
 
   named-gives : Gives Count Named
   named-gives =
-      first-gives Count (rowsVerdict 2 2048 (length locals)) (first (rowsVerdict 2 65536 (length addresses)) (rowsVerdict 2 65536 (length ends))) (check-gives Count (badRows 2 2048 (length locals)))
-      (first-gives Count (rowsVerdict 2 65536 (length addresses)) (rowsVerdict 2 65536 (length ends)) (check-gives Count (badRows 2 65536 (length addresses))) (check-gives Count (badRows 2 65536 (length ends))))
+      first-gives Count (rowsVerdict localWidth 2048 (length locals)) (first (rowsVerdict mentionWidth 65536 (length addresses)) (rowsVerdict mentionWidth 65536 (length ends))) (check-gives Count (badRows localWidth 2048 (length locals)))
+      (first-gives Count (rowsVerdict mentionWidth 65536 (length addresses)) (rowsVerdict mentionWidth 65536 (length ends)) (check-gives Count (badRows mentionWidth 65536 (length addresses))) (check-gives Count (badRows mentionWidth 65536 (length ends))))
 
   abbrev Crossed : Verdict
   Crossed = first (mostVerdict 65536 (length crossings)) Named
@@ -44,7 +44,7 @@ module _ (v : ℕ) (blocks insts operands crossings locals addresses ends : List
   unfolding carryCounts
   counts-give =
       first-gives Count (blockCounts blocks) (codeCounts v insts operands crossings locals addresses ends)
-      (first-gives Count (rowsVerdict 3 4096 (length blocks)) (check Count (ltb (rowCount 3 blocks) 1)) (check-gives Count (badRows 3 4096 (length blocks))) (check-gives Count (ltb (rowCount 3 blocks) 1)))
+      (first-gives Count (rowsVerdict blockWidth 4096 (length blocks)) (check Count (ltb (blockCount blocks) 1)) (check-gives Count (badRows blockWidth 4096 (length blocks))) (check-gives Count (ltb (blockCount blocks) 1)))
       code-gives
 
   pub carry-ordered : (points lent most work : ℕ)

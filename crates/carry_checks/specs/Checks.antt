@@ -7,7 +7,7 @@ use lib.Dec.{ltb}
 use Rattle.refusals.specs.declared.Verdict.{Verdict}
 use Rattle.refusals.specs.declared.Refusal.the-variants.{Space}
 use Rattle.refusals.specs.Verdicts.{first, inOrder, check}
-use Rattle.words.specs.Rows.{rowCount}
+use Rattle.words.specs.Widths.{blockCount, instCount, operandCount, localCount, addressCount, endCount}
 use Rattle.job_space.specs.Space.{rowWords}
 use Rattle.graph.specs.Line.{blocksOf, lineVerdict}
 use Rattle.carrying.specs.Insts.{instsOf}
@@ -34,7 +34,7 @@ carryWords v blocks insts operands crossings locals addresses ends =
 
 abbrev pub carrySpace : ℕ → List ℕ → List ℕ → List ℕ → List ℕ → List ℕ → List ℕ → List ℕ → ℕ
 carrySpace v blocks insts operands crossings locals addresses ends =
-    carryWords v (rowCount 3 blocks) (rowCount 9 insts) (rowCount 2 operands) (length crossings) (rowCount 2 locals) (rowCount 2 addresses) (rowCount 2 ends)
+    carryWords v (blockCount blocks) (instCount insts) (operandCount operands) (length crossings) (localCount locals) (addressCount addresses) (endCount ends)
 
 -- number 7: an answer list under the most that the answer can be, or work space under W
 abbrev pub roomVerdict : ℕ → ℕ → ℕ → ℕ → Verdict

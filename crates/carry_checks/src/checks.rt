@@ -4,7 +4,13 @@ ghost use mathlib.Core.List.{[]};
 ghost use Prim.Native.Nat.{_+_, _*_, _/_, _≤_};
 ghost use lib.ListN.{length};
 ghost use Rattle.carry_checks.specs.Checks.{carryCounts, strayVerdict, carryWords, carrySpace, carryVerdict};
+ghost use Rattle.words.specs.Widths.{blockCount, instCount, operandCount, localCount, addressCount, endCount};
 use refusals::Verdict;
+use words::widths::block;
+use words::widths::inst;
+use words::widths::local;
+use words::widths::mention;
+use words::widths::operand;
 
 // Refusal 1.
 pub fn counts(
@@ -64,17 +70,17 @@ pub fn needed(
     addresses: &[u32],
     ends: &[u32],
 ) -> usize
-    requires { ⌜ (length (now blocks) / 3 ≤ 4096) × (length (now insts) / 9 ≤ 65536) × (length (now operands) / 2 ≤ 262144) × (length (now crossings) ≤ 65536)
-        × (length (now locals) / 2 ≤ 2048) × (length (now addresses) / 2 ≤ 65536) × (length (now ends) / 2 ≤ 65536) ⌝ }
+    requires { ⌜ (blockCount (now blocks) ≤ 4096) × (instCount (now insts) ≤ 65536) × (operandCount (now operands) ≤ 262144) × (length (now crossings) ≤ 65536)
+        × (localCount (now locals) ≤ 2048) × (addressCount (now addresses) ≤ 65536) × (endCount (now ends) ≤ 65536) ⌝ }
     ensures { λ r. ⌜ r ≡ carrySpace v (now (blocks .entry)) (now (insts .entry)) (now (operands .entry)) (now (crossings .entry)) (now (locals .entry)) (now (addresses .entry)) (now (ends .entry)) ⌝ }
 {
-    let b = (blocks.len() / 3) as u32;
-    let i = (insts.len() / 9) as u32;
-    let o = (operands.len() / 2) as u32;
+    let b = (blocks.len() / block::WIDTH) as u32;
+    let i = (insts.len() / inst::WIDTH) as u32;
+    let o = (operands.len() / operand::WIDTH) as u32;
     let x = crossings.len() as u32;
-    let l = (locals.len() / 2) as u32;
-    let a = (addresses.len() / 2) as u32;
-    let e = (ends.len() / 2) as u32;
+    let l = (locals.len() / local::WIDTH) as u32;
+    let a = (addresses.len() / mention::WIDTH) as u32;
+    let e = (ends.len() / mention::WIDTH) as u32;
     words(v, b, i, o, x, l, a, e) as usize
 }
 

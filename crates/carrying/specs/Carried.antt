@@ -6,6 +6,7 @@ use mathlib.Core.Option.{Option, some, none}
 use mathlib.Core.List.{List, [], _∷_, _++_, map, List·Memᴰ}
 use lib.Dec.{eqb, ltb}
 use Rattle.words.specs.Rows.{records}
+use Rattle.words.specs.Widths.{mentionWidth, pieceWidth}
 use Rattle.ranges.specs.declared.Range.{Range}
 use Rattle.ranges.specs.Points.{range}
 use Rattle.graph.specs.Paths.{Edge, edge}
@@ -21,7 +22,7 @@ pub record Mention : Type 0 where
   pub local : ℕ
 
 abbrev pub mentionsOf : List ℕ → List Mention
-mentionsOf s = records 2 (λ f. record { inst = f 0; local = f 1 }) s
+mentionsOf s = records mentionWidth (λ f. record { inst = f 0; local = f 1 }) s
 
 -- a live piece of a register
 pub record Piece : Type 0 where
@@ -30,7 +31,7 @@ pub record Piece : Type 0 where
   pub end : ℕ
 
 abbrev pub piecesOf : List ℕ → List Piece
-piecesOf s = records 3 (λ f. record { register = f 0; start = f 1; end = f 2 }) s
+piecesOf s = records pieceWidth (λ f. record { register = f 0; start = f 1; end = f 2 }) s
 
 -- what `reach` is lent
 pub record Code : Type 0 where

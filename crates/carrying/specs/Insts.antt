@@ -6,6 +6,7 @@ use mathlib.Core.List.{List, [], _∷_}
 use lib.ListN.{getD, take, drop}
 use lib.Dec.{eqb, ltb}
 use Rattle.words.specs.Rows.{records}
+use Rattle.words.specs.Widths.{instWidth, operandWidth}
 use Rattle.carrying.specs.Lists.{any, keep}
 
 -- "def or not, and a register"
@@ -34,7 +35,7 @@ dealt [] os = []
 dealt (f ∷ fs) os = instOf f (take (f 8) os) ∷ dealt fs (drop (f 8) os)
 
 abbrev pub instsOf : List ℕ → List ℕ → List Inst
-instsOf is os = dealt (records 9 (λ f. f) is) (records 2 (λ f. record { def = f 0; register = f 1 }) os)
+instsOf is os = dealt (records instWidth (λ f. f) is) (records operandWidth (λ f. record { def = f 0; register = f 1 }) os)
 
 -- the instruction with an index
 abbrev pub noInst : Inst

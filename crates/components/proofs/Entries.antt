@@ -16,8 +16,8 @@ use Rattle.refusals.specs.Orders.{Ordered}
 use Rattle.refusals.proofs.Laws.{first-fine, first-bad, first-left, first-right, bad-fine, check-last}
 use Rattle.refusals.proofs.Orders.{check-gives, order-append, giving-append}
 use Rattle.words.specs.Regions.{cleared}
-use Rattle.words.specs.Rows.{rowCount}
 use Rattle.words.specs.Regions.{Region}
+use Rattle.words.specs.Widths.{blockCount, edgeCount}
 use Rattle.graph.specs.Line.{blocksOf, jumpsOf}
 use Rattle.graph.specs.Checks.{graphChecks, graphVerdict, spaceOf, spaceVerdict}
 use Rattle.graph.specs.Paths.{Between}
@@ -36,35 +36,35 @@ module _ (blocks edges : List ℕ) (points answer work : ℕ) where
   -- "lowest number wins": 1, 2, 3, then 7
   pub components-ordered : Ordered numberOf (Count ∷ Line ∷ EdgeWord ∷ Space ∷ []) (componentsChecks blocks edges points answer work)
   components-ordered = record {
-    gives = giving-append (Count ∷ Line ∷ EdgeWord ∷ []) (Space ∷ []) (graphChecks blocks edges points) (spaceVerdict answer (rowCount 3 blocks) work (spaceOf (rowCount 3 blocks) (rowCount 2 edges) 0) ∷ [])
-        (graph-gives blocks edges points) (check-gives Space (ltb answer (rowCount 3 blocks) || ltb work (spaceOf (rowCount 3 blocks) (rowCount 2 edges) 0)), tt);
+    gives = giving-append (Count ∷ Line ∷ EdgeWord ∷ []) (Space ∷ []) (graphChecks blocks edges points) (spaceVerdict answer (blockCount blocks) work (spaceOf (blockCount blocks) (edgeCount edges) 0) ∷ [])
+        (graph-gives blocks edges points) (check-gives Space (ltb answer (blockCount blocks) || ltb work (spaceOf (blockCount blocks) (edgeCount edges) 0)), tt);
     rises = refl;
   }
 
   -- the graph's checks, then the space
-  verdict-as : verdictOf blocks edges points answer work ≡ first (graphVerdict blocks edges points) (spaceVerdict answer (rowCount 3 blocks) work (spaceOf (rowCount 3 blocks) (rowCount 2 edges) 0))
+  verdict-as : verdictOf blocks edges points answer work ≡ first (graphVerdict blocks edges points) (spaceVerdict answer (blockCount blocks) work (spaceOf (blockCount blocks) (edgeCount edges) 0))
   unfolding verdictOf graphVerdict
   verdict-as =
-      order-append (graphChecks blocks edges points) (spaceVerdict answer (rowCount 3 blocks) work (spaceOf (rowCount 3 blocks) (rowCount 2 edges) 0) ∷ [])
-      ∙ ap (first (inOrder (graphChecks blocks edges points))) (check-last (spaceVerdict answer (rowCount 3 blocks) work (spaceOf (rowCount 3 blocks) (rowCount 2 edges) 0)))
+      order-append (graphChecks blocks edges points) (spaceVerdict answer (blockCount blocks) work (spaceOf (blockCount blocks) (edgeCount edges) 0) ∷ [])
+      ∙ ap (first (inOrder (graphChecks blocks edges points))) (check-last (spaceVerdict answer (blockCount blocks) work (spaceOf (blockCount blocks) (edgeCount edges) 0)))
 
   pub graph-bad : (r : Refusal) (i : ℕ) → graphVerdict blocks edges points ≡ Bad r i → Bad r i ≡ verdictOf blocks edges points answer work
   graph-bad r i e = sym (verdict-as ∙ first-bad _ _ r i e)
 
-  pub space-last : (v : Verdict) → graphVerdict blocks edges points ≡ Fine → v ≡ spaceVerdict answer (rowCount 3 blocks) work (spaceOf (rowCount 3 blocks) (rowCount 2 edges) 0)
+  pub space-last : (v : Verdict) → graphVerdict blocks edges points ≡ Fine → v ≡ spaceVerdict answer (blockCount blocks) work (spaceOf (blockCount blocks) (edgeCount edges) 0)
       → v ≡ verdictOf blocks edges points answer work
   space-last v f e = e ∙ sym (verdict-as ∙ first-fine _ _ f)
 
   -- what is known of an input that is not refused
   pub record Known : Type 0 where
     pub graph : Passed blocks edges points
-    pub answer-fits : rowCount 3 blocks ≤ answer
-    pub work-fits : spaceOf (rowCount 3 blocks) (rowCount 2 edges) 0 ≤ work
+    pub answer-fits : blockCount blocks ≤ answer
+    pub work-fits : spaceOf (blockCount blocks) (edgeCount edges) 0 ≤ work
 
   pub known : verdictOf blocks edges points answer work ≡ Fine → Known
   known e =
       let f = sym verdict-as ∙ e in
-      let s = space-told answer (rowCount 3 blocks) work (rowCount 3 blocks) (rowCount 2 edges) 0 (first-right (graphVerdict blocks edges points) _ f) in
+      let s = space-told answer (blockCount blocks) work (blockCount blocks) (edgeCount edges) 0 (first-right (graphVerdict blocks edges points) _ f) in
       record { graph = passed blocks edges points (first-left (graphVerdict blocks edges points) _ f); answer-fits = s .0; work-fits = s .1 }
 
 pub refused-is : (blocks edges : List ℕ) (points : ℕ) (which work : List ℕ) (r : Refusal) (i : ℕ) → verdictOf blocks edges points (length which) (length work) ≡ Bad r i
@@ -80,28 +80,28 @@ refused-is blocks edges points which work r i e = record {
 -- ---- the answer
 
 -- the rows, and then the walk
-module _ (blocks edges : List ℕ) (w₀ w₁ : List ℕ) (fits : 8 * (length blocks / 3 + length edges / 2 + 0) ≤ length w₀)
-    (N : Neighbours (edgesIn blocks edges) (length blocks / 3) (length edges / 2) 0 w₀ w₁) (some : 1 ≤ length blocks / 3) where
-  pub walkable : Walkable (length blocks / 3) (length edges / 2 + length edges / 2) (length edges / 2 + length edges / 2 + (length blocks / 3 + 1 + length edges / 2)) w₁
+module _ (blocks edges : List ℕ) (w₀ w₁ : List ℕ) (fits : 8 * (blockCount blocks + edgeCount edges + 0) ≤ length w₀)
+    (N : Neighbours (edgesIn blocks edges) (blockCount blocks) (edgeCount edges) 0 w₀ w₁) (some : 1 ≤ blockCount blocks) where
+  pub walkable : Walkable (blockCount blocks) (edgeCount edges + edgeCount edges) (edgeCount edges + edgeCount edges + (blockCount blocks + 1 + edgeCount edges)) w₁
   walkable = record {
     edges = edgesIn blocks edges;
     between = N .between;
-    rows = subst (λ (y : ℕ). EdgeRows (edgesIn blocks edges) (length blocks / 3) y w₁) (omega arith) (N .rows);
+    rows = subst (λ (y : ℕ). EdgeRows (edgesIn blocks edges) (blockCount blocks) y w₁) (omega arith) (N .rows);
     below = omega (arith, N .count);
     room = omega (arith, N .kept .len);
   }
 
   pub solved : {w₂ : List ℕ} {count : ℕ}
-      → Found (length blocks / 3) (length edges / 2 + length edges / 2) (length edges / 2 + length edges / 2 + (length blocks / 3 + 1 + length edges / 2)) w₁ w₂ count
-      → Solved blocks edges (length edges / 2 + length edges / 2 + (length blocks / 3 + 1 + length edges / 2)) w₀ w₂ count
+      → Found (blockCount blocks) (edgeCount edges + edgeCount edges) (edgeCount edges + edgeCount edges + (blockCount blocks + 1 + edgeCount edges)) w₁ w₂ count
+      → Solved blocks edges (edgeCount edges + edgeCount edges + (blockCount blocks + 1 + edgeCount edges)) w₀ w₂ count
   solved F = record {
     kept = within-trans (within-wider 0 _ (omega arith) (omega arith) (N .kept)) (within-wider 0 _ (omega arith) (omega arith) (F .kept));
     few = F .few;
-    components = F .components (edgesIn blocks edges) (N .between) (subst (λ (y : ℕ). EdgeRows (edgesIn blocks edges) (length blocks / 3) y w₁) (omega arith) (N .rows));
+    components = F .components (edgesIn blocks edges) (N .between) (subst (λ (y : ℕ). EdgeRows (edgesIn blocks edges) (blockCount blocks) y w₁) (omega arith) (N .rows));
   }
 
-pub small : {blocks edges : List ℕ} {base count : ℕ} {w₀ w₁ : List ℕ} → Solved blocks edges base w₀ w₁ count → length blocks / 3 ≤ 4096
-    → (i : ℕ) → i < length blocks / 3 → getD w₁ (base + i) 0 < 4294967296
+pub small : {blocks edges : List ℕ} {base count : ℕ} {w₀ w₁ : List ℕ} → Solved blocks edges base w₀ w₁ count → blockCount blocks ≤ 4096
+    → (i : ℕ) → i < blockCount blocks → getD w₁ (base + i) 0 < 4294967296
 small S few i h = omega (arith, S .components .low i h, S .few)
 
 -- what lies past W is as it was
@@ -114,7 +114,7 @@ cleared-same n w₀ w K = ap (λ (l : List ℕ). replicate n 0 ++ l) (drop-kept 
 
 module _ (blocks edges : List ℕ) (points : ℕ) (which₀ which work₀ work₁ work₂ : List ℕ) (base count : ℕ)
     (e : verdictOf blocks edges points (length which₀) (length work₀) ≡ Fine) (S : Solved blocks edges base work₀ work₁ count) where
-  pub given-is : Region which₀ which 0 (length blocks / 3) (λ i. getD work₁ (base + i) 0) → work₂ ≡ cleared (8 * (length blocks / 3 + length edges / 2)) work₁
+  pub given-is : Region which₀ which 0 (blockCount blocks) (λ i. getD work₁ (base + i) 0) → work₂ ≡ cleared (8 * (blockCount blocks + edgeCount edges)) work₁
       → Answered blocks edges points which₀ work₀ (Given count) which work₂
   given-is R C = record {
     answered = λ _. record {
@@ -124,18 +124,18 @@ module _ (blocks edges : List ℕ) (points : ℕ) (which₀ which work₀ work�
       components = numbers-as (S .components);
       length-kept = R .len;
       past = λ i h. R .after i (omega arith);
-      work-cleared = C ∙ ap (λ (y : ℕ). cleared y work₁) eight ∙ cleared-same (spaceOf (rowCount 3 blocks) (rowCount 2 edges) 0) work₀ work₁ (S .kept);
+      work-cleared = C ∙ ap (λ (y : ℕ). cleared y work₁) eight ∙ cleared-same (spaceOf (blockCount blocks) (edgeCount edges) 0) work₀ work₁ (S .kept);
     };
     turned = λ k i f. bad-fine (sym f ∙ e);
   }
     where
-      eight : 8 * (length blocks / 3 + length edges / 2) ≡ 8 * (length blocks / 3 + length edges / 2 + 0)
+      eight : 8 * (blockCount blocks + edgeCount edges) ≡ 8 * (blockCount blocks + edgeCount edges + 0)
       eight = omega arith
 
-      is : (v : ℕ) → v < length blocks / 3 → getD which v 0 ≡ getD work₁ (base + v) 0
+      is : (v : ℕ) → v < blockCount blocks → getD which v 0 ≡ getD work₁ (base + v) 0
       is v h = R .inside v v (omega arith) h
 
-      numbers-as : Components (edgesIn blocks edges) (length blocks / 3) (λ v. getD work₁ (base + v) 0) count → Components (edgesIn blocks edges) (length blocks / 3) (λ v. getD which v 0) count
+      numbers-as : Components (edgesIn blocks edges) (blockCount blocks) (λ v. getD work₁ (base + v) 0) count → Components (edgesIn blocks edges) (blockCount blocks) (λ v. getD which v 0) count
       numbers-as X = record {
         alike = λ j k a b t. is j a ∙ X .alike j k a b t ∙ sym (is k b);
         together = λ j k a b q. X .together j k a b (sym (is j a) ∙ q ∙ is k b);
@@ -151,5 +151,5 @@ module _ (blocks edges : List ℕ) (points : ℕ) (which₀ which work₀ work�
           K : Known blocks edges points (length which₀) (length work₀)
           K = known blocks edges points (length which₀) (length work₀) e
 
-          between : Between (length blocks / 3) (edgesIn blocks edges)
+          between : Between (blockCount blocks) (edgesIn blocks edges)
           between = subst (λ (y : ℕ). Between y (edgesIn blocks edges)) (blocks-length blocks) (edges-between (blocksOf blocks) (jumpsOf edges) (K .graph .sound) (K .graph .edges-fine))

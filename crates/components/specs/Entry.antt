@@ -9,7 +9,7 @@ use Rattle.refusals.specs.declared.Verdict.the-variants.{Fine, Bad}
 use Rattle.refusals.specs.Verdicts.{numberOf, inOrder}
 use Rattle.refusals.specs.Outcomes.{Outcome, given, refused}
 use Rattle.words.specs.Regions.{cleared}
-use Rattle.words.specs.Rows.{rowCount}
+use Rattle.words.specs.Widths.{blockCount, edgeCount}
 use Rattle.graph.specs.Paths.{Edge}
 use Rattle.graph.specs.Line.{blocksOf, jumpsOf, edgesOf}
 use Rattle.graph.specs.Checks.{graphChecks, spaceOf, spaceVerdict}
@@ -26,7 +26,7 @@ outcomeOf (Refused r i) = refused (numberOf r) i
 -- the checks of `components`, and of `settling`, which is lent the same: numbers 1, 2, 3 and 7, in this order; W is 8 × the records lent
 abbrev pub componentsChecks : List ℕ → List ℕ → ℕ → ℕ → ℕ → List Verdict
 componentsChecks blocks edges points answer work =
-    graphChecks blocks edges points ++ (spaceVerdict answer (rowCount 3 blocks) work (spaceOf (rowCount 3 blocks) (rowCount 2 edges) 0) ∷ [])
+    graphChecks blocks edges points ++ (spaceVerdict answer (blockCount blocks) work (spaceOf (blockCount blocks) (edgeCount edges) 0) ∷ [])
 
 unfoldable pub verdictOf : List ℕ → List ℕ → ℕ → ℕ → ℕ → Verdict
 verdictOf blocks edges points answer work = inOrder (componentsChecks blocks edges points answer work)
@@ -38,11 +38,11 @@ edgesIn blocks edges = edgesOf (blocksOf blocks) (jumpsOf edges)
 pub record Numbered (blocks edges which₀ work₀ : List ℕ) (r : Answer) (which work : List ℕ) : Type 0 where
   pub count : ℕ
   pub outcome : outcomeOf r ≡ given count
-  pub few : count ≤ rowCount 3 blocks
-  pub components : Components (edgesIn blocks edges) (rowCount 3 blocks) (λ v. getD which v 0) count
+  pub few : count ≤ blockCount blocks
+  pub components : Components (edgesIn blocks edges) (blockCount blocks) (λ v. getD which v 0) count
   pub length-kept : length which ≡ length which₀
-  pub past : (i : ℕ) → rowCount 3 blocks ≤ i → getD which i 0 ≡ getD which₀ i 0
-  pub work-cleared : work ≡ cleared (spaceOf (rowCount 3 blocks) (rowCount 2 edges) 0) work₀
+  pub past : (i : ℕ) → blockCount blocks ≤ i → getD which i 0 ≡ getD which₀ i 0
+  pub work-cleared : work ≡ cleared (spaceOf (blockCount blocks) (edgeCount edges) 0) work₀
 
 -- a refusal: the lists as they were
 pub record Turned (k : Refusal) (i : ℕ) (which₀ work₀ : List ℕ) (r : Answer) (which work : List ℕ) : Type 0 where
@@ -56,6 +56,6 @@ pub record Answered (blocks edges : List ℕ) (points : ℕ) (which₀ work₀ :
 
 -- what `solve` leaves in the work space: the components' numbers from `base` on, within W
 pub record Solved (blocks edges : List ℕ) (base : ℕ) (work₀ work : List ℕ) (count : ℕ) : Type 0 where
-  pub kept : Within 0 (spaceOf (rowCount 3 blocks) (rowCount 2 edges) 0) work₀ work
-  pub few : count ≤ rowCount 3 blocks
-  pub components : Components (edgesIn blocks edges) (rowCount 3 blocks) (λ v. getD work (base + v) 0) count
+  pub kept : Within 0 (spaceOf (blockCount blocks) (edgeCount edges) 0) work₀ work
+  pub few : count ≤ blockCount blocks
+  pub components : Components (edgesIn blocks edges) (blockCount blocks) (λ v. getD work (base + v) 0) count

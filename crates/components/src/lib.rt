@@ -5,8 +5,11 @@ ghost use lib.ListN.{length};
 ghost use Rattle.refusals.specs.declared.Verdict.the-variants.{Fine};
 ghost use Rattle.graph.specs.Line.{blocksOf, jumpsOf, edgeVerdict, Sound};
 ghost use Rattle.components.specs.Entry.{verdictOf, Answered, Solved};
+ghost use Rattle.words.specs.Widths.{blockCount, edgeCount};
 use refusals::Refusal;
 use refusals::Verdict;
+use words::widths::block;
+use words::widths::edge;
 
 // The number of components, or a refusal with the index of the first offending record.
 pub enum Answer {
@@ -22,20 +25,20 @@ pub fn refusal(blocks: &[u32], edges: &[u32], points: u32, answer: usize, work: 
     if let Verdict::Bad(r, i) = v {
         return Verdict::Bad(r, i);
     }
-    let n = blocks.len() / 3;
-    let e = edges.len() / 2;
+    let n = blocks.len() / block::WIDTH;
+    let e = edges.len() / edge::WIDTH;
     line_checks::space(answer, n, work, n, e, 0)
 }
 
 // The components of a graph that was checked: their numbers stand behind the successors' rows.
 fn solve(blocks: &[u32], edges: &[u32], work: &mut [u64]) -> usize
     requires { ⌜ Sound (blocksOf (now blocks)) × (edgeVerdict (blocksOf (now blocks)) (jumpsOf (now edges)) ≡ Fine) ⌝ }
-    requires { ⌜ 8 * (length (now blocks) / 3 + length (now edges) / 2 + 0) ≤ length (now work) ⌝ }
+    requires { ⌜ 8 * (blockCount (now blocks) + edgeCount (now edges) + 0) ≤ length (now work) ⌝ }
     ensures { λ r. ⌜ Solved (now (blocks .entry)) (now (edges .entry))
-        (length (now (edges .entry)) / 2 + length (now (edges .entry)) / 2 + (length (now (blocks .entry)) / 3 + 1 + length (now (edges .entry)) / 2)) (now (work .entry)) (now (work .exit)) r ⌝ }
+        (edgeCount (now (edges .entry)) + edgeCount (now (edges .entry)) + (blockCount (now (blocks .entry)) + 1 + edgeCount (now (edges .entry)))) (now (work .entry)) (now (work .exit)) r ⌝ }
 {
-    let n = blocks.len() / 3;
-    let e = edges.len() / 2;
+    let n = blocks.len() / block::WIDTH;
+    let e = edges.len() / edge::WIDTH;
     edge_rows::successors(blocks, edges, work, 0);
     tarjan::components(work, n, e + e, e + e + (n + 1 + e))
 }
@@ -56,8 +59,8 @@ pub fn components(
     if let Verdict::Bad(r, i) = v {
         return Answer::Refused(r, i);
     }
-    let n = blocks.len() / 3;
-    let e = edges.len() / 2;
+    let n = blocks.len() / block::WIDTH;
+    let e = edges.len() / edge::WIDTH;
     let count = solve(blocks, edges, work);
     words::narrow(which, 0, work, e + e + (n + 1 + e), n);
     words::clear(work, 8 * (n + e));

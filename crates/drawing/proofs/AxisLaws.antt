@@ -5,7 +5,8 @@ use native.Mathlib.Nat.{le-div-iff-mul-le, div-lt-iff-lt-mul, mul-le-mul-right, 
 use native.Mathlib.Numerals.{add-one}
 use mathlib.Core.Path.{_≡_, refl, ap, _∙_}
 use mathlib.Core.List.{List}
-use Rattle.words.specs.Rows.{rowCount, field}
+use Rattle.words.specs.Rows.{field}
+use Rattle.words.specs.Widths.{blockWidth, blockCount, blockStart, blockEnd, itemRanges, rangeWidth, rangeCount, rangeStart, rangeEnd}
 use Rattle.words.proofs.Points.{cut}
 use Rattle.drawing.specs.Axis.{leastOf, greatestOf, firstOf, lastOf, rangesIn, left, axisWidth, pointsBefore, Placed, Barred}
 
@@ -58,13 +59,13 @@ mul-pos-le w i h = let k : 1 * i ≤ w * i = mul-le-mul-right i h in omega arith
 
 -- the ends found in both lists are those of the axis
 module _ (blocks areas : List ℕ) {low high low′ high′ : ℕ}
-    (a : low ≡ leastOf 3 blocks 1 4294967295 (rowCount 3 blocks)) (b : high ≡ greatestOf 3 blocks 2 0 (rowCount 3 blocks))
-    (c : low′ ≡ leastOf 2 areas 0 low (rowCount 2 areas)) (d : high′ ≡ greatestOf 2 areas 1 high (rowCount 2 areas)) where
+    (a : low ≡ leastOf blockWidth blocks 1 4294967295 (blockCount blocks)) (b : high ≡ greatestOf blockWidth blocks 2 0 (blockCount blocks))
+    (c : low′ ≡ leastOf rangeWidth areas 0 low (rangeCount areas)) (d : high′ ≡ greatestOf rangeWidth areas 1 high (rangeCount areas)) where
   ends-first : low′ ≡ firstOf blocks areas
-  ends-first = c ∙ ap (λ (x : ℕ). leastOf 2 areas 0 x (rowCount 2 areas)) a
+  ends-first = c ∙ ap (λ (x : ℕ). leastOf rangeWidth areas 0 x (rangeCount areas)) a
 
   ends-last : high′ ≡ lastOf blocks areas
-  ends-last = d ∙ ap (λ (x : ℕ). greatestOf 2 areas 1 x (rowCount 2 areas)) b
+  ends-last = d ∙ ap (λ (x : ℕ). greatestOf rangeWidth areas 1 x (rangeCount areas)) b
 
   pub axis-whole : (low′ ≡ firstOf blocks areas) × (high′ - low′ ≡ lastOf blocks areas - firstOf blocks areas)
   axis-whole = (ends-first, ap (λ (x : ℕ). high′ - x) ends-first ∙ ap (λ (x : ℕ). x - firstOf blocks areas) ends-last)
@@ -74,16 +75,16 @@ module _ (blocks areas : List ℕ) {low high low′ high′ : ℕ}
 
 -- every block and every area lies between the first point and the last
 module _ (blocks areas : List ℕ) (first more : ℕ) (e : first ≡ firstOf blocks areas) (d : more ≡ lastOf blocks areas - firstOf blocks areas) where
-  pub block-inside : (i : ℕ) → i < rowCount 3 blocks → (first ≤ field 3 blocks i 1) × (field 3 blocks i 2 ≤ first + more)
+  pub block-inside : (i : ℕ) → i < blockCount blocks → (first ≤ blockStart blocks i) × (blockEnd blocks i ≤ first + more)
   block-inside i h = (
-    let a = least-all 3 blocks 1 4294967295 (rowCount 3 blocks) i h in let b = least-from 2 areas 0 (leastOf 3 blocks 1 4294967295 (rowCount 3 blocks)) (rowCount 2 areas) in omega arith,
-    let a = greatest-all 3 blocks 2 0 (rowCount 3 blocks) i h in let b = greatest-from 2 areas 1 (greatestOf 3 blocks 2 0 (rowCount 3 blocks)) (rowCount 2 areas) in omega arith,
+    let a = least-all blockWidth blocks 1 4294967295 (blockCount blocks) i h in let b = least-from rangeWidth areas 0 (leastOf blockWidth blocks 1 4294967295 (blockCount blocks)) (rangeCount areas) in omega arith,
+    let a = greatest-all blockWidth blocks 2 0 (blockCount blocks) i h in let b = greatest-from rangeWidth areas 1 (greatestOf blockWidth blocks 2 0 (blockCount blocks)) (rangeCount areas) in omega arith,
   )
 
-  pub area-inside : (i : ℕ) → i < rowCount 2 areas → (first ≤ field 2 areas i 0) × (field 2 areas i 1 ≤ first + more)
+  pub area-inside : (i : ℕ) → i < rangeCount areas → (first ≤ rangeStart areas i) × (rangeEnd areas i ≤ first + more)
   area-inside i h = (
-    let a = least-all 2 areas 0 (leastOf 3 blocks 1 4294967295 (rowCount 3 blocks)) (rowCount 2 areas) i h in omega arith,
-    let a = greatest-all 2 areas 1 (greatestOf 3 blocks 2 0 (rowCount 3 blocks)) (rowCount 2 areas) i h in omega arith,
+    let a = least-all rangeWidth areas 0 (leastOf blockWidth blocks 1 4294967295 (blockCount blocks)) (rangeCount areas) i h in omega arith,
+    let a = greatest-all rangeWidth areas 1 (greatestOf blockWidth blocks 2 0 (blockCount blocks)) (rangeCount areas) i h in omega arith,
   )
 
 -- ---- how many ranges the items have
@@ -92,7 +93,7 @@ pub ranges-none : (items : List ℕ) → rangesIn items 0 ≡ 0
 unfolding rangesIn
 ranges-none items = refl
 
-pub ranges-more : (items : List ℕ) (n : ℕ) → rangesIn items (n + 1) ≡ rangesIn items n + field 4 items n 3
+pub ranges-more : (items : List ℕ) (n : ℕ) → rangesIn items (n + 1) ≡ rangesIn items n + itemRanges items n
 unfolding rangesIn
 ranges-more items n = ap (rangesIn items) (add-one n)
 

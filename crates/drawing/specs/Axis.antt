@@ -2,7 +2,8 @@
 use Prim.Native.Nat.{ℕ, zero, suc, _+_, _-_, _*_, _≤_, _<_, min, max}
 use mathlib.Core.Path.{_≡_}
 use mathlib.Core.List.{List}
-use Rattle.words.specs.Rows.{rowCount, field}
+use Rattle.words.specs.Rows.{field}
+use Rattle.words.specs.Widths.{blockWidth, blockCount, itemRanges, rangeWidth, rangeCount}
 
 -- the least of a number and of field f in the first n rows of width w; the greatest
 unfoldable pub leastOf : ℕ → List ℕ → ℕ → ℕ → ℕ → ℕ
@@ -15,15 +16,15 @@ greatestOf w l f a (suc n) = max (greatestOf w l f a n) (field w l n f)
 
 -- the first and the last point of blocks (rows of number, start and end) and of areas (rows of start and end)
 abbrev pub firstOf : List ℕ → List ℕ → ℕ
-firstOf blocks areas = leastOf 2 areas 0 (leastOf 3 blocks 1 4294967295 (rowCount 3 blocks)) (rowCount 2 areas)
+firstOf blocks areas = leastOf rangeWidth areas 0 (leastOf blockWidth blocks 1 4294967295 (blockCount blocks)) (rangeCount areas)
 
 abbrev pub lastOf : List ℕ → List ℕ → ℕ
-lastOf blocks areas = greatestOf 2 areas 1 (greatestOf 3 blocks 2 0 (rowCount 3 blocks)) (rowCount 2 areas)
+lastOf blocks areas = greatestOf rangeWidth areas 1 (greatestOf blockWidth blocks 2 0 (blockCount blocks)) (rangeCount areas)
 
 -- how many ranges the first n items have, in rows of cell, present, first and count
 unfoldable pub rangesIn : List ℕ → ℕ → ℕ
 rangesIn items zero = 0
-rangesIn items (suc n) = rangesIn items n + field 4 items n 3
+rangesIn items (suc n) = rangesIn items n + itemRanges items n
 
 -- where the axis begins, and its width
 abbrev pub left : ℕ

@@ -3,8 +3,12 @@
 ghost use mathlib.Core.Path.{_≡_};
 ghost use Prim.Native.Nat.{_+_, _-_, _<_, min, max};
 ghost use Rattle.words.specs.Rows.{rowCount};
+ghost use Rattle.words.specs.Widths.{itemRowCount};
 ghost use Rattle.drawing.specs.Axis.{leastOf, greatestOf, firstOf, lastOf, pointsBefore, Placed, Barred, rangesIn};
 ghost use Rattle.drawing.specs.Rows.{topOf, rowHeight, heightOf, Fits, Digits, hueOf};
+use words::widths::block;
+use words::widths::item;
+use words::widths::range;
 
 // The points of the axis: the first, and how many more there are.
 pub struct Axis {
@@ -67,8 +71,8 @@ pub fn axis_of(blocks: &[u32], areas: &[u32]) -> Axis
         low: 0xffff_ffff,
         high: 0,
     };
-    let line = widened(none, blocks, 3, 1, 2);
-    let all = widened(line, areas, 2, 0, 1);
+    let line = widened(none, blocks, block::WIDTH, block::START, block::END);
+    let all = widened(line, areas, range::WIDTH, 0, range::END);
     let first = all.low;
     let last = all.high;
     if last < first {
@@ -82,13 +86,13 @@ pub fn axis_of(blocks: &[u32], areas: &[u32]) -> Axis
 
 // How many ranges of an area list the items have, in rows of cell, present, first and count; no more than there is room for.
 pub fn ranges(items: &[u32], room: usize) -> usize
-    ensures { λ r. ⌜ r ≡ min room (rangesIn (now (items .entry)) (rowCount 4 (now (items .entry)))) ⌝ }
+    ensures { λ r. ⌜ r ≡ min room (rangesIn (now (items .entry)) (itemRowCount (now (items .entry)))) ⌝ }
 {
-    let n = items.len() / 4;
+    let n = items.len() / item::WIDTH;
     let mut k = 0;
     let mut i = 0;
     while i < n {
-        let more = items[4 * i + 3] as usize;
+        let more = items[item::WIDTH * i + item::RANGES] as usize;
         if room - k < more {
             k = room;
             i += 1;

@@ -26,6 +26,7 @@ use Rattle.job_codes.specs.Job.{measuredVerdict, codedVerdict, itemsTold, areas
 use Rattle.job_space.specs.Rows.{Rows}
 use Rattle.job_space.specs.declared.Terms.{Terms}
 use Rattle.job_checks.specs.Job.{jobOf}
+use Rattle.words.specs.Widths.{rangeCount}
 
 -- a number below 2 to the 32 is no refusal's
 pub no-refusal : (v : Verdict) (p : Plan) → codeOf (tallyOf (unless v p)) < 2 ^ 32 → v ≡ Fine
@@ -48,7 +49,7 @@ module _ {R : Rows} {t : Terms} {cells items areas counts work cells′ items′
   fine = no-refusal verdict plan (omega (arith, E .answer))
 
   measured : measuredVerdict R t (length cells) (length items) (length areas) (length counts) (length work) ≡ Fine
-  measured = first-left _ (itemsVerdict (jobOf R) (length areas / 2)) fine
+  measured = first-left _ (itemsVerdict (jobOf R) (rangeCount areas)) fine
 
   -- neither verdict refuses
   same-lent : measuredVerdict R t (length cells) (length items) (length areas) (length counts) (length work) ≡ lent
@@ -58,7 +59,7 @@ module _ {R : Rows} {t : Terms} {cells items areas counts work cells′ items′
   pub shared : (c p d : ℕ) → answered (Planned c p d) ≡ tallyOf (unless Fine plan)
       → SharedAs R t cells items areas work (Planned c p d) cells′ items′ areas′ work′
   shared c p d e =
-      let q = ap (λ (x : Verdict). first x (itemsVerdict (jobOf R) (length areas / 2))) same-lent in
+      let q = ap (λ (x : Verdict). first x (itemsVerdict (jobOf R) (rangeCount areas))) same-lent in
       record {
         lists = record {
           answer = e ∙ ap (λ (x : Verdict). tallyOf (unless x plan)) (sym fine ∙ q);

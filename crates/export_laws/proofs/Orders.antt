@@ -10,7 +10,8 @@ use Rattle.refusals.specs.Verdicts.{numberOf, first, inOrder, check}
 use Rattle.refusals.specs.Orders.{Ordered}
 use Rattle.refusals.proofs.Laws.{first-assoc}
 use Rattle.refusals.proofs.Orders.{check-gives, scan-gives, order-two, order-append, giving-append}
-use Rattle.words.specs.Rows.{rowCount, tabulate}
+use Rattle.words.specs.Rows.{tabulate}
+use Rattle.words.specs.Widths.{rangeWidth, wantCount}
 use Rattle.areas.specs.Job.{Job, itemCount, itemArea, rangesOf, itemsVerdict}
 use Rattle.job_checks.specs.Job.{jobOf}
 use Rattle.job.specs.Entry.{lentChecks, lentVerdict}
@@ -31,19 +32,19 @@ module _ (R : Rows) (t : Terms) (cells items areas counts work : ℕ) where
   lent = lentChecks R t cells items areas work
 
   abbrev rest : List Verdict
-  rest = check Space (fewCounts counts) ∷ itemsVerdict J (areas / 2) ∷ []
+  rest = check Space (fewCounts counts) ∷ itemsVerdict J (areas / rangeWidth) ∷ []
 
   pub export-job-verdict : codedVerdict R t cells items areas counts work ≡ inOrder (codedChecks R t cells items areas counts work)
   unfolding lentVerdict
   export-job-verdict =
-      first-assoc _ (check Space (fewCounts counts)) (itemsVerdict J (areas / 2))
-      ∙ ap (first (inOrder lent)) (order-two (check Space (fewCounts counts)) (itemsVerdict J (areas / 2))) ∙ sym (order-append lent rest)
+      first-assoc _ (check Space (fewCounts counts)) (itemsVerdict J (areas / rangeWidth))
+      ∙ ap (first (inOrder lent)) (order-two (check Space (fewCounts counts)) (itemsVerdict J (areas / rangeWidth))) ∙ sym (order-append lent rest)
 
   pub export-job-ordered : Ordered numberOf (lentGive R t cells items areas work ++ (Space ∷ ListWord ∷ [])) (codedChecks R t cells items areas counts work)
   export-job-ordered = record {
     gives =
         giving-append (lentGive R t cells items areas work) (Space ∷ ListWord ∷ []) lent rest (lent-give R t cells items areas work)
-        (check-gives Space (fewCounts counts), (check-gives ListWord (ltb (areas / 2) (rangesOf (tabulate (itemCount J) (itemArea J)))), tt));
+        (check-gives Space (fewCounts counts), (check-gives ListWord (ltb (areas / rangeWidth) (rangesOf (tabulate (itemCount J) (itemArea J)))), tt));
     rises = refl;
   }
 
@@ -54,7 +55,7 @@ module _ (wants areas : List ℕ) (locals budget cells items counts work : ℕ) 
   export-fit-ordered = record {
     gives = (
       check-gives Count (badCount wants areas locals budget cells items),
-      (check-gives Space (badSpace wants areas cells items work || fewCounts counts), (scan-gives Want (badWant (areasOf areas) wants) (rowCount 5 wants), tt)),
+      (check-gives Space (badSpace wants areas cells items work || fewCounts counts), (scan-gives Want (badWant (areasOf areas) wants) (wantCount wants), tt)),
     );
     rises = refl;
   }

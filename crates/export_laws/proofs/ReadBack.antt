@@ -11,7 +11,8 @@ use Rattle.refusals.specs.declared.Verdict.{Verdict}
 use Rattle.refusals.specs.declared.Refusal.the-variants.{Space}
 use Rattle.refusals.specs.Verdicts.{inOrder}
 use Rattle.refusals.specs.Outcomes.{given, unless}
-use Rattle.words.specs.Rows.{rowCount, tabulate}
+use Rattle.words.specs.Rows.{tabulate}
+use Rattle.words.specs.Widths.{localCount}
 use Rattle.ranges.specs.declared.Range.{Range}
 use Rattle.ranges.specs.Merged.{merged, joined, union, clashes}
 use Rattle.ranges.specs.Forms.{columns}
@@ -184,17 +185,17 @@ module _ {blocks edges : List ℕ} {points r : ℕ} where
 -- ---- carrying, moves and slots
 
 module _ {points v r : ℕ} {blocks insts operands crossings locals addresses ends : List ℕ} where
-  pub reach-read : {kinds work kinds′ work′ : List ℕ} → ReachCoded points v blocks insts operands crossings locals addresses ends kinds work r kinds′ work′ → Read Small (carryVerdict points v blocks insts operands crossings locals addresses ends (length kinds) (rowCount 2 locals) (length work)) r
+  pub reach-read : {kinds work kinds′ work′ : List ℕ} → ReachCoded points v blocks insts operands crossings locals addresses ends kinds work r kinds′ work′ → Read Small (carryVerdict points v blocks insts operands crossings locals addresses ends (length kinds) (localCount locals) (length work)) r
   reach-read {kinds} {work} E =
-      read-count _ (carry-fits points v blocks insts operands crossings locals addresses ends (length kinds) (rowCount 2 locals) (length work)) (rowCount 2 locals) (E .answer ∙ ap countCode (E .holds .outcome))
-      (λ e. few-locals points v blocks insts operands crossings locals addresses ends (length kinds) (rowCount 2 locals) (length work) e)
+      read-count _ (carry-fits points v blocks insts operands crossings locals addresses ends (length kinds) (localCount locals) (length work)) (localCount locals) (E .answer ∙ ap countCode (E .holds .outcome))
+      (λ e. few-locals points v blocks insts operands crossings locals addresses ends (length kinds) (localCount locals) (length work) e)
 
   pub carried-read : {l : ℕ} {registers work registers′ work′ : List ℕ} → CarriedCoded points v blocks insts operands crossings locals addresses ends l registers work r registers′ work′
       → Read SmallOrAbsent (carryVerdict points v blocks insts operands crossings locals addresses ends (length registers) (mostOf v insts) (length work)) r
   carried-read {l} {registers} {work} E =
-      read-option _ (carry-fits points v blocks insts operands crossings locals addresses ends (length registers) (mostOf v insts) (length work)) (countOf (codeFor v insts operands crossings addresses ends) (rowCount 2 locals) l)
+      read-option _ (carry-fits points v blocks insts operands crossings locals addresses ends (length registers) (mostOf v insts) (length work)) (countOf (codeFor v insts operands crossings addresses ends) (localCount locals) l)
       (E .answer ∙ ap optionCode (E .holds .outcome))
-      (λ c e f. carried-few (codeFor v insts operands crossings addresses ends) (rowCount 2 locals) l c (few-registers points v blocks insts operands crossings locals addresses ends (length registers) (mostOf v insts) (length work) e) f)
+      (λ c e f. carried-few (codeFor v insts operands crossings addresses ends) (localCount locals) l c (few-registers points v blocks insts operands crossings locals addresses ends (length registers) (mostOf v insts) (length work) e) f)
 
 pub moved-read : {points v r : ℕ} {blocks insts operands moves : List ℕ} {slot : ℕ} {out work out′ work′ : List ℕ} → MovedCoded points v blocks insts operands moves slot out work r out′ work′
     → Read Small (movedVerdict points v blocks insts operands moves (length out) (length work)) r

@@ -12,7 +12,7 @@ use Rattle.refusals.specs.Verdicts.{inOrder, check}
 use Rattle.refusals.specs.Outcomes.{Outcome, unless, after, numbered}
 use Rattle.refusals.proofs.Laws.{first-left, first-right, check-told}
 use Rattle.words.proofs.Bools.{or-neither}
-use Rattle.words.specs.Rows.{rowCount, field}
+use Rattle.words.specs.Widths.{localCount, cellWidth, itemWidth, itemCell, rangeWidth, rangeCount, wantCount, slotCount}
 use Rattle.fitting.specs.Wants.{orderOf}
 use Rattle.fitting.specs.Lowest.{PutLowest}
 use Rattle.fitting.specs.Queries.{areasOf, answered, apart}
@@ -45,22 +45,22 @@ use Rattle.job_checks.specs.Job.{jobOf}
 
 module _ {R : Rows} {t : Terms} {cells items areas counts work cells′ items′ areas′ counts′ work′ : List ℕ} {r : ℕ}
     (E : JobCoded R t cells items areas counts work r cells′ items′ areas′ counts′ work′) (h : r < 2 ^ 32) where
-  pub export-job-seen : PlanSeen (answered (jobWants (jobOf R)) (rowCount 2 (R .locals)) (jobPlan (jobOf R) (t .budget))) (rowCount 2 (R .locals))
-      (take (2 * length (jobPlan (jobOf R) (t .budget) .cells)) cells′) (take (4 * (rowCount 2 (R .locals) + length (R .slots))) items′) areas′
+  pub export-job-seen : PlanSeen (answered (jobWants (jobOf R)) (localCount (R .locals)) (jobPlan (jobOf R) (t .budget))) (localCount (R .locals))
+      (take (cellWidth * length (jobPlan (jobOf R) (t .budget) .cells)) cells′) (take (itemWidth * (localCount (R .locals) + slotCount (R .slots))) items′) areas′
   export-job-seen = job-seen (shared E h _ _ _ refl)
 
-  pub export-job-lowest : PutLowest (jobWants (jobOf R)) (t .budget) (orderOf (jobWants (jobOf R))) (λ i. field 4 items′ i 0)
+  pub export-job-lowest : PutLowest (jobWants (jobOf R)) (t .budget) (orderOf (jobWants (jobOf R))) (λ i. itemCell items′ i)
   export-job-lowest = job-lowest (shared E h _ _ _ refl)
 
   -- `cap` of its cells is not refused either, and the queries then see the plan with its alignments lowered
-  pub export-job-cap : capVerdict (take (2 * length (jobPlan (jobOf R) (t .budget) .cells)) cells′) (length (jobPlan (jobOf R) (t .budget) .cells)) ≡ Fine
+  pub export-job-cap : capVerdict (take (cellWidth * length (jobPlan (jobOf R) (t .budget) .cells)) cells′) (length (jobPlan (jobOf R) (t .budget) .cells)) ≡ Fine
   export-job-cap = cap-passes (job-held (shared E h _ _ _ refl))
 
-  pub export-job-capped : (most : ℕ) → PlanSeen (cappedPlan most (answered (jobWants (jobOf R)) (rowCount 2 (R .locals)) (jobPlan (jobOf R) (t .budget)))) (rowCount 2 (R .locals))
-      (capRows (take (2 * length (jobPlan (jobOf R) (t .budget) .cells)) cells′) (length (jobPlan (jobOf R) (t .budget) .cells)) most) (take (4 * (rowCount 2 (R .locals) + length (R .slots))) items′) areas′
+  pub export-job-capped : (most : ℕ) → PlanSeen (cappedPlan most (answered (jobWants (jobOf R)) (localCount (R .locals)) (jobPlan (jobOf R) (t .budget)))) (localCount (R .locals))
+      (capRows (take (cellWidth * length (jobPlan (jobOf R) (t .budget) .cells)) cells′) (length (jobPlan (jobOf R) (t .budget) .cells)) most) (take (itemWidth * (localCount (R .locals) + slotCount (R .slots))) items′) areas′
   export-job-capped most =
-      capped-seen (job-held (shared E h _ _ _ refl)) most (answered (jobWants (jobOf R)) (rowCount 2 (R .locals)) (jobPlan (jobOf R) (t .budget)))
-      (answered-is (jobWants (jobOf R)) (jobPlan (jobOf R) (t .budget)) (rowCount 2 (R .locals)) (itemCount (jobOf R)) (length-tabulate (itemCount (jobOf R)) (wantOf (jobOf R))))
+      capped-seen (job-held (shared E h _ _ _ refl)) most (answered (jobWants (jobOf R)) (localCount (R .locals)) (jobPlan (jobOf R) (t .budget)))
+      (answered-is (jobWants (jobOf R)) (jobPlan (jobOf R) (t .budget)) (localCount (R .locals)) (itemCount (jobOf R)) (length-tabulate (itemCount (jobOf R)) (wantOf (jobOf R))))
 
 -- ---- fitting alone
 
@@ -99,20 +99,20 @@ module _ (locals budget : ℕ) {wants areas cells items counts work cells′ ite
     in-work = E .in-work ∙ ap (λ (o : Outcome Plan). zeroed o (spaceOf wants areas) work) same;
   }
 
-  pub export-fit-seen : PlanSeen (answered (wantsOf (areasOf areas) wants) locals (planFor wants areas budget)) locals (take (2 * length (planFor wants areas budget .cells)) cells′) (take (4 * rowCount 5 wants) items′) areas
+  pub export-fit-seen : PlanSeen (answered (wantsOf (areasOf areas) wants) locals (planFor wants areas budget)) locals (take (cellWidth * length (planFor wants areas budget .cells)) cells′) (take (itemWidth * wantCount wants) items′) areas
   export-fit-seen = fit-seen locals budget (fitted _ _ _ refl)
 
-  pub export-fit-lowest : PutLowest (wantsOf (areasOf areas) wants) budget (orderOf (wantsOf (areasOf areas) wants)) (λ i. field 4 items′ i 0)
+  pub export-fit-lowest : PutLowest (wantsOf (areasOf areas) wants) budget (orderOf (wantsOf (areasOf areas) wants)) (λ i. itemCell items′ i)
   export-fit-lowest = fit-lowest locals budget (fitted _ _ _ refl)
 
-  pub export-fit-cap : capVerdict (take (2 * length (planFor wants areas budget .cells)) cells′) (length (planFor wants areas budget .cells)) ≡ Fine
+  pub export-fit-cap : capVerdict (take (cellWidth * length (planFor wants areas budget .cells)) cells′) (length (planFor wants areas budget .cells)) ≡ Fine
   export-fit-cap = cap-passes (fit-held locals budget (fitted _ _ _ refl))
 
   pub export-fit-capped : (most : ℕ) → PlanSeen (cappedPlan most (answered (wantsOf (areasOf areas) wants) locals (planFor wants areas budget))) locals
-      (capRows (take (2 * length (planFor wants areas budget .cells)) cells′) (length (planFor wants areas budget .cells)) most) (take (4 * rowCount 5 wants) items′) areas
+      (capRows (take (cellWidth * length (planFor wants areas budget .cells)) cells′) (length (planFor wants areas budget .cells)) most) (take (itemWidth * wantCount wants) items′) areas
   export-fit-capped most =
       capped-seen (fit-held locals budget (fitted _ _ _ refl)) most (answered (wantsOf (areasOf areas) wants) locals (planFor wants areas budget))
-      (answered-is (wantsOf (areasOf areas) wants) (planFor wants areas budget) locals (rowCount 5 wants) (wants-long wants areas locals budget))
+      (answered-is (wantsOf (areasOf areas) wants) (planFor wants areas budget) locals (wantCount wants) (wants-long wants areas locals budget))
 
 -- ---- `apart`
 
@@ -125,14 +125,14 @@ module _ (locals slots : List ℕ) {cells items cells′ items′ : List ℕ} {r
   done : ApartBy (apartVerdict locals slots (length cells) (length items)) (apartOf locals slots (length cells) (length items)) cells items Fine cells′ items′
   done = record { answer = ap numbered (sym (no-code (apartVerdict locals slots (length cells) (length items)) (omega (arith, E .answer)))); in-cells = E .in-cells; in-items = E .in-items }
 
-  pub export-apart-seen : (areas : List ℕ) → length areas % 2 ≡ 0 → rowCount 2 areas ≤ 65536
-      → PlanSeen (apart (localsOf locals) (widthsOf slots)) (rowCount 2 locals) (take (2 * (rowCount 2 locals + length slots)) cells′) (take (4 * (rowCount 2 locals + length slots)) items′) areas
+  pub export-apart-seen : (areas : List ℕ) → length areas % rangeWidth ≡ 0 → rangeCount areas ≤ 65536
+      → PlanSeen (apart (localsOf locals) (widthsOf slots)) (localCount locals) (take (cellWidth * (localCount locals + slotCount slots)) cells′) (take (itemWidth * (localCount locals + slotCount slots)) items′) areas
   export-apart-seen areas w s = apart-seen locals slots done areas w s
 
-  pub export-apart-cap : capVerdict (take (2 * (rowCount 2 locals + length slots)) cells′) (rowCount 2 locals + length slots) ≡ Fine
+  pub export-apart-cap : capVerdict (take (cellWidth * (localCount locals + slotCount slots)) cells′) (localCount locals + slotCount slots) ≡ Fine
   export-apart-cap = cap-passes (apart-held locals slots done [] refl (omega arith))
 
-  pub export-apart-capped : (most : ℕ) (areas : List ℕ) → length areas % 2 ≡ 0 → rowCount 2 areas ≤ 65536
-      → PlanSeen (cappedPlan most (apart (localsOf locals) (widthsOf slots))) (rowCount 2 locals)
-      (capRows (take (2 * (rowCount 2 locals + length slots)) cells′) (rowCount 2 locals + length slots) most) (take (4 * (rowCount 2 locals + length slots)) items′) areas
+  pub export-apart-capped : (most : ℕ) (areas : List ℕ) → length areas % rangeWidth ≡ 0 → rangeCount areas ≤ 65536
+      → PlanSeen (cappedPlan most (apart (localsOf locals) (widthsOf slots))) (localCount locals)
+      (capRows (take (cellWidth * (localCount locals + slotCount slots)) cells′) (localCount locals + slotCount slots) most) (take (itemWidth * (localCount locals + slotCount slots)) items′) areas
   export-apart-capped most areas w s = capped-seen (apart-held locals slots done areas w s) most (apart (localsOf locals) (widthsOf slots)) (plan-is locals slots)

@@ -8,8 +8,8 @@ use mathlib.Core.List.{List, [], _∷_}
 use lib.ListN.{length, getD}
 use lib.Dec.{eqb}
 use borrow.Author.Tests.{eq-eqb, ne-eqb}
-use Rattle.words.specs.Rows.{field}
 use Rattle.words.specs.Regions.{Region}
+use Rattle.words.specs.Widths.{wantWidth, wantAlign, wantPresent, wantFirst, wantRanges}
 use Rattle.fit_tables.specs.WantTables.{itemRow, itemWord, areaWordAt, itemWordAt, wantWordAt, Loaded}
 
 -- ---- words
@@ -23,8 +23,8 @@ word-some present first count d = ap (λ (t : Bool). cond t 0 (first * 2 ^ 32 + 
 pub area-word : (s : List ℕ) (i : ℕ) → getD s (2 * i) 0 * 2 ^ 32 + getD s (2 * i + 1) 0 ≡ areaWordAt s i
 area-word s i = ap (λ (k : ℕ). getD s k 0 * 2 ^ 32 + getD s (2 * i + 1) 0) (sym (add-zero (2 * i)))
 
-pub want-word : (s : List ℕ) (i : ℕ) → getD s (5 * i) 0 * 2 ^ 32 + getD s (5 * i + 1) 0 ≡ wantWordAt s i
-want-word s i = ap (λ (k : ℕ). getD s k 0 * 2 ^ 32 + getD s (5 * i + 1) 0) (sym (add-zero (5 * i)))
+pub want-word : (s : List ℕ) (i : ℕ) → getD s (wantWidth * i) 0 * 2 ^ 32 + wantAlign s i ≡ wantWordAt s i
+want-word s i = ap (λ (k : ℕ). getD s k 0 * 2 ^ 32 + wantAlign s i) (sym (add-zero (5 * i)))
 
 -- ---- the three passes
 
@@ -53,5 +53,5 @@ row-absent c p f k e = ap (λ (t : Bool). cond t (c ∷ 0 ∷ 0 ∷ 0 ∷ []) (c
 pub row-present : (c p f k : ℕ) → (p ≡ 0 → ⊥) → itemRow c p f k ≡ c ∷ 1 ∷ f ∷ k ∷ []
 row-present c p f k d = ap (λ (t : Bool). cond t (c ∷ 0 ∷ 0 ∷ 0 ∷ []) (c ∷ 1 ∷ f ∷ k ∷ [])) (ne-eqb p 0 d)
 
-pub item-row-wide : (w wants : List ℕ) (at i : ℕ) → length (itemRow (getD w (at + i) 0) (field 5 wants i 2) (field 5 wants i 3) (field 5 wants i 4)) ≡ 4
-item-row-wide w wants at i = item-wide (getD w (at + i) 0) (field 5 wants i 2) (field 5 wants i 3) (field 5 wants i 4)
+pub item-row-wide : (w wants : List ℕ) (at i : ℕ) → length (itemRow (getD w (at + i) 0) (wantPresent wants i) (wantFirst wants i) (wantRanges wants i)) ≡ 4
+item-row-wide w wants at i = item-wide (getD w (at + i) 0) (wantPresent wants i) (wantFirst wants i) (wantRanges wants i)

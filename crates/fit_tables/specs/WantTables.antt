@@ -6,6 +6,7 @@ use mathlib.Core.List.{List, [], _∷_}
 use lib.ListN.{length, getD}
 use lib.Dec.{eqb}
 use Rattle.words.specs.Rows.{field, tabulate, flat}
+use Rattle.words.specs.Widths.{wantSize, wantAlign, wantPresent, wantFirst, wantRanges}
 use Rattle.fit_tables.specs.Keys.{sizeOf, alignOf}
 
 -- items 4 numbers: cell, present, first, count; "an item without area has 0, 0, 0 there"
@@ -21,10 +22,10 @@ abbrev pub areaWordAt : List ℕ → ℕ → ℕ
 areaWordAt s i = field 2 s i 0 * 2 ^ 32 + field 2 s i 1
 
 abbrev pub itemWordAt : List ℕ → ℕ → ℕ
-itemWordAt s i = itemWord (field 5 s i 2) (field 5 s i 3) (field 5 s i 4)
+itemWordAt s i = itemWord (wantPresent s i) (wantFirst s i) (wantRanges s i)
 
 abbrev pub wantWordAt : List ℕ → ℕ → ℕ
-wantWordAt s i = field 5 s i 0 * 2 ^ 32 + field 5 s i 1
+wantWordAt s i = wantSize s i * 2 ^ 32 + wantAlign s i
 
 -- the tables as they are loaded: nothing behind them changes
 pub record Loaded (w₀ w wants areas : List ℕ) (n ranges : ℕ) : Type 0 where
@@ -39,4 +40,4 @@ abbrev pub cellRowsIn : List ℕ → ℕ → ℕ → List ℕ
 cellRowsIn w at n = flat (tabulate n (λ i. sizeOf (getD w (at + i) 0) ∷ alignOf (getD w (at + i) 0) ∷ []))
 
 abbrev pub itemRowsIn : List ℕ → List ℕ → ℕ → ℕ → List ℕ
-itemRowsIn w wants at n = flat (tabulate n (λ i. itemRow (getD w (at + i) 0) (field 5 wants i 2) (field 5 wants i 3) (field 5 wants i 4)))
+itemRowsIn w wants at n = flat (tabulate n (λ i. itemRow (getD w (at + i) 0) (wantPresent wants i) (wantFirst wants i) (wantRanges wants i)))

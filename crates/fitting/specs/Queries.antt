@@ -6,6 +6,7 @@ use mathlib.Core.List.{List, [], _∷_, _++_, map}
 use lib.ListN.{length, getElem?, take, drop}
 use lib.Dec.{eqb, ltb}
 use Rattle.words.specs.Rows.{records, tabulate}
+use Rattle.words.specs.Widths.{cellWidth, itemWidth, rangeWidth}
 use Rattle.ranges.specs.declared.Range.{Range}
 use Rattle.ranges.specs.Points.{range}
 use Rattle.fitting.specs.Wants.{Want, wantAt}
@@ -25,13 +26,13 @@ abbrev pub partOf : List Range → ℕ → ℕ → ℕ → Option (List Range)
 partOf areas present first count = cond (eqb present 0) none (some (take count (drop first areas)))
 
 abbrev pub areasOf : List ℕ → List Range
-areasOf s = records 2 (λ f. range (f 0) (f 1)) s
+areasOf s = records rangeWidth (λ f. range (f 0) (f 1)) s
 
 abbrev pub roomsOf : List ℕ → List Room
-roomsOf s = records 2 (λ f. record { size = f 0; align = f 1 }) s
+roomsOf s = records cellWidth (λ f. record { size = f 0; align = f 1 }) s
 
 abbrev pub itemsOf : List Range → List ℕ → List Item
-itemsOf areas s = records 4 (λ f. record { cell = f 0; area = partOf areas (f 1) (f 2) (f 3) }) s
+itemsOf areas s = records itemWidth (λ f. record { cell = f 0; area = partOf areas (f 1) (f 2) (f 3) }) s
 
 -- a plan as the queries see it: the items are the locals, then the slots
 pub record Slots : Type 0 where

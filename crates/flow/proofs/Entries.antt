@@ -17,8 +17,8 @@ use Rattle.refusals.specs.Verdicts.{numberOf, first, inOrder}
 use Rattle.refusals.specs.Orders.{Ordered}
 use Rattle.refusals.proofs.Laws.{first-fine, first-bad, first-left, first-right, bad-fine, check-last}
 use Rattle.refusals.proofs.Orders.{check-gives, order-append, giving-append}
-use Rattle.words.specs.Rows.{rowCount}
 use Rattle.words.specs.Regions.{Region, cleared}
+use Rattle.words.specs.Widths.{blockCount, edgeCount}
 use Rattle.words.proofs.RegionLaws.{row-before}
 use Rattle.bits.specs.Bits.{bit, bitOf}
 use Rattle.bits.proofs.WordLaws.{rows-by-bits}
@@ -45,51 +45,51 @@ use Rattle.flow.proofs.Ways.{flows-as, rows-as}
 
 module _ (blocks edges : List ℕ) (points lent words answer work : ℕ) where
   abbrev space : Verdict
-  space = spaceVerdict answer (rowCount 3 blocks * words) work (spaceOf (rowCount 3 blocks) (rowCount 2 edges) (rowCount 3 blocks * words))
+  space = spaceVerdict answer (blockCount blocks * words) work (spaceOf (blockCount blocks) (edgeCount edges) (blockCount blocks * words))
 
   -- "lowest number wins": 1, 2, 3, then 7
   pub flowed-ordered : Ordered numberOf (Count ∷ Count ∷ Line ∷ EdgeWord ∷ Space ∷ []) (flowedChecks blocks edges points lent words answer work)
   flowed-ordered = record {
     gives = (
-      check-gives Count (not (eqb lent (rowCount 3 blocks * words))),
+      check-gives Count (not (eqb lent (blockCount blocks * words))),
       giving-append (Count ∷ Line ∷ EdgeWord ∷ []) (Space ∷ []) (graphChecks blocks edges points) (space ∷ [])
-          (graph-gives blocks edges points) (check-gives Space (ltb answer (rowCount 3 blocks * words) || ltb work (spaceOf (rowCount 3 blocks) (rowCount 2 edges) (rowCount 3 blocks * words))), tt),
+          (graph-gives blocks edges points) (check-gives Space (ltb answer (blockCount blocks * words) || ltb work (spaceOf (blockCount blocks) (edgeCount edges) (blockCount blocks * words))), tt),
     );
     rises = refl;
   }
 
   -- the rows' check, the graph's, then the space
-  verdict-as : verdictOf blocks edges points lent words answer work ≡ first (rowsVerdict lent (rowCount 3 blocks) words) (first (graphVerdict blocks edges points) space)
+  verdict-as : verdictOf blocks edges points lent words answer work ≡ first (rowsVerdict lent (blockCount blocks) words) (first (graphVerdict blocks edges points) space)
   unfolding verdictOf graphVerdict inOrder
   verdict-as =
-      ap (first (rowsVerdict lent (rowCount 3 blocks) words))
+      ap (first (rowsVerdict lent (blockCount blocks) words))
       (order-append (graphChecks blocks edges points) (space ∷ []) ∙ ap (first (inOrder (graphChecks blocks edges points))) (check-last space))
 
-  pub rows-refused : (r : Refusal) (i : ℕ) → rowsVerdict lent (rowCount 3 blocks) words ≡ Bad r i → Bad r i ≡ verdictOf blocks edges points lent words answer work
+  pub rows-refused : (r : Refusal) (i : ℕ) → rowsVerdict lent (blockCount blocks) words ≡ Bad r i → Bad r i ≡ verdictOf blocks edges points lent words answer work
   rows-refused r i e = sym (verdict-as ∙ first-bad _ _ r i e)
 
-  pub graph-refused : (r : Refusal) (i : ℕ) → rowsVerdict lent (rowCount 3 blocks) words ≡ Fine → graphVerdict blocks edges points ≡ Bad r i → Bad r i ≡ verdictOf blocks edges points lent words answer work
+  pub graph-refused : (r : Refusal) (i : ℕ) → rowsVerdict lent (blockCount blocks) words ≡ Fine → graphVerdict blocks edges points ≡ Bad r i → Bad r i ≡ verdictOf blocks edges points lent words answer work
   graph-refused r i f e = sym (verdict-as ∙ first-fine _ _ f ∙ first-bad _ _ r i e)
 
-  pub space-last : (v : Verdict) → rowsVerdict lent (rowCount 3 blocks) words ≡ Fine → graphVerdict blocks edges points ≡ Fine
-      → v ≡ spaceVerdict answer lent work (spaceOf (rowCount 3 blocks) (rowCount 2 edges) lent) → v ≡ verdictOf blocks edges points lent words answer work
+  pub space-last : (v : Verdict) → rowsVerdict lent (blockCount blocks) words ≡ Fine → graphVerdict blocks edges points ≡ Fine
+      → v ≡ spaceVerdict answer lent work (spaceOf (blockCount blocks) (edgeCount edges) lent) → v ≡ verdictOf blocks edges points lent words answer work
   space-last v f g e = e
-      ∙ ap (λ (y : ℕ). spaceVerdict answer y work (spaceOf (rowCount 3 blocks) (rowCount 2 edges) y)) (rows-told lent (rowCount 3 blocks) words f)
+      ∙ ap (λ (y : ℕ). spaceVerdict answer y work (spaceOf (blockCount blocks) (edgeCount edges) y)) (rows-told lent (blockCount blocks) words f)
       ∙ sym (verdict-as ∙ first-fine _ _ f ∙ first-fine _ _ g)
 
   -- what is known of an input that is not refused
   pub record Known : Type 0 where
-    pub rows : lent ≡ rowCount 3 blocks * words
+    pub rows : lent ≡ blockCount blocks * words
     pub graph : Passed blocks edges points
     pub answer-fits : lent ≤ answer
-    pub work-fits : spaceOf (rowCount 3 blocks) (rowCount 2 edges) lent ≤ work
+    pub work-fits : spaceOf (blockCount blocks) (edgeCount edges) lent ≤ work
 
   pub known : verdictOf blocks edges points lent words answer work ≡ Fine → Known
   known e =
       let f = sym verdict-as ∙ e in
-      let a = rows-told lent (rowCount 3 blocks) words (first-left (rowsVerdict lent (rowCount 3 blocks) words) _ f) in
-      let b = first-right (rowsVerdict lent (rowCount 3 blocks) words) _ f in
-      let s = space-told answer (rowCount 3 blocks * words) work (rowCount 3 blocks) (rowCount 2 edges) (rowCount 3 blocks * words) (first-right (graphVerdict blocks edges points) _ b) in
+      let a = rows-told lent (blockCount blocks) words (first-left (rowsVerdict lent (blockCount blocks) words) _ f) in
+      let b = first-right (rowsVerdict lent (blockCount blocks) words) _ f in
+      let s = space-told answer (blockCount blocks * words) work (blockCount blocks) (edgeCount edges) (blockCount blocks * words) (first-right (graphVerdict blocks edges points) _ b) in
       record { rows = a; graph = passed blocks edges points (first-left (graphVerdict blocks edges points) _ b); answer-fits = omega (arith, s .0); work-fits = omega (arith, s .1) }
 
 pub refused-is : (over : Over) (blocks edges : List ℕ) (points : ℕ) (touched : List ℕ) (words : ℕ) (out work : List ℕ) (r : Refusal) (i : ℕ)
@@ -106,7 +106,7 @@ refused-is over blocks edges points touched words out work r i e = record {
 
 -- where `solve` has the rows it was lent
 abbrev lentAt : List ℕ → List ℕ → ℕ
-lentAt blocks edges = baseOf blocks edges + 6 * (length blocks / 3)
+lentAt blocks edges = baseOf blocks edges + 6 * (blockCount blocks)
 
 -- what is computed from n blocks, e edges and t words that were lent fits, in a work space of w words
 pub record Sums (n e t : ℕ) : Type 0 where
@@ -138,22 +138,22 @@ sums n e t w s h r =
     }
 
 module _ (over : Over) (blocks edges touched : List ℕ) (words : ℕ) (w₀ w₁ : List ℕ)
-    (some : 1 ≤ length blocks / 3) (lent : length touched ≡ length blocks / 3 * words)
-    (fits : 8 * (length blocks / 3 + length edges / 2 + length touched) ≤ length w₀)
-    (N : Neighbours (wayOf over (edgesIn blocks edges)) (length blocks / 3) (length edges / 2) 0 w₀ w₁) where
+    (some : 1 ≤ blockCount blocks) (lent : length touched ≡ blockCount blocks * words)
+    (fits : 8 * (blockCount blocks + edgeCount edges + length touched) ≤ length w₀)
+    (N : Neighbours (wayOf over (edgesIn blocks edges)) (blockCount blocks) (edgeCount edges) 0 w₀ w₁) where
   abbrev es : List Edge
   es = wayOf over (edgesIn blocks edges)
 
   abbrev f : Flow
-  f = record { n = length blocks / 3; at = length edges / 2 + length edges / 2; base = baseOf blocks edges; words = words; touched = lentAt blocks edges; out = lentAt blocks edges + length touched }
+  f = record { n = blockCount blocks; at = edgeCount edges + edgeCount edges; base = baseOf blocks edges; words = words; touched = lentAt blocks edges; out = lentAt blocks edges + length touched }
 
-  rows₁ : EdgeRows es (length blocks / 3) (length edges / 2 + length edges / 2) w₁
-  rows₁ = subst (λ (y : ℕ). EdgeRows es (length blocks / 3) y w₁) (omega arith) (N .rows)
+  rows₁ : EdgeRows es (blockCount blocks) (edgeCount edges + edgeCount edges) w₁
+  rows₁ = subst (λ (y : ℕ). EdgeRows es (blockCount blocks) y w₁) (omega arith) (N .rows)
 
-  pub walkable : Walkable (length blocks / 3) (length edges / 2 + length edges / 2) (baseOf blocks edges) w₁
+  pub walkable : Walkable (blockCount blocks) (edgeCount edges + edgeCount edges) (baseOf blocks edges) w₁
   walkable = record { edges = es; between = N .between; rows = rows₁; below = omega (arith, N .count); room = omega (arith, N .kept .len) }
 
-  module _ {w₂ : List ℕ} {count : ℕ} (F : Found (length blocks / 3) (length edges / 2 + length edges / 2) (baseOf blocks edges) w₁ w₂ count) where
+  module _ {w₂ : List ℕ} {count : ℕ} (F : Found (blockCount blocks) (edgeCount edges + edgeCount edges) (baseOf blocks edges) w₁ w₂ count) where
     pub copy-fits : lentAt blocks edges + length touched ≤ length w₂
     copy-fits = omega (arith, N .kept .len, F .kept .len)
 
@@ -161,17 +161,17 @@ module _ (over : Over) (blocks edges touched : List ℕ) (words : ℕ) (w₀ w�
       below : (i : ℕ) → i < baseOf blocks edges → getD w₃ i 0 ≡ getD w₁ i 0
       below i h = R .before i (omega arith) ∙ F .kept .below i h
 
-      rows₃ : EdgeRows es (length blocks / 3) (length edges / 2 + length edges / 2) w₃
+      rows₃ : EdgeRows es (blockCount blocks) (edgeCount edges + edgeCount edges) w₃
       rows₃ = rows-moved (N .between) (omega (arith, N .count)) below rows₁
 
-      which-is : (k : ℕ) → k < length blocks / 3 → which f w₃ k ≡ getD w₂ (baseOf blocks edges + k) 0
+      which-is : (k : ℕ) → k < blockCount blocks → which f w₃ k ≡ getD w₂ (baseOf blocks edges + k) 0
       which-is k h = R .before (baseOf blocks edges + k) (omega arith)
 
-      order-is : (i : ℕ) → i < length blocks / 3
-          → order f w₃ i ≡ getD w₂ (baseOf blocks edges + length blocks / 3 + length blocks / 3 + length blocks / 3 + length blocks / 3 + length blocks / 3 + i) 0
+      order-is : (i : ℕ) → i < blockCount blocks
+          → order f w₃ i ≡ getD w₂ (baseOf blocks edges + blockCount blocks + blockCount blocks + blockCount blocks + blockCount blocks + blockCount blocks + i) 0
       order-is i h = R .before _ (omega arith)
 
-      pub ordered : InOrder (length blocks / 3) (which f w₃) (order f w₃)
+      pub ordered : InOrder (blockCount blocks) (which f w₃) (order f w₃)
       ordered = order-as which-is order-is (F .order)
 
       pub laid : Laid f w₃
@@ -187,9 +187,9 @@ module _ (over : Over) (blocks edges touched : List ℕ) (words : ℕ) (w₀ w�
         apart = inl (omega arith);
       }
 
-      touched-is : (k b : ℕ) → k < length blocks / 3 → b < words * 64 → touchedBit f w₃ k b ≡ rowBit touched words k b
+      touched-is : (k b : ℕ) → k < blockCount blocks → b < words * 64 → touchedBit f w₃ k b ≡ rowBit touched words k b
       touched-is k b h l =
-          let r = row-before k (length blocks / 3) words h in
+          let r = row-before k (blockCount blocks) words h in
           let e : lentAt blocks edges + k * words + b / 64 ≡ lentAt blocks edges + (k * words + b / 64) = omega arith in
           let z : 0 + (k * words + b / 64) ≡ k * words + b / 64 = omega arith in
           ap (λ (y : ℕ). bitOf y (b % 64)) (R .inside (lentAt blocks edges + k * words + b / 64) (k * words + b / 64) e (omega arith) ∙ ap (λ (y : ℕ). getD touched y 0) z)
@@ -211,16 +211,16 @@ module _ (over : Over) (blocks edges touched : List ℕ) (words : ℕ) (w₀ w�
 module _ (over : Over) (blocks edges : List ℕ) (points : ℕ) (touched : List ℕ) (words : ℕ) (out₀ out work₀ work₁ work₂ : List ℕ)
     (e : verdictOf blocks edges points (length touched) words (length out₀) (length work₀) ≡ Fine) {at : ℕ} (S : Solved over blocks edges touched words at work₀ work₁) where
   pub given-is : ((i : ℕ) → getD out i 0 < 2 ^ 64) → Region out₀ out 0 (length touched) (λ i. getD work₁ (at + i) 0)
-      → work₂ ≡ cleared (8 * (length blocks / 3 + length edges / 2 + length touched)) work₁
+      → work₂ ≡ cleared (8 * (blockCount blocks + edgeCount edges + length touched)) work₁
       → Answered over blocks edges points touched words out₀ work₀ Given out work₂
   given-is fits R C = record {
     answered = λ _. record {
       outcome = refl;
-      in-out = rows-by-bits (length blocks / 3) words _ out₀ out (R .len) (omega (arith, K .rows, K .answer-fits)) fits
-          (λ v b h l. rows-as over (edgesIn blocks edges) (length blocks / 3) between (λ k. rowBit touched words k b) v (rowBit out words v b) (paths v b h l))
+      in-out = rows-by-bits (blockCount blocks) words _ out₀ out (R .len) (omega (arith, K .rows, K .answer-fits)) fits
+          (λ v b h l. rows-as over (edgesIn blocks edges) (blockCount blocks) between (λ k. rowBit touched words k b) v (rowBit out words v b) (paths v b h l))
           (λ i h. R .after i (omega (arith, K .rows)));
       bits = paths;
-      work-cleared = C ∙ cleared-same (8 * (length blocks / 3 + length edges / 2 + length touched)) work₀ work₁ (S .kept) ∙ ap (λ (y : ℕ). cleared (8 * (length blocks / 3 + length edges / 2 + y)) work₀) (K .rows);
+      work-cleared = C ∙ cleared-same (8 * (blockCount blocks + edgeCount edges + length touched)) work₀ work₁ (S .kept) ∙ ap (λ (y : ℕ). cleared (8 * (blockCount blocks + edgeCount edges + y)) work₀) (K .rows);
     };
     turned-back = λ k i f. bad-fine (sym f ∙ e);
   }
@@ -228,16 +228,16 @@ module _ (over : Over) (blocks edges : List ℕ) (points : ℕ) (touched : List 
       K : Known blocks edges points (length touched) words (length out₀) (length work₀)
       K = known blocks edges points (length touched) words (length out₀) (length work₀) e
 
-      between : Between (length blocks / 3) (edgesIn blocks edges)
+      between : Between (blockCount blocks) (edgesIn blocks edges)
       between = subst (λ (y : ℕ). Between y (edgesIn blocks edges)) (blocks-length blocks) (edges-between (blocksOf blocks) (jumpsOf edges) (K .graph .sound) (K .graph .edges-fine))
 
-      out-is : (v b : ℕ) → v < length blocks / 3 → b < words * 64 → rowBit out words v b ≡ bit work₁ (at + v * words) b
+      out-is : (v b : ℕ) → v < blockCount blocks → b < words * 64 → rowBit out words v b ≡ bit work₁ (at + v * words) b
       out-is v b h l =
-          let r = row-before v (length blocks / 3) words h in
+          let r = row-before v (blockCount blocks) words h in
           let z : at + (v * words + b / 64) ≡ at + v * words + b / 64 = omega arith in
           ap (λ (y : ℕ). bitOf y (b % 64)) (R .inside (v * words + b / 64) (v * words + b / 64) (omega arith) (omega (arith, K .rows)) ∙ ap (λ (y : ℕ). getD work₁ y 0) z)
 
-      paths : (v b : ℕ) → v < length blocks / 3 → b < words * 64 → (rowBit out words v b ≡ true) ↔ FlowsTo over (edgesIn blocks edges) (λ k. rowBit touched words k b) v
+      paths : (v b : ℕ) → v < blockCount blocks → b < words * 64 → (rowBit out words v b ≡ true) ↔ FlowsTo over (edgesIn blocks edges) (λ k. rowBit touched words k b) v
       paths v b h l = let r = S .bits v b h l in ((λ o. r .0 (sym (out-is v b h l) ∙ o)), (λ o. out-is v b h l ∙ r .1 o))
 
 -- ---- what the entry does behind `solve`
@@ -249,8 +249,8 @@ pub cleared-length : (n : ℕ) (w : List ℕ) → n ≤ length w → length (cle
 cleared-length n w h = simp (length-append, length-replicate, length-drop) (omega arith)
 
 module _ {over : Over} {blocks edges touched : List ℕ} {words at : ℕ} {w₀ w : List ℕ} (S : Solved over blocks edges touched words at w₀ w)
-    (fits : spaceOf (rowCount 3 blocks) (rowCount 2 edges) (length touched) ≤ length w₀) where
-  pub as-wide : spaceOf (rowCount 3 blocks) (rowCount 2 edges) (length touched) ≤ length w
+    (fits : spaceOf (blockCount blocks) (edgeCount edges) (length touched) ≤ length w₀) where
+  pub as-wide : spaceOf (blockCount blocks) (edgeCount edges) (length touched) ≤ length w
   as-wide = omega (arith, S .kept .len)
 
   pub inside : at + length touched ≤ length w

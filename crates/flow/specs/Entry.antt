@@ -10,8 +10,8 @@ use Rattle.refusals.specs.declared.Verdict.{Verdict}
 use Rattle.refusals.specs.declared.Verdict.the-variants.{Fine, Bad}
 use Rattle.refusals.specs.Verdicts.{numberOf, inOrder}
 use Rattle.refusals.specs.Outcomes.{Outcome, given, refused, after}
-use Rattle.words.specs.Rows.{rowCount}
 use Rattle.words.specs.Regions.{cleared}
+use Rattle.words.specs.Widths.{blockCount, edgeCount}
 use Rattle.bits.specs.Bits.{bit}
 use Rattle.bits.specs.Words.{rowsOf}
 use Rattle.graph.specs.Paths.{Edge, turned}
@@ -48,8 +48,8 @@ outcomeOf (Refused r i) = refused (numberOf r) i
 -- the checks of `flowed`: numbers 1 (of the rows lent, then of the records), 2, 3 and 7, in this order; W is 8 × (the records lent + blocks × row words)
 abbrev pub flowedChecks : List ℕ → List ℕ → ℕ → ℕ → ℕ → ℕ → ℕ → List Verdict
 flowedChecks blocks edges points lent words answer work =
-    rowsVerdict lent (rowCount 3 blocks) words ∷ graphChecks blocks edges points
-    ++ (spaceVerdict answer (rowCount 3 blocks * words) work (spaceOf (rowCount 3 blocks) (rowCount 2 edges) (rowCount 3 blocks * words)) ∷ [])
+    rowsVerdict lent (blockCount blocks) words ∷ graphChecks blocks edges points
+    ++ (spaceVerdict answer (blockCount blocks * words) work (spaceOf (blockCount blocks) (edgeCount edges) (blockCount blocks * words)) ∷ [])
 
 unfoldable pub verdictOf : List ℕ → List ℕ → ℕ → ℕ → ℕ → ℕ → ℕ → Verdict
 verdictOf blocks edges points lent words answer work = inOrder (flowedChecks blocks edges points lent words answer work)
@@ -61,14 +61,14 @@ rowBit rows words v b = bit rows (v * words) b
 -- the answer: a row to a block, whose bits are by rounds
 abbrev pub flowedRows : Over → List ℕ → List ℕ → List ℕ → ℕ → List ℕ
 flowedRows over blocks edges touched words =
-    rowsOf (rowCount 3 blocks) words (λ v b. flowsRow over (rowCount 3 blocks) (edgesIn blocks edges) (λ k. rowBit touched words k b) v)
+    rowsOf (blockCount blocks) words (λ v b. flowsRow over (blockCount blocks) (edgesIn blocks edges) (λ k. rowBit touched words k b) v)
 
 -- the whole answer list by the definition, and its bits by paths
 pub record Filled (over : Over) (blocks edges touched : List ℕ) (words : ℕ) (out₀ work₀ : List ℕ) (r : Answer) (out work : List ℕ) : Type 0 where
   pub outcome : outcomeOf r ≡ given tt
   pub in-out : out ≡ after (outcomeOf r) (λ _. flowedRows over blocks edges touched words) out₀
-  pub bits : (v b : ℕ) → v < rowCount 3 blocks → b < words * 64 → (rowBit out words v b ≡ true) ↔ FlowsTo over (edgesIn blocks edges) (λ k. rowBit touched words k b) v
-  pub work-cleared : work ≡ cleared (spaceOf (rowCount 3 blocks) (rowCount 2 edges) (rowCount 3 blocks * words)) work₀
+  pub bits : (v b : ℕ) → v < blockCount blocks → b < words * 64 → (rowBit out words v b ≡ true) ↔ FlowsTo over (edgesIn blocks edges) (λ k. rowBit touched words k b) v
+  pub work-cleared : work ≡ cleared (spaceOf (blockCount blocks) (edgeCount edges) (blockCount blocks * words)) work₀
 
 -- a refusal: the lists as they were
 pub record Turned (k : Refusal) (i : ℕ) (out₀ work₀ : List ℕ) (r : Answer) (out work : List ℕ) : Type 0 where
@@ -82,11 +82,11 @@ pub record Answered (over : Over) (blocks edges : List ℕ) (points : ℕ) (touc
 
 -- where the components' numbers stand behind the rows of the edges
 abbrev pub baseOf : List ℕ → List ℕ → ℕ
-baseOf blocks edges = length edges / 2 + length edges / 2 + (length blocks / 3 + 1 + length edges / 2)
+baseOf blocks edges = edgeCount edges + edgeCount edges + (blockCount blocks + 1 + edgeCount edges)
 
 -- what `solve` leaves: the answer's rows from `at` on, within W
 pub record Solved (over : Over) (blocks edges touched : List ℕ) (words at : ℕ) (w₀ w : List ℕ) : Type 0 where
-  pub kept : Within 0 (spaceOf (rowCount 3 blocks) (rowCount 2 edges) (length touched)) w₀ w
-  pub inside : at + length touched ≤ spaceOf (rowCount 3 blocks) (rowCount 2 edges) (length touched)
-  pub bits : (v b : ℕ) → v < rowCount 3 blocks → b < words * 64
+  pub kept : Within 0 (spaceOf (blockCount blocks) (edgeCount edges) (length touched)) w₀ w
+  pub inside : at + length touched ≤ spaceOf (blockCount blocks) (edgeCount edges) (length touched)
+  pub bits : (v b : ℕ) → v < blockCount blocks → b < words * 64
       → (bit w (at + v * words) b ≡ true) ↔ FlowsTo over (edgesIn blocks edges) (λ k. rowBit touched words k b) v

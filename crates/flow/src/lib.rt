@@ -7,9 +7,12 @@ ghost use Rattle.graph.specs.Line.{blocksOf, jumpsOf, edgeVerdict, Sound};
 ghost use Rattle.graph.specs.Work.{Neighbours};
 ghost use Rattle.components.specs.Entry.{edgesIn};
 ghost use Rattle.flow.specs.Entry.{wayOf, verdictOf, Answered, Solved};
+ghost use Rattle.words.specs.Widths.{blockCount, edgeCount};
 use flow_rows::Flow;
 use refusals::Refusal;
 use refusals::Verdict;
+use words::widths::block;
+use words::widths::edge;
 
 // Which edges are followed.
 pub enum Over {
@@ -35,7 +38,7 @@ pub fn refusal(
 ) -> Verdict
     ensures { λ r. ⌜ r ≡ verdictOf (now (blocks .entry)) (now (edges .entry)) points lent words answer work ⌝ }
 {
-    let n = blocks.len() / 3;
+    let n = blocks.len() / block::WIDTH;
     let v = line_checks::rows(lent, n, words);
     if let Verdict::Bad(r, i) = v {
         return Verdict::Bad(r, i);
@@ -44,14 +47,14 @@ pub fn refusal(
     if let Verdict::Bad(r, i) = v {
         return Verdict::Bad(r, i);
     }
-    line_checks::space(answer, lent, work, n, edges.len() / 2, lent)
+    line_checks::space(answer, lent, work, n, edges.len() / edge::WIDTH, lent)
 }
 
 // The rows of the edges that are followed.
 fn neighbours(over: Over, blocks: &[u32], edges: &[u32], work: &mut [u64])
     requires { ⌜ Sound (blocksOf (now blocks)) × (edgeVerdict (blocksOf (now blocks)) (jumpsOf (now edges)) ≡ Fine) ⌝ }
-    requires { ⌜ 0 + length (now edges) / 2 + length (now edges) / 2 + (length (now blocks) / 3 + 1 + length (now edges) / 2) ≤ length (now work) ⌝ }
-    ensures { λ _. ⌜ Neighbours (wayOf over (edgesIn (now (blocks .entry)) (now (edges .entry)))) (length (now (blocks .entry)) / 3) (length (now (edges .entry)) / 2) 0
+    requires { ⌜ 0 + edgeCount (now edges) + edgeCount (now edges) + (blockCount (now blocks) + 1 + edgeCount (now edges)) ≤ length (now work) ⌝ }
+    ensures { λ _. ⌜ Neighbours (wayOf over (edgesIn (now (blocks .entry)) (now (edges .entry)))) (blockCount (now (blocks .entry))) (edgeCount (now (edges .entry))) 0
         (now (work .entry)) (now (work .exit)) ⌝ }
 {
     match over {
@@ -69,12 +72,12 @@ fn solve(
     words: usize,
     work: &mut [u64],
 ) -> usize
-    requires { ⌜ Sound (blocksOf (now blocks)) × (edgeVerdict (blocksOf (now blocks)) (jumpsOf (now edges)) ≡ Fine) × (length (now touched) ≡ length (now blocks) / 3 * words) ⌝ }
-    requires { ⌜ 8 * (length (now blocks) / 3 + length (now edges) / 2 + length (now touched)) ≤ length (now work) ⌝ }
+    requires { ⌜ Sound (blocksOf (now blocks)) × (edgeVerdict (blocksOf (now blocks)) (jumpsOf (now edges)) ≡ Fine) × (length (now touched) ≡ blockCount (now blocks) * words) ⌝ }
+    requires { ⌜ 8 * (blockCount (now blocks) + edgeCount (now edges) + length (now touched)) ≤ length (now work) ⌝ }
     ensures { λ r. ⌜ Solved over (now (blocks .entry)) (now (edges .entry)) (now (touched .entry)) words r (now (work .entry)) (now (work .exit)) ⌝ }
 {
-    let n = blocks.len() / 3;
-    let e = edges.len() / 2;
+    let n = blocks.len() / block::WIDTH;
+    let e = edges.len() / edge::WIDTH;
     let base = e + e + (n + 1 + e);
     let lent = base + 6 * n;
     let out = lent + touched.len();
@@ -126,7 +129,7 @@ pub fn flowed(
     words::copy_from(out, 0, work, at, touched.len());
     words::clear(
         work,
-        8 * (blocks.len() / 3 + edges.len() / 2 + touched.len()),
+        8 * (blocks.len() / block::WIDTH + edges.len() / edge::WIDTH + touched.len()),
     );
     Answer::Given
 }

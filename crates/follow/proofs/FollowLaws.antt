@@ -12,7 +12,7 @@ use lib.Dec.{eqb}
 use borrow.Author.Tests.{eqb-true, eq-eqb}
 use Rattle.graph.specs.Work.{Within}
 use Rattle.graph.proofs.Line.{mem-at, at-mem}
-use Rattle.words.specs.Rows.{rowCount, field}
+use Rattle.words.specs.Widths.{instLea, mentionWidth, addressCount, mentionInst, mentionLocal}
 use Rattle.words.proofs.RowLaws.{mem-tabulate, mem-of-tabulate}
 use Rattle.words.proofs.Points.{cut}
 use Rattle.words.proofs.Bools.{or-right, and-both, or-cases, or-left, and-pair, both-ways}
@@ -109,12 +109,12 @@ module _ (insts operands crossings addresses ends : List ℕ) (lay : Lay) (z : S
     -- ---- entries are mentions
 
     abbrev row-of : (a : ℕ) → Mention
-    row-of a = record { inst = field 2 addresses a 0; local = field 2 addresses a 1 }
+    row-of a = record { inst = mentionInst addresses a; local = mentionLocal addresses a }
 
-    inst-of : (a : ℕ) → field 2 addresses a 0 ≡ getD addresses (2 * a) 0
-    inst-of a = ap (λ (i : ℕ). getD addresses i 0) (add-zero (2 * a))
+    inst-of : (a : ℕ) → mentionInst addresses a ≡ getD addresses (mentionWidth * a) 0
+    inst-of a = ap (λ (i : ℕ). getD addresses i 0) (add-zero (mentionWidth * a))
 
-    lea-of : (i : ℕ) → i < z .insts → instAt Is i .lea ≡ field 9 insts i 4
+    lea-of : (i : ℕ) → i < z .insts → instAt Is i .lea ≡ instLea insts i
     lea-of i h = lea-is insts operands i (let r = ch .rows in omega arith)
 
     -- the mention of an entry
@@ -130,7 +130,7 @@ module _ (insts operands crossings addresses ends : List ℕ) (lay : Lay) (z : S
         let h : i < z .insts = (let f = ch .found (n .place) (n .within) in let o = n .inst in omega arith) in
         record {
           mention = row-of (n .place);
-          listed = kept (λ m. eqb (m .local) l) (C .addresses) (row-of (n .place)) (mem-tabulate (rowCount 2 addresses) row-of (n .place) (n .within)) (eq-eqb _ _ (n .local));
+          listed = kept (λ m. eqb (m .local) l) (C .addresses) (row-of (n .place)) (mem-tabulate (addressCount addresses) row-of (n .place) (n .within)) (eq-eqb _ _ (n .local));
           lea = eq-eqb _ 1 (ap (λ (x : ℕ). instAt Is x .lea) e ∙ lea-of i h ∙ n .lea);
           at = e;
         }
@@ -138,8 +138,8 @@ module _ (insts operands crossings addresses ends : List ℕ) (lay : Lay) (z : S
     entry : (m : Mention) → List·Memᴰ m (mentions (C .addresses) l) → isSet (mentioned C m .lea) ≡ true → Entry insts addresses l (m .inst)
     entry m h e =
         let (a, b) = of-kept (λ m. eqb (m .local) l) (C .addresses) m h in
-        let (k, c, y) = mem-of-tabulate (rowCount 2 addresses) row-of a in
-        let o : getD addresses (2 * k) 0 ≡ m .inst = sym (inst-of k) ∙ ap (λ (x : Mention). x .inst) (sym y) in
+        let (k, c, y) = mem-of-tabulate (addressCount addresses) row-of a in
+        let o : getD addresses (mentionWidth * k) 0 ≡ m .inst = sym (inst-of k) ∙ ap (λ (x : Mention). x .inst) (sym y) in
         let f = ch .found k c in
         record {
           place = k;
@@ -319,24 +319,24 @@ module _ (insts operands crossings addresses ends : List ℕ) (lay : Lay) (z : S
 
       none-is : eqb (getD w₀ (lay .heads + l) 0) 0 ≡ empty (mentions (C .addresses) l)
       none-is =
-          both-ways (eqb (getD w₀ (lay .heads + l) 0) 0) (not (Some (rowCount 2 addresses) (λ k. eqb (rowLocal addresses k) l))) to from
+          both-ways (eqb (getD w₀ (lay .heads + l) 0) 0) (not (Some (addressCount addresses) (λ k. eqb (rowLocal addresses k) l))) to from
           ∙ sym (empty-keep (λ m. eqb (m .local) l) (C .addresses) ∙ ap not (any-rows (λ m. eqb (m .local) l) addresses (λ k. eqb (rowLocal addresses k) l) (λ k h. refl)))
         where
-          to : eqb (getD w₀ (lay .heads + l) 0) 0 ≡ true → not (Some (rowCount 2 addresses) (λ k. eqb (rowLocal addresses k) l)) ≡ true
-          to e = not-false _ (by-bool (Some (rowCount 2 addresses) (λ k. eqb (rowLocal addresses k) l))
+          to : eqb (getD w₀ (lay .heads + l) 0) 0 ≡ true → not (Some (addressCount addresses) (λ k. eqb (rowLocal addresses k) l)) ≡ true
+          to e = not-false _ (by-bool (Some (addressCount addresses) (λ k. eqb (rowLocal addresses k) l))
               (λ x.
-              let (k, h, u) = some-index (rowCount 2 addresses) (λ k. eqb (rowLocal addresses k) l) x in
-              absurd (latest-gap (rowLocal addresses) l (rowCount 2 addresses) k (let y : getD w₀ (lay .heads + l) 0 ≡ 0 = eqb-true _ 0 e in let v = ch .head in omega arith) h (eqb-true _ _ u)))
+              let (k, h, u) = some-index (addressCount addresses) (λ k. eqb (rowLocal addresses k) l) x in
+              absurd (latest-gap (rowLocal addresses) l (addressCount addresses) k (let y : getD w₀ (lay .heads + l) 0 ≡ 0 = eqb-true _ 0 e in let v = ch .head in omega arith) h (eqb-true _ _ u)))
               (λ x. x))
 
-          from : not (Some (rowCount 2 addresses) (λ k. eqb (rowLocal addresses k) l)) ≡ true → eqb (getD w₀ (lay .heads + l) 0) 0 ≡ true
-          from e = go (latest (rowLocal addresses) l (rowCount 2 addresses)) refl
+          from : not (Some (addressCount addresses) (λ k. eqb (rowLocal addresses k) l)) ≡ true → eqb (getD w₀ (lay .heads + l) 0) 0 ≡ true
+          from e = go (latest (rowLocal addresses) l (addressCount addresses)) refl
             where
-              go : (x : ℕ) → latest (rowLocal addresses) l (rowCount 2 addresses) ≡ x → eqb (getD w₀ (lay .heads + l) 0) 0 ≡ true
+              go : (x : ℕ) → latest (rowLocal addresses) l (addressCount addresses) ≡ x → eqb (getD w₀ (lay .heads + l) 0) 0 ≡ true
               go zero y = eq-eqb _ 0 (ch .head ∙ y)
               go (suc a) y =
-                  let o = latest-le (rowLocal addresses) l (rowCount 2 addresses) in
-                  let u = some-at (rowCount 2 addresses) (λ k. eqb (rowLocal addresses k) l) a (omega arith) (eq-eqb _ _ (latest-is (rowLocal addresses) l (rowCount 2 addresses) a y)) in
+                  let o = latest-le (rowLocal addresses) l (addressCount addresses) in
+                  let u = some-at (addressCount addresses) (λ k. eqb (rowLocal addresses k) l) a (omega arith) (eq-eqb _ _ (latest-is (rowLocal addresses) l (addressCount addresses) a y)) in
                   absurd (false≢true (sym (ap not u) ∙ e))
 
       kind-is : kindBy (eqb (getD w₀ (lay .heads + l) 0) 0) (s .bad) (s .escapes) (eqb (getD w₀ (lay .ended + l) 0) 0) ≡ kindOf C l

@@ -8,7 +8,7 @@ use mathlib.Core.Option.{Option, some, none}
 use mathlib.Core.List.{List}
 use lib.ListN.{length, getD}
 use lib.Dec.{eqb, ltb}
-use Rattle.words.specs.Rows.{rowCount}
+use Rattle.words.specs.Widths.{instCount, mentionWidth, addressCount}
 use Rattle.graph.specs.Work.{Within}
 use Rattle.carrying.specs.Insts.{instsOf, instAt, defOf}
 use Rattle.carrying.specs.Carried.{Code, isNone, mentionsOf}
@@ -33,8 +33,8 @@ has-number (some r) e = omega arith
 
 module _ (insts operands crossings addresses ends : List ℕ) (lay : Lay) (z : Sizes) (o : ℕ) {w₀ w : List ℕ}
     (r : Readied (codeOf (z .v) insts operands crossings addresses ends) lay o (z .locals) (z .edges) w₀ w)
-    (rows : z .insts ≡ rowCount 9 insts) (laid : Laid lay (z .v) (z .insts) o (z .locals) (rowCount 2 addresses) (length w₀))
-    (few : z .v ≤ 65535) (few-insts : z .insts ≤ 65536) (found : (a : ℕ) → a < rowCount 2 addresses → getD addresses (2 * a) 0 < z .insts) where
+    (rows : z .insts ≡ instCount insts) (laid : Laid lay (z .v) (z .insts) o (z .locals) (addressCount addresses) (length w₀))
+    (few : z .v ≤ 65535) (few-insts : z .insts ≤ 65536) (found : (a : ℕ) → a < addressCount addresses → getD addresses (mentionWidth * a) 0 < z .insts) where
   number : (i : ℕ) → i < z .insts → defAt lay w i ≡ defNumber (defOf (z .v) (instAt (instsOf insts operands) i))
   number i h = r .prepared .tables .defined i (let n = insts-length insts operands in omega arith)
 
@@ -42,7 +42,7 @@ module _ (insts operands crossings addresses ends : List ℕ) (lay : Lay) (z : S
   made-ready = record {
     tables = record {
       operands = o;
-      addresses = rowCount 2 addresses;
+      addresses = addressCount addresses;
       few = r .few;
       laid = rw (r .kept .len) laid;
       registers = few;
@@ -64,7 +64,7 @@ module _ (insts operands crossings addresses ends : List ℕ) (lay : Lay) (z : S
       fits = laid .nexts-fits;
       found = found;
       head = r .prepared .chains .head l h ∙ ap (latest (localOf (mentionsOf addresses)) l) (mentions-count addresses)
-          ∙ sym (latest-same (rowLocal addresses) (localOf (mentionsOf addresses)) l (rowCount 2 addresses) (local-is addresses));
+          ∙ sym (latest-same (rowLocal addresses) (localOf (mentionsOf addresses)) l (addressCount addresses) (local-is addresses));
       next = λ a g e.
           let i : rowLocal addresses a ≡ localOf (mentionsOf addresses) a = local-is addresses a g in
           r .prepared .chains .next a (let n = mentions-count addresses in omega arith) (omega arith)

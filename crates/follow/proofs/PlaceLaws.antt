@@ -6,7 +6,7 @@ use mir.Syntax.{w64}
 use mir.Val.{Fits}
 use native.Mathlib.Omega.{arith}
 use lib.ListN.{length, getD}
-use Rattle.words.specs.Rows.{rowCount}
+use Rattle.words.specs.Widths.{instWidth, instCount, mentionWidth}
 use Rattle.words.proofs.FitLaws.{Word, word}
 use Rattle.reach.specs.declared.Lay.{Lay}
 use Rattle.follow.specs.declared.Sizes.{Sizes}
@@ -72,10 +72,10 @@ held-def {w = w} d r i h = let a = d .defs-fits in let b = d .queue-fits in word
 
 -- the fifth field of an instruction's row
 pub record Field (i n : ℕ) : Type 0 where
-  pub row : Fits w64 (9 * i)
-  pub at : Fits w64 (9 * i + 4)
-  pub in-bytes : Fits w64 ((9 * i + 4) * 4)
-  pub inside : 9 * i + 4 < n
+  pub row : Fits w64 (instWidth * i)
+  pub at : Fits w64 (instWidth * i + 4)
+  pub in-bytes : Fits w64 ((instWidth * i + 4) * 4)
+  pub inside : instWidth * i + 4 < n
 
 pub row-field : (i n : ℕ) → i < n / 9 → n * 4 < 2 ^ 63 → Field i n
 row-field i n h r = record { row = omega arith; at = omega arith; in-bytes = omega arith; inside = omega arith }
@@ -96,12 +96,12 @@ edge-at {w = w} d r h =
 -- the entry c - 1 of a local's chain
 pub record AtEntry (lay : Lay) (insts addresses : List ℕ) (m : ℕ) (w : List ℕ) (c : ℕ) : Type 0 where
   pub is : c ≡ suc (c - 1)
-  pub twice : Fits w64 (2 * (c - 1))
-  pub in-bytes : Fits w64 (2 * (c - 1) * 4)
-  pub inside : 2 * (c - 1) < length addresses
-  pub listed : getD addresses (2 * (c - 1)) 0 < rowCount 9 insts
-  pub low : getD addresses (2 * (c - 1)) 0 < m
-  pub inst : Fits w64 (getD addresses (2 * (c - 1)) 0)
+  pub twice : Fits w64 (mentionWidth * (c - 1))
+  pub in-bytes : Fits w64 (mentionWidth * (c - 1) * 4)
+  pub inside : mentionWidth * (c - 1) < length addresses
+  pub listed : getD addresses (mentionWidth * (c - 1)) 0 < instCount insts
+  pub low : getD addresses (mentionWidth * (c - 1)) 0 < m
+  pub inst : Fits w64 (getD addresses (mentionWidth * (c - 1)) 0)
   pub next : Word (lay .nexts + (c - 1)) (length w)
 
 pub entry-at : {lay : Lay} {z : Sizes} {insts addresses : List ℕ} {l : ℕ} {w₀ w : List ℕ} {b : Begun} {c : ℕ} → Beginning lay z insts addresses l w₀ w b c

@@ -6,9 +6,10 @@ use mathlib.Core.Bool.{Bool, true, false, not, _&&_, _||_}
 use mathlib.Core.List.{List}
 use lib.ListN.{length, getD}
 use lib.Dec.{eqb, ltb}
-use Rattle.words.specs.Rows.{tabulate, rowCount, field}
+use Rattle.words.specs.Rows.{tabulate}
 use Rattle.words.specs.Sort.{Rising}
 use Rattle.words.specs.Search.{Splits}
+use Rattle.words.specs.Widths.{instCount, instLea, mentionWidth, addressCount}
 use Rattle.bits.specs.Bits.{bit}
 use Rattle.carrying.specs.Lists.{any}
 use Rattle.carrying.specs.Insts.{isSet}
@@ -48,25 +49,25 @@ pub record Grown (lay : Lay) (z : Sizes) (w₀ w : List ℕ) (q n₀ n : ℕ) : 
 -- an address entry of local l at instruction i, which is `lea`
 pub record Entry (insts addresses : List ℕ) (l i : ℕ) : Type 0 where
   pub place : ℕ
-  pub within : place < rowCount 2 addresses
+  pub within : place < addressCount addresses
   pub local : rowLocal addresses place ≡ l
-  pub inst : getD addresses (2 * place) 0 ≡ i
-  pub lea : field 9 insts i 4 ≡ 1
+  pub inst : getD addresses (mentionWidth * place) 0 ≡ i
+  pub lea : instLea insts i ≡ 1
 
 -- the chain of the address entries of local l
 pub record Chain (lay : Lay) (z : Sizes) (insts addresses : List ℕ) (l : ℕ) (w : List ℕ) : Type 0 where
-  pub rows : z .insts ≡ rowCount 9 insts
+  pub rows : z .insts ≡ instCount insts
   pub here : l < z .locals
-  pub fits : lay .nexts + rowCount 2 addresses ≤ lay .ended
-  pub found : (a : ℕ) → a < rowCount 2 addresses → getD addresses (2 * a) 0 < z .insts
-  pub head : getD w (lay .heads + l) 0 ≡ latest (rowLocal addresses) l (rowCount 2 addresses)
-  pub next : (a : ℕ) → a < rowCount 2 addresses → rowLocal addresses a ≡ l → getD w (lay .nexts + a) 0 ≡ latest (rowLocal addresses) l a
+  pub fits : lay .nexts + addressCount addresses ≤ lay .ended
+  pub found : (a : ℕ) → a < addressCount addresses → getD addresses (mentionWidth * a) 0 < z .insts
+  pub head : getD w (lay .heads + l) 0 ≡ latest (rowLocal addresses) l (addressCount addresses)
+  pub next : (a : ℕ) → a < addressCount addresses → rowLocal addresses a ≡ l → getD w (lay .nexts + a) 0 ≡ latest (rowLocal addresses) l a
 
 -- one entry at instruction i
 pub record Took (lay : Lay) (z : Sizes) (insts : List ℕ) (w₀ w : List ℕ) (i : ℕ) (b₀ b : Begun) : Type 0 where
-  pub grew : Grew (z .v) (z .insts) lay w₀ w (b₀ .count) (b .count) (λ j. (j ≡ i) × (field 9 insts i 4 ≡ 1))
-  pub has : field 9 insts i 4 ≡ 1 → 0 < defAt lay w₀ i → Listed lay w (b .count) (defAt lay w i)
-  pub lost : b .lost ≡ (b₀ .lost || (isSet (field 9 insts i 4) && eqb (defAt lay w₀ i) 0))
+  pub grew : Grew (z .v) (z .insts) lay w₀ w (b₀ .count) (b .count) (λ j. (j ≡ i) × (instLea insts i ≡ 1))
+  pub has : instLea insts i ≡ 1 → 0 < defAt lay w₀ i → Listed lay w (b .count) (defAt lay w i)
+  pub lost : b .lost ≡ (b₀ .lost || (isSet (instLea insts i) && eqb (defAt lay w₀ i) 0))
 
 -- the defs of all entries of local l stand in the queue, and whether one has none
 pub record Began (lay : Lay) (z : Sizes) (insts addresses : List ℕ) (l : ℕ) (w₀ w : List ℕ) (b : Begun) : Type 0 where

@@ -6,12 +6,15 @@ ghost use lib.ListN.{length, set};
 ghost use Rattle.queue.specs.Walk.{defAt, Held};
 ghost use Rattle.follow.specs.Followed.{kindBy, Ready, FollowsAny};
 ghost use Rattle.follow.specs.Steps.{Walkable, Grown, Chain, Took, Began, registerAt, Stepped, Walked, Unseen, Forgetting};
+ghost use Rattle.words.specs.Widths.{instCount};
 use crate::Begun;
 use crate::Followed;
 use crate::Sizes;
 use crate::Walk;
 use carrying::Kind;
 use reach::Lay;
+use words::widths::inst;
+use words::widths::mention;
 
 fn either(a: bool, b: bool) -> bool
     ensures { λ r. ⌜ r ≡ (a || b) ⌝ }
@@ -53,10 +56,10 @@ fn grow(work: &mut [u64], lay: Lay, z: Sizes, i: usize, n: usize) -> usize
 
 // Takes an address entry at instruction `i`: the def of a `lea` goes into the queue.
 fn take(insts: &[u32], work: &mut [u64], lay: Lay, z: Sizes, i: usize, b: Begun) -> Begun
-    requires { ⌜ (i < length (now insts) / 9) × (i < z .insts) × Held (z .v) (z .insts) lay (now work) (b .count) ⌝ }
+    requires { ⌜ (i < instCount (now insts)) × (i < z .insts) × Held (z .v) (z .insts) lay (now work) (b .count) ⌝ }
     ensures { λ r. ⌜ Took lay z (now (insts .entry)) (now (work .entry)) (now (work .exit)) i b r ⌝ }
 {
-    if insts[9 * i + 4] != 1 {
+    if insts[inst::WIDTH * i + inst::LEA] != 1 {
         return b;
     }
     if work[lay.defs + i] == 0 {
@@ -91,7 +94,14 @@ fn begin(
     let mut c = work[lay.heads + local] as usize;
     while c > 0 {
         let a = c - 1;
-        b = take(insts, work, lay, z, addresses[2 * a] as usize, b);
+        b = take(
+            insts,
+            work,
+            lay,
+            z,
+            addresses[mention::WIDTH * a] as usize,
+            b,
+        );
         c = work[lay.nexts + a] as usize;
     }
     b

@@ -8,6 +8,7 @@ use Rattle.refusals.specs.declared.Verdict.the-variants.{Fine, Bad}
 use Rattle.refusals.specs.declared.Refusal.the-variants.{Count, Line, Edge as EdgeWord, Space}
 use Rattle.refusals.specs.Verdicts.{first, scan}
 use Rattle.words.specs.Rows.{tabulate}
+use Rattle.words.specs.Widths.{blockWidth, edgeWidth, wantWidth}
 use Rattle.graph.specs.Paths.{edge, turned}
 use Rattle.graph.specs.Line.{Stretch, Jump, blocksOf, jumpsOf, blockAt, placeIn, placeOf, numberAt, edgesOf, usedBefore, badBlock, lineVerdict, edgeVerdict}
 use Rattle.graph.specs.Checks.{badCount, badSpan, rowsVerdict, spaceOf, spaceVerdict}
@@ -57,11 +58,11 @@ unfolding first scan
 edges = (refl, refl, refl)
 
 -- number 1: "B 1 to 4,096; edges 16,384", by how many numbers are lent: at the limit and one record past it
-pub block-limit : (blocks : List ℕ) → (length blocks ≡ 3 * 4096 → badCount blocks [] ≡ false) × (length blocks ≡ 3 * 4097 → badCount blocks [] ≡ true)
+pub block-limit : (blocks : List ℕ) → (length blocks ≡ blockWidth * 4096 → badCount blocks [] ≡ false) × (length blocks ≡ blockWidth * 4097 → badCount blocks [] ≡ true)
 unfolding badCount
 block-limit blocks = (λ e. rw e refl, λ e. rw e refl)
 
-pub edge-limit : (edges : List ℕ) → (length edges ≡ 2 * 16384 → badCount (0 ∷ 0 ∷ 9 ∷ []) edges ≡ false) × (length edges ≡ 2 * 16385 → badCount (0 ∷ 0 ∷ 9 ∷ []) edges ≡ true)
+pub edge-limit : (edges : List ℕ) → (length edges ≡ edgeWidth * 16384 → badCount (0 ∷ 0 ∷ 9 ∷ []) edges ≡ false) × (length edges ≡ edgeWidth * 16385 → badCount (0 ∷ 0 ∷ 9 ∷ []) edges ≡ true)
 unfolding badCount
 edge-limit edges = (λ e. rw e refl, λ e. rw e refl)
 
@@ -71,7 +72,7 @@ unfolding badCount
 counts = (refl, refl, refl, refl)
 
 -- number 1 of rows of bits: blocks × row words, a word less and a word more; W; number 7: at what is asked and one short
-pub spaces : (rowsVerdict 6 2 3 ≡ Fine) × (rowsVerdict 5 2 3 ≡ Bad Count 0) × (rowsVerdict 7 2 3 ≡ Bad Count 0) × (spaceOf 2 3 5 ≡ 80)
+pub spaces : (rowsVerdict 6 2 3 ≡ Fine) × (rowsVerdict wantWidth 2 3 ≡ Bad Count 0) × (rowsVerdict 7 2 3 ≡ Bad Count 0) × (spaceOf 2 3 5 ≡ 80)
     × (spaceVerdict 3 3 5 5 ≡ Fine) × (spaceVerdict 2 3 5 5 ≡ Bad Space 0) × (spaceVerdict 3 3 4 5 ≡ Bad Space 0)
 spaces = (refl, refl, refl, refl, refl, refl, refl)
 

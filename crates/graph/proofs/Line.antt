@@ -13,8 +13,8 @@ use borrow.Author.Tests.{eq-eqb, ne-eqb, eqb-true, eqb-false, leb-false, ltb-fal
 use Rattle.refusals.specs.declared.Verdict.the-variants.{Fine}
 use Rattle.refusals.specs.declared.Refusal.the-variants.{Line, Edge as EdgeWord}
 use Rattle.refusals.proofs.Laws.{scan-fine}
-use Rattle.words.specs.Rows.{field}
 use Rattle.words.specs.Sort.{Rising}
+use Rattle.words.specs.Widths.{blockWidth, blockCount, blockNumber, blockStart, blockEnd, edgeWidth, edgeCount, edgeFrom, edgeInto}
 use Rattle.words.proofs.RowLaws.{length-tabulate, getD-tabulate}
 use Rattle.words.proofs.Points.{cut, same}
 use Rattle.words.proofs.Bools.{or-neither}
@@ -61,36 +61,36 @@ at-mem {A} (x ∷ l) a d m = go (List·Memᴰ·cases-cons m) (at-mem l a d)
 -- ---- the records of the rows
 
 module _ (s : List ℕ) where
-  pub blocks-length : length (blocksOf s) ≡ length s / 3
-  blocks-length = length-tabulate (length s / 3) _
+  pub blocks-length : length (blocksOf s) ≡ blockCount s
+  blocks-length = length-tabulate (blockCount s) _
 
-  pub jumps-length : length (jumpsOf s) ≡ length s / 2
-  jumps-length = length-tabulate (length s / 2) _
+  pub jumps-length : length (jumpsOf s) ≡ edgeCount s
+  jumps-length = length-tabulate (edgeCount s) _
 
   module _ (k : ℕ) where
-    pub block-at : k < length s / 3 → blockAt (blocksOf s) k ≡ record { number = getD s (3 * k + 0) 0; start = getD s (3 * k + 1) 0; end = getD s (3 * k + 2) 0 }
-    block-at h = getD-tabulate (length s / 3) _ k nowhere h
+    pub block-at : k < blockCount s → blockAt (blocksOf s) k ≡ record { number = blockNumber s k; start = blockStart s k; end = blockEnd s k }
+    block-at h = getD-tabulate (blockCount s) _ k nowhere h
 
-    pub number-is : k < length s / 3 → blockAt (blocksOf s) k .number ≡ getD s (3 * k) 0
-    number-is h = ap (λ (b : Stretch). b .number) (block-at h) ∙ ap (λ (i : ℕ). getD s i 0) (add-zero (3 * k))
+    pub number-is : k < blockCount s → blockAt (blocksOf s) k .number ≡ getD s (blockWidth * k) 0
+    number-is h = ap (λ (b : Stretch). b .number) (block-at h) ∙ ap (λ (i : ℕ). getD s i 0) (add-zero (blockWidth * k))
 
-    pub start-is : k < length s / 3 → blockAt (blocksOf s) k .start ≡ getD s (3 * k + 1) 0
+    pub start-is : k < blockCount s → blockAt (blocksOf s) k .start ≡ blockStart s k
     start-is h = ap (λ (b : Stretch). b .start) (block-at h)
 
-    pub end-is : k < length s / 3 → blockAt (blocksOf s) k .end ≡ getD s (3 * k + 2) 0
+    pub end-is : k < blockCount s → blockAt (blocksOf s) k .end ≡ blockEnd s k
     end-is h = ap (λ (b : Stretch). b .end) (block-at h)
 
-    pub jump-at : k < length s / 2 → getD (jumpsOf s) k (record { from = 0; to = 0 }) ≡ record { from = getD s (2 * k + 0) 0; to = getD s (2 * k + 1) 0 }
-    jump-at h = getD-tabulate (length s / 2) _ k _ h
+    pub jump-at : k < edgeCount s → getD (jumpsOf s) k (record { from = 0; to = 0 }) ≡ record { from = edgeFrom s k; to = edgeInto s k }
+    jump-at h = getD-tabulate (edgeCount s) _ k _ h
 
-    pub from-is : k < length s / 2 → getD (jumpsOf s) k (record { from = 0; to = 0 }) .from ≡ getD s (2 * k) 0
-    from-is h = ap (λ (j : Jump). j .from) (jump-at h) ∙ ap (λ (i : ℕ). getD s i 0) (add-zero (2 * k))
+    pub from-is : k < edgeCount s → getD (jumpsOf s) k (record { from = 0; to = 0 }) .from ≡ getD s (edgeWidth * k) 0
+    from-is h = ap (λ (j : Jump). j .from) (jump-at h) ∙ ap (λ (i : ℕ). getD s i 0) (add-zero (edgeWidth * k))
 
-    pub to-is : k < length s / 2 → getD (jumpsOf s) k (record { from = 0; to = 0 }) .to ≡ getD s (2 * k + 1) 0
+    pub to-is : k < edgeCount s → getD (jumpsOf s) k (record { from = 0; to = 0 }) .to ≡ edgeInto s k
     to-is h = ap (λ (j : Jump). j .to) (jump-at h)
 
   -- the starts of blocks in the form of number 2 rise
-  pub starts-rise : Sound (blocksOf s) → Rising (λ i. field 3 s i 1) (length s / 3)
+  pub starts-rise : Sound (blocksOf s) → Rising (λ i. blockStart s i) (blockCount s)
   starts-rise S k h =
       let n = blocks-length in
       let a = start-is k (omega arith) in

@@ -6,13 +6,14 @@ use lib.Dec.{ltb, eqb}
 use Rattle.refusals.specs.declared.Verdict.{Verdict}
 use Rattle.refusals.specs.declared.Refusal.the-variants.{Count, Space}
 use Rattle.refusals.specs.Verdicts.{inOrder, check}
-use Rattle.words.specs.Rows.{rowCount, wholeRows}
+use Rattle.words.specs.Rows.{wholeRows}
+use Rattle.words.specs.Widths.{blockWidth, blockCount, edgeWidth, edgeCount}
 use Rattle.graph.specs.Line.{Stretch, blocksOf, jumpsOf, blockAt, gapAt, pastPoints, lineVerdict, edgeVerdict}
 
 -- number 1: "B 1 to 4,096; edges 16,384"; numbers that are no whole records are no count
 unfoldable pub badCount : List ℕ → List ℕ → Bool
 badCount blocks edges =
-    not (wholeRows 3 blocks) || (ltb (rowCount 3 blocks) 1 || (ltb 4096 (rowCount 3 blocks) || (not (wholeRows 2 edges) || ltb 16384 (rowCount 2 edges))))
+    not (wholeRows blockWidth blocks) || (ltb (blockCount blocks) 1 || (ltb 4096 (blockCount blocks) || (not (wholeRows edgeWidth edges) || ltb 16384 (edgeCount edges))))
 
 abbrev pub countVerdict : List ℕ → List ℕ → Verdict
 countVerdict blocks edges = check Count (badCount blocks edges)

@@ -9,6 +9,7 @@ use Rattle.refusals.specs.declared.Verdict.{Verdict}
 use Rattle.refusals.specs.declared.Refusal.the-variants.{Line, Edge as EdgeWord}
 use Rattle.refusals.specs.Verdicts.{scan}
 use Rattle.words.specs.Rows.{records}
+use Rattle.words.specs.Widths.{blockWidth, edgeWidth}
 use Rattle.ranges.specs.declared.Range.{Range}
 use Rattle.ranges.specs.Points.{range}
 use Rattle.graph.specs.declared.Block.{Block}
@@ -28,10 +29,10 @@ pub record Jump : Type 0 where
 
 -- rows `B,number,start,end` and `E,from,to`
 abbrev pub blocksOf : List ℕ → List Stretch
-blocksOf s = records 3 (λ f. record { number = f 0; start = f 1; end = f 2 }) s
+blocksOf s = records blockWidth (λ f. record { number = f 0; start = f 1; end = f 2 }) s
 
 abbrev pub jumpsOf : List ℕ → List Jump
-jumpsOf s = records 2 (λ f. record { from = f 0; to = f 1 }) s
+jumpsOf s = records edgeWidth (λ f. record { from = f 0; to = f 1 }) s
 
 abbrev pub nowhere : Stretch
 nowhere = record { number = 0; start = 0; end = 0 }

@@ -11,6 +11,7 @@ ghost use Rattle.cases.specs.Cuts.{Ordered};
 use cases::Cuts;
 use flow::Over;
 use refusals::Refusal;
+use words::widths::block;
 
 fn begin(shape: u8, part: u8) {
     let head = [shape, part];
@@ -110,7 +111,7 @@ fn show_rows(
     passes: &[u64],
     work: &mut [u64],
 ) {
-    let n = blocks.len() / 3;
+    let n = blocks.len() / block::WIDTH;
     if n <= bits.len() {
         show_flowed(
             shape,

@@ -7,25 +7,25 @@ use mathlib.Core.Bool.{Bool, false, not, _&&_}
 use mathlib.Core.List.{List}
 use lib.ListN.{getD}
 use borrow.Author.Tests.{eq-eqb, ne-eqb}
-use Rattle.words.specs.Rows.{field}
+use Rattle.words.specs.Widths.{instWidth, instPlaced, instLea, instMem}
 use Rattle.carrying.specs.Insts.{isSet}
 
 module _ (s : List ℕ) (i : ℕ) where
-  first : getD s (9 * i) 0 ≡ field 9 s i 0
-  first = ap (λ (k : ℕ). getD s k 0) (sym (add-zero (9 * i)))
+  first : getD s (instWidth * i) 0 ≡ instPlaced s i
+  first = ap (λ (k : ℕ). getD s k 0) (sym (add-zero (instWidth * i)))
 
-  pub unplaced-is : not (isSet (getD s (9 * i) 0)) ≡ not (isSet (field 9 s i 0))
+  pub unplaced-is : not (isSet (getD s (instWidth * i) 0)) ≡ not (isSet (instPlaced s i))
   unplaced-is = ap (λ (x : ℕ). not (isSet x)) first
 
-  pub handing-unplaced : getD s (9 * i) 0 ≢ 1 → false ≡ (isSet (field 9 s i 0) && (isSet (field 9 s i 4) && isSet (field 9 s i 5)))
-  handing-unplaced h = sym (ap (λ (t : Bool). t && (isSet (field 9 s i 4) && isSet (field 9 s i 5))) (ne-eqb (field 9 s i 0) 1 (λ e. h (first ∙ e))))
+  pub handing-unplaced : getD s (instWidth * i) 0 ≢ 1 → false ≡ (isSet (instPlaced s i) && (isSet (instLea s i) && isSet (instMem s i)))
+  handing-unplaced h = sym (ap (λ (t : Bool). t && (isSet (instLea s i) && isSet (instMem s i))) (ne-eqb (instPlaced s i) 1 (λ e. h (first ∙ e))))
 
-  module _ (placed : getD s (9 * i) 0 ≡ 1) where
-    is-placed : (isSet (field 9 s i 0) && (isSet (field 9 s i 4) && isSet (field 9 s i 5))) ≡ (isSet (field 9 s i 4) && isSet (field 9 s i 5))
-    is-placed = ap (λ (t : Bool). t && (isSet (field 9 s i 4) && isSet (field 9 s i 5))) (eq-eqb (field 9 s i 0) 1 (sym first ∙ placed))
+  module _ (placed : getD s (instWidth * i) 0 ≡ 1) where
+    is-placed : (isSet (instPlaced s i) && (isSet (instLea s i) && isSet (instMem s i))) ≡ (isSet (instLea s i) && isSet (instMem s i))
+    is-placed = ap (λ (t : Bool). t && (isSet (instLea s i) && isSet (instMem s i))) (eq-eqb (instPlaced s i) 1 (sym first ∙ placed))
 
-    pub handing-other : field 9 s i 4 ≢ 1 → false ≡ (isSet (field 9 s i 0) && (isSet (field 9 s i 4) && isSet (field 9 s i 5)))
-    handing-other h = sym (is-placed ∙ ap (λ (t : Bool). t && isSet (field 9 s i 5)) (ne-eqb (field 9 s i 4) 1 h))
+    pub handing-other : instLea s i ≢ 1 → false ≡ (isSet (instPlaced s i) && (isSet (instLea s i) && isSet (instMem s i)))
+    handing-other h = sym (is-placed ∙ ap (λ (t : Bool). t && isSet (instMem s i)) (ne-eqb (instLea s i) 1 h))
 
-    pub handing-lea : field 9 s i 4 ≡ 1 → isSet (field 9 s i 5) ≡ (isSet (field 9 s i 0) && (isSet (field 9 s i 4) && isSet (field 9 s i 5)))
-    handing-lea h = sym (is-placed ∙ ap (λ (t : Bool). t && isSet (field 9 s i 5)) (eq-eqb (field 9 s i 4) 1 h))
+    pub handing-lea : instLea s i ≡ 1 → isSet (instMem s i) ≡ (isSet (instPlaced s i) && (isSet (instLea s i) && isSet (instMem s i)))
+    handing-lea h = sym (is-placed ∙ ap (λ (t : Bool). t && isSet (instMem s i)) (eq-eqb (instLea s i) 1 h))

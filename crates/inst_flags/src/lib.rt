@@ -3,28 +3,29 @@ ghost use mathlib.Core.Path.{_≡_};
 ghost use mathlib.Core.Bool.{not, _&&_};
 ghost use Prim.Native.Nat.{_/_, _<_};
 ghost use lib.ListN.{length};
-ghost use Rattle.words.specs.Rows.{field};
+ghost use Rattle.words.specs.Widths.{instCount, instPlaced, instLea, instMem};
 ghost use Rattle.carrying.specs.Insts.{isSet};
+use words::widths::inst;
 
 // Only placed instructions read.
 pub fn unplaced(insts: &[u32], i: usize) -> bool
-    requires { ⌜ i < length (now insts) / 9 ⌝ }
-    ensures { λ r. ⌜ r ≡ not (isSet (field 9 (now (insts .entry)) i 0)) ⌝ }
+    requires { ⌜ i < instCount (now insts) ⌝ }
+    ensures { λ r. ⌜ r ≡ not (isSet (instPlaced (now (insts .entry)) i)) ⌝ }
 {
-    insts[9 * i] != 1
+    insts[inst::WIDTH * i] != 1
 }
 
 // A placed `lea` in memory mode hands an address on.
 pub fn handing(insts: &[u32], i: usize) -> bool
-    requires { ⌜ i < length (now insts) / 9 ⌝ }
-    ensures { λ r. ⌜ r ≡ (isSet (field 9 (now (insts .entry)) i 0) && (isSet (field 9 (now (insts .entry)) i 4) && isSet (field 9 (now (insts .entry)) i 5))) ⌝ }
+    requires { ⌜ i < instCount (now insts) ⌝ }
+    ensures { λ r. ⌜ r ≡ (isSet (instPlaced (now (insts .entry)) i) && (isSet (instLea (now (insts .entry)) i) && isSet (instMem (now (insts .entry)) i))) ⌝ }
 {
-    let at = 9 * i;
+    let at = inst::WIDTH * i;
     if insts[at] != 1 {
         return false;
     }
-    if insts[at + 4] != 1 {
+    if insts[at + inst::LEA] != 1 {
         return false;
     }
-    insts[at + 5] == 1
+    insts[at + inst::MEM] == 1
 }

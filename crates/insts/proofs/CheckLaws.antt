@@ -18,6 +18,8 @@ use Rattle.refusals.specs.Verdicts.{first, scan, check}
 use Rattle.refusals.proofs.Laws.{first-fine, first-bad, first-left, first-right, bad-fine}
 use Rattle.words.specs.Rows.{rowCount, field}
 use Rattle.words.specs.Search.{Splits}
+use Rattle.words.specs.Widths.{blockWidth, blockCount, blockStart, blockEnd, instWidth, instCount, instPlaced, instEarly, instLate, instOperands, operandWidth, operandCount, localWidth}
+use Rattle.words.specs.Widths.{mentionWidth, mentionCount, mentionInst}
 use Rattle.words.proofs.RowLaws.{length-records, getD-records}
 use Rattle.words.proofs.Points.{cut, same}
 use Rattle.graph.specs.Line.{Stretch, blocksOf, blockAt, placeIn, Sound}
@@ -58,67 +60,67 @@ pub most-few : (m n : ℕ) → mostVerdict m n ≡ Fine → n ≤ m
 most-few m n v = cut n m (λ e. e) (λ e. absurd (bad-fine (most-many m n e ∙ v)))
 
 module _ (blocks : List ℕ) where
-  pub no-rows : (r : Refusal) (i : ℕ) → rowsVerdict 3 4096 (length blocks) ≡ Bad r i → Bad r i ≡ blockCounts blocks
+  pub no-rows : (r : Refusal) (i : ℕ) → rowsVerdict blockWidth 4096 (length blocks) ≡ Bad r i → Bad r i ≡ blockCounts blocks
   no-rows r i e = sym (first-bad _ _ r i e)
 
-  pub no-block : rowsVerdict 3 4096 (length blocks) ≡ Fine → length blocks / 3 < 1 → Bad Count 0 ≡ blockCounts blocks
-  no-block e h = sym (first-fine _ _ e ∙ rw (lt-ltb (length blocks / 3) 1 h))
+  pub no-block : rowsVerdict blockWidth 4096 (length blocks) ≡ Fine → blockCount blocks < 1 → Bad Count 0 ≡ blockCounts blocks
+  no-block e h = sym (first-fine _ _ e ∙ rw (lt-ltb (blockCount blocks) 1 h))
 
-  pub blocks-fine : rowsVerdict 3 4096 (length blocks) ≡ Fine → 1 ≤ length blocks / 3 → Fine ≡ blockCounts blocks
-  blocks-fine e h = sym (first-fine _ _ e ∙ rw (le-ltb (length blocks / 3) 1 h))
+  pub blocks-fine : rowsVerdict blockWidth 4096 (length blocks) ≡ Fine → 1 ≤ blockCount blocks → Fine ≡ blockCounts blocks
+  blocks-fine e h = sym (first-fine _ _ e ∙ rw (le-ltb (blockCount blocks) 1 h))
 
-  pub blocks-few : blockCounts blocks ≡ Fine → length blocks / 3 ≤ 4096
-  blocks-few v = rows-few 3 4096 (length blocks) (first-left _ _ v)
+  pub blocks-few : blockCounts blocks ≡ Fine → blockCount blocks ≤ 4096
+  blocks-few v = rows-few blockWidth 4096 (length blocks) (first-left _ _ v)
 
-  none-lent : length blocks / 3 < 1 → Bad Count 0 ≡ check Count (ltb (length blocks / 3) 1)
-  none-lent h = simp (lt-ltb (length blocks / 3) 1 h)
+  none-lent : blockCount blocks < 1 → Bad Count 0 ≡ check Count (ltb (blockCount blocks) 1)
+  none-lent h = simp (lt-ltb (blockCount blocks) 1 h)
 
-  pub blocks-some : blockCounts blocks ≡ Fine → 1 ≤ length blocks / 3
+  pub blocks-some : blockCounts blocks ≡ Fine → 1 ≤ blockCount blocks
   blocks-some v =
-      cut 1 (length blocks / 3) (λ e. e)
-      (λ e. absurd (bad-fine (none-lent e ∙ first-right (rowsVerdict 3 4096 (length blocks)) (check Count (ltb (length blocks / 3) 1)) v)))
+      cut 1 (blockCount blocks) (λ e. e)
+      (λ e. absurd (bad-fine (none-lent e ∙ first-right (rowsVerdict blockWidth 4096 (length blocks)) (check Count (ltb (blockCount blocks) 1)) v)))
 
 module _ (insts operands : List ℕ) where
-  pub sum-off : offset insts (rowCount 9 insts) ≢ rowCount 2 operands → Bad Count 0 ≡ addUp insts operands
-  sum-off h = simp (ne-eqb (offset insts (rowCount 9 insts)) (rowCount 2 operands) h)
+  pub sum-off : offset insts (instCount insts) ≢ operandCount operands → Bad Count 0 ≡ addUp insts operands
+  sum-off h = simp (ne-eqb (offset insts (instCount insts)) (operandCount operands) h)
 
   pub sum-fine : AddsUp insts operands → Fine ≡ addUp insts operands
-  sum-fine h = simp (eq-eqb (offset insts (rowCount 9 insts)) (rowCount 2 operands) h)
+  sum-fine h = simp (eq-eqb (offset insts (instCount insts)) (operandCount operands) h)
 
-  pub insts-bad : (r : Refusal) (i : ℕ) → rowsVerdict 9 65536 (length insts) ≡ Bad r i → Bad r i ≡ instCounts insts operands
+  pub insts-bad : (r : Refusal) (i : ℕ) → rowsVerdict instWidth 65536 (length insts) ≡ Bad r i → Bad r i ≡ instCounts insts operands
   unfolding instCounts
   insts-bad r i e = sym (first-bad _ _ r i e)
 
-  pub operands-bad : (r : Refusal) (i : ℕ) → rowsVerdict 9 65536 (length insts) ≡ Fine → rowsVerdict 2 262144 (length operands) ≡ Bad r i → Bad r i ≡ instCounts insts operands
+  pub operands-bad : (r : Refusal) (i : ℕ) → rowsVerdict instWidth 65536 (length insts) ≡ Fine → rowsVerdict operandWidth 262144 (length operands) ≡ Bad r i → Bad r i ≡ instCounts insts operands
   unfolding instCounts
   operands-bad r i e f = sym (first-fine _ _ e ∙ first-bad _ _ r i f)
 
-  pub sum-last : rowsVerdict 9 65536 (length insts) ≡ Fine → rowsVerdict 2 262144 (length operands) ≡ Fine → addUp insts operands ≡ instCounts insts operands
+  pub sum-last : rowsVerdict instWidth 65536 (length insts) ≡ Fine → rowsVerdict operandWidth 262144 (length operands) ≡ Fine → addUp insts operands ≡ instCounts insts operands
   unfolding instCounts
   sum-last e f = sym (first-fine _ _ e ∙ first-fine _ _ f)
 
   -- what a fine verdict says
   pub record InstsCounted : Type 0 where
-    pub few : length insts / 9 ≤ 65536
-    pub few-operands : length operands / 2 ≤ 262144
+    pub few : instCount insts ≤ 65536
+    pub few-operands : operandCount operands ≤ 262144
     pub adds : AddsUp insts operands
 
   pub insts-counted : instCounts insts operands ≡ Fine → InstsCounted
   unfolding instCounts
   insts-counted v =
-      let a = first-left (rowsVerdict 9 65536 (length insts)) _ v in
-      let b = first-right (rowsVerdict 9 65536 (length insts)) _ v in
-      let d = first-right (rowsVerdict 2 262144 (length operands)) (addUp insts operands) b in
+      let a = first-left (rowsVerdict instWidth 65536 (length insts)) _ v in
+      let b = first-right (rowsVerdict instWidth 65536 (length insts)) _ v in
+      let d = first-right (rowsVerdict operandWidth 262144 (length operands)) (addUp insts operands) b in
       record {
-        few = rows-few 9 65536 (length insts) a;
-        few-operands = rows-few 2 262144 (length operands) (first-left (rowsVerdict 2 262144 (length operands)) (addUp insts operands) b);
+        few = rows-few instWidth 65536 (length insts) a;
+        few-operands = rows-few operandWidth 262144 (length operands) (first-left (rowsVerdict operandWidth 262144 (length operands)) (addUp insts operands) b);
         adds = same _ _ (λ e. e) (λ e. absurd (bad-fine (sum-off e ∙ d)));
       }
 
 -- the chain of all counts
 pub counts-chain : (v : ℕ) (insts operands crossings locals addresses ends : List ℕ) {a b c d e f g h i j r : Verdict}
-    → a ≡ mostVerdict 65535 v → b ≡ instCounts insts operands → c ≡ mostVerdict 65536 (length crossings) → d ≡ rowsVerdict 2 2048 (length locals)
-    → e ≡ rowsVerdict 2 65536 (length addresses) → f ≡ rowsVerdict 2 65536 (length ends)
+    → a ≡ mostVerdict 65535 v → b ≡ instCounts insts operands → c ≡ mostVerdict 65536 (length crossings) → d ≡ rowsVerdict localWidth 2048 (length locals)
+    → e ≡ rowsVerdict mentionWidth 65536 (length addresses) → f ≡ rowsVerdict mentionWidth 65536 (length ends)
     → g ≡ first e f → h ≡ first d g → i ≡ first c h → j ≡ first b i → r ≡ first a j
     → r ≡ codeCounts v insts operands crossings locals addresses ends
 unfolding codeCounts
@@ -128,11 +130,11 @@ counts-chain v insts operands crossings locals addresses ends ea eb ec ed ee ef 
 
 module _ (s : List ℕ) (S : Sound (blocksOf s)) where
   -- the search finds the one block that has the point
-  pub search-found : (r k e : ℕ) → Splits (λ i. leb (field 3 s i 1) e) (length s / 3) r → k < length s / 3
+  pub search-found : (r k e : ℕ) → Splits (λ i. leb (blockStart s i) e) (blockCount s) r → k < blockCount s
       → blockAt (blocksOf s) k .start ≤ e → e ≤ blockAt (blocksOf s) k .end → r ≡ k + 1
   search-found r k e p h a b =
       cut r k
-      (λ l. absurd (let z = leb-false (field 3 s k 1) e (p .fails k l h) in let q = start-is s k h in omega arith))
+      (λ l. absurd (let z = leb-false (blockStart s k) e (p .fails k l h) in let q = start-is s k h in omega arith))
       (λ l. cut r (k + 1) (λ m. omega arith)
       (λ m. absurd (
       let z = p .holds (k + 1) m in
@@ -140,14 +142,14 @@ module _ (s : List ℕ) (S : Sound (blocksOf s)) where
       let w = p .within in
       let q = start-is s (k + 1) (omega arith) in
       let g = rw (← add-one k) at (S .gapless k (let y = add-one k in omega arith)) in
-      cut (field 3 s (k + 1) 1) e (λ y. omega arith) (λ y. let o : _≡_ {A = ℕ} 0 1 = cc (lt-leb (field 3 s (k + 1) 1) e y) in omega arith))))
+      cut (blockStart s (k + 1)) e (λ y. omega arith) (λ y. let o : _≡_ {A = ℕ} 0 1 = cc (lt-leb (blockStart s (k + 1)) e y) in omega arith))))
 
   module _ (number early late : ℕ) where
     bs : List Stretch
     bs = blocksOf s
 
     -- no block, or one that has not both points
-    pub not-in : ((k : ℕ) → k < length s / 3 → blockAt (blocksOf s) k .number ≡ number → blockAt (blocksOf s) k .start ≤ early → late ≤ blockAt (blocksOf s) k .end → ⊥)
+    pub not-in : ((k : ℕ) → k < blockCount s → blockAt (blocksOf s) k .number ≡ number → blockAt (blocksOf s) k .start ≤ early → late ≤ blockAt (blocksOf s) k .end → ⊥)
         → true ≡ misplaced (blocksOf s) (placing number early late)
     not-in f =
         cut (length (blocksOf s)) number
@@ -163,8 +165,8 @@ module _ (s : List ℕ) (S : Sound (blocksOf s)) where
         (λ b. sym (lt-ltb _ _ b))))
         (λ a. rw (lt-ltb early (blockAt (blocksOf s) (placeIn (blocksOf s) number) .start) a) refl)))
 
-    pub found-in : (k : ℕ) → k < length s / 3 → getD s (3 * k) 0 ≡ number → field 3 s k 1 ≤ early
-        → ltb (field 3 s k 2) late ≡ misplaced (blocksOf s) (placing number early late)
+    pub found-in : (k : ℕ) → k < blockCount s → getD s (blockWidth * k) 0 ≡ number → blockStart s k ≤ early
+        → ltb (blockEnd s k) late ≡ misplaced (blocksOf s) (placing number early late)
     found-in k h e l =
         let a : k < length (blocksOf s) = rw (blocks-length s) h in
         let n : blockAt (blocksOf s) k .number ≡ number = number-is s k h ∙ e in
@@ -211,25 +213,25 @@ split false false false true e = refl
 split false false false false e = refl
 
 -- an instruction in three parts
-pub inst-split : (bs : List Stretch) (v : ℕ) (insts operands : List ℕ) (i : ℕ) → AddsUp insts operands → i < rowCount 9 insts
+pub inst-split : (bs : List Stretch) (v : ℕ) (insts operands : List ℕ) (i : ℕ) → AddsUp insts operands → i < instCount insts
     → badInst bs v (instAt (instsOf insts operands) i)
-    ≡ ((ltb (field 9 insts i 3) (field 9 insts i 2) || isSet (field 9 insts i 0) && misplaced bs (rowInst insts i))
-    || ((badFlags (rowInst insts i) || badPositions (rowInst insts i)) || any (badOperand v) (operandsFrom operands (offset insts i) (field 9 insts i 8))))
+    ≡ ((ltb (instLate insts i) (instEarly insts i) || isSet (instPlaced insts i) && misplaced bs (rowInst insts i))
+    || ((badFlags (rowInst insts i) || badPositions (rowInst insts i)) || any (badOperand v) (operandsFrom operands (offset insts i) (instOperands insts i))))
 unfolding badInst
 inst-split bs v insts operands i adds h =
     ap (badInst bs v) (inst-at insts operands adds i h)
-    ∙ split (ltb (field 9 insts i 3) (field 9 insts i 2)) (isSet (field 9 insts i 0) && misplaced bs (rowInst insts i)) (badFlags (rowInst insts i)) (badPositions (rowInst insts i))
-    (any (badOperand v) (operandsFrom operands (offset insts i) (field 9 insts i 8)))
+    ∙ split (ltb (instLate insts i) (instEarly insts i)) (isSet (instPlaced insts i) && misplaced bs (rowInst insts i)) (badFlags (rowInst insts i)) (badPositions (rowInst insts i))
+    (any (badOperand v) (operandsFrom operands (offset insts i) (instOperands insts i)))
 
-module _ (bs : List Stretch) (v : ℕ) (insts operands : List ℕ) (i : ℕ) (adds : AddsUp insts operands) (h : i < rowCount 9 insts) where
+module _ (bs : List Stretch) (v : ℕ) (insts operands : List ℕ) (i : ℕ) (adds : AddsUp insts operands) (h : i < instCount insts) where
   abbrev Points : Bool
-  Points = ltb (field 9 insts i 3) (field 9 insts i 2) || isSet (field 9 insts i 0) && misplaced bs (rowInst insts i)
+  Points = ltb (instLate insts i) (instEarly insts i) || isSet (instPlaced insts i) && misplaced bs (rowInst insts i)
 
   abbrev Fields : Bool
   Fields = badFlags (rowInst insts i) || badPositions (rowInst insts i)
 
   abbrev Operands : Bool
-  Operands = any (badOperand v) (operandsFrom operands (offset insts i) (field 9 insts i 8))
+  Operands = any (badOperand v) (operandsFrom operands (offset insts i) (instOperands insts i))
 
   pub by-points : Points ≡ true → true ≡ badInst bs v (instAt (instsOf insts operands) i)
   by-points e = sym (inst-split bs v insts operands i adds h ∙ ap (λ (t : Bool). t || (Fields || Operands)) e)
@@ -252,32 +254,32 @@ crossing-is v xs =
     (λ i h. let z : 1 * i + 0 ≡ i = omega arith in ap (λ (k : ℕ). leb (v + 256) (getD xs k 0)) z)
 
 module _ (insts operands s : List ℕ) where
-  pub mentions-length : length (mentionsOf s) ≡ rowCount 2 s
-  mentions-length = length-records {A = Mention} 2 (λ f. record { inst = f 0; local = f 1 }) s
+  pub mentions-length : length (mentionsOf s) ≡ mentionCount s
+  mentions-length = length-records {A = Mention} mentionWidth (λ f. record { inst = f 0; local = f 1 }) s
 
-  pub inst-is : (i : ℕ) → i < rowCount 2 s → mentionAt (mentionsOf s) i .inst ≡ getD s (2 * i) 0
+  pub inst-is : (i : ℕ) → i < mentionCount s → mentionAt (mentionsOf s) i .inst ≡ getD s (mentionWidth * i) 0
   inst-is i h =
-      ap (λ (m : Mention). m .inst) (getD-records 2 (λ f. record { inst = f 0; local = f 1 }) s i (record { inst = 0; local = 0 }) h) ∙ ap (λ (k : ℕ). getD s k 0) (add-zero (2 * i))
+      ap (λ (m : Mention). m .inst) (getD-records mentionWidth (λ f. record { inst = f 0; local = f 1 }) s i (record { inst = 0; local = 0 }) h) ∙ ap (λ (k : ℕ). getD s k 0) (add-zero (mentionWidth * i))
 
-  pub unplaced-same : (x : ℕ) → (leb (rowCount 9 insts) x || not (isSet (field 9 insts x 0)))
+  pub unplaced-same : (x : ℕ) → (leb (instCount insts) x || not (isSet (instPlaced insts x)))
       ≡ (absent (instsOf insts operands) x || not (isSet (instAt (instsOf insts operands) x .placed)))
   unplaced-same x =
-      cut (rowCount 9 insts) x
-      (λ h. rw (insts-length insts operands) (rw (le-leb (rowCount 9 insts) x h) refl))
+      cut (instCount insts) x
+      (λ h. rw (insts-length insts operands) (rw (le-leb (instCount insts) x h) refl))
       (λ h. rw (insts-length insts operands, placed-is insts operands x h))
 
-  pub address-is : (i : ℕ) (r : Bool) → i < rowCount 2 s → r ≡ (leb (rowCount 9 insts) (getD s (2 * i) 0) || not (isSet (field 9 insts (getD s (2 * i) 0) 0)))
+  pub address-is : (i : ℕ) (r : Bool) → i < mentionCount s → r ≡ (leb (instCount insts) (getD s (mentionWidth * i) 0) || not (isSet (instPlaced insts (getD s (mentionWidth * i) 0))))
       → (absent (instsOf insts operands) (mentionAt (mentionsOf s) i .inst) || not (isSet (instAt (instsOf insts operands) (mentionAt (mentionsOf s) i .inst) .placed))) ≡ r
   address-is i r h e =
       ap (λ (x : ℕ). absent (instsOf insts operands) x || not (isSet (instAt (instsOf insts operands) x .placed))) (inst-is i h)
-      ∙ sym (unplaced-same (getD s (2 * i) 0)) ∙ sym e
+      ∙ sym (unplaced-same (getD s (mentionWidth * i) 0)) ∙ sym e
 
-  pub end-is-below : scan Stray (λ n. leb (rowCount 9 insts) (field 2 s n 0)) (rowCount 2 s) ≡ endVerdict (instsOf insts operands) (mentionsOf s)
+  pub end-is-below : scan Stray (λ n. leb (instCount insts) (mentionInst s n)) (mentionCount s) ≡ endVerdict (instsOf insts operands) (mentionsOf s)
   end-is-below =
-      ap (scan Stray (λ n. leb (rowCount 9 insts) (field 2 s n 0))) (sym mentions-length)
+      ap (scan Stray (λ n. leb (instCount insts) (mentionInst s n))) (sym mentions-length)
       ∙ scan-same Stray _ _ (length (mentionsOf s)) (λ i h.
-      let l : i < rowCount 2 s = rw mentions-length at h in
-      rw (insts-length insts operands) (ap (leb (rowCount 9 insts)) (ap (λ (k : ℕ). getD s k 0) (add-zero (2 * i)) ∙ sym (inst-is i l))))
+      let l : i < mentionCount s = rw mentions-length at h in
+      rw (insts-length insts operands) (ap (leb (instCount insts)) (ap (λ (k : ℕ). getD s k 0) (add-zero (mentionWidth * i)) ∙ sym (inst-is i l))))
 
 -- the verdicts do not depend on the operands
 pub address-whatever : (insts operands s : List ℕ) → addressVerdict (instsOf insts []) (mentionsOf s) ≡ addressVerdict (instsOf insts operands) (mentionsOf s)

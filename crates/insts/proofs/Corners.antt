@@ -8,13 +8,14 @@ use Rattle.refusals.specs.declared.Refusal.the-variants.{Count}
 use Rattle.refusals.specs.Verdicts.{first}
 use Rattle.graph.specs.Work.{sumOf}
 use Rattle.insts.specs.Counts.{rowsVerdict, mostVerdict, blockCounts, offset, addUp, instCounts, codeCounts}
+use Rattle.words.specs.Widths.{blockWidth, instWidth}
 
 -- rows of a width, and single numbers
 pub rows : (rowsVerdict 9 5 (9 * 5) ≡ Fine) × (rowsVerdict 9 5 (9 * 6) ≡ Bad Count 0) × (rowsVerdict 9 5 (9 * 4 + 1) ≡ Bad Count 0) × (mostVerdict 5 5 ≡ Fine) × (mostVerdict 5 6 ≡ Bad Count 0)
 rows = (refl, refl, refl, refl, refl)
 
 -- "B 1 to 4,096": at the limit and one record past it, none, one, and a row cut short
-pub block-limit : (blocks : List ℕ) → (length blocks ≡ 3 * 4096 → blockCounts blocks ≡ Fine) × (length blocks ≡ 3 * 4097 → blockCounts blocks ≡ Bad Count 0)
+pub block-limit : (blocks : List ℕ) → (length blocks ≡ blockWidth * 4096 → blockCounts blocks ≡ Fine) × (length blocks ≡ blockWidth * 4097 → blockCounts blocks ≡ Bad Count 0)
 unfolding first
 block-limit blocks = (λ e. rw e refl, λ e. rw e refl)
 
@@ -36,7 +37,7 @@ unfolding first sumOf instCounts codeCounts
 register-limit = (refl, refl)
 
 module _ (l : List ℕ) where
-  pub inst-limit : (length l ≡ 9 * 65536 → instCounts l [] ≡ addUp l []) × (length l ≡ 9 * 65537 → instCounts l [] ≡ Bad Count 0)
+  pub inst-limit : (length l ≡ instWidth * 65536 → instCounts l [] ≡ addUp l []) × (length l ≡ instWidth * 65537 → instCounts l [] ≡ Bad Count 0)
   unfolding first instCounts
   inst-limit = (λ e. rw e refl, λ e. rw e refl)
 

@@ -10,7 +10,8 @@ use lib.ListN.{length, getD, take, drop}
 use lib.Seq.{drop-drop}
 use Rattle.refusals.specs.declared.Refusal.{Refusal}
 use Rattle.refusals.specs.Verdicts.{scan}
-use Rattle.words.specs.Rows.{tabulate, rowCount, field, records}
+use Rattle.words.specs.Rows.{tabulate, field, records}
+use Rattle.words.specs.Widths.{instWidth, instCount, instPlaced, instEarly, instLate, instLea, instOperands, operandWidth, operandCount}
 use Rattle.words.proofs.RowLaws.{length-tabulate, getD-tabulate, take-tabulate, drop-tabulate, tabulate-suc, mem-tabulate}
 use Rattle.graph.specs.Work.{sumOf}
 use Rattle.graph.proofs.Sums.{sum-start, sum-within}
@@ -89,42 +90,42 @@ dealt-length [] os = refl
 dealt-length (f ∷ fs) os = ap suc (dealt-length fs (drop (f 8) os))
 
 module _ (insts operands : List ℕ) where
-  pub insts-length : length (instsOf insts operands) ≡ rowCount 9 insts
-  insts-length = dealt-length (records 9 (λ f. f) insts) _ ∙ length-tabulate (rowCount 9 insts) _
+  pub insts-length : length (instsOf insts operands) ≡ instCount insts
+  insts-length = dealt-length (records instWidth (λ f. f) insts) _ ∙ length-tabulate (instCount insts) _
 
   -- an instruction's fields do not depend on the operands
-  row-at : (i : ℕ) → i < rowCount 9 insts
-      → instAt (instsOf insts operands) i ≡ instOf (field 9 insts i) (take (field 9 insts i 8) (drop (offset insts i) (records 2 (λ f. record { def = f 0; register = f 1 }) operands)))
+  row-at : (i : ℕ) → i < instCount insts
+      → instAt (instsOf insts operands) i ≡ instOf (field instWidth insts i) (take (instOperands insts i) (drop (offset insts i) (records operandWidth (λ f. record { def = f 0; register = f 1 }) operands)))
   row-at i h =
-      let l : i < length (records 9 (λ f. f) insts) = rw (length-tabulate (rowCount 9 insts) (λ i. field 9 insts i)) h in
-      let e : getD (records 9 (λ f. f) insts) i nothing ≡ field 9 insts i = getD-tabulate (rowCount 9 insts) (λ i. field 9 insts i) i nothing h in
-      dealt-at (records 9 (λ f. f) insts) (records 2 (λ f. record { def = f 0; register = f 1 }) operands) i l
-      ∙ ap (λ (f : ℕ → ℕ). instOf f (take (f 8) (drop (skipped (records 9 (λ f. f) insts) i) (records 2 (λ f. record { def = f 0; register = f 1 }) operands)))) e
-      ∙ ap (λ (k : ℕ). instOf (field 9 insts i) (take (field 9 insts i 8) (drop k (records 2 (λ f. record { def = f 0; register = f 1 }) operands))))
-      (skipped-sum (rowCount 9 insts) i (λ i. field 9 insts i) (omega arith))
+      let l : i < length (records instWidth (λ f. f) insts) = rw (length-tabulate (instCount insts) (λ i. field instWidth insts i)) h in
+      let e : getD (records instWidth (λ f. f) insts) i nothing ≡ field instWidth insts i = getD-tabulate (instCount insts) (λ i. field instWidth insts i) i nothing h in
+      dealt-at (records instWidth (λ f. f) insts) (records operandWidth (λ f. record { def = f 0; register = f 1 }) operands) i l
+      ∙ ap (λ (f : ℕ → ℕ). instOf f (take (f 8) (drop (skipped (records instWidth (λ f. f) insts) i) (records operandWidth (λ f. record { def = f 0; register = f 1 }) operands)))) e
+      ∙ ap (λ (k : ℕ). instOf (field instWidth insts i) (take (instOperands insts i) (drop k (records operandWidth (λ f. record { def = f 0; register = f 1 }) operands))))
+      (skipped-sum (instCount insts) i (λ i. field instWidth insts i) (omega arith))
 
   module _ (adds : AddsUp insts operands) where
-    pub operands-within : (i : ℕ) → i < rowCount 9 insts → offset insts i + field 9 insts i 8 ≤ rowCount 2 operands
-    operands-within i h = rw adds at (sum-within (λ k. field 9 insts k 8) i (rowCount 9 insts) h)
+    pub operands-within : (i : ℕ) → i < instCount insts → offset insts i + instOperands insts i ≤ operandCount operands
+    operands-within i h = rw adds at (sum-within (λ k. instOperands insts k) i (instCount insts) h)
 
     -- its operands are those from its offset on
-    pub inst-at : (i : ℕ) → i < rowCount 9 insts
-        → instAt (instsOf insts operands) i ≡ instOf (field 9 insts i) (operandsFrom operands (offset insts i) (field 9 insts i 8))
+    pub inst-at : (i : ℕ) → i < instCount insts
+        → instAt (instsOf insts operands) i ≡ instOf (field instWidth insts i) (operandsFrom operands (offset insts i) (instOperands insts i))
     inst-at i h =
         row-at i h
-        ∙ ap (λ (l : List Operand). instOf (field 9 insts i) (take (field 9 insts i 8) l)) (drop-tabulate (offset insts i) (rowCount 2 operands) (operandAt operands) (omega (arith, operands-within i h)))
-        ∙ ap (instOf (field 9 insts i)) (take-tabulate (field 9 insts i 8) (rowCount 2 operands - offset insts i) (λ p. operandAt operands (offset insts i + p)) (omega (arith, operands-within i h)))
+        ∙ ap (λ (l : List Operand). instOf (field instWidth insts i) (take (instOperands insts i) l)) (drop-tabulate (offset insts i) (operandCount operands) (operandAt operands) (omega (arith, operands-within i h)))
+        ∙ ap (instOf (field instWidth insts i)) (take-tabulate (instOperands insts i) (operandCount operands - offset insts i) (λ p. operandAt operands (offset insts i + p)) (omega (arith, operands-within i h)))
 
   -- the fields of an instruction that is there
-  module _ (i : ℕ) (h : i < rowCount 9 insts) where
-    pub placed-is : instAt (instsOf insts operands) i .placed ≡ field 9 insts i 0
+  module _ (i : ℕ) (h : i < instCount insts) where
+    pub placed-is : instAt (instsOf insts operands) i .placed ≡ instPlaced insts i
     placed-is = ap (λ (x : Inst). x .placed) (row-at i h)
 
-    pub early-is : instAt (instsOf insts operands) i .early ≡ field 9 insts i 2
+    pub early-is : instAt (instsOf insts operands) i .early ≡ instEarly insts i
     early-is = ap (λ (x : Inst). x .early) (row-at i h)
 
-    pub late-is : instAt (instsOf insts operands) i .late ≡ field 9 insts i 3
+    pub late-is : instAt (instsOf insts operands) i .late ≡ instLate insts i
     late-is = ap (λ (x : Inst). x .late) (row-at i h)
 
-    pub lea-is : instAt (instsOf insts operands) i .lea ≡ field 9 insts i 4
+    pub lea-is : instAt (instsOf insts operands) i .lea ≡ instLea insts i
     lea-is = ap (λ (x : Inst). x .lea) (row-at i h)

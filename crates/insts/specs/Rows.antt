@@ -1,14 +1,15 @@
 -- Instructions and operands by their numbers in the lent rows.
 use Prim.Native.Nat.{ℕ, _+_}
 use mathlib.Core.List.{List, []}
-use Rattle.words.specs.Rows.{tabulate, rowCount, field}
+use Rattle.words.specs.Rows.{tabulate, field}
+use Rattle.words.specs.Widths.{instWidth, instCount, operandCount, operandDef, operandRegister}
 use Rattle.carrying.specs.Insts.{Operand, Inst, instOf}
 use Rattle.insts.specs.Counts.{offset}
 use mathlib.Core.Path.{_≡_}
 
 -- operand k of all
 abbrev pub operandAt : List ℕ → ℕ → Operand
-operandAt operands k = record { def = field 2 operands k 0; register = field 2 operands k 1 }
+operandAt operands k = record { def = operandDef operands k; register = operandRegister operands k }
 
 -- some operands from one on
 abbrev pub operandsFrom : List ℕ → ℕ → ℕ → List Operand
@@ -20,8 +21,8 @@ placing number early late = record { placed = 1; block = number; early = early; 
 
 -- instruction i but for its operands
 abbrev pub rowInst : List ℕ → ℕ → Inst
-rowInst insts i = instOf (field 9 insts i) []
+rowInst insts i = instOf (field instWidth insts i) []
 
 -- the operand counts add up
 abbrev pub AddsUp : List ℕ → List ℕ → Type 0
-AddsUp insts operands = offset insts (rowCount 9 insts) ≡ rowCount 2 operands
+AddsUp insts operands = offset insts (instCount insts) ≡ operandCount operands

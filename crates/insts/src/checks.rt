@@ -8,6 +8,7 @@ ghost use lib.Dec.{leb, ltb};
 ghost use Rattle.refusals.specs.Verdicts.{first, scan};
 ghost use Rattle.words.specs.Rows.{rowCount, field};
 ghost use Rattle.words.specs.Search.{Splits};
+ghost use Rattle.words.specs.Widths.{blockCount, blockStart, instCount, instPlaced, instEarly, instLate, operandCount};
 ghost use Rattle.graph.specs.Line.{blocksOf, lineVerdict, Sound};
 ghost use Rattle.carrying.specs.Lists.{any};
 ghost use Rattle.carrying.specs.Insts.{instsOf, instAt, isSet};
@@ -17,6 +18,9 @@ ghost use Rattle.insts.specs.Counts.{offset};
 ghost use Rattle.insts.specs.Rows.{operandsFrom, placing, rowInst, AddsUp};
 use refusals::Refusal;
 use refusals::Verdict;
+use words::widths::block;
+use words::widths::inst;
+use words::widths::mention;
 
 fn wide(x: u32) -> usize
     ensures { λ r. ⌜ r ≡ x ⌝ }
@@ -42,22 +46,22 @@ pub fn below(s: &[u32], width: usize, f: usize, limit: usize, word: Refusal) -> 
 
 // Whether a placed instruction is in no block or outside its block's points, where the first `k` blocks start no later than it: the number of the last of them must be the instruction's.
 fn outside(blocks: &[u32], number: u32, early: u32, late: u32, k: usize) -> bool
-    requires { ⌜ Sound (blocksOf (now blocks)) × (early ≤ late) × Splits (λ j. leb (field 3 (now blocks) j 1) early) (length (now blocks) / 3) k ⌝ }
+    requires { ⌜ Sound (blocksOf (now blocks)) × (early ≤ late) × Splits (λ j. leb (blockStart (now blocks) j) early) (blockCount (now blocks)) k ⌝ }
     ensures { λ r. ⌜ r ≡ misplaced (blocksOf (now (blocks .entry))) (placing number early late) ⌝ }
 {
     if k == 0 {
         return true;
     }
     let at = k - 1;
-    if blocks[3 * at] != number {
+    if blocks[block::WIDTH * at] != number {
         return true;
     }
-    blocks[3 * at + 2] < late
+    blocks[block::WIDTH * at + block::END] < late
 }
 
 // Whether one of `n` operands from `from` on has a flag or a register out of range.
 fn bad_operands(operands: &[u32], from: usize, n: usize, v: u32) -> bool
-    requires { ⌜ (from + n ≤ length (now operands) / 2) × (v ≤ 65535) ⌝ }
+    requires { ⌜ (from + n ≤ operandCount (now operands)) × (v ≤ 65535) ⌝ }
     ensures { λ r. ⌜ r ≡ any (badOperand v) (operandsFrom (now (operands .entry)) from n) ⌝ }
 {
     let mut p = 0;
@@ -72,41 +76,41 @@ fn bad_operands(operands: &[u32], from: usize, n: usize, v: u32) -> bool
 
 // Whether a flag or a position is out of range.
 fn bad_fields(insts: &[u32], i: usize) -> bool
-    requires { ⌜ i < length (now insts) / 9 ⌝ }
+    requires { ⌜ i < instCount (now insts) ⌝ }
     ensures { λ r. ⌜ r ≡ (badFlags (rowInst (now (insts .entry)) i) || badPositions (rowInst (now (insts .entry)) i)) ⌝ }
 {
-    let at = 9 * i;
+    let at = inst::WIDTH * i;
     if 1 < insts[at] {
         return true;
     }
-    if 1 < insts[at + 4] {
+    if 1 < insts[at + inst::LEA] {
         return true;
     }
-    if 1 < insts[at + 5] {
+    if 1 < insts[at + inst::MEM] {
         return true;
     }
-    if 256 < insts[at + 6] {
+    if 256 < insts[at + inst::BASE] {
         return true;
     }
-    256 < insts[at + 7]
+    256 < insts[at + inst::INDEX]
 }
 
 // Whether an instruction is reversed, or placed in no block or outside its points.
 fn bad_points(blocks: &[u32], insts: &[u32], i: usize, k: usize) -> bool
-    requires { ⌜ Sound (blocksOf (now blocks)) × (i < length (now insts) / 9) × Splits (λ j. leb (field 3 (now blocks) j 1) (field 9 (now insts) i 2)) (length (now blocks) / 3) k ⌝ }
-    ensures { λ r. ⌜ r ≡ (ltb (field 9 (now (insts .entry)) i 3) (field 9 (now (insts .entry)) i 2) || isSet (field 9 (now (insts .entry)) i 0) && misplaced
+    requires { ⌜ Sound (blocksOf (now blocks)) × (i < instCount (now insts)) × Splits (λ j. leb (blockStart (now blocks) j) (instEarly (now insts) i)) (blockCount (now blocks)) k ⌝ }
+    ensures { λ r. ⌜ r ≡ (ltb (instLate (now (insts .entry)) i) (instEarly (now (insts .entry)) i) || isSet (instPlaced (now (insts .entry)) i) && misplaced
         (blocksOf (now (blocks .entry))) (rowInst (now (insts .entry)) i)) ⌝ }
 {
-    let at = 9 * i;
-    let early = insts[at + 2];
-    let late = insts[at + 3];
+    let at = inst::WIDTH * i;
+    let early = insts[at + inst::EARLY];
+    let late = insts[at + inst::LATE];
     if late < early {
         return true;
     }
     if insts[at] != 1 {
         return false;
     }
-    outside(blocks, insts[at + 1], early, late, k)
+    outside(blocks, insts[at + inst::BLOCK], early, late, k)
 }
 
 // Whether instruction `i`, whose operands begin at `from`, is refused. `k` blocks start no later than its early point.
@@ -119,8 +123,8 @@ fn bad_inst(
     from: usize,
     k: usize,
 ) -> bool
-    requires { ⌜ Sound (blocksOf (now blocks)) × (i < length (now insts) / 9) × AddsUp (now insts) (now operands) ⌝ }
-    requires { ⌜ (from ≡ offset (now insts) i) × (v ≤ 65535) × Splits (λ j. leb (field 3 (now blocks) j 1) (field 9 (now insts) i 2)) (length (now blocks) / 3) k ⌝ }
+    requires { ⌜ Sound (blocksOf (now blocks)) × (i < instCount (now insts)) × AddsUp (now insts) (now operands) ⌝ }
+    requires { ⌜ (from ≡ offset (now insts) i) × (v ≤ 65535) × Splits (λ j. leb (blockStart (now blocks) j) (instEarly (now insts) i)) (blockCount (now blocks)) k ⌝ }
     ensures { λ r. ⌜ r ≡ badInst (blocksOf (now (blocks .entry))) v (instAt (instsOf (now (insts .entry)) (now (operands .entry))) i) ⌝ }
 {
     if bad_points(blocks, insts, i, k) {
@@ -129,7 +133,12 @@ fn bad_inst(
     if bad_fields(insts, i) {
         return true;
     }
-    bad_operands(operands, from, wide(insts[9 * i + 8]), v)
+    bad_operands(
+        operands,
+        from,
+        wide(insts[inst::WIDTH * i + inst::OPERANDS]),
+        v,
+    )
 }
 
 // Refusal 4: the first instruction that is refused; an operand counts as its instruction.
@@ -137,16 +146,16 @@ pub fn inst(blocks: &[u32], v: u32, insts: &[u32], operands: &[u32]) -> Verdict
     requires { ⌜ Sound (blocksOf (now blocks)) × AddsUp (now insts) (now operands) × (v ≤ 65535) ⌝ }
     ensures { λ r. ⌜ r ≡ instVerdict (blocksOf (now (blocks .entry))) v (instsOf (now (insts .entry)) (now (operands .entry))) ⌝ }
 {
-    let n = insts.len() / 9;
+    let n = insts.len() / inst::WIDTH;
     let mut from = 0;
     let mut i = 0;
     let mut k = 0;
     while i < n {
-        k = inst_parts::near(blocks, insts[9 * i + 2], k);
+        k = inst_parts::near(blocks, insts[inst::WIDTH * i + inst::EARLY], k);
         if bad_inst(blocks, v, insts, operands, i, from, k) {
             return Verdict::Bad(Refusal::Inst, i);
         }
-        from += wide(insts[9 * i + 8]);
+        from += wide(insts[inst::WIDTH * i + inst::OPERANDS]);
         i += 1;
     }
     Verdict::Fine
@@ -162,23 +171,23 @@ pub fn crossing(v: u32, crossings: &[u32]) -> Verdict
 
 // Whether there is no placed instruction with this number.
 pub fn unplaced(insts: &[u32], number: u32) -> bool
-    ensures { λ r. ⌜ r ≡ (leb (length (now (insts .entry)) / 9) number || not (isSet (field 9 (now (insts .entry)) number 0))) ⌝ }
+    ensures { λ r. ⌜ r ≡ (leb (instCount (now (insts .entry))) number || not (isSet (instPlaced (now (insts .entry)) number))) ⌝ }
 {
     let at = wide(number);
-    if insts.len() / 9 <= at {
+    if insts.len() / inst::WIDTH <= at {
         return true;
     }
-    insts[9 * at] != 1
+    insts[inst::WIDTH * at] != 1
 }
 
 // Refusal 5: the first address at an absent or unplaced instruction, whatever the operands.
 pub fn address(insts: &[u32], addresses: &[u32]) -> Verdict
     ensures { λ r. ⌜ r ≡ addressVerdict (instsOf (now (insts .entry)) []) (mentionsOf (now (addresses .entry))) ⌝ }
 {
-    let n = addresses.len() / 2;
+    let n = addresses.len() / mention::WIDTH;
     let mut i = 0;
     while i < n {
-        if unplaced(insts, addresses[2 * i]) {
+        if unplaced(insts, addresses[mention::WIDTH * i]) {
             return Verdict::Bad(Refusal::Stray, i);
         }
         i += 1;
@@ -190,12 +199,18 @@ pub fn address(insts: &[u32], addresses: &[u32]) -> Verdict
 pub fn end(insts: &[u32], ends: &[u32]) -> Verdict
     ensures { λ r. ⌜ r ≡ endVerdict (instsOf (now (insts .entry)) []) (mentionsOf (now (ends .entry))) ⌝ }
 {
-    below(ends, 2, 0, insts.len() / 9, Refusal::Stray)
+    below(
+        ends,
+        mention::WIDTH,
+        0,
+        insts.len() / inst::WIDTH,
+        Refusal::Stray,
+    )
 }
 
 // Refusals 2 and 4 of the blocks and the instructions.
 pub fn located(points: u32, v: u32, blocks: &[u32], insts: &[u32], operands: &[u32]) -> Verdict
-    requires { ⌜ (1 ≤ length (now blocks) / 3) × (length (now blocks) / 3 ≤ 4096) × AddsUp (now insts) (now operands) × (v ≤ 65535) ⌝ }
+    requires { ⌜ (1 ≤ blockCount (now blocks)) × (blockCount (now blocks) ≤ 4096) × AddsUp (now insts) (now operands) × (v ≤ 65535) ⌝ }
     ensures { λ r. ⌜ r ≡ first (lineVerdict (blocksOf (now (blocks .entry))) points) (instVerdict (blocksOf (now (blocks .entry))) v (instsOf (now (insts .entry)) (now (operands .entry)))) ⌝ }
 {
     let line = line_checks::line(blocks, points);

@@ -3,8 +3,14 @@ ghost use mathlib.Core.Path.{_≡_};
 ghost use Prim.Native.Nat.{_/_, _≤_, _<_};
 ghost use lib.ListN.{length};
 ghost use Rattle.insts.specs.Counts.{rowsVerdict, mostVerdict, blockCounts, offset, addUp, instCounts, codeCounts};
+ghost use Rattle.words.specs.Widths.{instCount};
 use refusals::Refusal;
 use refusals::Verdict;
+use words::widths::block;
+use words::widths::inst;
+use words::widths::local;
+use words::widths::mention;
+use words::widths::operand;
 
 // At most `limit` rows of `width` numbers each, and whole ones.
 pub fn rows(lent: usize, width: usize, limit: usize) -> Verdict
@@ -34,11 +40,11 @@ pub fn most(n: usize, limit: usize) -> Verdict
 pub fn blocks(blocks: &[u32]) -> Verdict
     ensures { λ r. ⌜ r ≡ blockCounts (now (blocks .entry)) ⌝ }
 {
-    let v = rows(blocks.len(), 3, 4096);
+    let v = rows(blocks.len(), block::WIDTH, 4096);
     if let Verdict::Bad(r, i) = v {
         return Verdict::Bad(r, i);
     }
-    if blocks.len() / 3 < 1 {
+    if blocks.len() / block::WIDTH < 1 {
         return Verdict::Bad(Refusal::Count, 0);
     }
     Verdict::Fine
@@ -46,14 +52,14 @@ pub fn blocks(blocks: &[u32]) -> Verdict
 
 // How many operands the instructions have, by their counts.
 fn operand_sum(insts: &[u32]) -> u64
-    requires { ⌜ length (now insts) / 9 ≤ 65536 ⌝ }
-    ensures { λ r. ⌜ r ≡ offset (now (insts .entry)) (length (now (insts .entry)) / 9) ⌝ }
+    requires { ⌜ instCount (now insts) ≤ 65536 ⌝ }
+    ensures { λ r. ⌜ r ≡ offset (now (insts .entry)) (instCount (now (insts .entry))) ⌝ }
 {
-    let n = insts.len() / 9;
+    let n = insts.len() / inst::WIDTH;
     let mut sum: u64 = 0;
     let mut i = 0;
     while i < n {
-        sum += insts[9 * i + 8] as u64;
+        sum += insts[inst::WIDTH * i + inst::OPERANDS] as u64;
         i += 1;
     }
     sum
@@ -61,10 +67,10 @@ fn operand_sum(insts: &[u32]) -> u64
 
 // Whether the operand counts add up to the operand list.
 fn add_up(insts: &[u32], operands: &[u32]) -> Verdict
-    requires { ⌜ length (now insts) / 9 ≤ 65536 ⌝ }
+    requires { ⌜ instCount (now insts) ≤ 65536 ⌝ }
     ensures { λ r. ⌜ r ≡ addUp (now (insts .entry)) (now (operands .entry)) ⌝ }
 {
-    let n = (operands.len() / 2) as u64;
+    let n = (operands.len() / operand::WIDTH) as u64;
     if operand_sum(insts) != n {
         return Verdict::Bad(Refusal::Count, 0);
     }
@@ -75,11 +81,11 @@ fn add_up(insts: &[u32], operands: &[u32]) -> Verdict
 pub fn insts(insts: &[u32], operands: &[u32]) -> Verdict
     ensures { λ r. ⌜ r ≡ instCounts (now (insts .entry)) (now (operands .entry)) ⌝ }
 {
-    let v = rows(insts.len(), 9, 65536);
+    let v = rows(insts.len(), inst::WIDTH, 65536);
     if let Verdict::Bad(r, i) = v {
         return Verdict::Bad(r, i);
     }
-    let v = rows(operands.len(), 2, 262144);
+    let v = rows(operands.len(), operand::WIDTH, 262144);
     if let Verdict::Bad(r, i) = v {
         return Verdict::Bad(r, i);
     }
@@ -101,9 +107,9 @@ pub fn code(
     let a = most(v as usize, 65535);
     let b = self::insts(insts, operands);
     let c = most(crossings.len(), 65536);
-    let d = rows(locals.len(), 2, 2048);
-    let e = rows(addresses.len(), 2, 65536);
-    let f = rows(ends.len(), 2, 65536);
+    let d = rows(locals.len(), local::WIDTH, 2048);
+    let e = rows(addresses.len(), mention::WIDTH, 65536);
+    let f = rows(ends.len(), mention::WIDTH, 65536);
     let f = refusals::earlier(e, f);
     let f = refusals::earlier(d, f);
     let f = refusals::earlier(c, f);

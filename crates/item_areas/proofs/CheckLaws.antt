@@ -22,6 +22,7 @@ use Rattle.item_areas.specs.Entry.{spaceVerdict, lentVerdict}
 use Rattle.job_space.specs.Rows.{Rows}
 use Rattle.job_checks.specs.Job.{countVerdict}
 use Rattle.areas.specs.Job.{checks}
+use Rattle.words.specs.Widths.{partWidth}
 
 -- ---- number 7
 
@@ -29,17 +30,17 @@ module _ (z : Sizes) (items work : ℕ) where
   pub short-work : work < spaceOf z → Bad Space 0 ≡ spaceVerdict z items work
   short-work h = simp (lt-ltb work (spaceOf z) h)
 
-  pub short-items : spaceOf z ≤ work → items / 3 < z .locals + z .slots → Bad Space 0 ≡ spaceVerdict z items work
-  short-items h m = simp (le-ltb work (spaceOf z) h, lt-ltb (items / 3) (z .locals + z .slots) m)
+  pub short-items : spaceOf z ≤ work → items / partWidth < z .locals + z .slots → Bad Space 0 ≡ spaceVerdict z items work
+  short-items h m = simp (le-ltb work (spaceOf z) h, lt-ltb (items / partWidth) (z .locals + z .slots) m)
 
-  pub enough : spaceOf z ≤ work → z .locals + z .slots ≤ items / 3 → Fine ≡ spaceVerdict z items work
-  enough h m = simp (le-ltb work (spaceOf z) h, le-ltb (items / 3) (z .locals + z .slots) m)
+  pub enough : spaceOf z ≤ work → z .locals + z .slots ≤ items / partWidth → Fine ≡ spaceVerdict z items work
+  enough h m = simp (le-ltb work (spaceOf z) h, le-ltb (items / partWidth) (z .locals + z .slots) m)
 
 -- ---- all of them
 
 module _ (R : Rows) (areas items work : ℕ) where
   abbrev whole : Verdict
-  whole = rowsVerdict 3 items items
+  whole = rowsVerdict partWidth items items
 
   abbrev space : Verdict
   space = spaceVerdict (sizesOf R areas) items work
@@ -63,14 +64,14 @@ module _ (R : Rows) (areas items work : ℕ) where
 
 -- where nothing is refused
 module _ (R : Rows) (areas items : ℕ) (w : List ℕ) where
-  pub lent : lentVerdict R areas items (length w) ≡ Fine → Lent R areas w × (3 * (sizesOf R areas .locals + sizesOf R areas .slots) ≤ items)
+  pub lent : lentVerdict R areas items (length w) ≡ Fine → Lent R areas w × (partWidth * (sizesOf R areas .locals + sizesOf R areas .slots) ≤ items)
   unfolding lentVerdict
   lent e =
       let z = sizesOf R areas in
-      let whole = rowsVerdict 3 items items in
+      let whole = rowsVerdict partWidth items items in
       let space = spaceVerdict z items (length w) in
-      let s = check-told Space (ltb (length w) (spaceOf z) || ltb (items / 3) (z .locals + z .slots)) (lent-space R areas whole space e) in
+      let s = check-told Space (ltb (length w) (spaceOf z) || ltb (items / partWidth) (z .locals + z .slots)) (lent-space R areas whole space e) in
       let (a, b) = or-neither (ltb (length w) (spaceOf z)) _ s in (
         record { passed = lent-passed R areas whole space e; space = ltb-false (length w) (spaceOf z) a },
-        (let q = ltb-false (items / 3) (z .locals + z .slots) b in omega arith),
+        (let q = ltb-false (items / partWidth) (z .locals + z .slots) b in omega arith),
       )

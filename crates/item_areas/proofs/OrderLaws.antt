@@ -11,6 +11,7 @@ use Rattle.refusals.specs.Orders.{Ordered}
 use Rattle.refusals.proofs.Laws.{check-last}
 use Rattle.refusals.proofs.Orders.{check-gives, giving-append, order-append}
 use Rattle.words.specs.Rows.{tabulate}
+use Rattle.words.specs.Widths.{partWidth, rangeWidth}
 use Rattle.insts.specs.Counts.{badRows}
 use Rattle.areas.specs.Job.{itemCount, itemArea, rangesOf, itemsVerdict, checks}
 use Rattle.job_space.specs.Space.{sizesOf, spaceOf}
@@ -21,7 +22,7 @@ use Rattle.job_space.specs.Rows.{Rows}
 
 module _ (R : Rows) (areas items work : ℕ) where
   abbrev list : Verdict
-  list = itemsVerdict (jobOf R) (areas / 2)
+  list = itemsVerdict (jobOf R) (areas / rangeWidth)
 
   -- what is refused before measuring, then number 9
   pub item-verdict : inOrder (itemChecks R areas items work) ≡ first (lentVerdict R areas items work) list
@@ -32,13 +33,13 @@ module _ (R : Rows) (areas items work : ℕ) where
   item-ordered = record {
     gives =
         giving-append (Count ∷ Count ∷ (checksGive ++ (Space ∷ []))) (ListWord ∷ []) (lentChecks R areas items work) (list ∷ []) (
-          check-gives Count (badRows 3 items items),
+          check-gives Count (badRows partWidth items items),
           (
             counts-give R areas,
             giving-append checksGive (Space ∷ []) (checks (jobOf R)) (spaceVerdict (sizesOf R areas) items work ∷ []) (checks-give (jobOf R))
-                (check-gives Space (ltb work (spaceOf (sizesOf R areas)) || ltb (items / 3) (sizesOf R areas .locals + sizesOf R areas .slots)), tt),
+                (check-gives Space (ltb work (spaceOf (sizesOf R areas)) || ltb (items / partWidth) (sizesOf R areas .locals + sizesOf R areas .slots)), tt),
           ),
         )
-        (check-gives ListWord (ltb (areas / 2) (rangesOf (tabulate (itemCount (jobOf R)) (itemArea (jobOf R))))), tt);
+        (check-gives ListWord (ltb (areas / rangeWidth) (rangesOf (tabulate (itemCount (jobOf R)) (itemArea (jobOf R))))), tt);
     rises = refl;
   }

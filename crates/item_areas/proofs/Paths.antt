@@ -10,6 +10,7 @@ use Rattle.refusals.specs.Outcomes.{given, unless, after}
 use Rattle.refusals.specs.Verdicts.{inOrder}
 use Rattle.refusals.proofs.Laws.{first-left}
 use Rattle.words.specs.Rows.{tabulate, field}
+use Rattle.words.specs.Widths.{partWidth, rangeCount}
 use Rattle.words.proofs.FlatLaws.{flat-length, flat-at}
 use Rattle.areas.specs.Job.{Job, itemCount, itemArea, rangesOf, itemsVerdict}
 use Rattle.area_tables.specs.Tables.{areaRows}
@@ -43,7 +44,7 @@ module _ {R : Rows} {areas items work areas′ items′ work′ : List ℕ} {n :
 
   lent-fine : lentV ≡ Fine
   lent-fine =
-      first-left lentV (itemsVerdict J (length areas / 2))
+      first-left lentV (itemsVerdict J (rangeCount areas))
       (sym (item-verdict R (length areas) (length items) (length work)) ∙ fine)
 
   passed : Passed R (length areas)
@@ -57,11 +58,11 @@ module _ {R : Rows} {areas items work areas′ items′ work′ : List ℕ} {n :
   items-written : items′ ≡ itemRows (itemCount J) (itemArea J) ++ drop (length (itemRows (itemCount J) (itemArea J))) items
   items-written = E .lists .in-items ∙ ap (λ (x : Verdict). after (unless x (total J)) (λ _. itemRows (itemCount J) (itemArea J)) items) fine
 
-  field-written : (i : ℕ) → i < itemCount J → (f : ℕ) → f < 3 → field 3 items′ i f ≡ getD (itemRow (rangesOf (tabulate i (itemArea J))) (itemArea J i)) f 0
+  field-written : (i : ℕ) → i < itemCount J → (f : ℕ) → f < 3 → field partWidth items′ i f ≡ getD (itemRow (rangesOf (tabulate i (itemArea J))) (itemArea J i)) f 0
   field-written i h f q =
       let wide : (j : ℕ) → j < itemCount J → length (itemRow (rangesOf (tabulate j (itemArea J))) (itemArea J j)) ≡ 3 = λ j _. row-long (rangesOf (tabulate j (itemArea J))) (itemArea J j) in
       let l = flat-length 3 (itemCount J) (λ j. itemRow (rangesOf (tabulate j (itemArea J))) (itemArea J j)) wide in
-      ap (λ (k : List ℕ). field 3 k i f) items-written ∙ List·getD-append (itemRows (itemCount J) (itemArea J)) _ 0 (3 * i + f) (omega arith)
+      ap (λ (k : List ℕ). field partWidth k i f) items-written ∙ List·getD-append (itemRows (itemCount J) (itemArea J)) _ 0 (partWidth * i + f) (omega arith)
       ∙ flat-at 3 (itemCount J) (λ j. itemRow (rangesOf (tabulate j (itemArea J))) (itemArea J j)) wide i f h q
 
   -- whenever the areas are given: a point is in the part of the area list that item i's row names exactly when document 01's definition has it, and the row says absent exactly

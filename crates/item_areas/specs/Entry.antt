@@ -11,6 +11,7 @@ use Rattle.refusals.specs.declared.Refusal.the-variants.{Count, Space, List as 
 use Rattle.refusals.specs.Verdicts.{inOrder, check}
 use Rattle.refusals.specs.Outcomes.{unless, after}
 use Rattle.words.specs.Rows.{tabulate}
+use Rattle.words.specs.Widths.{partWidth, rangeWidth}
 use Rattle.insts.specs.Counts.{rowsVerdict}
 use Rattle.areas.specs.Job.{Job, checks, itemCount, itemArea, rangesOf, itemsVerdict}
 use Rattle.job_space.specs.declared.Sizes.{Sizes}
@@ -22,18 +23,18 @@ use Rattle.item_lists.specs.Lists.{AnsweredBy}
 
 -- number 7: work space under W, item list under the item count
 abbrev pub spaceVerdict : Sizes → ℕ → ℕ → Verdict
-spaceVerdict z items work = check Space (ltb work (spaceOf z) || ltb (items / 3) (z .locals + z .slots))
+spaceVerdict z items work = check Space (ltb work (spaceOf z) || ltb (items / partWidth) (z .locals + z .slots))
 
 -- numbers 1 to 7 in the entry's order, "lowest number wins", what is refused before anything is measured: an item list that is no whole rows is no count; the records; the space
 abbrev pub lentChecks : Rows → ℕ → ℕ → ℕ → List Verdict
-lentChecks R areas items work = rowsVerdict 3 items items ∷ countVerdict R areas ∷ (checks (jobOf R) ++ (spaceVerdict (sizesOf R areas) items work ∷ []))
+lentChecks R areas items work = rowsVerdict partWidth items items ∷ countVerdict R areas ∷ (checks (jobOf R) ++ (spaceVerdict (sizesOf R areas) items work ∷ []))
 
 unfoldable pub lentVerdict : Rows → ℕ → ℕ → ℕ → Verdict
 lentVerdict R areas items work = inOrder (lentChecks R areas items work)
 
 -- all checks: 9 of what is found comes last; and the refusal that each gives
 abbrev pub itemChecks : Rows → ℕ → ℕ → ℕ → List Verdict
-itemChecks R areas items work = lentChecks R areas items work ++ (itemsVerdict (jobOf R) (areas / 2) ∷ [])
+itemChecks R areas items work = lentChecks R areas items work ++ (itemsVerdict (jobOf R) (areas / rangeWidth) ∷ [])
 
 abbrev pub itemGive : List Refusal
 itemGive = (Count ∷ Count ∷ (checksGive ++ (Space ∷ []))) ++ (ListWord ∷ [])

@@ -6,6 +6,7 @@ ghost use Rattle.item_areas.specs.Entry.{spaceVerdict, lentVerdict};
 use job_space::Sizes;
 use refusals::Refusal;
 use refusals::Verdict;
+use words::widths::part;
 
 // Refusal 7: work space under W, or an item list under the items.
 fn short(z: Sizes, items: usize, work: usize) -> Verdict
@@ -15,7 +16,7 @@ fn short(z: Sizes, items: usize, work: usize) -> Verdict
     if work < job_space::needed(z) {
         return Verdict::Bad(Refusal::Space, 0);
     }
-    if items / 3 < z.locals + z.slots {
+    if items / part::WIDTH < z.locals + z.slots {
         return Verdict::Bad(Refusal::Space, 0);
     }
     Verdict::Fine
@@ -43,7 +44,7 @@ pub fn refusal(
 ) -> Verdict
     ensures { λ r. ⌜ r ≡ lentVerdict (lentRows points v blocks edges insts operands crossings locals slots addresses ends pieces assigned moves) areas items work ⌝ }
 {
-    let whole = insts::counts::rows(items, 3, items);
+    let whole = insts::counts::rows(items, part::WIDTH, items);
     if let Verdict::Bad(r, i) = whole {
         return Verdict::Bad(r, i);
     }

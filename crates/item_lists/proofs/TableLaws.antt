@@ -14,6 +14,7 @@ use Rattle.refusals.specs.declared.Refusal.the-variants.{List as ListWord}
 use Rattle.refusals.specs.Verdicts.{check}
 use Rattle.refusals.specs.Outcomes.{given, unless, after}
 use Rattle.words.specs.Rows.{tabulate, flat}
+use Rattle.words.specs.Widths.{partWidth, rangeWidth}
 use Rattle.words.proofs.RowLaws.{tabulate-eq}
 use Rattle.words.proofs.FlatLaws.{flat-length}
 use Rattle.ranges.specs.declared.Range.{Range}
@@ -55,22 +56,22 @@ module _ (A : ℕ → Option (List Range)) (count room n : ℕ) (w : List ℕ) (
     areas-are : rowsIn w 0 n 0 ≡ areaRows count A
     areas-are = rows-areas count A w n (omega arith) (D .areas fits)
 
-    areas-long : length (areaRows count A) ≡ 2 * n
+    areas-long : length (areaRows count A) ≡ rangeWidth * n
     areas-long = ap length (sym areas-are) ∙ rows-long w 0 n 0
 
     items-are : rowsOf w room count ≡ itemRows count A
     items-are = ap flat (tabulate-eq count (λ i. rowOf (getD w (room + i) 0)) (λ i. itemRow (rangesOf (tabulate i A)) (A i))
         (λ i h. word-row (getD w (room + i) 0) (rangesOf (tabulate i A)) (A i) (D .items i h) (omega (arith, ranges-below A i count h, D .total-is))))
 
-    items-long : length (itemRows count A) ≡ 3 * count
+    items-long : length (itemRows count A) ≡ partWidth * count
     items-long = flat-length 3 count (λ i. itemRow (rangesOf (tabulate i A)) (A i)) (λ i h. row-long (rangesOf (tabulate i A)) (A i))
 
-    pub given-list : (areas items areas′ items′ : List ℕ) → areas′ ≡ rowsIn w 0 n 0 ++ drop (2 * n) areas → items′ ≡ rowsOf w room count ++ drop (3 * count) items
+    pub given-list : (areas items areas′ items′ : List ℕ) → areas′ ≡ rowsIn w 0 n 0 ++ drop (rangeWidth * n) areas → items′ ≡ rowsOf w room count ++ drop (partWidth * count) items
         → AnsweredBy (areasVerdict count A room) count A areas items (Given n) areas′ items′
     given-list areas items areas′ items′ a b = rw list-fine (record {
       answer = ap (λ (k : ℕ). given k) (D .total-is);
-      in-areas = a ∙ ap (λ (l : List ℕ). l ++ drop (2 * n) areas) areas-are ∙ ap (λ (k : ℕ). areaRows count A ++ drop k areas) (sym areas-long);
-      in-items = b ∙ ap (λ (l : List ℕ). l ++ drop (3 * count) items) items-are ∙ ap (λ (k : ℕ). itemRows count A ++ drop k items) (sym items-long);
+      in-areas = a ∙ ap (λ (l : List ℕ). l ++ drop (rangeWidth * n) areas) areas-are ∙ ap (λ (k : ℕ). areaRows count A ++ drop k areas) (sym areas-long);
+      in-items = b ∙ ap (λ (l : List ℕ). l ++ drop (partWidth * count) items) items-are ∙ ap (λ (k : ℕ). itemRows count A ++ drop k items) (sym items-long);
     })
 
 -- ---- areas that are the same

@@ -9,7 +9,9 @@ ghost use Rattle.area_measure.specs.Locals.{wordOf, ListedBy};
 ghost use Rattle.item_lists.specs.Lists.{AnsweredBy};
 ghost use Rattle.item_lists.specs.Inner.{Held};
 ghost use Rattle.areas.specs.Job.{areasVerdict};
+ghost use Rattle.words.specs.Widths.{partWidth, rangeCount};
 use refusals::Refusal;
+use words::widths::range;
 
 // How many ranges all areas have, or a refusal with the index of the first offending record.
 pub enum Answer {
@@ -19,11 +21,12 @@ pub enum Answer {
 
 // Writes the areas and the items, where all n ranges fit the area list (else 9).
 pub fn list(n: usize, areas: &mut [u32], items: &mut [u32], work: &[u64], count: usize) -> Answer
-    requires { ⌜ Held count (length (now areas) / 2) n (now work) × (3 * count ≤ length (now items)) × (length (now areas) / 2 ≤ 65536) × (length (now areas) / 2 + count ≤ length (now work)) ⌝ }
-    ensures { λ r. ⌜ ((A : ℕ → Option (List Range)) → ListedBy wordOf (listing (length (now (areas .entry)) / 2) (length (now (areas .entry)) / 2)) A count n (now (work .entry))
-        → AnsweredBy (areasVerdict count A (length (now (areas .entry)) / 2)) count A (now (areas .entry)) (now (items .entry)) r (now (areas .exit)) (now (items .exit))) ⌝ }
+    requires { ⌜ Held count (rangeCount (now areas)) n (now work) × (partWidth * count ≤ length (now items)) × (rangeCount (now areas) ≤ 65536)
+        × (rangeCount (now areas) + count ≤ length (now work)) ⌝ }
+    ensures { λ r. ⌜ ((A : ℕ → Option (List Range)) → ListedBy wordOf (listing (rangeCount (now (areas .entry))) (rangeCount (now (areas .entry)))) A count n (now (work .entry))
+        → AnsweredBy (areasVerdict count A (rangeCount (now (areas .entry)))) count A (now (areas .entry)) (now (items .entry)) r (now (areas .exit)) (now (items .exit))) ⌝ }
 {
-    let room = areas.len() / 2;
+    let room = areas.len() / range::WIDTH;
     if room < n {
         return Answer::Refused(Refusal::List, 0);
     }

@@ -23,6 +23,7 @@ use Rattle.job.specs.Entry.{spaceVerdict, lentVerdict}
 use Rattle.job_space.specs.Rows.{Rows}
 use Rattle.job_space.specs.declared.Terms.{Terms}
 use Rattle.areas.specs.Job.{checks}
+use Rattle.words.specs.Widths.{cellWidth, itemWidth, rangeWidth}
 
 -- ---- number 7
 
@@ -30,14 +31,14 @@ module _ (z : Sizes) (cells items work : ℕ) where
   pub short-work : work < spaceOf z → Bad Space 0 ≡ spaceVerdict z cells items work
   short-work h = simp (lt-ltb work (spaceOf z) h)
 
-  pub short-cells : spaceOf z ≤ work → cells / 2 < z .locals + z .slots → Bad Space 0 ≡ spaceVerdict z cells items work
-  short-cells h m = simp (le-ltb work (spaceOf z) h, lt-ltb (cells / 2) (z .locals + z .slots) m)
+  pub short-cells : spaceOf z ≤ work → cells / cellWidth < z .locals + z .slots → Bad Space 0 ≡ spaceVerdict z cells items work
+  short-cells h m = simp (le-ltb work (spaceOf z) h, lt-ltb (cells / cellWidth) (z .locals + z .slots) m)
 
-  pub short-items : spaceOf z ≤ work → z .locals + z .slots ≤ cells / 2 → items / 4 < z .locals + z .slots → Bad Space 0 ≡ spaceVerdict z cells items work
-  short-items h l m = simp (le-ltb work (spaceOf z) h, le-ltb (cells / 2) (z .locals + z .slots) l, lt-ltb (items / 4) (z .locals + z .slots) m)
+  pub short-items : spaceOf z ≤ work → z .locals + z .slots ≤ cells / cellWidth → items / itemWidth < z .locals + z .slots → Bad Space 0 ≡ spaceVerdict z cells items work
+  short-items h l m = simp (le-ltb work (spaceOf z) h, le-ltb (cells / cellWidth) (z .locals + z .slots) l, lt-ltb (items / itemWidth) (z .locals + z .slots) m)
 
-  pub enough : spaceOf z ≤ work → z .locals + z .slots ≤ cells / 2 → z .locals + z .slots ≤ items / 4 → Fine ≡ spaceVerdict z cells items work
-  enough h l m = simp (le-ltb work (spaceOf z) h, le-ltb (cells / 2) (z .locals + z .slots) l, le-ltb (items / 4) (z .locals + z .slots) m)
+  pub enough : spaceOf z ≤ work → z .locals + z .slots ≤ cells / cellWidth → z .locals + z .slots ≤ items / itemWidth → Fine ≡ spaceVerdict z cells items work
+  enough h l m = simp (le-ltb work (spaceOf z) h, le-ltb (cells / cellWidth) (z .locals + z .slots) l, le-ltb (items / itemWidth) (z .locals + z .slots) m)
 
 -- ---- all of them
 
@@ -68,8 +69,8 @@ module _ (R : Rows) (t : Terms) (cells items areas work : ℕ) where
 -- where nothing is refused: what measuring asks, and room in the cell and the item list
 pub record Granted (R : Rows) (cells items areas : ℕ) (w : List ℕ) : Type 0 where
   pub lent : Lent R areas w
-  pub in-cells : 2 * (sizesOf R areas .locals + sizesOf R areas .slots) ≤ cells
-  pub in-items : 4 * (sizesOf R areas .locals + sizesOf R areas .slots) ≤ items
+  pub in-cells : cellWidth * (sizesOf R areas .locals + sizesOf R areas .slots) ≤ cells
+  pub in-items : itemWidth * (sizesOf R areas .locals + sizesOf R areas .slots) ≤ items
 
 module _ (R : Rows) (t : Terms) (cells items areas : ℕ) (w : List ℕ) where
   pub granted : lentVerdict R t cells items areas (length w) ≡ Fine → Granted R cells items areas w
@@ -78,14 +79,14 @@ module _ (R : Rows) (t : Terms) (cells items areas : ℕ) (w : List ℕ) where
       let shape = check Count (badShape t cells items) in
       let z = sizesOf R areas in
       let space = spaceVerdict z cells items (length w) in
-      let s = check-told Space (ltb (length w) (spaceOf z) || (ltb (cells / 2) (z .locals + z .slots) || ltb (items / 4) (z .locals + z .slots))) (lent-space R areas shape space e) in
+      let s = check-told Space (ltb (length w) (spaceOf z) || (ltb (cells / cellWidth) (z .locals + z .slots) || ltb (items / itemWidth) (z .locals + z .slots))) (lent-space R areas shape space e) in
       let (a, b) = or-neither (ltb (length w) (spaceOf z)) _ s in
-      let (c, d) = or-neither (ltb (cells / 2) (z .locals + z .slots)) _ b in
-      let q = ltb-false (cells / 2) (z .locals + z .slots) c in
-      let u = ltb-false (items / 4) (z .locals + z .slots) d in
+      let (c, d) = or-neither (ltb (cells / cellWidth) (z .locals + z .slots)) _ b in
+      let q = ltb-false (cells / cellWidth) (z .locals + z .slots) c in
+      let u = ltb-false (items / itemWidth) (z .locals + z .slots) d in
       record { lent = record { passed = lent-passed R areas shape space e; space = ltb-false (length w) (spaceOf z) a }; in-cells = omega arith; in-items = omega arith }
 
   -- the area list is whole rows
-  pub whole-list : lentVerdict R t cells items areas (length w) ≡ Fine → areas % 2 ≡ 0
+  pub whole-list : lentVerdict R t cells items areas (length w) ≡ Fine → areas % rangeWidth ≡ 0
   unfolding lentVerdict
   whole-list e = whole-areas R areas (lent-counted R areas (check Count (badShape t cells items)) (spaceVerdict (sizesOf R areas) cells items (length w)) e)

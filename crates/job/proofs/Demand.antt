@@ -11,6 +11,7 @@ use Rattle.refusals.specs.declared.Verdict.the-variants.{Fine}
 use Rattle.refusals.specs.Outcomes.{unless, after}
 use Rattle.refusals.proofs.Laws.{first-left}
 use Rattle.words.specs.Rows.{flat}
+use Rattle.words.specs.Widths.{cellWidth, itemWidth, rangeCount}
 use Rattle.areas.specs.Job.{Job, Checked, itemCount, itemArea, itemsVerdict}
 use Rattle.fitting.specs.Wants.{orderOf}
 use Rattle.fitting.specs.Plan.{Cell, cellAt}
@@ -30,12 +31,12 @@ use Rattle.job_space.specs.Rows.{Rows}
 use Rattle.job_space.specs.declared.Terms.{Terms}
 
 -- number 2·c of the cell list is cell c's size
-listed-size : (cs : List Cell) (old : List ℕ) (c b : ℕ) → b < cellAt cs c .size → b < getD (flat (map cellRow cs) ++ old) (2 * c) 0
+listed-size : (cs : List Cell) (old : List ℕ) (c b : ℕ) → b < cellAt cs c .size → b < getD (flat (map cellRow cs) ++ old) (cellWidth * c) 0
 unfolding flat
 listed-size [] old c b h = absurd (not-suc-le-zero h)
 listed-size (x ∷ cs) old zero b h = h
 listed-size (x ∷ cs) old (suc c) b h =
-    let e : 2 * suc c ≡ suc (suc (2 * c)) = omega arith in
+    let e : cellWidth * suc c ≡ suc (suc (cellWidth * c)) = omega arith in
     rw e (listed-size cs old c b h)
 
 module _ {R : Rows} {t : Terms} {cells items areas work cells′ items′ areas′ work′ : List ℕ} {c p d : ℕ}
@@ -50,7 +51,7 @@ module _ {R : Rows} {t : Terms} {cells items areas work cells′ items′ areas�
   pub passed : Passed R (length areas)
   passed =
       granted R t (length cells) (length items) (length areas) work
-      (first-left (lentVerdict R t (length cells) (length items) (length areas) (length work)) (itemsVerdict J (length areas / 2)) none-refused)
+      (first-left (lentVerdict R t (length cells) (length items) (length areas) (length work)) (itemsVerdict J (rangeCount areas)) none-refused)
       .lent .passed
 
   checked : Checked J
@@ -63,8 +64,8 @@ module _ {R : Rows} {t : Terms} {cells items areas work cells′ items′ areas�
   -- the cells that stand in the item list are the plan's
   pub cells-listed : (i : ℕ) → i < itemCount J → cellIn items′ i ≡ jobPlan J (t .budget) .cell i
   cells-listed i h =
-      ap (λ (l : List ℕ). getD l (4 * i) 0) items-written
-      ∙ ap (λ (k : ℕ). getD (itemRows (itemCount J) (itemArea J) (jobPlan J (t .budget)) ++ drop (length (itemRows (itemCount J) (itemArea J) (jobPlan J (t .budget)))) items) k 0) (sym (add-zero (4 * i)))
+      ap (λ (l : List ℕ). getD l (itemWidth * i) 0) items-written
+      ∙ ap (λ (k : ℕ). getD (itemRows (itemCount J) (itemArea J) (jobPlan J (t .budget)) ++ drop (length (itemRows (itemCount J) (itemArea J) (jobPlan J (t .budget)))) items) k 0) (sym (add-zero (itemWidth * i)))
       ∙ cell-listed (itemArea J) (itemCount J) (jobPlan J (t .budget)) i h _
 
   sizes-listed : (c b : ℕ) → b < cellAt (jobPlan J (t .budget) .cells) c .size → b < sizeIn cells′ c

@@ -12,7 +12,8 @@ use Rattle.refusals.specs.declared.Verdict.the-variants.{Fine, Bad}
 use Rattle.refusals.specs.declared.Refusal.{Refusal}
 use Rattle.refusals.proofs.Laws.{first-fine, first-bad}
 use Rattle.words.specs.Regions.{cleared}
-use Rattle.words.specs.Rows.{rowCount, field, tabulate}
+use Rattle.words.specs.Rows.{tabulate}
+use Rattle.words.specs.Widths.{blockCount, localWidth, localCount, localSize, localAlign, rangeCount, slotCount, slotSize}
 use Rattle.words.proofs.Points.{cut}
 use Rattle.words.proofs.RowLaws.{length-records, getD-records, tabulate-eq}
 use Rattle.graph.specs.Work.{Within}
@@ -47,24 +48,24 @@ makeLocal f = record { size = f 0; align = f 1 }
 
 module _ (R : Rows) where
   many : itemCount (jobOf R) ≡ countOf (R .locals) (R .slots)
-  many = ap (λ (k : ℕ). k + length (R .slots)) (length-records 2 makeLocal (R .locals))
+  many = ap (λ (k : ℕ). k + slotCount (R .slots)) (length-records localWidth makeLocal (R .locals))
 
   want-is : (i : ℕ) → wantFor (R .locals) (R .slots) (itemArea (jobOf R)) i ≡ wantOf (jobOf R) i
-  want-is i = cut (rowCount 2 (R .locals)) i
+  want-is i = cut (localCount (R .locals)) i
       (λ h.
-      let l = length-records 2 makeLocal (R .locals) in
-      let a = le-ltb i (rowCount 2 (R .locals)) h in
+      let l = length-records localWidth makeLocal (R .locals) in
+      let a = le-ltb i (localCount (R .locals)) h in
       let b = le-ltb i (length (localsOf (R .locals))) (omega arith) in
-      let s : sizeAt (R .locals) (R .slots) i ≡ wantOf (jobOf R) i .size = ap (λ (t : Bool). cond t (field 2 (R .locals) i 0) (getD (R .slots) (i - rowCount 2 (R .locals)) 0)) a ∙ ap (λ (k : ℕ). getD (R .slots) (i - k) 0) (sym l) ∙ sym (ap (λ (t : Bool). cond t (getD (localsOf (R .locals)) i (record { size = 0; align = 0 }) .size) (getD (R .slots) (i - length (localsOf (R .locals))) 0)) b) in
-      let t : alignAt (R .locals) (R .slots) i ≡ wantOf (jobOf R) i .align = ap (λ (t : Bool). cond t (field 2 (R .locals) i 1) (getD (R .slots) (i - rowCount 2 (R .locals)) 0)) a ∙ ap (λ (k : ℕ). getD (R .slots) (i - k) 0) (sym l) ∙ sym (ap (λ (t : Bool). cond t (getD (localsOf (R .locals)) i (record { size = 0; align = 0 }) .align) (getD (R .slots) (i - length (localsOf (R .locals))) 0)) b) in
+      let s : sizeAt (R .locals) (R .slots) i ≡ wantOf (jobOf R) i .size = ap (λ (t : Bool). cond t (localSize (R .locals) i) (slotSize (R .slots) (i - localCount (R .locals)))) a ∙ ap (λ (k : ℕ). slotSize (R .slots) (i - k)) (sym l) ∙ sym (ap (λ (t : Bool). cond t (getD (localsOf (R .locals)) i (record { size = 0; align = 0 }) .size) (slotSize (R .slots) (i - length (localsOf (R .locals))))) b) in
+      let t : alignAt (R .locals) (R .slots) i ≡ wantOf (jobOf R) i .align = ap (λ (t : Bool). cond t (localAlign (R .locals) i) (slotSize (R .slots) (i - localCount (R .locals)))) a ∙ ap (λ (k : ℕ). slotSize (R .slots) (i - k)) (sym l) ∙ sym (ap (λ (t : Bool). cond t (getD (localsOf (R .locals)) i (record { size = 0; align = 0 }) .align) (slotSize (R .slots) (i - length (localsOf (R .locals))))) b) in
       both s t)
       (λ h.
-      let l = length-records 2 makeLocal (R .locals) in
-      let a = lt-ltb i (rowCount 2 (R .locals)) h in
+      let l = length-records localWidth makeLocal (R .locals) in
+      let a = lt-ltb i (localCount (R .locals)) h in
       let b = lt-ltb i (length (localsOf (R .locals))) (omega arith) in
-      let g = getD-records 2 makeLocal (R .locals) i (record { size = 0; align = 0 }) h in
-      let s : sizeAt (R .locals) (R .slots) i ≡ wantOf (jobOf R) i .size = ap (λ (t : Bool). cond t (field 2 (R .locals) i 0) (getD (R .slots) (i - rowCount 2 (R .locals)) 0)) a ∙ ap (λ (k : Local). k .size) (sym g) ∙ sym (ap (λ (t : Bool). cond t (getD (localsOf (R .locals)) i (record { size = 0; align = 0 }) .size) (getD (R .slots) (i - length (localsOf (R .locals))) 0)) b) in
-      let t : alignAt (R .locals) (R .slots) i ≡ wantOf (jobOf R) i .align = ap (λ (t : Bool). cond t (field 2 (R .locals) i 1) (getD (R .slots) (i - rowCount 2 (R .locals)) 0)) a ∙ ap (λ (k : Local). k .align) (sym g) ∙ sym (ap (λ (t : Bool). cond t (getD (localsOf (R .locals)) i (record { size = 0; align = 0 }) .align) (getD (R .slots) (i - length (localsOf (R .locals))) 0)) b) in
+      let g = getD-records localWidth makeLocal (R .locals) i (record { size = 0; align = 0 }) h in
+      let s : sizeAt (R .locals) (R .slots) i ≡ wantOf (jobOf R) i .size = ap (λ (t : Bool). cond t (localSize (R .locals) i) (slotSize (R .slots) (i - localCount (R .locals)))) a ∙ ap (λ (k : Local). k .size) (sym g) ∙ sym (ap (λ (t : Bool). cond t (getD (localsOf (R .locals)) i (record { size = 0; align = 0 }) .size) (slotSize (R .slots) (i - length (localsOf (R .locals))))) b) in
+      let t : alignAt (R .locals) (R .slots) i ≡ wantOf (jobOf R) i .align = ap (λ (t : Bool). cond t (localAlign (R .locals) i) (slotSize (R .slots) (i - localCount (R .locals)))) a ∙ ap (λ (k : Local). k .align) (sym g) ∙ sym (ap (λ (t : Bool). cond t (getD (localsOf (R .locals)) i (record { size = 0; align = 0 }) .align) (slotSize (R .slots) (i - length (localsOf (R .locals))))) b) in
       both s t)
     where
       both : {x y z u : ℕ} {o : Option (List Range)} → x ≡ y → z ≡ u → _≡_ {A = Want} (record { size = x; align = z; area = o }) (record { size = y; align = u; area = o })
@@ -96,19 +97,19 @@ module _ (R : Rows) (t : Terms) (cells items areas work : List ℕ) where
   pub refused-entry : (r : Refusal) (i : ℕ) → lentVerdict R t (length cells) (length items) (length areas) (length work) ≡ Bad r i
       → SharedAs R t cells items areas work (Refused r i) cells items areas work
   refused-entry r i e = record {
-    lists = rw (first-bad (lentVerdict R t (length cells) (length items) (length areas) (length work)) (itemsVerdict (jobOf R) (length areas / 2)) r i e) (record { answer = refl; in-cells = refl; in-items = refl; in-areas = refl });
+    lists = rw (first-bad (lentVerdict R t (length cells) (length items) (length areas) (length work)) (itemsVerdict (jobOf R) (rangeCount areas)) r i e) (record { answer = refl; in-cells = refl; in-items = refl; in-areas = refl });
     in-work = rw e refl;
   }
 
   -- what the answer asks
   pub asked : {w : List ℕ} {n end : ℕ} → Granted R (length cells) (length items) (length areas) work → Solved R (length areas) work w n → end ≡ space
-      → Measured (countOf (R .locals) (R .slots)) (length areas / 2) n end (length cells) (length items) w
+      → Measured (countOf (R .locals) (R .slots)) (rangeCount areas) n end (length cells) (length items) w
   asked {w} {n} {end} G T e =
       let P = G .lent .passed in
       let q = space-small (sizesOf R (length areas)) (P .small) in
       record {
         area = itemArea (jobOf R);
-        listed = subst (λ (k : ℕ). ListedBy wordOf (listing (length areas / 2) (length areas / 2)) (itemArea (jobOf R)) k n w) (many R) (T .listed);
+        listed = subst (λ (k : ℕ). ListedBy wordOf (listing (rangeCount areas) (rangeCount areas)) (itemArea (jobOf R)) k n w) (many R) (T .listed);
         apart = areas-apart (jobOf R) (P .checked) (some-block (P .small .some-block));
         few = omega (arith, P .small .few-locals, P .small .few-slots);
         short = P .small .few-ranges;
@@ -119,22 +120,22 @@ module _ (R : Rows) (t : Terms) (cells items areas work : List ℕ) where
         small = rw e (q .1);
       }
     where
-      some-block : 0 < rowCount 3 (R .blocks) → 0 < length ((jobOf R) .blocks)
+      some-block : 0 < blockCount (R .blocks) → 0 < length ((jobOf R) .blocks)
       some-block h = rw (length-records 3 _ (R .blocks)) h
 
   pub answered-entry : lentVerdict R t (length cells) (length items) (length areas) (length work) ≡ Fine → {r : Shared} {cells′ items′ areas′ w w′ work′ : List ℕ} {n end : ℕ}
       → Solved R (length areas) work w n
       → end ≡ space → Within 0 end w w′
-      → ((A : ℕ → Option (List Range)) → ListedBy wordOf (listing (length areas / 2) (length areas / 2)) A (countOf (R .locals) (R .slots)) n w
-      → AnsweredBy (areasVerdict (countOf (R .locals) (R .slots)) A (length areas / 2)) (countOf (R .locals) (R .slots)) A (planFor (R .locals) (R .slots) A (t .budget)) cells items areas r cells′ items′ areas′)
+      → ((A : ℕ → Option (List Range)) → ListedBy wordOf (listing (rangeCount areas) (rangeCount areas)) A (countOf (R .locals) (R .slots)) n w
+      → AnsweredBy (areasVerdict (countOf (R .locals) (R .slots)) A (rangeCount areas)) (countOf (R .locals) (R .slots)) A (planFor (R .locals) (R .slots) A (t .budget)) cells items areas r cells′ items′ areas′)
       → work′ ≡ cleared end w′ → SharedAs R t cells items areas work r cells′ items′ areas′ work′
   answered-entry e {r} {cells′} {items′} {areas′} {w} {w′} {work′} {n} {end} T en K B Z = record {
-    lists = rw (first-fine (lentVerdict R t (length cells) (length items) (length areas) (length work)) (itemsVerdict (jobOf R) (length areas / 2)) e) listed-all;
+    lists = rw (first-fine (lentVerdict R t (length cells) (length items) (length areas) (length work)) (itemsVerdict (jobOf R) (rangeCount areas)) e) listed-all;
     in-work = rw e (Z ∙ ap (λ (k : ℕ). cleared k w′) en ∙ cleared-same space w w′ (subst (λ (k : ℕ). Within 0 k w w′) en K) ∙ cleared-same space work w (T .kept) ∙ ap (λ (k : ℕ). replicate space 0 ++ drop k work) (sym (length-replicate space 0)));
   }
     where
-      listed-all : AnsweredBy (itemsVerdict (jobOf R) (length areas / 2)) (itemCount (jobOf R)) (itemArea (jobOf R)) (jobPlan (jobOf R) (t .budget)) cells items areas r cells′ items′ areas′
+      listed-all : AnsweredBy (itemsVerdict (jobOf R) (rangeCount areas)) (itemCount (jobOf R)) (itemArea (jobOf R)) (jobPlan (jobOf R) (t .budget)) cells items areas r cells′ items′ areas′
       listed-all =
-          subst (λ (k : ℕ). AnsweredBy (areasVerdict k (itemArea (jobOf R)) (length areas / 2)) k (itemArea (jobOf R)) (jobPlan (jobOf R) (t .budget)) cells items areas r cells′ items′ areas′) (sym (many R))
-          (subst (λ (p : Plan). AnsweredBy (areasVerdict (countOf (R .locals) (R .slots)) (itemArea (jobOf R)) (length areas / 2)) (countOf (R .locals) (R .slots)) (itemArea (jobOf R)) p cells items areas r cells′ items′ areas′) (plan-is R (t .budget))
-          (B (itemArea (jobOf R)) (subst (λ (k : ℕ). ListedBy wordOf (listing (length areas / 2) (length areas / 2)) (itemArea (jobOf R)) k n w) (many R) (T .listed))))
+          subst (λ (k : ℕ). AnsweredBy (areasVerdict k (itemArea (jobOf R)) (rangeCount areas)) k (itemArea (jobOf R)) (jobPlan (jobOf R) (t .budget)) cells items areas r cells′ items′ areas′) (sym (many R))
+          (subst (λ (p : Plan). AnsweredBy (areasVerdict (countOf (R .locals) (R .slots)) (itemArea (jobOf R)) (rangeCount areas)) (countOf (R .locals) (R .slots)) (itemArea (jobOf R)) p cells items areas r cells′ items′ areas′) (plan-is R (t .budget))
+          (B (itemArea (jobOf R)) (subst (λ (k : ℕ). ListedBy wordOf (listing (rangeCount areas) (rangeCount areas)) (itemArea (jobOf R)) k n w) (many R) (T .listed))))

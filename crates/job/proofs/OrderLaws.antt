@@ -11,6 +11,7 @@ use Rattle.refusals.specs.Orders.{Giving, Ordered}
 use Rattle.refusals.proofs.Laws.{check-last}
 use Rattle.refusals.proofs.Orders.{check-gives, order-append, giving-append}
 use Rattle.words.specs.Rows.{tabulate}
+use Rattle.words.specs.Widths.{cellWidth, itemWidth, rangeWidth}
 use Rattle.areas.specs.Job.{Job, checks, itemCount, itemArea, rangesOf, itemsVerdict}
 use Rattle.job_space.specs.declared.Sizes.{Sizes}
 use Rattle.job_space.specs.Space.{sizesOf, spaceOf, badShape}
@@ -37,20 +38,20 @@ module _ (R : Rows) (t : Terms) (cells items areas work : ℕ) where
     (
       counts-give R areas,
       giving-append checksGive (Space ∷ []) (checks J) (spaceVerdict z cells items work ∷ []) (checks-give J)
-          (check-gives Space (ltb work (spaceOf z) || (ltb (cells / 2) (z .locals + z .slots) || ltb (items / 4) (z .locals + z .slots))), tt),
+          (check-gives Space (ltb work (spaceOf z) || (ltb (cells / cellWidth) (z .locals + z .slots) || ltb (items / itemWidth) (z .locals + z .slots))), tt),
     ),
   )
 
   pub job-verdict : verdictOf R t cells items areas work ≡ inOrder (jobChecks R t cells items areas work)
   unfolding lentVerdict inOrder
   job-verdict =
-      sym (order-append (lentChecks R t cells items areas work) (itemsVerdict J (areas / 2) ∷ [])
-      ∙ ap (first (inOrder (lentChecks R t cells items areas work))) (check-last (itemsVerdict J (areas / 2))))
+      sym (order-append (lentChecks R t cells items areas work) (itemsVerdict J (areas / rangeWidth) ∷ [])
+      ∙ ap (first (inOrder (lentChecks R t cells items areas work))) (check-last (itemsVerdict J (areas / rangeWidth))))
 
   pub job-ordered : Ordered numberOf (lentGive ++ (ListWord ∷ [])) (jobChecks R t cells items areas work)
   job-ordered = record {
     gives =
-        giving-append lentGive (ListWord ∷ []) (lentChecks R t cells items areas work) (itemsVerdict J (areas / 2) ∷ []) lent-give
-        (check-gives ListWord (ltb (areas / 2) (rangesOf (tabulate (itemCount J) (itemArea J)))), tt);
+        giving-append lentGive (ListWord ∷ []) (lentChecks R t cells items areas work) (itemsVerdict J (areas / rangeWidth) ∷ []) lent-give
+        (check-gives ListWord (ltb (areas / rangeWidth) (rangesOf (tabulate (itemCount J) (itemArea J)))), tt);
     rises = refl;
   }

@@ -7,6 +7,7 @@ use lib.ListN.{length, getD, drop}
 use Rattle.refusals.specs.declared.Verdict.{Verdict}
 use Rattle.refusals.specs.Outcomes.{unless, after}
 use Rattle.words.specs.Rows.{tabulate, field}
+use Rattle.words.specs.Widths.{itemWidth}
 use Rattle.areas.specs.Job.{Job, itemCount, itemArea, rangesOf}
 use Rattle.area_tables.specs.Tables.{areaRows}
 use Rattle.area_points.specs.Parts.{AreasTold}
@@ -34,8 +35,8 @@ module _ {R : Rows} {t : Terms} {cells items areas work cells′ items′ areas�
   areas-written : areas′ ≡ areaRows (itemCount J) (itemArea J) ++ drop (length (areaRows (itemCount J) (itemArea J))) areas
   areas-written = E .lists .in-areas ∙ ap (λ (x : Verdict). after (unless x plan) (λ _. areaRows (itemCount J) (itemArea J)) areas) (none-refused E)
 
-  field-written : (i : ℕ) → i < itemCount J → (f : ℕ) → f < 4 → field 4 items′ i f ≡ getD (plan .cell i ∷ itemRow (rangesOf (tabulate i (itemArea J))) (itemArea J i)) f 0
-  field-written i h f q = ap (λ (l : List ℕ). field 4 l i f) (items-written E) ∙ field-listed (itemArea J) (itemCount J) plan i h _ f q
+  field-written : (i : ℕ) → i < itemCount J → (f : ℕ) → f < 4 → field itemWidth items′ i f ≡ getD (plan .cell i ∷ itemRow (rangesOf (tabulate i (itemArea J))) (itemArea J i)) f 0
+  field-written i h f q = ap (λ (l : List ℕ). field itemWidth l i f) (items-written E) ∙ field-listed (itemArea J) (itemCount J) plan i h _ f q
 
   -- whenever the answer is a plan: a point is in the part of the area list that item i's row names exactly when document 01's definition has it, by paths of a local, by moves and
   -- live pieces of a slot, and the row says absent exactly for an unfollowed local or a slot without area

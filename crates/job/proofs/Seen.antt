@@ -12,7 +12,8 @@ use Rattle.refusals.specs.declared.Verdict.the-variants.{Fine}
 use Rattle.refusals.specs.declared.Refusal.the-variants.{List as ListWord}
 use Rattle.refusals.specs.Outcomes.{unless, after}
 use Rattle.refusals.proofs.Laws.{first-left, first-right, check-told}
-use Rattle.words.specs.Rows.{rowCount, field, tabulate}
+use Rattle.words.specs.Rows.{field, tabulate}
+use Rattle.words.specs.Widths.{localWidth, localCount, cellWidth, itemWidth, itemCell, itemPresent, itemFirst, itemRanges, rangeWidth, rangeCount, slotCount}
 use Rattle.words.proofs.RowLaws.{length-tabulate, getD-tabulate, length-records}
 use Rattle.areas.specs.Job.{Job, itemCount, itemArea, rangesOf, itemsVerdict}
 use Rattle.fitting.specs.Wants.{Want, wantAt, orderOf}
@@ -51,38 +52,38 @@ module _ {R : Rows} {t : Terms} {cells items areas work cells′ items′ areas�
   P = jobPlan J (t .budget)
 
   abbrev many : ℕ
-  many = rowCount 2 (R .locals) + length (R .slots)
+  many = localCount (R .locals) + slotCount (R .slots)
 
   verdict-fine : verdictOf R t (length cells) (length items) (length areas) (length work) ≡ Fine
   verdict-fine = none-refused E
 
   lent-fine : lentVerdict R t (length cells) (length items) (length areas) (length work) ≡ Fine
-  lent-fine = first-left _ (itemsVerdict J (length areas / 2)) verdict-fine
+  lent-fine = first-left _ (itemsVerdict J (rangeCount areas)) verdict-fine
 
   small : Small (sizesOf R (length areas))
   small = granted R t (length cells) (length items) (length areas) work lent-fine .lent .passed .small
 
   count-is : itemCount J ≡ many
-  count-is = ap (λ (k : ℕ). k + length (R .slots)) (length-records 2 (λ f. record { size = f 0; align = f 1 }) (R .locals))
+  count-is = ap (λ (k : ℕ). k + slotCount (R .slots)) (length-records localWidth (λ f. record { size = f 0; align = f 1 }) (R .locals))
 
   -- all areas have room in the area list
-  ranges-fit : rangesOf (tabulate (itemCount J) (itemArea J)) ≤ length areas / 2
+  ranges-fit : rangesOf (tabulate (itemCount J) (itemArea J)) ≤ rangeCount areas
   ranges-fit =
-      ltb-false (length areas / 2) (rangesOf (tabulate (itemCount J) (itemArea J)))
-      (check-told ListWord _ (first-right (lentVerdict R t (length cells) (length items) (length areas) (length work)) (itemsVerdict J (length areas / 2)) verdict-fine))
+      ltb-false (rangeCount areas) (rangesOf (tabulate (itemCount J) (itemArea J)))
+      (check-told ListWord _ (first-right (lentVerdict R t (length cells) (length items) (length areas) (length work)) (itemsVerdict J (rangeCount areas)) verdict-fine))
 
   -- ---- the lists, by their rows
 
-  cells-front : take (2 * c) cells′ ≡ cellRows P
+  cells-front : take (cellWidth * c) cells′ ≡ cellRows P
   cells-front =
-      ap (take (2 * c)) (E .lists .in-cells ∙ ap (λ (x : Verdict). after (unless x P) cellRows cells) verdict-fine)
-      ∙ front-is (cellRows P) cells (2 * c) (omega (arith, cells-long P, told-cells (verdictOf R t (length cells) (length items) (length areas) (length work)) P c p d (E .lists .answer)))
+      ap (take (cellWidth * c)) (E .lists .in-cells ∙ ap (λ (x : Verdict). after (unless x P) cellRows cells) verdict-fine)
+      ∙ front-is (cellRows P) cells (cellWidth * c) (omega (arith, cells-long P, told-cells (verdictOf R t (length cells) (length items) (length areas) (length work)) P c p d (E .lists .answer)))
 
   items-whole : items′ ≡ itemRows (itemCount J) (itemArea J) P ++ drop (length (itemRows (itemCount J) (itemArea J) P)) items
   items-whole = E .lists .in-items ∙ ap (λ (x : Verdict). after (unless x P) (itemRows (itemCount J) (itemArea J)) items) verdict-fine
 
-  items-front : take (4 * many) items′ ≡ itemRows (itemCount J) (itemArea J) P
-  items-front = ap (take (4 * many)) items-whole ∙ front-is (itemRows (itemCount J) (itemArea J) P) items (4 * many) (omega (arith, items-long (itemArea J) (itemCount J) P, count-is))
+  items-front : take (itemWidth * many) items′ ≡ itemRows (itemCount J) (itemArea J) P
+  items-front = ap (take (itemWidth * many)) items-whole ∙ front-is (itemRows (itemCount J) (itemArea J) P) items (itemWidth * many) (omega (arith, items-long (itemArea J) (itemCount J) P, count-is))
 
   abbrev behind : List ℕ
   behind = drop (length (areaRows (itemCount J) (itemArea J))) areas
@@ -98,45 +99,45 @@ module _ {R : Rows} {t : Terms} {cells items areas work cells′ items′ areas�
   area-of i h = ap (λ (w : Want). w .area) (getD-tabulate (itemCount J) (wantOf J) i (record { size = 0; align = 0; area = none }) h)
 
   -- the rows that stand there hold the plan
-  pub held : RowsHold (take (2 * c) cells′) (take (4 * many) items′) areas′ (rowCount 2 (R .locals)) (length (P .cells)) (itemCount J) (roomAt P) (itemOf (wantsOf J) P)
+  pub held : RowsHold (take (cellWidth * c) cells′) (take (itemWidth * many) items′) areas′ (localCount (R .locals)) (length (P .cells)) (itemCount J) (roomAt P) (itemOf (wantsOf J) P)
   held =
       let w = whole-list R t (length cells) (length items) (length areas) work lent-fine in
       rw (cells-front, items-front, areas-whole)
       (rows-held (itemArea J) (itemCount J) P (wantsOf J) area-of
       (facts (wantsOf J) (t .budget) (itemCount J) (orderOf (wantsOf J)) (job-order J) .known)
       (omega (arith, plan-few (wantsOf J) (t .budget) (orderOf (wantsOf J)), length-ordered (wantsOf J) (length (wantsOf J)), length-tabulate (itemCount J) (wantOf J)))
-      (rowCount 2 (R .locals)) (omega (arith, count-is)) (small .few-locals) (omega (arith, count-is, small .few-slots)) behind
+      (localCount (R .locals)) (omega (arith, count-is)) (small .few-locals) (omega (arith, count-is, small .few-slots)) behind
       (omega (arith, areas-kept)) (omega (arith, areas-kept, small .few-ranges)))
 
   -- ---- what the queries say
 
   -- the plan that the job wrote: each query of it is the definition's of the job's plan, and none refuses it
-  pub job-seen : PlanSeen (answered (wantsOf J) (rowCount 2 (R .locals)) P) (rowCount 2 (R .locals)) (take (2 * c) cells′) (take (4 * many) items′) areas′
+  pub job-seen : PlanSeen (answered (wantsOf J) (localCount (R .locals)) P) (localCount (R .locals)) (take (cellWidth * c) cells′) (take (itemWidth * many) items′) areas′
   job-seen = answered-seen (wantsOf J) P (length-tabulate (itemCount J) (wantOf J)) held
 
   -- and with the area list cut behind the last part
-  pub job-seen-cut : (k : ℕ) → k ≤ rowCount 2 areas′
-      → ((i : ℕ) → i < itemCount J → (field 4 (take (4 * many) items′) i 1 ≡ 0 → ⊥) → field 4 (take (4 * many) items′) i 2 + field 4 (take (4 * many) items′) i 3 ≤ k)
-      → PlanSeen (answered (wantsOf J) (rowCount 2 (R .locals)) P) (rowCount 2 (R .locals)) (take (2 * c) cells′) (take (4 * many) items′) (take (2 * k) areas′)
+  pub job-seen-cut : (k : ℕ) → k ≤ rangeCount areas′
+      → ((i : ℕ) → i < itemCount J → (itemPresent (take (itemWidth * many) items′) i ≡ 0 → ⊥) → itemFirst (take (itemWidth * many) items′) i + itemRanges (take (itemWidth * many) items′) i ≤ k)
+      → PlanSeen (answered (wantsOf J) (localCount (R .locals)) P) (localCount (R .locals)) (take (cellWidth * c) cells′) (take (itemWidth * many) items′) (take (rangeWidth * k) areas′)
   job-seen-cut k h l = answered-seen (wantsOf J) P (length-tabulate (itemCount J) (wantOf J)) (cut-held held k h l)
 
   module _ (i : ℕ) (h : i < itemCount J) where
-    listed-at : (f : ℕ) → f < 4 → field 4 items′ i f ≡ field 4 (itemRows (itemCount J) (itemArea J) P) i f
+    listed-at : (f : ℕ) → f < 4 → field itemWidth items′ i f ≡ field itemWidth (itemRows (itemCount J) (itemArea J) P) i f
     listed-at f k =
-        ap (λ (l : List ℕ). field 4 l i f) items-whole
-        ∙ List·getD-append (itemRows (itemCount J) (itemArea J) P) _ 0 (4 * i + f) (omega (arith, items-long (itemArea J) (itemCount J) P))
+        ap (λ (l : List ℕ). field itemWidth l i f) items-whole
+        ∙ List·getD-append (itemRows (itemCount J) (itemArea J) P) _ 0 (itemWidth * i + f) (omega (arith, items-long (itemArea J) (itemCount J) P))
 
     -- the part of the area list that item i's row names is its area: absent exactly where it has none
-    pub job-part : partOf (areasOf areas′) (field 4 items′ i 1) (field 4 items′ i 2) (field 4 items′ i 3) ≡ itemArea J i
+    pub job-part : partOf (areasOf areas′) (itemPresent items′ i) (itemFirst items′ i) (itemRanges items′ i) ≡ itemArea J i
     job-part =
-        ap (λ (l : List ℕ). partOf (areasOf l) (field 4 items′ i 1) (field 4 items′ i 2) (field 4 items′ i 3)) areas-whole
-        ∙ ap (λ (k : ℕ). partOf (areasOf (areaRows (itemCount J) (itemArea J) ++ behind)) k (field 4 items′ i 2) (field 4 items′ i 3)) (listed-at 1 (omega arith))
-        ∙ ap (λ (k : ℕ). partOf (areasOf (areaRows (itemCount J) (itemArea J) ++ behind)) (field 4 (itemRows (itemCount J) (itemArea J) P) i 1) k (field 4 items′ i 3)) (listed-at 2 (omega arith))
-        ∙ ap (λ (k : ℕ). partOf (areasOf (areaRows (itemCount J) (itemArea J) ++ behind)) (field 4 (itemRows (itemCount J) (itemArea J) P) i 1) (field 4 (itemRows (itemCount J) (itemArea J) P) i 2) k) (listed-at 3 (omega arith))
+        ap (λ (l : List ℕ). partOf (areasOf l) (itemPresent items′ i) (itemFirst items′ i) (itemRanges items′ i)) areas-whole
+        ∙ ap (λ (k : ℕ). partOf (areasOf (areaRows (itemCount J) (itemArea J) ++ behind)) k (itemFirst items′ i) (itemRanges items′ i)) (listed-at 1 (omega arith))
+        ∙ ap (λ (k : ℕ). partOf (areasOf (areaRows (itemCount J) (itemArea J) ++ behind)) (itemPresent (itemRows (itemCount J) (itemArea J) P) i) k (itemRanges items′ i)) (listed-at 2 (omega arith))
+        ∙ ap (λ (k : ℕ). partOf (areasOf (areaRows (itemCount J) (itemArea J) ++ behind)) (itemPresent (itemRows (itemCount J) (itemArea J) P) i) (itemFirst (itemRows (itemCount J) (itemArea J) P) i) k) (listed-at 3 (omega arith))
         ∙ area-listed (itemArea J) (itemCount J) P i h behind (itemArea J i) refl
 
   -- each item's row names the lowest fitting cell of those that there were when it was put in
-  pub job-lowest : PutLowest (wantsOf J) (t .budget) (orderOf (wantsOf J)) (λ i. field 4 items′ i 0)
+  pub job-lowest : PutLowest (wantsOf J) (t .budget) (orderOf (wantsOf J)) (λ i. itemCell items′ i)
   job-lowest =
-      put-lowest (wantsOf J) (t .budget) (itemCount J) (orderOf (wantsOf J)) (job-order J) (λ i. field 4 items′ i 0)
-      (λ i h. ap (λ (l : List ℕ). field 4 l i 0) items-whole ∙ cell-listed (itemArea J) (itemCount J) P i h _)
+      put-lowest (wantsOf J) (t .budget) (itemCount J) (orderOf (wantsOf J)) (job-order J) (λ i. itemCell items′ i)
+      (λ i h. ap (λ (l : List ℕ). itemCell l i) items-whole ∙ cell-listed (itemArea J) (itemCount J) P i h _)

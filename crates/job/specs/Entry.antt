@@ -18,10 +18,11 @@ use Rattle.job_checks.specs.Job.{jobOf, countVerdict}
 use Rattle.soundness.specs.Demand.{jobPlan}
 use Rattle.job_answers.specs.declared.Shared.{Shared}
 use Rattle.job_answers.specs.Answers.{AnsweredBy}
+use Rattle.words.specs.Widths.{cellWidth, itemWidth, rangeWidth}
 
 -- number 7: work space under W, cell or item list under the item count
 abbrev pub spaceVerdict : Sizes → ℕ → ℕ → ℕ → Verdict
-spaceVerdict z cells items work = check Space (ltb work (spaceOf z) || (ltb (cells / 2) (z .locals + z .slots) || ltb (items / 4) (z .locals + z .slots)))
+spaceVerdict z cells items work = check Space (ltb work (spaceOf z) || (ltb (cells / cellWidth) (z .locals + z .slots) || ltb (items / itemWidth) (z .locals + z .slots)))
 
 -- what a call is lent: the rows, what fitting has to keep to, and the answer lists and the work space by their lengths
 module _ (R : Rows) (t : Terms) (cells items areas work : ℕ) where
@@ -34,11 +35,11 @@ module _ (R : Rows) (t : Terms) (cells items areas work : ℕ) where
 
   -- all refusals, lowest number first: 9 comes last
   abbrev pub verdictOf : Verdict
-  verdictOf = first lentVerdict (itemsVerdict (jobOf R) (areas / 2))
+  verdictOf = first lentVerdict (itemsVerdict (jobOf R) (areas / rangeWidth))
 
   -- the same as one list of checks
   abbrev pub jobChecks : List Verdict
-  jobChecks = lentChecks ++ (itemsVerdict (jobOf R) (areas / 2) ∷ [])
+  jobChecks = lentChecks ++ (itemsVerdict (jobOf R) (areas / rangeWidth) ∷ [])
 
 -- the whole job: the plan of all items' areas, unless refused; the work space is unchanged after a refusal that comes before measuring, else its first W words are zero
 pub record SharedAs (R : Rows) (t : Terms) (cells items areas work : List ℕ) (r : Shared) (cells′ items′ areas′ work′ : List ℕ) : Type 0 where

@@ -9,13 +9,14 @@ use Rattle.areas.specs.Job.{Job}
 use Rattle.soundness.specs.Walks.{Step, read, write, Alike}
 use Rattle.soundness.specs.Machine.{RunsAlike}
 use Rattle.soundness.specs.Demand.{frameOf}
+use Rattle.words.specs.Widths.{cellWidth, itemWidth}
 
 -- items 4 numbers, the cell first; cells 2 numbers, the size first
 abbrev pub cellIn : List ℕ → ℕ → ℕ
-cellIn items i = getD items (4 * i) 0
+cellIn items i = getD items (itemWidth * i) 0
 
 abbrev pub sizeIn : List ℕ → ℕ → ℕ
-sizeIn cells c = getD cells (2 * c) 0
+sizeIn cells c = getD cells (cellWidth * c) 0
 
 -- what a walk reads through these cells: the claim about the whole list, the same of the machine, and that each byte taken lies below its cell's size
 pub record ReadsAsPrivate (J : Job) (cells items : List ℕ) (start : ℕ) (w : List Step) : Type 0 where

@@ -7,6 +7,8 @@ use job_space::Head;
 use job_space::Sizes;
 use refusals::Refusal;
 use refusals::Verdict;
+use words::widths::cell;
+use words::widths::item;
 
 // Refusal 7: work space under W, or a cell or an item list under the items.
 fn short(z: Sizes, cells: usize, items: usize, work: usize) -> Verdict
@@ -16,10 +18,10 @@ fn short(z: Sizes, cells: usize, items: usize, work: usize) -> Verdict
     if work < job_space::needed(z) {
         return Verdict::Bad(Refusal::Space, 0);
     }
-    if cells / 2 < z.locals + z.slots {
+    if cells / cell::WIDTH < z.locals + z.slots {
         return Verdict::Bad(Refusal::Space, 0);
     }
-    if items / 4 < z.locals + z.slots {
+    if items / item::WIDTH < z.locals + z.slots {
         return Verdict::Bad(Refusal::Space, 0);
     }
     Verdict::Fine

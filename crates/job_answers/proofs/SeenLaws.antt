@@ -6,7 +6,8 @@ use mathlib.Core.Bool.{Bool, cond}
 use mathlib.Core.Option.{Option, some, none}
 use mathlib.Core.List.{List, [], _∷_, _++_}
 use lib.ListN.{length, getD, take, drop, length-append, List·getD-append}
-use Rattle.words.specs.Rows.{rowCount, field, tabulate, flat}
+use Rattle.words.specs.Rows.{field, tabulate, flat}
+use Rattle.words.specs.Widths.{itemWidth, itemCell, itemPresent, itemFirst, itemRanges, rangeWidth, rangeCount}
 use Rattle.words.proofs.FlatLaws.{flat-length, flat-at}
 use Rattle.ranges.specs.declared.Range.{Range}
 use Rattle.fitting.specs.Wants.{Want, wantAt}
@@ -30,28 +31,28 @@ module _ (A : ℕ → Option (List Range)) (n : ℕ) (p : Plan) where
   wide : (i : ℕ) → i < n → length (row i) ≡ 4
   wide i h = ap (λ (k : ℕ). suc k) (row-long (rangesOf (tabulate i A)) (A i))
 
-  pub items-long : length (itemRows n A p) ≡ 4 * n
+  pub items-long : length (itemRows n A p) ≡ itemWidth * n
   items-long = flat-length 4 n row wide
 
   module _ (i : ℕ) (h : i < n) where
-    pub field-is : (f : ℕ) → f < 4 → (a : Option (List Range)) → A i ≡ a → field 4 (itemRows n A p) i f ≡ getD (p .cell i ∷ itemRow (rangesOf (tabulate i A)) a) f 0
+    pub field-is : (f : ℕ) → f < 4 → (a : Option (List Range)) → A i ≡ a → field itemWidth (itemRows n A p) i f ≡ getD (p .cell i ∷ itemRow (rangesOf (tabulate i A)) a) f 0
     field-is f k a e = flat-at 4 n row wide i f h k ∙ ap (λ (x : Option (List Range)). getD (p .cell i ∷ itemRow (rangesOf (tabulate i A)) x) f 0) e
 
     -- item i's row, with whatever stands behind the rows
-    pub field-listed : (old : List ℕ) (f : ℕ) → f < 4 → field 4 (itemRows n A p ++ old) i f ≡ getD (row i) f 0
-    field-listed old f k = List·getD-append (itemRows n A p) old 0 (4 * i + f) (omega (arith, items-long)) ∙ field-is f k (A i) refl
+    pub field-listed : (old : List ℕ) (f : ℕ) → f < 4 → field itemWidth (itemRows n A p ++ old) i f ≡ getD (row i) f 0
+    field-listed old f k = List·getD-append (itemRows n A p) old 0 (itemWidth * i + f) (omega (arith, items-long)) ∙ field-is f k (A i) refl
 
-    pub cell-listed : (old : List ℕ) → field 4 (itemRows n A p ++ old) i 0 ≡ p .cell i
+    pub cell-listed : (old : List ℕ) → itemCell (itemRows n A p ++ old) i ≡ p .cell i
     cell-listed old = field-listed old 0 (omega arith)
 
     -- the part that its row names is its area
     pub area-listed : (more : List ℕ) (a : Option (List Range)) → A i ≡ a
-        → partOf (areasOf (areaRows n A ++ more)) (field 4 (itemRows n A p) i 1) (field 4 (itemRows n A p) i 2) (field 4 (itemRows n A p) i 3) ≡ a
+        → partOf (areasOf (areaRows n A ++ more)) (itemPresent (itemRows n A p) i) (itemFirst (itemRows n A p) i) (itemRanges (itemRows n A p) i) ≡ a
     area-listed more none e = rw (field-is 1 (omega arith) none e) refl
     area-listed more (some rs) e =
         rw (field-is 1 (omega arith) (some rs) e, field-is 2 (omega arith) (some rs) e, field-is 3 (omega arith) (some rs) e) (ap (λ (l : List Range). some l) (part-is-area A i n h rs e more))
 
-    part-inside : (a : Option (List Range)) → A i ≡ a → (field 4 (itemRows n A p) i 1 ≡ 0 → ⊥) → field 4 (itemRows n A p) i 2 + field 4 (itemRows n A p) i 3 ≤ rangesOf (tabulate n A)
+    part-inside : (a : Option (List Range)) → A i ≡ a → (itemPresent (itemRows n A p) i ≡ 0 → ⊥) → itemFirst (itemRows n A p) i + itemRanges (itemRows n A p) i ≤ rangesOf (tabulate n A)
     part-inside none e d = absurd (d (field-is 1 (omega arith) none e))
     part-inside (some rs) e d =
         let y = field-is 2 (omega arith) (some rs) e in
@@ -64,7 +65,7 @@ module _ (A : ℕ → Option (List Range)) (n : ℕ) (p : Plan) where
   module _ (ws : List Want) (areas-are : (i : ℕ) → i < n → wantAt ws i .area ≡ A i)
       (known : (i : ℕ) → i < n → p .cell i < length (p .cells)) (few : length (p .cells) ≤ n)
       (locals : ℕ) (locals-in : locals ≤ n) (few-locals : locals ≤ 2048) (few-slots : n - locals ≤ 2048)
-      (more : List ℕ) (whole : length (areaRows n A ++ more) % 2 ≡ 0) (short : rowCount 2 (areaRows n A ++ more) ≤ 65536) where
+      (more : List ℕ) (whole : length (areaRows n A ++ more) % rangeWidth ≡ 0) (short : rangeCount (areaRows n A ++ more) ≤ 65536) where
     pub rows-held : RowsHold (cellRows p) (itemRows n A p) (areaRows n A ++ more) locals (length (p .cells)) n (roomAt p) (itemOf ws p)
     rows-held = record {
       cells-long = cells-long p;

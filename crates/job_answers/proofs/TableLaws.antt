@@ -8,6 +8,7 @@ use lib.ListN.{length, getD, drop}
 use Rattle.refusals.specs.declared.Refusal.the-variants.{List as ListWord}
 use Rattle.refusals.specs.Outcomes.{given}
 use Rattle.words.specs.Rows.{tabulate, flat}
+use Rattle.words.specs.Widths.{cellWidth, itemWidth, rangeWidth, rangeCount}
 use Rattle.words.proofs.RowLaws.{length-tabulate, tabulate-eq}
 use Rattle.words.proofs.FlatLaws.{flat-length}
 use Rattle.ranges.specs.declared.Range.{Range}
@@ -66,8 +67,8 @@ module _ (A : ℕ → Option (List Range)) (p : Plan) (n room total : ℕ) (w : 
           let b = H .shown .align i (rw (H .cells) at h) in
           cc
 
-  cells-long : length (cellRows p) ≡ 2 * r .cells
-  cells-long = ap length (rows-cells (p .cells)) ∙ flat-length 2 (length (p .cells)) (λ i. cellRow (cellAt (p .cells) i)) (λ i h. refl) ∙ ap (λ (k : ℕ). 2 * k) (sym (H .cells))
+  cells-long : length (cellRows p) ≡ cellWidth * r .cells
+  cells-long = ap length (rows-cells (p .cells)) ∙ flat-length 2 (length (p .cells)) (λ i. cellRow (cellAt (p .cells) i)) (λ i h. refl) ∙ ap (λ (k : ℕ). cellWidth * k) (sym (H .cells))
 
   items-are : rowsOf w room (room + 6 * n) n ≡ itemRows n A p
   items-are = ap flat (tabulate-eq n (λ i. rowOf (getD w (room + 6 * n + i) 0) (getD w (room + i) 0)) (λ i. p .cell i ∷ itemRow (rangesOf (tabulate i A)) (A i)) row)
@@ -77,22 +78,22 @@ module _ (A : ℕ → Option (List Range)) (p : Plan) (n room total : ℕ) (w : 
           ap (λ (c : ℕ). rowOf c (getD w (room + i) 0)) (H .shown .cell i h)
           ∙ ap (λ (l : List ℕ). p .cell i ∷ l) (word-row (getD w (room + i) 0) (rangesOf (tabulate i A)) (A i) (D .items i h) (omega (arith, ranges-below A i n h, D .total-is)))
 
-  items-long : length (itemRows n A p) ≡ 4 * n
+  items-long : length (itemRows n A p) ≡ itemWidth * n
   items-long = flat-length 4 n (λ i. p .cell i ∷ itemRow (rangesOf (tabulate i A)) (A i)) (λ i h. ap (λ (k : ℕ). suc k) (row-long (rangesOf (tabulate i A)) (A i)))
 
   areas-are : rowsIn w 0 total 0 ≡ areaRows n A
   areas-are = rows-areas n A w total (omega arith) (D .areas fits)
 
-  areas-long : length (areaRows n A) ≡ 2 * total
+  areas-long : length (areaRows n A) ≡ rangeWidth * total
   areas-long = ap length (sym areas-are) ∙ rows-long w 0 total 0
 
-  pub given-list : (cells items areas cells′ items′ areas′ : List ℕ) → room ≡ length areas / 2 → Written cells items areas w n (r .cells) total cells′ items′ areas′
+  pub given-list : (cells items areas cells′ items′ areas′ : List ℕ) → room ≡ rangeCount areas → Written cells items areas w n (r .cells) total cells′ items′ areas′
       → AnsweredBy (areasVerdict n A room) n A p cells items areas (Planned (r .cells) (r .probes) (r .depth)) cells′ items′ areas′
   given-list cells items areas cells′ items′ areas′ e W = rw (list-fine A n room total w D fits short in-work) (record {
     answer = told;
-    in-cells = cells-told ∙ ap (λ (l : List ℕ). l ++ drop (2 * r .cells) cells) cells-are ∙ ap (λ (k : ℕ). cellRows p ++ drop k cells) (sym cells-long);
-    in-items = items-told ∙ ap (λ (l : List ℕ). l ++ drop (4 * n) items) items-are ∙ ap (λ (k : ℕ). itemRows n A p ++ drop k items) (sym items-long);
-    in-areas = W .in-areas ∙ ap (λ (l : List ℕ). l ++ drop (2 * total) areas) areas-are ∙ ap (λ (k : ℕ). areaRows n A ++ drop k areas) (sym areas-long);
+    in-cells = cells-told ∙ ap (λ (l : List ℕ). l ++ drop (cellWidth * r .cells) cells) cells-are ∙ ap (λ (k : ℕ). cellRows p ++ drop k cells) (sym cells-long);
+    in-items = items-told ∙ ap (λ (l : List ℕ). l ++ drop (itemWidth * n) items) items-are ∙ ap (λ (k : ℕ). itemRows n A p ++ drop k items) (sym items-long);
+    in-areas = W .in-areas ∙ ap (λ (l : List ℕ). l ++ drop (rangeWidth * total) areas) areas-are ∙ ap (λ (k : ℕ). areaRows n A ++ drop k areas) (sym areas-long);
   })
     where
       told : given (record { cells = r .cells; probes = r .probes; depth = r .depth }) ≡ given (tallied p)
@@ -102,17 +103,17 @@ module _ (A : ℕ → Option (List Range)) (p : Plan) (n room total : ℕ) (w : 
           let c = H .depth in
           cc
 
-      cells-told : cells′ ≡ cellRowsIn w (room + 5 * n) (r .cells) ++ drop (2 * r .cells) cells
-      cells-told = W .in-cells ∙ ap (λ (k : ℕ). cellRowsIn w (k + 5 * n) (r .cells) ++ drop (2 * r .cells) cells) (sym e)
+      cells-told : cells′ ≡ cellRowsIn w (room + 5 * n) (r .cells) ++ drop (cellWidth * r .cells) cells
+      cells-told = W .in-cells ∙ ap (λ (k : ℕ). cellRowsIn w (k + 5 * n) (r .cells) ++ drop (cellWidth * r .cells) cells) (sym e)
 
-      items-told : items′ ≡ rowsOf w room (room + 6 * n) n ++ drop (4 * n) items
-      items-told = W .in-items ∙ ap (λ (k : ℕ). rowsOf w k (k + 6 * n) n ++ drop (4 * n) items) (sym e)
+      items-told : items′ ≡ rowsOf w room (room + 6 * n) n ++ drop (itemWidth * n) items
+      items-told = W .in-items ∙ ap (λ (k : ℕ). rowsOf w k (k + 6 * n) n ++ drop (itemWidth * n) items) (sym e)
 
 -- after fitting: room for the lists, and the lists
-module _ (locals slots : List ℕ) (budget total end : ℕ) (cells items areas w₀ w : List ℕ) (r : Counts) (M : Measured (countOf locals slots) (length areas / 2) total end (length cells) (length items) w₀) (fits : total ≤ length areas / 2)
-    (F : FittedFor locals slots budget (length areas / 2) end w₀ w r) where
+module _ (locals slots : List ℕ) (budget total end : ℕ) (cells items areas w₀ w : List ℕ) (r : Counts) (M : Measured (countOf locals slots) (rangeCount areas) total end (length cells) (length items) w₀) (fits : total ≤ rangeCount areas)
+    (F : FittedFor locals slots budget (rangeCount areas) end w₀ w r) where
   -- a cell's number is small
-  cell-small : (i : ℕ) → i < countOf locals slots → getD w (length areas / 2 + 6 * countOf locals slots + i) 0 < 2 ^ 32
+  cell-small : (i : ℕ) → i < countOf locals slots → getD w (rangeCount areas + 6 * countOf locals slots + i) 0 < 2 ^ 32
   cell-small i h =
       let ws = wantsFor locals slots (M .area) in
       let k = facts ws budget (length ws) (orderOf ws) (order-names ws) .known i (rw (length-tabulate (countOf locals slots) (wantFor locals slots (M .area))) h) in
@@ -131,9 +132,9 @@ module _ (locals slots : List ℕ) (budget total end : ℕ) (cells items areas w
     small = cell-small;
   }
 
-  pub answered-list : (A : ℕ → Option (List Range)) → ListedBy wordOf (listing (length areas / 2) (length areas / 2)) A (countOf locals slots) total w₀ → {cells′ items′ areas′ : List ℕ}
+  pub answered-list : (A : ℕ → Option (List Range)) → ListedBy wordOf (listing (rangeCount areas) (rangeCount areas)) A (countOf locals slots) total w₀ → {cells′ items′ areas′ : List ℕ}
       → Written cells items areas w (countOf locals slots) (r .cells) total cells′ items′ areas′
-      → AnsweredBy (areasVerdict (countOf locals slots) A (length areas / 2)) (countOf locals slots) A (planFor locals slots A budget) cells items areas (Planned (r .cells) (r .probes) (r .depth)) cells′ items′ areas′
+      → AnsweredBy (areasVerdict (countOf locals slots) A (rangeCount areas)) (countOf locals slots) A (planFor locals slots A budget) cells items areas (Planned (r .cells) (r .probes) (r .depth)) cells′ items′ areas′
   answered-list A D {cells′} {items′} {areas′} W =
-      given-list A (planFor locals slots A budget) (countOf locals slots) (length areas / 2) total w r (F .plan A total D fits) (F .listed A total D fits) fits (M .short)
+      given-list A (planFor locals slots A budget) (countOf locals slots) (rangeCount areas) total w r (F .plan A total D fits) (F .listed A total D fits) fits (M .short)
       (omega (arith, M .space, M .inside, F .kept .len)) cells items areas cells′ items′ areas′ refl W

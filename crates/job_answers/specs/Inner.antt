@@ -8,6 +8,7 @@ use Rattle.ranges.specs.declared.Range.{Range}
 use Rattle.ranges.specs.Points.{Apart}
 use Rattle.area_measure.specs.Locals.{wordOf, ListedBy}
 use Rattle.area_tables.specs.Tables.{listing}
+use Rattle.words.specs.Widths.{cellWidth, itemWidth}
 
 -- the areas of some items, each in order and apart, and room for their plan
 pub record Measured (n room total end cells items : ℕ) (w : List ℕ) : Type 0 where
@@ -16,8 +17,8 @@ pub record Measured (n room total end cells items : ℕ) (w : List ℕ) : Type 0
   pub apart : (i : ℕ) (rs : List Range) → area i ≡ some rs → Apart rs
   pub few : n ≤ 4096
   pub short : room ≤ 65536
-  pub in-cells : 2 * n ≤ cells
-  pub in-items : 4 * n ≤ items
+  pub in-cells : cellWidth * n ≤ cells
+  pub in-items : itemWidth * n ≤ items
   pub space : room + 8 * n ≤ end
   pub inside : end ≤ length w
   pub small : end < 2 ^ 32

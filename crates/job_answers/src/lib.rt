@@ -11,8 +11,11 @@ ghost use Rattle.job_fit.specs.Wants.{countOf, planFor};
 ghost use Rattle.job_answers.specs.Answers.{AnsweredBy};
 ghost use Rattle.job_answers.specs.Inner.{Measured};
 ghost use Rattle.areas.specs.Job.{areasVerdict};
+ghost use Rattle.words.specs.Widths.{rangeCount};
 use job_space::Terms;
 use refusals::Refusal;
+use words::widths::local;
+use words::widths::range;
 
 // A plan's cells, the probes spent and its depth, or a refusal with the index of the first offending record.
 pub enum Shared {
@@ -32,15 +35,15 @@ pub fn answer(
     areas: &mut [u32],
     work: &mut [u64],
 ) -> Shared
-    requires { ⌜ Measured (countOf (now locals) (now slots)) (length (now areas) / 2) total end (length (now cells)) (length (now items)) (now work) ⌝ }
+    requires { ⌜ Measured (countOf (now locals) (now slots)) (rangeCount (now areas)) total end (length (now cells)) (length (now items)) (now work) ⌝ }
     ensures { λ r. ⌜ Within 0 end (now (work .entry)) (now (work .exit))
-        × ((A : ℕ → Option (List Range)) → ListedBy wordOf (listing (length (now (areas .entry)) / 2) (length (now (areas .entry)) / 2)) A
+        × ((A : ℕ → Option (List Range)) → ListedBy wordOf (listing (rangeCount (now (areas .entry))) (rangeCount (now (areas .entry)))) A
         (countOf (now (locals .entry)) (now (slots .entry))) total (now (work .entry))
-        → AnsweredBy (areasVerdict (countOf (now (locals .entry)) (now (slots .entry))) A (length (now (areas .entry)) / 2)) (countOf (now (locals .entry)) (now (slots .entry))) A
+        → AnsweredBy (areasVerdict (countOf (now (locals .entry)) (now (slots .entry))) A (rangeCount (now (areas .entry)))) (countOf (now (locals .entry)) (now (slots .entry))) A
         (planFor (now (locals .entry)) (now (slots .entry)) A (terms .budget))
         (now (cells .entry)) (now (items .entry)) (now (areas .entry)) r (now (cells .exit)) (now (items .exit)) (now (areas .exit))) ⌝ }
 {
-    let room = areas.len() / 2;
+    let room = areas.len() / range::WIDTH;
     if room < total {
         return Shared::Refused(Refusal::List, 0);
     }
@@ -50,7 +53,7 @@ pub fn answer(
         items,
         areas,
         work,
-        locals.len() / 2 + slots.len(),
+        locals.len() / local::WIDTH + slots.len(),
         f.cells,
         total,
     );

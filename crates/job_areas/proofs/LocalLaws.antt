@@ -5,7 +5,7 @@ use mathlib.Core.Path.{_≡_, refl, sym, ap, subst, _∙_}
 use mathlib.Core.Bool.{_||_}
 use mathlib.Core.List.{List}
 use lib.ListN.{length}
-use Rattle.words.specs.Rows.{rowCount}
+use Rattle.words.specs.Widths.{blockCount, localCount, endCount, rangeWidth}
 use Rattle.ranges.specs.declared.Range.{Range}
 use Rattle.graph.specs.Paths.{Edge}
 use Rattle.graph.specs.Line.{blocksOf}
@@ -76,23 +76,23 @@ module _ (R : Rows) (areas : ℕ) (r : Regions) {w₀ : List ℕ}
       ∙ touches-fine (jobOf R) (N .passed .checked) (let q = blocks-length (R .blocks) in let b = N .passed .small .some-block in omega arith) l t m)
 
   -- without locals there is nothing to do
-  pub locals-none : rowCount 2 (R .locals) ≡ 0 → LocalsDone R areas r w₀ w₀ 0
+  pub locals-none : localCount (R .locals) ≡ 0 → LocalsDone R areas r w₀ w₀ 0
   locals-none e = record {
     len = refl;
     keys = λ i a b. refl;
     past = λ i h. refl;
     most = omega arith;
-    listed = λ A h. rw e (listed-none wordOf (listing (areas / 2) (r .items)) A w₀);
+    listed = λ A h. rw e (listed-none wordOf (listing (areas / rangeWidth) (r .items)) A w₀);
   }
 
-  module _ (lay : Lay) (g : Grid) (some : 0 < rowCount 2 (R .locals)) (K : InOrder (R .pieces) (r .keys) w₀) (L : LaidFrom z (r .free) lay) (G : Gridded (gridSizes z) (r .base) g) where
+  module _ (lay : Lay) (g : Grid) (some : 0 < localCount (R .locals)) (K : InOrder (R .pieces) (r .keys) w₀) (L : LaidFrom z (r .free) lay) (G : Gridded (gridSizes z) (r .base) g) where
     S : Small z
     S = N .passed .small
 
     laid : LocalsLaid z r lay g w₀
     laid = locals-laid z r g (slotPlaces z (r .free)) S P G (slots-from z (r .free)) w₀ (N .space) L some
 
-    within : markOf g + g .width + rowCount 3 (R .blocks) + mostOfLocal z ≤ spaceOf z
+    within : markOf g + g .width + blockCount (R .blocks) + mostOfLocal z ≤ spaceOf z
     within = let f = layout-fits z r g (slotPlaces z (r .free)) S P G (slots-from z (r .free)) .locals-fit some in omega arith
 
     space-small : spaceOf z < 2 ^ 32
@@ -101,7 +101,7 @@ module _ (R : Rows) (areas : ℕ) (r : Regions) {w₀ : List ℕ}
         omega (arith, S .registers, S .few-blocks, S .few-edges, S .few-insts, S .few-operands, S .few-crossings, S .few-locals, S .few-slots, S .few-addresses, S .few-ends, S .few-pieces, S .few-assigned, S .few-moves, S .few-ranges)
 
     pub locals-asked : {m : ℕ} → m ≡ markOf g
-        → Asked (R .blocks) (R .edges) (R .insts) (R .operands) (R .crossings) (R .addresses) (R .ends) (R .pieces) (R .v) (rowCount 2 (R .locals)) lay (placesIn r) g m (listing (areas / 2) (r .items)) w₀
+        → Asked (R .blocks) (R .edges) (R .insts) (R .operands) (R .crossings) (R .addresses) (R .ends) (R .pieces) (R .v) (localCount (R .locals)) lay (placesIn r) g m (listing (areas / rangeWidth) (r .items)) w₀
     locals-asked {m} e =
         let o = laid .order in
         let c = laid .carry in
@@ -145,13 +145,13 @@ module _ (R : Rows) (areas : ℕ) (r : Regions) {w₀ : List ℕ}
           few = let q = ranges-small S in omega arith;
         }
       where
-        ends-in : r .ends + rowCount 2 (R .ends) ≤ length w₀
+        ends-in : r .ends + endCount (R .ends) ≤ length w₀
         ends-in =
             let o = laid .order in
             omega (arith, o .ends-fit, o .base-fits, o .touched-fits, o .leaves-fit, o .passes-fit, o .written-fits, o .read-fits, o .to-fits, laid .fits)
 
     pub locals-done : {m n : ℕ} {w : List ℕ} → m ≡ markOf g
-        → LocalsIn (R .blocks) (R .edges) (R .insts) (R .operands) (R .crossings) (R .addresses) (R .ends) (R .pieces) (R .v) (rowCount 2 (R .locals)) lay (placesIn r) g m (listing (areas / 2) (r .items)) w₀ w n
+        → LocalsIn (R .blocks) (R .edges) (R .insts) (R .operands) (R .crossings) (R .addresses) (R .ends) (R .pieces) (R .v) (localCount (R .locals)) lay (placesIn r) g m (listing (areas / rangeWidth) (r .items)) w₀ w n
         → LocalsDone R areas r w₀ w n
     locals-done e I = record {
       len = I .len;
@@ -178,7 +178,7 @@ module _ (R : Rows) (areas : ℕ) (r : Regions) {w₀ : List ℕ}
   none-for e = locals-none R areas r N placed (sym (ap (λ (y : Sizes). y .locals) by-sizes) ∙ e)
 
   module _ (lay : Lay) (g : Grid) (some : 0 < z .locals) (K : InOrder (R .pieces) (r .keys) w₀) (L : LaidFrom z (r .free) lay) (G : Gridded (gridSizes z) (r .base) g) {m : ℕ} (e : m ≡ markOf g) where
-    some-local : 0 < rowCount 2 (R .locals)
+    some-local : 0 < localCount (R .locals)
     some-local = subst (λ (y : Sizes). 0 < y .locals) by-sizes some
 
     laid-for : LaidFrom counts (r .free) lay

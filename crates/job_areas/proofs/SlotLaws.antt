@@ -4,8 +4,8 @@ use native.Mathlib.Omega.{arith}
 use mathlib.Core.Path.{_≡_, refl, _∙_}
 use mathlib.Core.List.{List}
 use lib.ListN.{length, getD}
-use Rattle.words.specs.Rows.{rowCount}
 use Rattle.words.specs.Regions.{Region}
+use Rattle.words.specs.Widths.{blockCount}
 use Rattle.graph.specs.Line.{blocksOf}
 use Rattle.graph.specs.Work.{Tabled}
 use Rattle.graph.proofs.Line.{blocks-length}
@@ -31,7 +31,7 @@ module _ (points : ℕ) (blocks insts moves pieces assigned : List ℕ) (p : Pla
     long : length w₃ ≡ length w₀
     long = C .kept .len ∙ T .kept .len ∙ H .len
 
-    table-since : (n : ℕ) → n < rowCount 3 blocks → getD w₃ (p .table + n) 0 ≡ getD w₂ (p .table + n) 0
+    table-since : (n : ℕ) → n < blockCount blocks → getD w₃ (p .table + n) 0 ≡ getD w₂ (p .table + n) 0
     table-since n h = C .kept .below (p .table + n) (omega (arith, Q .laid .table-fits))
 
     held-since : (s : ℕ) → s < p .slots → getD w₃ (held + s) 0 ≡ heldWord (spilled (assignedOf assigned) s)

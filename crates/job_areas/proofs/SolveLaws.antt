@@ -8,7 +8,7 @@ use mathlib.Core.List.{List}
 use lib.ListN.{length, getD}
 use lib.Dec.{leb}
 use borrow.Author.Tests.{lt-ltb, le-ltb, leb-false}
-use Rattle.words.specs.Rows.{rowCount}
+use Rattle.words.specs.Widths.{localWidth, localCount, pieceCount, rangeWidth, slotCount}
 use Rattle.words.proofs.RowLaws.{length-records}
 use Rattle.refusals.specs.declared.Refusal.the-variants.{Piece as PieceWord}
 use Rattle.refusals.proofs.Laws.{scan-fine}
@@ -140,16 +140,16 @@ module _ (R : Rows) (areas : ℕ) (r : Regions) {w₀ w₁ : List ℕ}
         past = λ i h. D .kept .past i h ∙ L .past i h ∙ O .kept .past i (omega (arith, keys-in));
       };
       listed =
-          subst (λ (k : ℕ). ListedBy wordOf (listing (areas / 2) (areas / 2)) (itemArea J) (k + length (R .slots)) n w) (sym many)
-          (subst (λ (k : ℕ). ListedBy wordOf (listing (areas / 2) k) (itemArea J) (rowCount 2 (R .locals) + length (R .slots)) n w) (P .items-at)
+          subst (λ (k : ℕ). ListedBy wordOf (listing (areas / rangeWidth) (areas / rangeWidth)) (itemArea J) (k + slotCount (R .slots)) n w) (sym many)
+          (subst (λ (k : ℕ). ListedBy wordOf (listing (areas / rangeWidth) k) (itemArea J) (localCount (R .locals) + slotCount (R .slots)) n w) (P .items-at)
           (D .listed (itemArea J) (λ s h. subst (λ (k : ℕ). itemArea J (k + s) ≡ slotAreaIn J s) many (slot-item J s) ∙ sym (ap (slotArea (piecesOf (R .pieces)) (spilled (assignedOf (R .assigned)) s)) (moved-whatever (blocksOf (R .blocks)) (R .insts) (R .operands) (R .points) s (movesOf (R .moves)))))
           (L .listed (itemArea J) (λ i h. local-item J i (omega (arith, many))))));
     }
       where
-        many : length (J .locals) ≡ rowCount 2 (R .locals)
-        many = length-records 2 (λ f. record { size = f 0; align = f 1 }) (R .locals)
+        many : length (J .locals) ≡ localCount (R .locals)
+        many = length-records localWidth (λ f. record { size = f 0; align = f 1 }) (R .locals)
 
-        keys-in : r .keys + rowCount 3 (R .pieces) ≤ spaceOf z
+        keys-in : r .keys + pieceCount (R .pieces) ≤ spaceOf z
         keys-in = omega (arith, P .items-at, P .keys-at)
 
 -- ---- the same, by counts that are the records'
@@ -159,7 +159,7 @@ module _ (R : Rows) (areas : ℕ) (r : Regions) {w₀ : List ℕ}
   placed : Placed (sizesOf R areas) r
   placed = subst (λ (x : Sizes). Placed x r) by-sizes P
 
-  pub keys-room : r .keys + rowCount 3 (R .pieces) ≤ length w₀
+  pub keys-room : r .keys + pieceCount (R .pieces) ≤ length w₀
   keys-room = let p = placed in omega (arith, p .items-at, p .keys-at, N .space)
 
   module _ {w₁ : List ℕ} (O : PutInOrder (R .pieces) (r .keys) w₀ w₁) {w₂ : List ℕ} {total : ℕ} (L : LocalsDone R areas r w₁ w₂ total) where

@@ -5,7 +5,7 @@ use mathlib.Core.Option.{Option}
 use mathlib.Core.List.{List, []}
 use lib.ListN.{length, getD}
 use Rattle.refusals.specs.declared.Verdict.the-variants.{Fine}
-use Rattle.words.specs.Rows.{rowCount}
+use Rattle.words.specs.Widths.{blockCount, localCount, pieceCount, moveCount, rangeWidth}
 use Rattle.ranges.specs.declared.Range.{Range}
 use Rattle.graph.specs.Line.{blocksOf, Sound}
 use Rattle.graph.specs.Work.{Within}
@@ -33,19 +33,19 @@ pub record SlotsAsked (blocks insts moves pieces assigned : List ℕ) (p : Place
   pub fine : moveVerdict (blocksOf blocks) (instsOf insts []) (movesOf moves) ≡ Fine
   pub registers : (s : ℕ) → heldWord (spilled (assignedOf assigned) s) ≤ 4294967296
   pub order : InOrder pieces keys w
-  pub few-pieces : rowCount 3 pieces ≤ 65536
-  pub few-moves : rowCount 4 moves ≤ 65536
+  pub few-pieces : pieceCount pieces ≤ 65536
+  pub few-moves : moveCount moves ≤ 65536
   pub areas-fit : o .areas + o .room ≤ o .items
   pub items-fit : o .items + first + p .slots ≤ keys
-  pub keys-fit : keys + rowCount 3 pieces ≤ held
+  pub keys-fit : keys + pieceCount pieces ≤ held
   pub held-fits : held + p .slots ≤ p .table
-  pub laid : Laid p (rowCount 3 blocks) (rowCount 4 moves) w
-  pub fits : p .to + rowCount 4 moves + rowCount 4 moves + rowCount 3 pieces ≤ length w
+  pub laid : Laid p (blockCount blocks) (moveCount moves) w
+  pub fits : p .to + moveCount moves + moveCount moves + pieceCount pieces ≤ length w
   pub few : total + p .slots * mostFor moves pieces < 2 ^ 32
 
 -- the slots' areas stand behind those before them; nothing has changed below the areas, nor past the words that the slots' are made in
 pub record SlotsIn (points : ℕ) (blocks insts moves pieces assigned : List ℕ) (p : Places) (keys held : ℕ) (o : Listing) (first total : ℕ) (w₀ w : List ℕ) (r : ℕ) : Type 0 where
-  pub kept : Within (o .areas) (p .to + rowCount 4 moves + rowCount 4 moves + rowCount 3 pieces) w₀ w
+  pub kept : Within (o .areas) (p .to + moveCount moves + moveCount moves + pieceCount pieces) w₀ w
   pub listed : (A : ℕ → Option (List Range)) → AreasBy points blocks insts moves pieces first (p .slots) A (spilled (assignedOf assigned))
       → ListedBy wordOf o A first total w₀ → ListedBy wordOf o A (first + p .slots) r w
 
@@ -68,18 +68,18 @@ pub record LocalsDone (R : Rows) (areas : ℕ) (r : Regions) (w₀ w : List ℕ)
   pub len : length w ≡ length w₀
   pub keys : (i : ℕ) → r .keys ≤ i → i < r .free → getD w i 0 ≡ getD w₀ i 0
   pub past : (i : ℕ) → spaceOf (sizesOf R areas) ≤ i → getD w i 0 ≡ getD w₀ i 0
-  pub most : n ≤ rowCount 2 (R .locals) * mostOfLocal (sizesOf R areas)
+  pub most : n ≤ localCount (R .locals) * mostOfLocal (sizesOf R areas)
   pub listed : (A : ℕ → Option (List Range))
-      → ((i : ℕ) → i < rowCount 2 (R .locals) → A i ≡ localArea (jobOf R) i)
-      → ListedBy wordOf (listing (areas / 2) (r .items)) A (rowCount 2 (R .locals)) n w
+      → ((i : ℕ) → i < localCount (R .locals) → A i ≡ localArea (jobOf R) i)
+      → ListedBy wordOf (listing (areas / rangeWidth) (r .items)) A (localCount (R .locals)) n w
 
 -- what the slots' phase goes by
 pub record SlotsDue (points : ℕ) (blocks insts pieces assigned moves : List ℕ) (z : Sizes) (r : Regions) (total : ℕ) (w : List ℕ) : Type 0 where
   pub small : Small z
   pub placed : Placed z r
-  pub blocks-are : z .blocks ≡ rowCount 3 blocks
-  pub pieces-are : z .pieces ≡ rowCount 3 pieces
-  pub moves-are : z .moves ≡ rowCount 4 moves
+  pub blocks-are : z .blocks ≡ blockCount blocks
+  pub pieces-are : z .pieces ≡ pieceCount pieces
+  pub moves-are : z .moves ≡ moveCount moves
   pub sound : Sound (blocksOf blocks)
   pub fine : moveVerdict (blocksOf blocks) (instsOf insts []) (movesOf moves) ≡ Fine
   pub registers : (s : ℕ) → heldWord (spilled (assignedOf assigned) s) ≤ 4294967296
@@ -95,4 +95,4 @@ pub record SlotsDone (points : ℕ) (blocks insts pieces assigned moves : List �
 -- the areas of all items of the job, and their words behind the room of the area list; nothing past W has changed
 pub record Solved (R : Rows) (areas : ℕ) (w₀ w : List ℕ) (n : ℕ) : Type 0 where
   pub kept : Within 0 (spaceOf (sizesOf R areas)) w₀ w
-  pub listed : ListedBy wordOf (listing (areas / 2) (areas / 2)) (itemArea (jobOf R)) (itemCount (jobOf R)) n w
+  pub listed : ListedBy wordOf (listing (areas / rangeWidth) (areas / rangeWidth)) (itemArea (jobOf R)) (itemCount (jobOf R)) n w

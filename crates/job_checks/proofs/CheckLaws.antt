@@ -15,7 +15,7 @@ use Rattle.refusals.specs.declared.Refusal.the-variants.{Count, Edge as EdgeWor
 use Rattle.refusals.specs.Verdicts.{first, inOrder, scan}
 use Rattle.refusals.proofs.Laws.{first-fine, first-bad, first-left, first-right, check-last, check-told}
 use Rattle.refusals.proofs.Orders.{order-append}
-use Rattle.words.specs.Rows.{rowCount}
+use Rattle.words.specs.Widths.{blockCount, edgeWidth, pieceWidth, assignedWidth, moveWidth, rangeWidth}
 use Rattle.graph.specs.Line.{blocksOf, jumpsOf, lineVerdict, badEdge, edgeVerdict, Sound}
 use Rattle.graph.proofs.Line.{blocks-length, line-sound}
 use Rattle.carrying.specs.Insts.{instsOf}
@@ -36,34 +36,34 @@ use Rattle.job_checks.specs.Inner.{placeVerdict, strayVerdict, liveVerdi
 -- ---- number 1
 
 module _ (edges slots pieces assigned moves areas : ℕ) where
-  pub others-chain : {a b c d e f g h i j r : Verdict} → a ≡ rowsVerdict 2 16384 edges → b ≡ mostVerdict 2048 slots → c ≡ rowsVerdict 3 65536 pieces → d ≡ rowsVerdict 2 65536 assigned
-      → e ≡ rowsVerdict 4 65536 moves → f ≡ rowsVerdict 2 65536 areas
+  pub others-chain : {a b c d e f g h i j r : Verdict} → a ≡ rowsVerdict edgeWidth 16384 edges → b ≡ mostVerdict 2048 slots → c ≡ rowsVerdict pieceWidth 65536 pieces → d ≡ rowsVerdict assignedWidth 65536 assigned
+      → e ≡ rowsVerdict moveWidth 65536 moves → f ≡ rowsVerdict rangeWidth 65536 areas
       → g ≡ first e f → h ≡ first d g → i ≡ first c h → j ≡ first b i → r ≡ first a j → r ≡ otherCounts edges slots pieces assigned moves areas
   unfolding otherCounts
   others-chain ea eb ec ed ee ef eg eh ei ej er = cc
 
   record OthersCounted : Type 0 where
-    few-edges : edges / 2 ≤ 16384
+    few-edges : edges / edgeWidth ≤ 16384
     few-slots : slots ≤ 2048
-    few-pieces : pieces / 3 ≤ 65536
-    few-assigned : assigned / 2 ≤ 65536
-    few-moves : moves / 4 ≤ 65536
-    few-ranges : areas / 2 ≤ 65536
+    few-pieces : pieces / pieceWidth ≤ 65536
+    few-assigned : assigned / assignedWidth ≤ 65536
+    few-moves : moves / moveWidth ≤ 65536
+    few-ranges : areas / rangeWidth ≤ 65536
 
   others-counted : otherCounts edges slots pieces assigned moves areas ≡ Fine → OthersCounted
   unfolding otherCounts
   others-counted e =
-      let a = first-right (rowsVerdict 2 16384 edges) _ e in
+      let a = first-right (rowsVerdict edgeWidth 16384 edges) _ e in
       let b = first-right (mostVerdict 2048 slots) _ a in
-      let c = first-right (rowsVerdict 3 65536 pieces) _ b in
-      let d = first-right (rowsVerdict 2 65536 assigned) _ c in
+      let c = first-right (rowsVerdict pieceWidth 65536 pieces) _ b in
+      let d = first-right (rowsVerdict assignedWidth 65536 assigned) _ c in
       record {
-        few-edges = rows-few 2 16384 edges (first-left _ _ e);
+        few-edges = rows-few edgeWidth 16384 edges (first-left _ _ e);
         few-slots = most-few 2048 slots (first-left _ _ a);
-        few-pieces = rows-few 3 65536 pieces (first-left _ _ b);
-        few-assigned = rows-few 2 65536 assigned (first-left _ _ c);
-        few-moves = rows-few 4 65536 moves (first-left _ _ d);
-        few-ranges = rows-few 2 65536 areas (first-right (rowsVerdict 4 65536 moves) _ d);
+        few-pieces = rows-few pieceWidth 65536 pieces (first-left _ _ b);
+        few-assigned = rows-few assignedWidth 65536 assigned (first-left _ _ c);
+        few-moves = rows-few moveWidth 65536 moves (first-left _ _ d);
+        few-ranges = rows-few rangeWidth 65536 areas (first-right (rowsVerdict moveWidth 65536 moves) _ d);
       }
 
 module _ (R : Rows) (areas : ℕ) where
@@ -106,16 +106,16 @@ module _ (R : Rows) (areas : ℕ) where
       }
 
   -- the area list is whole rows
-  pub whole-areas : countVerdict R areas ≡ Fine → areas % 2 ≡ 0
+  pub whole-areas : countVerdict R areas ≡ Fine → areas % rangeWidth ≡ 0
   unfolding countVerdict otherCounts
   whole-areas e =
       let a = first-right (carryCounts (R .v) (R .blocks) (R .insts) (R .operands) (R .crossings) (R .locals) (R .addresses) (R .ends)) _ e in
-      let b = first-right (rowsVerdict 2 16384 (length (R .edges))) _ a in
+      let b = first-right (rowsVerdict edgeWidth 16384 (length (R .edges))) _ a in
       let c = first-right (mostVerdict 2048 (length (R .slots))) _ b in
-      let d = first-right (rowsVerdict 3 65536 (length (R .pieces))) _ c in
-      let f = first-right (rowsVerdict 2 65536 (length (R .assigned))) _ d in
-      let g = first-right (rowsVerdict 4 65536 (length (R .moves))) _ f in
-      eqb-true (areas % 2) 0 (not-false (eqb (areas % 2) 0) (or-neither (not (eqb (areas % 2) 0)) _ (check-told Count (badRows 2 65536 areas) g) .0))
+      let d = first-right (rowsVerdict pieceWidth 65536 (length (R .pieces))) _ c in
+      let f = first-right (rowsVerdict assignedWidth 65536 (length (R .assigned))) _ d in
+      let g = first-right (rowsVerdict moveWidth 65536 (length (R .moves))) _ f in
+      eqb-true (areas % rangeWidth) 0 (not-false (eqb (areas % rangeWidth) 0) (or-neither (not (eqb (areas % rangeWidth) 0)) _ (check-told Count (badRows rangeWidth 65536 areas) g) .0))
 
 -- ---- numbers 2 to 6, by the functions that check them
 
@@ -123,13 +123,13 @@ module _ (points v : ℕ) (blocks edges insts operands : List ℕ) where
   pub by-line : (r : Refusal) (i : ℕ) → lineVerdict (blocksOf blocks) points ≡ Bad r i → Bad r i ≡ placeVerdict points v blocks edges insts operands
   by-line r i e = sym (first-bad _ _ r i e)
 
-  pub by-edge : {a b r : Verdict} → lineVerdict (blocksOf blocks) points ≡ Fine → a ≡ scan EdgeWord (badEdge (rowCount 3 blocks) (jumpsOf edges)) (length (jumpsOf edges))
+  pub by-edge : {a b r : Verdict} → lineVerdict (blocksOf blocks) points ≡ Fine → a ≡ scan EdgeWord (badEdge (blockCount blocks) (jumpsOf edges)) (length (jumpsOf edges))
       → b ≡ instVerdict (blocksOf blocks) v (instsOf insts operands) → r ≡ first a b → r ≡ placeVerdict points v blocks edges insts operands
   by-edge {a} {b} {r} e ea eb er =
       let q : a ≡ edgeVerdict (blocksOf blocks) (jumpsOf edges) = ea ∙ ap (λ (n : ℕ). scan EdgeWord (badEdge n (jumpsOf edges)) (length (jumpsOf edges))) (sym (blocks-length blocks)) in
       er ∙ ap (λ (x : Verdict). first x b) q ∙ ap (first (edgeVerdict (blocksOf blocks) (jumpsOf edges))) eb ∙ sym (first-fine _ _ e)
 
-pub some-sound : (blocks : List ℕ) (points : ℕ) → 1 ≤ length blocks / 3 → lineVerdict (blocksOf blocks) points ≡ Fine → Sound (blocksOf blocks)
+pub some-sound : (blocks : List ℕ) (points : ℕ) → 1 ≤ blockCount blocks → lineVerdict (blocksOf blocks) points ≡ Fine → Sound (blocksOf blocks)
 some-sound blocks points h e = line-sound (blocksOf blocks) points (omega (arith, blocks-length blocks)) e
 
 -- ---- all of them

@@ -8,7 +8,7 @@ use Rattle.refusals.specs.declared.Verdict.the-variants.{Fine}
 use Rattle.refusals.specs.declared.Refusal.{Refusal}
 use Rattle.refusals.specs.declared.Refusal.the-variants.{Line, Edge, Inst, Stray, Piece}
 use Rattle.refusals.specs.Verdicts.{first}
-use Rattle.words.specs.Rows.{rowCount}
+use Rattle.words.specs.Widths.{edgeWidth, instCount, mentionWidth, addressCount, endCount, pieceWidth, assignedWidth, moveWidth, rangeWidth}
 use Rattle.graph.specs.Line.{blocksOf, jumpsOf, edgeVerdict, Sound}
 use Rattle.carrying.specs.Insts.{instsOf}
 use Rattle.carrying.specs.Carried.{piecesOf}
@@ -40,8 +40,8 @@ jobOf R =
 -- "edges 16,384; slots 2,048; live pieces, assignments, moves and the area list 65,536 each", by their lengths in numbers
 unfoldable pub otherCounts : ℕ → ℕ → ℕ → ℕ → ℕ → ℕ → Verdict
 otherCounts edges slots pieces assigned moves areas =
-    first (rowsVerdict 2 16384 edges) (first (mostVerdict 2048 slots) (first (rowsVerdict 3 65536 pieces) (first (rowsVerdict 2 65536 assigned)
-    (first (rowsVerdict 4 65536 moves) (rowsVerdict 2 65536 areas)))))
+    first (rowsVerdict edgeWidth 16384 edges) (first (mostVerdict 2048 slots) (first (rowsVerdict pieceWidth 65536 pieces) (first (rowsVerdict assignedWidth 65536 assigned)
+    (first (rowsVerdict moveWidth 65536 moves) (rowsVerdict rangeWidth 65536 areas)))))
 
 -- number 1: "a count outside its limits", the area list by its length in numbers; numbers that are no whole records, and operand counts that do not add up, are no count
 unfoldable pub countVerdict : Rows → ℕ → Verdict
@@ -61,8 +61,8 @@ pub record Passed (R : Rows) (areas : ℕ) : Type 0 where
   pub sound : Sound (blocksOf (R .blocks))
   pub edges-fine : edgeVerdict (blocksOf (R .blocks)) (jumpsOf (R .edges)) ≡ Fine
   pub insts-fine : instVerdict (blocksOf (R .blocks)) (R .v) (instsOf (R .insts) (R .operands)) ≡ Fine
-  pub found : (a : ℕ) → a < rowCount 2 (R .addresses) → getD (R .addresses) (2 * a) 0 < rowCount 9 (R .insts)
-  pub ended : (k : ℕ) → k < rowCount 2 (R .ends) → getD (R .ends) (2 * k) 0 < rowCount 9 (R .insts)
+  pub found : (a : ℕ) → a < addressCount (R .addresses) → getD (R .addresses) (mentionWidth * a) 0 < instCount (R .insts)
+  pub ended : (k : ℕ) → k < endCount (R .ends) → getD (R .ends) (mentionWidth * k) 0 < instCount (R .insts)
   pub moves-fine : moveVerdict (blocksOf (R .blocks)) (instsOf (R .insts) []) (movesOf (R .moves)) ≡ Fine
   pub pieces-fine : pieceVerdict (blocksOf (R .blocks)) (R .v) (piecesOf (R .pieces)) ≡ Fine
   pub assigned-fine : assignedVerdict (R .v) (assignedOf (R .assigned)) ≡ Fine

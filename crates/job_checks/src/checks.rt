@@ -7,7 +7,14 @@ ghost use Rattle.insts.specs.Rows.{AddsUp};
 ghost use Rattle.job_space.specs.Rows.{lentRows};
 ghost use Rattle.job_checks.specs.Job.{otherCounts, countVerdict};
 ghost use Rattle.job_checks.specs.Inner.{placeVerdict, strayVerdict, liveVerdict, placedVerdict};
+ghost use Rattle.words.specs.Widths.{blockCount};
 use refusals::Verdict;
+use words::widths::assigned;
+use words::widths::block;
+use words::widths::edge;
+use words::widths::moving;
+use words::widths::piece;
+use words::widths::range;
 
 // Refusal 1 of the groups that carrying is not lent, by their lengths.
 fn others(
@@ -20,12 +27,12 @@ fn others(
 ) -> Verdict
     ensures { λ r. ⌜ r ≡ otherCounts edges slots pieces assigned moves areas ⌝ }
 {
-    let a = insts::counts::rows(edges, 2, 16384);
+    let a = insts::counts::rows(edges, edge::WIDTH, 16384);
     let b = insts::counts::most(slots, 2048);
-    let c = insts::counts::rows(pieces, 3, 65536);
-    let d = insts::counts::rows(assigned, 2, 65536);
-    let e = insts::counts::rows(moves, 4, 65536);
-    let f = insts::counts::rows(areas, 2, 65536);
+    let c = insts::counts::rows(pieces, piece::WIDTH, 65536);
+    let d = insts::counts::rows(assigned, assigned::WIDTH, 65536);
+    let e = insts::counts::rows(moves, moving::WIDTH, 65536);
+    let f = insts::counts::rows(areas, range::WIDTH, 65536);
     let f = refusals::earlier(e, f);
     let f = refusals::earlier(d, f);
     let f = refusals::earlier(c, f);
@@ -82,14 +89,14 @@ fn located(
     insts: &[u32],
     operands: &[u32],
 ) -> Verdict
-    requires { ⌜ (1 ≤ length (now blocks) / 3) × (length (now blocks) / 3 ≤ 4096) × AddsUp (now insts) (now operands) × (v ≤ 65535) ⌝ }
+    requires { ⌜ (1 ≤ blockCount (now blocks)) × (blockCount (now blocks) ≤ 4096) × AddsUp (now insts) (now operands) × (v ≤ 65535) ⌝ }
     ensures { λ r. ⌜ r ≡ placeVerdict points v (now (blocks .entry)) (now (edges .entry)) (now (insts .entry)) (now (operands .entry)) ⌝ }
 {
     let line = line_checks::line(blocks, points);
     if let Verdict::Bad(r, block) = line {
         return Verdict::Bad(r, block);
     }
-    let a = line_checks::edge(edges, blocks.len() / 3);
+    let a = line_checks::edge(edges, blocks.len() / block::WIDTH);
     let b = insts::checks::inst(blocks, v, insts, operands);
     refusals::earlier(a, b)
 }
@@ -105,7 +112,7 @@ fn stray(blocks: &[u32], insts: &[u32], addresses: &[u32], ends: &[u32], moves: 
 
 // Refusal 6 of the live pieces and the assignments.
 fn live(v: u32, blocks: &[u32], pieces: &[u32], assigned: &[u32]) -> Verdict
-    requires { ⌜ 1 ≤ length (now blocks) / 3 ⌝ }
+    requires { ⌜ 1 ≤ blockCount (now blocks) ⌝ }
     ensures { λ r. ⌜ r ≡ liveVerdict v (now (blocks .entry)) (now (pieces .entry)) (now (assigned .entry)) ⌝ }
 {
     let a = spill_checks::pieces(blocks, v, pieces);
@@ -128,7 +135,7 @@ pub fn placed(
     assigned: &[u32],
     moves: &[u32],
 ) -> Verdict
-    requires { ⌜ (1 ≤ length (now blocks) / 3) × (length (now blocks) / 3 ≤ 4096) × AddsUp (now insts) (now operands) × (v ≤ 65535) ⌝ }
+    requires { ⌜ (1 ≤ blockCount (now blocks)) × (blockCount (now blocks) ≤ 4096) × AddsUp (now insts) (now operands) × (v ≤ 65535) ⌝ }
     ensures { λ r. ⌜ r ≡ placedVerdict points v (now (blocks .entry)) (now (edges .entry)) (now (insts .entry)) (now (operands .entry)) (now (crossings .entry))
         (now (addresses .entry)) (now (ends .entry)) (now (pieces .entry)) (now (assigned .entry)) (now (moves .entry)) ⌝ }
 {

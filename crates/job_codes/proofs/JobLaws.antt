@@ -26,6 +26,7 @@ use Rattle.job_codes.specs.Job.{measuredVerdict, itemsTold, areasTold, J
 use Rattle.job_space.specs.Rows.{Rows}
 use Rattle.job_space.specs.declared.Terms.{Terms}
 use Rattle.job_checks.specs.Job.{jobOf}
+use Rattle.words.specs.Widths.{rangeCount}
 
 -- whatever comes before, a refusal at last is a refusal
 never-fine : (v : Verdict) → (r : Refusal) × (i : ℕ) × (first v (Bad Space 0) ≡ Bad r i)
@@ -50,7 +51,7 @@ module _ (R : Rows) (t : Terms) where
     lentNow = lentVerdict R t (length cells) (length items) (length areas) (length work)
 
     abbrev listNow : Verdict
-    listNow = itemsVerdict (jobOf R) (length areas / 2)
+    listNow = itemsVerdict (jobOf R) (rangeCount areas)
 
     abbrev planNow : Plan
     planNow = jobPlan (jobOf R) (t .budget)

@@ -20,6 +20,7 @@ use Rattle.want_codes.specs.Plans.{countsOf, fewCounts}
 use Rattle.job_space.specs.Rows.{Rows}
 use Rattle.job_space.specs.declared.Terms.{Terms}
 use Rattle.job_checks.specs.Job.{jobOf}
+use Rattle.words.specs.Widths.{rangeWidth}
 
 -- the item list and the area list of a plan
 abbrev pub itemsTold : Rows → Plan → List ℕ
@@ -38,7 +39,7 @@ module _ (R : Rows) (t : Terms) where
 
     -- all refusals, lowest number first: 9 comes after every cause of 7
     abbrev pub codedVerdict : Verdict
-    codedVerdict = first measuredVerdict (itemsVerdict (jobOf R) (areas / 2))
+    codedVerdict = first measuredVerdict (itemsVerdict (jobOf R) (areas / rangeWidth))
 
     -- the job's plan, unless refused
     abbrev pub jobOutcome : Outcome Plan

@@ -10,8 +10,8 @@ use mathlib.Core.List.{List}
 use lib.ListN.{length, getD}
 use lib.Dec.{ltb}
 use borrow.Author.Tests.{lt-ltb, le-ltb}
-use Rattle.words.specs.Rows.{rowCount, field}
 use Rattle.words.specs.Regions.{Region}
+use Rattle.words.specs.Widths.{localWidth, localCount, localAlign, slotCount, slotSize}
 use Rattle.words.proofs.RowLaws.{tabulate-eq}
 use Rattle.words.proofs.RegionLaws.{region-next}
 use Rattle.ranges.specs.declared.Range.{Range}
@@ -27,31 +27,31 @@ use Rattle.job_fit.proofs.AreaLaws.{area-is, proper-is, listed-kept}
 
 -- ---- the wants' table
 
-pub local-word : (locals : List ℕ) (i : ℕ) → getD locals (2 * i) 0 * 2 ^ 32 + getD locals (2 * i + 1) 0 ≡ localWord locals i
-local-word locals i = ap (λ (k : ℕ). getD locals k 0 * 2 ^ 32 + getD locals (2 * i + 1) 0) (sym (add-zero (2 * i)))
+pub local-word : (locals : List ℕ) (i : ℕ) → getD locals (localWidth * i) 0 * 2 ^ 32 + localAlign locals i ≡ localWord locals i
+local-word locals i = ap (λ (k : ℕ). getD locals k 0 * 2 ^ 32 + localAlign locals i) (sym (add-zero (localWidth * i)))
 
 module _ (locals slots : List ℕ) where
-  local-want : (i : ℕ) → i < rowCount 2 locals → localWord locals i ≡ wantWord locals slots i
-  local-want i h = simp (lt-ltb i (rowCount 2 locals) h)
+  local-want : (i : ℕ) → i < localCount locals → localWord locals i ≡ wantWord locals slots i
+  local-want i h = simp (lt-ltb i (localCount locals) h)
 
-  slot-want : (i : ℕ) → slotWord slots i ≡ wantWord locals slots (rowCount 2 locals + i)
+  slot-want : (i : ℕ) → slotWord slots i ≡ wantWord locals slots (localCount locals + i)
   slot-want i =
-      let e : rowCount 2 locals + i - rowCount 2 locals ≡ i = omega arith in
-      simp (le-ltb (rowCount 2 locals + i) (rowCount 2 locals) (omega arith), e)
+      let e : localCount locals + i - localCount locals ≡ i = omega arith in
+      simp (le-ltb (localCount locals + i) (localCount locals) (omega arith), e)
 
-  pub both-loaded : {w₀ w₁ w₂ : List ℕ} {at bt : ℕ} → Region w₀ w₁ at (rowCount 2 locals) (localWord locals) → Region w₁ w₂ bt (length slots) (slotWord slots) → bt ≡ at + rowCount 2 locals
-      → Region w₀ w₂ at (rowCount 2 locals + length slots) (wantWord locals slots)
+  pub both-loaded : {w₀ w₁ w₂ : List ℕ} {at bt : ℕ} → Region w₀ w₁ at (localCount locals) (localWord locals) → Region w₁ w₂ bt (length slots) (slotWord slots) → bt ≡ at + localCount locals
+      → Region w₀ w₂ at (localCount locals + slotCount slots) (wantWord locals slots)
   both-loaded {w₀} {w₁} {w₂} {at} {bt} R S e =
-      region-next {w₀ = w₀} {w₁ = w₁} {w₂ = w₂} {at = at} {n = rowCount 2 locals} {f = wantWord locals slots} {bt = bt} {m = length slots} (record { len = R .len; inside = λ x i q h. R .inside x i q h ∙ local-want i h; before = R .before; after = R .after })
+      region-next {w₀ = w₀} {w₁ = w₁} {w₂ = w₂} {at = at} {n = localCount locals} {f = wantWord locals slots} {bt = bt} {m = length slots} (record { len = R .len; inside = λ x i q h. R .inside x i q h ∙ local-want i h; before = R .before; after = R .after })
       (record { len = S .len; inside = λ x i q h. S .inside x i q h ∙ slot-want i; before = S .before; after = S .after }) e _ refl
 
-  module _ (narrow : (x : ℕ) → getD locals x 0 < 2 ^ 32) (thin : (x : ℕ) → getD slots x 0 < 2 ^ 32) where
+  module _ (narrow : (x : ℕ) → getD locals x 0 < 2 ^ 32) (thin : (x : ℕ) → slotSize slots x < 2 ^ 32) where
     align-small : (i : ℕ) → alignAt locals slots i < 2 ^ 32
-    align-small i = go (ltb i (rowCount 2 locals))
+    align-small i = go (ltb i (localCount locals))
       where
-        go : (t : Bool) → cond t (field 2 locals i 1) (getD slots (i - rowCount 2 locals) 0) < 2 ^ 32
-        go true = narrow (2 * i + 1)
-        go false = thin (i - rowCount 2 locals)
+        go : (t : Bool) → cond t (localAlign locals i) (slotSize slots (i - localCount locals)) < 2 ^ 32
+        go true = narrow (localWidth * i + 1)
+        go false = thin (i - localCount locals)
 
     size-is : (x i : ℕ) → x ≡ wantWord locals slots i → sizeOf x ≡ sizeAt locals slots i
     size-is x i e = let l = align-small i in ap sizeOf e ∙ omega arith

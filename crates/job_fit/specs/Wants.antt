@@ -6,7 +6,8 @@ use mathlib.Core.Option.{Option, some}
 use mathlib.Core.List.{List}
 use lib.ListN.{length, getD}
 use lib.Dec.{ltb}
-use Rattle.words.specs.Rows.{rowCount, field, tabulate}
+use Rattle.words.specs.Rows.{tabulate}
+use Rattle.words.specs.Widths.{localCount, localSize, localAlign, slotCount, slotSize}
 use Rattle.ranges.specs.declared.Range.{Range}
 use Rattle.ranges.specs.Points.{Apart}
 use Rattle.graph.specs.Work.{Within}
@@ -20,21 +21,21 @@ use Rattle.area_tables.specs.Tables.{listing}
 
 -- items: locals, then slots
 abbrev pub countOf : List ℕ → List ℕ → ℕ
-countOf locals slots = rowCount 2 locals + length slots
+countOf locals slots = localCount locals + slotCount slots
 
 -- "size and alignment = width" of a slot
 abbrev pub sizeAt : List ℕ → List ℕ → ℕ → ℕ
-sizeAt locals slots i = cond (ltb i (rowCount 2 locals)) (field 2 locals i 0) (getD slots (i - rowCount 2 locals) 0)
+sizeAt locals slots i = cond (ltb i (localCount locals)) (localSize locals i) (slotSize slots (i - localCount locals))
 
 abbrev pub alignAt : List ℕ → List ℕ → ℕ → ℕ
-alignAt locals slots i = cond (ltb i (rowCount 2 locals)) (field 2 locals i 1) (getD slots (i - rowCount 2 locals) 0)
+alignAt locals slots i = cond (ltb i (localCount locals)) (localAlign locals i) (slotSize slots (i - localCount locals))
 
 -- the words of the wants' table
 abbrev pub localWord : List ℕ → ℕ → ℕ
-localWord locals i = field 2 locals i 0 * 2 ^ 32 + field 2 locals i 1
+localWord locals i = localSize locals i * 2 ^ 32 + localAlign locals i
 
 abbrev pub slotWord : List ℕ → ℕ → ℕ
-slotWord slots i = getD slots i 0 * 2 ^ 32 + getD slots i 0
+slotWord slots i = slotSize slots i * 2 ^ 32 + slotSize slots i
 
 abbrev pub wantWord : List ℕ → List ℕ → ℕ → ℕ
 wantWord locals slots i = sizeAt locals slots i * 2 ^ 32 + alignAt locals slots i

@@ -3,12 +3,11 @@ use Prim.Native.Nat.{ℕ, _+_, _*_, _≤_}
 use native.Mathlib.Omega.{arith}
 use mathlib.Core.Path.{_≡_, refl, ap, _∙_}
 use mathlib.Core.List.{List}
-use Rattle.words.specs.Rows.{rowCount}
+use Rattle.words.specs.Widths.{blockCount, edgeCount, endCount}
 use Rattle.components.specs.Entry.{edgesIn}
 use Rattle.reach.specs.declared.Lay.{Lay}
 use Rattle.reach.specs.Prepared.{codeOf, Prepared}
 use Rattle.follow.specs.declared.Sizes.{Sizes}
-use Rattle.area_pieces.specs.Local.{blockCount}
 use Rattle.area_flow.specs.declared.Grid.{Grid}
 use Rattle.area_flow.specs.Grid.{Laid as GridLaid}
 use Rattle.area_measure.specs.declared.Listing.{Listing}
@@ -48,7 +47,7 @@ module _ (blocks edges insts operands crossings addresses ends pieces : List ℕ
         prepared = T .prepared;
       }
 
-  grid₁ : GridLaid g (blockCount blocks) (rowCount 2 edges) w₁
+  grid₁ : GridLaid g (blockCount blocks) (edgeCount edges) w₁
   grid₁ =
       let G = K .grid in
       record {
@@ -137,7 +136,7 @@ module _ (blocks edges insts operands crossings addresses ends pieces : List ℕ
         let escapes-by : lay .escapes ≤ lay .queue = omega arith in
         let keys-by : p .keys ≤ lay .escapes = omega (arith, L .keys-fit) in
         let spots-by : lay .queue ≤ g .base = omega (arith, L .queue-fit, L .heads-fit, L .nexts-fit, L .at-fits, K .base-fits) in
-        let nexts-by : p .nexts + rowCount 2 ends ≤ g .base = omega (arith, L .nexts-fit, L .at-fits, K .base-fits) in
+        let nexts-by : p .nexts + endCount ends ≤ g .base = omega (arith, L .nexts-fit, L .at-fits, K .base-fits) in
         let base-by : g .base ≤ mark = (let G = K .grid in omega (arith, G .edges-fit, G .tarjan-fits, G .touched-fits, G .leaves-fit, passes-by, K .to-fits)) in
         record {
           len = M .spared .len ∙ Q .kept .len ∙ T .kept .len;

@@ -5,14 +5,13 @@ use mathlib.Core.Path.{_≡_, refl, ap, _∙_}
 use mathlib.Core.Logic.{inl, inr}
 use mathlib.Core.List.{List, []}
 use lib.ListN.{getD}
-use Rattle.words.specs.Rows.{rowCount}
 use Rattle.words.specs.Regions.{Region}
+use Rattle.words.specs.Widths.{blockCount, edgeCount}
 use Rattle.bits.specs.Bits.{bitOf}
 use Rattle.bits.proofs.DigitLaws.{bit-zero}
 use Rattle.components.specs.Entry.{edgesIn}
 use Rattle.reach.specs.declared.Lay.{Lay}
 use Rattle.follow.specs.declared.Sizes.{Sizes}
-use Rattle.area_pieces.specs.Local.{blockCount}
 use Rattle.area_flow.specs.declared.Grid.{Grid}
 use Rattle.area_flow.specs.Grid.{Quiet, AreaRows}
 use Rattle.area_flow.specs.Grid.{Laid as GridLaid}
@@ -26,7 +25,7 @@ module _ (blocks edges insts addresses ends pieces : List ℕ) (lay : Lay) (p : 
   abbrev n : ℕ
   n = blockCount blocks
 
-  pub grid-since : GridLaid g n (rowCount 2 edges) w₁
+  pub grid-since : GridLaid g n (edgeCount edges) w₁
   grid-since =
       let G = R .grid in
       record {

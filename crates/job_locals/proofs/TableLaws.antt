@@ -4,8 +4,8 @@ use native.Mathlib.Omega.{arith}
 use mathlib.Core.Path.{refl, _∙_}
 use mathlib.Core.Logic.{inl, inr}
 use mathlib.Core.List.{List}
-use Rattle.words.specs.Rows.{rowCount, field}
 use Rattle.words.specs.Regions.{Region}
+use Rattle.words.specs.Widths.{operandCount, endCount, mentionLocal}
 use Rattle.graph.specs.Work.{Within}
 use Rattle.insts.proofs.DealtLaws.{insts-length}
 use Rattle.reach.specs.declared.Lay.{Lay}
@@ -18,12 +18,12 @@ use Rattle.job_spots.specs.declared.Places.{Places}
 use Rattle.job_locals.specs.Locals.{sizes, TablesAsked, TablesIn}
 
 module _ (insts operands crossings addresses ends : List ℕ) (v locals : ℕ) (lay : Lay) (p : Places) {w₀ w₁ : List ℕ} {n : ℕ} (T : TablesAsked insts operands addresses ends v locals lay p w₀)
-    (R : Readied (codeOf v insts operands crossings addresses ends) lay (rowCount 2 operands) locals n w₀ w₁) where
+    (R : Readied (codeOf v insts operands crossings addresses ends) lay (operandCount operands) locals n w₀ w₁) where
   walks : following.Ready lay (sizes v insts locals n) insts addresses w₁
-  walks = made-ready insts operands crossings addresses ends lay (sizes v insts locals n) (rowCount 2 operands) R refl (T .laid) (T .registers) (T .few-insts) (T .found)
+  walks = made-ready insts operands crossings addresses ends lay (sizes v insts locals n) (operandCount operands) R refl (T .laid) (T .registers) (T .few-insts) (T .found)
 
-  module _ {w₂ w : List ℕ} (Z : Region w₁ w₂ (p .heads) locals (λ _. 0)) (L : Linked (λ i. field 2 ends i 1) (rowCount 2 ends) locals (p .heads) (p .nexts) w₂ w) where
-    since : Within (lay .queue) (p .nexts + rowCount 2 ends) w₁ w
+  module _ {w₂ w : List ℕ} (Z : Region w₁ w₂ (p .heads) locals (λ _. 0)) (L : Linked (λ i. mentionLocal ends i) (endCount ends) locals (p .heads) (p .nexts) w₂ w) where
+    since : Within (lay .queue) (p .nexts + endCount ends) w₁ w
     since = record {
       len = L .len ∙ Z .len;
       below = λ i h. L .outside i (inl (omega (arith, T .queue-fit))) (inl (omega (arith, T .queue-fit, T .heads-fit))) ∙ Z .before i (omega (arith, T .queue-fit));

@@ -6,7 +6,7 @@ use mathlib.Core.Option.{Option}
 use mathlib.Core.List.{List}
 use lib.ListN.{length, getD}
 use Rattle.refusals.specs.declared.Verdict.the-variants.{Fine}
-use Rattle.words.specs.Rows.{rowCount}
+use Rattle.words.specs.Widths.{blockCount, edgeCount, instCount, operandCount, mentionWidth, addressCount, endCount}
 use Rattle.bits.specs.Bits.{bit}
 use Rattle.ranges.specs.declared.Range.{Range}
 use Rattle.graph.specs.Line.{blocksOf, jumpsOf, edgeVerdict, Sound}
@@ -23,7 +23,7 @@ use Rattle.follow.specs.Followed as following
 use Rattle.chains.specs.Chains.{Chain}
 use Rattle.live.specs.Live.{InOrder}
 use Rattle.spots.specs.Spots.{lineOf}
-use Rattle.area_pieces.specs.Local.{blockCount, Upright}
+use Rattle.area_pieces.specs.Local.{Upright}
 use Rattle.area_flow.specs.declared.Grid.{Grid}
 use Rattle.area_flow.specs.Grid.{Laid as GridLaid}
 use Rattle.area_measure.specs.declared.Listing.{Listing}
@@ -35,25 +35,25 @@ use Rattle.job_measure.specs.Measure.{mostIn, RowsOf, areaIn}
 
 -- the counts that a walk goes by
 abbrev pub sizes : ℕ → List ℕ → ℕ → ℕ → Sizes
-sizes v insts locals edges = record { v = v; insts = rowCount 9 insts; locals = locals; edges = edges }
+sizes v insts locals edges = record { v = v; insts = instCount insts; locals = locals; edges = edges }
 
 -- ---- what all walks read
 
 pub record TablesAsked (insts operands addresses ends : List ℕ) (v locals : ℕ) (lay : Lay) (p : Places) (w : List ℕ) : Type 0 where
   pub adds : AddsUp insts operands
-  pub few-insts : rowCount 9 insts ≤ 65536
+  pub few-insts : instCount insts ≤ 65536
   pub registers : v ≤ 65535
-  pub laid : LayLaid lay v (rowCount 9 insts) (rowCount 2 operands) locals (rowCount 2 addresses) (length w)
-  pub found : (a : ℕ) → a < rowCount 2 addresses → getD addresses (2 * a) 0 < rowCount 9 insts
-  pub ended : (k : ℕ) → k < rowCount 2 ends → getD ends (2 * k) 0 < rowCount 9 insts
-  pub queue-fit : lay .queue + rowCount 9 insts ≤ p .heads
+  pub laid : LayLaid lay v (instCount insts) (operandCount operands) locals (addressCount addresses) (length w)
+  pub found : (a : ℕ) → a < addressCount addresses → getD addresses (mentionWidth * a) 0 < instCount insts
+  pub ended : (k : ℕ) → k < endCount ends → getD ends (mentionWidth * k) 0 < instCount insts
+  pub queue-fit : lay .queue + instCount insts ≤ p .heads
   pub heads-fit : p .heads + locals ≤ p .nexts
-  pub nexts-fit : p .nexts + rowCount 2 ends ≤ length w
+  pub nexts-fit : p .nexts + endCount ends ≤ length w
 
 pub record TablesIn (insts operands crossings addresses ends : List ℕ) (v locals : ℕ) (lay : Lay) (p : Places) (w₀ w : List ℕ) (r : ℕ) : Type 0 where
-  pub kept : Within (lay .escapes) (p .nexts + rowCount 2 ends) w₀ w
+  pub kept : Within (lay .escapes) (p .nexts + endCount ends) w₀ w
   pub walks : following.Ready lay (sizes v insts locals r) insts addresses w
-  pub stops : Chain (rowLocal ends) (rowCount 2 ends) locals (p .heads) (p .nexts) w
+  pub stops : Chain (rowLocal ends) (endCount ends) locals (p .heads) (p .nexts) w
   pub prepared : Prepared (codeOf v insts operands crossings addresses ends) lay w locals r
 
 -- ---- the rows of every local
@@ -61,8 +61,8 @@ pub record TablesIn (insts operands crossings addresses ends : List ℕ) (v loca
 pub record RowsAsked (blocks edges insts addresses ends pieces : List ℕ) (lay : Lay) (p : Places) (z : Sizes) (g : Grid) (mark : ℕ) (w : List ℕ) : Type 0 where
   pub marks : marking.Ready blocks insts addresses ends pieces lay p z g w
   pub edges-fine : edgeVerdict (blocksOf blocks) (jumpsOf edges) ≡ Fine
-  pub grid : GridLaid g (blockCount blocks) (rowCount 2 edges) w
-  pub base-fits : p .ends + rowCount 2 ends ≤ g .base
+  pub grid : GridLaid g (blockCount blocks) (edgeCount edges) w
+  pub base-fits : p .ends + endCount ends ≤ g .base
   pub to-fits : g .to + g .locals * g .width ≤ mark
   pub mark-fits : mark + g .width ≤ length w
 
@@ -83,11 +83,11 @@ pub record Asked (blocks edges insts operands crossings addresses ends pieces : 
   pub upright : (l : ℕ) → l < locals → Upright blocks (touchesOf (codeOf v insts operands crossings addresses ends) (piecesOf pieces) l)
   pub keys : InOrder pieces (p .keys) w
   pub laid : fetching.Laid insts addresses ends pieces lay p (sizes v insts locals 0) w
-  pub grid : GridLaid g (blockCount blocks) (rowCount 2 edges) w
+  pub grid : GridLaid g (blockCount blocks) (edgeCount edges) w
   pub counted : g .locals ≡ locals
   pub areas-fit : o .areas + o .room ≤ o .items
   pub items-fit : o .items + locals ≤ p .keys
-  pub base-fits : p .ends + rowCount 2 ends ≤ g .base
+  pub base-fits : p .ends + endCount ends ≤ g .base
   pub to-fits : g .to + g .locals * g .width ≤ mark
   pub fits : mark + g .width + blockCount blocks + mostIn blocks addresses pieces ≤ length w
   pub small : mark + g .width + blockCount blocks < 2 ^ 32

@@ -6,6 +6,8 @@ use area_measure::Listing;
 use follow::Sizes;
 use job_spots::Places;
 use reach::Lay;
+use words::widths::inst;
+use words::widths::mention;
 
 // What all walks over registers read, and each local's ends as a chain; how many edges between registers there are.
 fn tables(
@@ -36,7 +38,16 @@ fn tables(
         lay,
     );
     words::fill(work, p.heads, locals, 0);
-    chains::chain(ends, 2, 1, ends.len() / 2, locals, work, p.heads, p.nexts);
+    chains::chain(
+        ends,
+        mention::WIDTH,
+        mention::LOCAL,
+        ends.len() / mention::WIDTH,
+        locals,
+        work,
+        p.heads,
+        p.nexts,
+    );
     n
 }
 
@@ -102,7 +113,7 @@ pub fn locals(
     );
     let z = Sizes {
         v: v,
-        insts: insts.len() / 9,
+        insts: insts.len() / inst::WIDTH,
         locals: locals,
         edges: n,
     };

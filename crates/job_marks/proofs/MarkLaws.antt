@@ -5,7 +5,7 @@ use mathlib.Core.Path.{_≡_, sym, ap, _∙_, subst}
 use mathlib.Core.Logic.{_≢_}
 use mathlib.Core.Bool.{Bool, true≢false}
 use mathlib.Core.List.{List, []}
-use Rattle.words.specs.Rows.{rowCount}
+use Rattle.words.specs.Widths.{blockCount}
 use Rattle.ranges.specs.declared.Range.{Range}
 use Rattle.ranges.specs.Merged.{Permuted}
 use Rattle.graph.specs.Paths.{Edge}
@@ -64,8 +64,8 @@ module _ {blocks insts addresses ends pieces : List ℕ} {lay : Lay} {p : Places
         passes-fit = omega arith;
       }
 
-  fetched-kept : Within (lay .queue) (g .passes + rowCount 3 blocks * g .words) w₀ w₁
-  fetched-kept = let a = R .apart in let b = R .touched-fits in let c = R .leaves-fit in within-wider (lay .queue) (g .passes + rowCount 3 blocks * g .words) (omega arith) (omega arith) (F .kept)
+  fetched-kept : Within (lay .queue) (g .passes + blockCount blocks * g .words) w₀ w₁
+  fetched-kept = let a = R .apart in let b = R .touched-fits in let c = R .leaves-fit in within-wider (lay .queue) (g .passes + blockCount blocks * g .words) (omega arith) (omega arith) (F .kept)
 
   -- an unfollowed local
   pub unmarked : r .kind ≡ Unfollowed → MarkedOne blocks insts addresses ends pieces lay p z g l w₀ w₁
@@ -77,29 +77,29 @@ module _ {blocks insts addresses ends pieces : List ℕ} {lay : Lay} {p : Places
         marks = λ operands crossings P es.
             let C : Code = codeOf (z .v) insts operands crossings addresses ends in
             let G : Graph = lineOf blocks es in
-            subst (λ (k : Kind). Marking g (rowCount 3 blocks) l (isPlain k) (isEnding k) (touched G (touchesOf C (piecesOf pieces) l)) (leaves G (touchesOf C (piecesOf pieces) l) (endsOf C l)) (passes G (endsOf C l)) w₀ w₁)
+            subst (λ (k : Kind). Marking g (blockCount blocks) l (isPlain k) (isEnding k) (touched G (touchesOf C (piecesOf pieces) l)) (leaves G (touchesOf C (piecesOf pieces) l) (endsOf C l)) (passes G (endsOf C l)) w₀ w₁)
             (sym u ∙ F .code operands crossings P .kind)
             (marking-none (F .kept) (R .apart) (omega arith) (omega arith) bit-in);
       }
 
   -- a followed one, of kind k
-  module _ {w : List ℕ} (k : Kind) (e : r .kind ≡ k) (u : r .kind ≢ Unfollowed) (K : Within (g .touched) (g .passes + rowCount 3 blocks * g .words) w₁ w)
-      (M : (es : List Edge) → Marking g (rowCount 3 blocks) l (isPlain k) (isEnding k) (touched (lineOf blocks es) (touchesAt (r .spots) w₁)) (leaves (lineOf blocks es) (touchesAt (r .spots) w₁) (endsAt (r .spots) w₁)) (passes (lineOf blocks es) (endsAt (r .spots) w₁)) w₁ w) where
-    by-code : (C : Code) → FetchedTo C (piecesOf pieces) l w₁ r → (es : List Edge) → MarkingOf (lineOf blocks es) pieces C g (rowCount 3 blocks) l w₀ w
+  module _ {w : List ℕ} (k : Kind) (e : r .kind ≡ k) (u : r .kind ≢ Unfollowed) (K : Within (g .touched) (g .passes + blockCount blocks * g .words) w₁ w)
+      (M : (es : List Edge) → Marking g (blockCount blocks) l (isPlain k) (isEnding k) (touched (lineOf blocks es) (touchesAt (r .spots) w₁)) (leaves (lineOf blocks es) (touchesAt (r .spots) w₁) (endsAt (r .spots) w₁)) (passes (lineOf blocks es) (endsAt (r .spots) w₁)) w₁ w) where
+    by-code : (C : Code) → FetchedTo C (piecesOf pieces) l w₁ r → (es : List Edge) → MarkingOf (lineOf blocks es) pieces C g (blockCount blocks) l w₀ w
     by-code C T es =
         let b = R .touched-fits in let c = R .leaves-fit in
-        subst (λ (x : Kind). Marking g (rowCount 3 blocks) l (isPlain x) (isEnding x) (touched (lineOf blocks es) (touchesOf C (piecesOf pieces) l)) (leaves (lineOf blocks es) (touchesOf C (piecesOf pieces) l) (endsOf C l)) (passes (lineOf blocks es) (endsOf C l)) w₀ w)
+        subst (λ (x : Kind). Marking g (blockCount blocks) l (isPlain x) (isEnding x) (touched (lineOf blocks es) (touchesOf C (piecesOf pieces) l)) (leaves (lineOf blocks es) (touchesOf C (piecesOf pieces) l) (endsOf C l)) (passes (lineOf blocks es) (endsOf C l)) w₀ w)
         (sym e ∙ T .kind)
         (marking-since (F .kept) (R .apart) (omega arith) (omega arith) bit-in
         (marking-permuted (lineOf blocks es) (endsOf C l) (T .touches u)
         (marking-sorted (lineOf blocks es) (touchesAt (r .spots) w₁) (endsOf C l)
-        (subst (λ (x : List ℕ). Marking g (rowCount 3 blocks) l (isPlain k) (isEnding k) (touched (lineOf blocks es) (touchesAt (r .spots) w₁)) (leaves (lineOf blocks es) (touchesAt (r .spots) w₁) x) (passes (lineOf blocks es) x) w₁ w) (T .ends u) (M es)))))
+        (subst (λ (x : List ℕ). Marking g (blockCount blocks) l (isPlain k) (isEnding k) (touched (lineOf blocks es) (touchesAt (r .spots) w₁)) (leaves (lineOf blocks es) (touchesAt (r .spots) w₁) x) (passes (lineOf blocks es) x) w₁ w) (T .ends u) (M es)))))
 
     pub marked : MarkedOne blocks insts addresses ends pieces lay p z g l w₀ w
     marked =
         let a = R .apart in let b = R .locals .laid .at-fits in let c = R .locals .laid .nexts-fit in let d = R .locals .laid .heads-fit in let q = R .locals .laid .queue-fit in
         record {
-          kept = within-trans fetched-kept (within-wider (lay .queue) (g .passes + rowCount 3 blocks * g .words) (omega arith) (omega arith) K);
+          kept = within-trans fetched-kept (within-wider (lay .queue) (g .passes + blockCount blocks * g .words) (omega arith) (omega arith) K);
           chains-kept = λ i x y. K .below i (omega arith) ∙ F .chains-kept i x y;
           marks = λ operands crossings P. by-code (codeOf (z .v) insts operands crossings addresses ends) (F .code operands crossings P);
         }

@@ -4,7 +4,7 @@ use native.Mathlib.Omega.{arith}
 use mathlib.Core.Path.{_≡_, refl, _∙_}
 use mathlib.Core.List.{List}
 use lib.ListN.{getD}
-use Rattle.words.specs.Rows.{rowCount}
+use Rattle.words.specs.Widths.{blockCount}
 use Rattle.graph.specs.Paths.{Edge}
 use Rattle.graph.specs.Work.{Within}
 use Rattle.graph.proofs.Within.{within-refl, within-trans, within-wider}
@@ -22,7 +22,7 @@ use Rattle.job_marks.specs.Marks.{Ready, MarkedAll}
 use Rattle.job_marks.specs.Inner.{MarkedOne}
 
 abbrev pub MarkedOf : List ℕ → List ℕ → Code → Grid → ℕ → List ℕ → List Edge → Type 0
-MarkedOf blocks pieces C g l w es = MarkedTo (lineOf blocks es) (kindOf C) (touchesOf C (piecesOf pieces)) (endsOf C) g (rowCount 3 blocks) l w
+MarkedOf blocks pieces C g l w es = MarkedTo (lineOf blocks es) (kindOf C) (touchesOf C (piecesOf pieces)) (endsOf C) g (blockCount blocks) l w
 
 module _ {blocks insts addresses ends pieces : List ℕ} {lay : Lay} {p : Places} {z : Sizes} {g : Grid} where
   -- a change from the queue on, but not of the chains
@@ -53,21 +53,21 @@ module _ {blocks insts addresses ends pieces : List ℕ} {lay : Lay} {p : Places
 -- the first l locals are marked, for whatever code the tables were prepared when the pass began
 pub record Sweep (blocks insts addresses ends pieces : List ℕ) (lay : Lay) (p : Places) (z : Sizes) (g : Grid) (w₀ w : List ℕ) (l : ℕ) : Type 0 where
   pub begun : Ready blocks insts addresses ends pieces lay p z g w₀
-  pub kept : Within (lay .queue) (g .passes + rowCount 3 blocks * g .words) w₀ w
+  pub kept : Within (lay .queue) (g .passes + blockCount blocks * g .words) w₀ w
   pub chains-kept : (i : ℕ) → p .heads ≤ i → i < p .at → getD w i 0 ≡ getD w₀ i 0
   pub l-le : l ≤ z .locals
   pub so-far : (operands crossings : List ℕ) → Prepared (codeOf (z .v) insts operands crossings addresses ends) lay w₀ (z .locals) (z .edges)
       → (es : List Edge) → MarkedOf blocks pieces (codeOf (z .v) insts operands crossings addresses ends) g l w es
 
 module _ {blocks insts addresses ends pieces : List ℕ} {lay : Lay} {p : Places} {z : Sizes} {g : Grid} where
-  module _ {v w₀ : List ℕ} (R : Ready blocks insts addresses ends pieces lay p z g v) (U : Unmarked g (rowCount 3 blocks) v w₀) where
+  module _ {v w₀ : List ℕ} (R : Ready blocks insts addresses ends pieces lay p z g v) (U : Unmarked g (blockCount blocks) v w₀) where
     before : (p .heads ≤ p .at) × (p .at ≤ g .touched) × (lay .queue ≤ p .heads)
     before =
         let a = R .apart in let b = R .locals .laid .at-fits in let c = R .locals .laid .nexts-fit in let d = R .locals .laid .heads-fit in let q = R .locals .laid .queue-fit in
         (omega arith, omega arith, omega arith)
 
-    pub cleared-kept : Within (lay .queue) (g .passes + rowCount 3 blocks * g .words) v w₀
-    cleared-kept = let b = before in within-wider (lay .queue) (g .passes + rowCount 3 blocks * g .words) (omega arith) (omega arith) (U .kept)
+    pub cleared-kept : Within (lay .queue) (g .passes + blockCount blocks * g .words) v w₀
+    cleared-kept = let b = before in within-wider (lay .queue) (g .passes + blockCount blocks * g .words) (omega arith) (omega arith) (U .kept)
 
     cleared-chains : (i : ℕ) → p .heads ≤ i → i < p .at → getD w₀ i 0 ≡ getD v i 0
     cleared-chains i x y = U .kept .below i (let b = before in omega arith)

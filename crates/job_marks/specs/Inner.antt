@@ -3,7 +3,7 @@ use Prim.Native.Nat.{ℕ, _+_, _*_, _≤_, _<_}
 use mathlib.Core.Path.{_≡_}
 use mathlib.Core.List.{List}
 use lib.ListN.{getD}
-use Rattle.words.specs.Rows.{rowCount}
+use Rattle.words.specs.Widths.{blockCount}
 use Rattle.graph.specs.Paths.{Edge}
 use Rattle.graph.specs.Work.{Within}
 use Rattle.carrying.specs.Carried.{Code, piecesOf, kindOf, touchesOf, endsOf}
@@ -24,7 +24,7 @@ MarkingOf G pieces C g n l w₀ w =
 
 -- local l is marked
 pub record MarkedOne (blocks insts addresses ends pieces : List ℕ) (lay : Lay) (p : Places) (z : Sizes) (g : Grid) (l : ℕ) (w₀ w : List ℕ) : Type 0 where
-  pub kept : Within (lay .queue) (g .passes + rowCount 3 blocks * g .words) w₀ w
+  pub kept : Within (lay .queue) (g .passes + blockCount blocks * g .words) w₀ w
   pub chains-kept : (i : ℕ) → p .heads ≤ i → i < p .at → getD w i 0 ≡ getD w₀ i 0
   pub marks : (operands crossings : List ℕ) → Prepared (codeOf (z .v) insts operands crossings addresses ends) lay w₀ (z .locals) (z .edges)
-      → (es : List Edge) → MarkingOf (lineOf blocks es) pieces (codeOf (z .v) insts operands crossings addresses ends) g (rowCount 3 blocks) l w₀ w
+      → (es : List Edge) → MarkingOf (lineOf blocks es) pieces (codeOf (z .v) insts operands crossings addresses ends) g (blockCount blocks) l w₀ w

@@ -3,7 +3,7 @@ use Prim.Native.Nat.{ℕ, _+_, _*_, _≤_, _<_}
 use mathlib.Core.Path.{_≡_}
 use mathlib.Core.List.{List}
 use lib.ListN.{length, getD}
-use Rattle.words.specs.Rows.{rowCount}
+use Rattle.words.specs.Widths.{blockCount, endCount}
 use Rattle.graph.specs.Paths.{Edge}
 use Rattle.graph.specs.Line.{blocksOf, Sound}
 use Rattle.graph.specs.Work.{Within}
@@ -25,18 +25,18 @@ pub record Ready (blocks insts addresses ends pieces : List ℕ) (lay : Lay) (p 
   pub upright : (l : ℕ) → l < z .locals → Upright blocks (touchesOf (codeOf (z .v) insts (locals .operands) (locals .crossings) addresses ends) (piecesOf pieces) l)
   pub counted : g .locals ≡ z .locals
   pub long : g .locals ≤ g .words * 64
-  pub apart : p .ends + rowCount 2 ends ≤ g .touched
-  pub touched-fits : g .touched + rowCount 3 blocks * g .words ≤ g .leaves
-  pub leaves-fit : g .leaves + rowCount 3 blocks * g .words ≤ g .passes
-  pub passes-fit : g .passes + rowCount 3 blocks * g .words ≤ length w
+  pub apart : p .ends + endCount ends ≤ g .touched
+  pub touched-fits : g .touched + blockCount blocks * g .words ≤ g .leaves
+  pub leaves-fit : g .leaves + blockCount blocks * g .words ≤ g .passes
+  pub passes-fit : g .passes + blockCount blocks * g .words ≤ length w
 
 -- the marks of all locals of a code
 abbrev pub MarksOf : List ℕ → List ℕ → Code → Grid → List ℕ → List Edge → Type 0
-MarksOf blocks pieces C g w es = Marks (lineOf blocks es) (kindOf C) (touchesOf C (piecesOf pieces)) (endsOf C) g (rowCount 3 blocks) w
+MarksOf blocks pieces C g w es = Marks (lineOf blocks es) (kindOf C) (touchesOf C (piecesOf pieces)) (endsOf C) g (blockCount blocks) w
 
 -- all locals are marked, for whatever code the tables were prepared; nothing has changed but the queue, the regions of one local, what follows them, and the rows
 pub record MarkedAll (blocks insts addresses ends pieces : List ℕ) (lay : Lay) (p : Places) (z : Sizes) (g : Grid) (w₀ w : List ℕ) : Type 0 where
-  pub kept : Within (lay .queue) (g .passes + rowCount 3 blocks * g .words) w₀ w
+  pub kept : Within (lay .queue) (g .passes + blockCount blocks * g .words) w₀ w
   pub chains-kept : (i : ℕ) → p .heads ≤ i → i < p .at → getD w i 0 ≡ getD w₀ i 0
   pub marks : (operands crossings : List ℕ) → Prepared (codeOf (z .v) insts operands crossings addresses ends) lay w₀ (z .locals) (z .edges)
       → (es : List Edge) → MarksOf blocks pieces (codeOf (z .v) insts operands crossings addresses ends) g w es

@@ -7,6 +7,7 @@ use carrying::Kind;
 use follow::Sizes;
 use job_spots::Places;
 use reach::Lay;
+use words::widths::block;
 
 // One local: fetched, and marked by its kind. An unfollowed one has no marks.
 fn mark_one(
@@ -51,7 +52,7 @@ pub fn mark_all(
     requires { ⌜ Ready (now blocks) (now insts) (now addresses) (now ends) (now pieces) lay p z g (now work) ⌝ }
     ensures { λ _. ⌜ MarkedAll (now (blocks .entry)) (now (insts .entry)) (now (addresses .entry)) (now (ends .entry)) (now (pieces .entry)) lay p z g (now (work .entry)) (now (work .exit)) ⌝ }
 {
-    area_flow::clear_marks(work, g, blocks.len() / 3);
+    area_flow::clear_marks(work, g, blocks.len() / block::WIDTH);
     let mut l = 0;
     while l < z.locals {
         mark_one(

@@ -8,8 +8,8 @@ use mathlib.Core.Option.{Option, some, none}
 use mathlib.Core.List.{List}
 use lib.ListN.{length, getD, set, length-set}
 use Rattle.words.specs.Sort.{sortOf}
-use Rattle.words.specs.Rows.{rowCount}
 use Rattle.words.specs.Regions.{part}
+use Rattle.words.specs.Widths.{blockCount, addressCount, endCount, pieceCount}
 use Rattle.words.proofs.Points.{stored}
 use Rattle.words.proofs.RegionLaws.{row-before}
 use Rattle.bits.specs.Bits.{bit, bitOf}
@@ -33,7 +33,6 @@ use Rattle.spots.specs.Spots.{lineOf, touchesAt, endsAt}
 use Rattle.kind_numbers.specs.Numbers.{kindNumber, kindBy}
 use Rattle.kind_numbers.proofs.KindLaws.{kind-told, plain-number, ending-number}
 use Rattle.local_spots.proofs.OrderLaws.{arrives-sorted, ending-sorted}
-use Rattle.area_pieces.specs.Local.{blockCount}
 use Rattle.area_pieces.proofs.PushLaws.{set-other}
 use Rattle.area_flow.specs.declared.Grid.{Grid}
 use Rattle.area_flow.specs.Grid.{rowBit, blockBit}
@@ -93,7 +92,7 @@ module _ (blocks insts addresses ends pieces : List ℕ) (lay : Lay) (p : Places
 
   -- ---- what stays when the rows are spared
 
-  module _ {w₀ : List ℕ} (w : List ℕ) (F : Fits blocks addresses ends pieces p z g mark o w₀) (S : (i : ℕ) → p .ends + rowCount 2 ends ≤ i → i < mark → getD w i 0 ≡ getD w₀ i 0) where
+  module _ {w₀ : List ℕ} (w : List ℕ) (F : Fits blocks addresses ends pieces p z g mark o w₀) (S : (i : ℕ) → p .ends + endCount ends ≤ i → i < mark → getD w i 0 ≡ getD w₀ i 0) where
     written-kept : (k l : ℕ) → k < n → l < g .words * 64 → rowBit g (g .written) w k l ≡ rowBit g (g .written) w₀ k l
     written-kept k l h m =
         let r = row-before k n (g .words) h in
@@ -164,8 +163,8 @@ module _ (blocks insts addresses ends pieces : List ℕ) (lay : Lay) (p : Places
       pub queue-by : p .keys ≤ lay .queue
       pub heads-by : lay .queue ≤ p .heads
       pub at-by : p .heads ≤ p .at
-      pub ends-by : p .at + (rowCount 3 pieces + rowCount 2 addresses) ≤ p .ends
-      pub mark-by : p .ends + rowCount 2 ends ≤ mark
+      pub ends-by : p .at + (pieceCount pieces + addressCount addresses) ≤ p .ends
+      pub mark-by : p .ends + endCount ends ≤ mark
       pub to-by : mark + g .width + n + mostIn blocks addresses pieces ≤ length w₀
 
     pub order : Order
@@ -197,7 +196,7 @@ module _ (blocks insts addresses ends pieces : List ℕ) (lay : Lay) (p : Places
     marks-stay : (c : ℕ) → c < g .width * 64 → bit w₁ mark c ≡ false
     marks-stay c m = ap (λ (y : ℕ). bitOf y (c % 64)) (C .kept .past (mark + c / 64) (omega (arith, order .mark-by))) ∙ R .unmarked c m
 
-    pub count-in : f .spots .count ≤ rowCount 3 pieces + rowCount 2 addresses
+    pub count-in : f .spots .count ≤ pieceCount pieces + addressCount addresses
     count-in = C .few
 
     -- the areas and items stand before all that the others read
@@ -353,7 +352,7 @@ module _ (blocks insts addresses ends pieces : List ℕ) (lay : Lay) (p : Places
           let q = order in
           let low : o .items + l < p .keys = omega (arith, q .keys-by) in
           let top : p .keys ≤ mark = omega (arith, q .queue-by, q .heads-by, q .at-by, q .ends-by, q .mark-by) in
-          let most : f .spots .count ≤ rowCount 3 pieces + rowCount 2 addresses = count-in in
+          let most : f .spots .count ≤ pieceCount pieces + addressCount addresses = count-in in
           record {
             spared = spared (M .len) (λ i a b. M .same i (⊎-elim (λ x. inl (omega arith)) (λ x. inr (omega (arith, F .areas-fit, low))) a) (λ e. absurd (⊎-elim (λ x. omega (arith, F .areas-fit)) (λ x. omega (arith, low)) a)) (⊎-elim (λ x. inl x) (λ x. inr (omega arith)) b));
             unmarked = M .unmarked .none;

@@ -5,7 +5,7 @@ use mathlib.Core.Bool.{false}
 use mathlib.Core.Option.{Option}
 use mathlib.Core.List.{List}
 use lib.ListN.{length, getD}
-use Rattle.words.specs.Rows.{rowCount}
+use Rattle.words.specs.Widths.{blockCount, addressCount, endCount, pieceCount}
 use Rattle.bits.specs.Bits.{bit}
 use Rattle.ranges.specs.declared.Range.{Range}
 use Rattle.graph.specs.Paths.{Edge}
@@ -17,7 +17,7 @@ use Rattle.reach.specs.declared.Lay.{Lay}
 use Rattle.reach.specs.Prepared.{codeOf, Prepared}
 use Rattle.follow.specs.declared.Sizes.{Sizes}
 use Rattle.spots.specs.Spots.{lineOf}
-use Rattle.area_pieces.specs.Local.{blockCount, Upright}
+use Rattle.area_pieces.specs.Local.{Upright}
 use Rattle.area_flow.specs.declared.Grid.{Grid}
 use Rattle.area_measure.specs.declared.Listing.{Listing}
 use Rattle.area_measure.specs.Locals.{wordOf, ListedBy}
@@ -27,13 +27,13 @@ use Rattle.job_spots.specs.Fetch as fetching
 
 -- the most ranges that one local's area is made of
 abbrev pub mostIn : List ℕ → List ℕ → List ℕ → ℕ
-mostIn blocks addresses pieces = 3 * (rowCount 3 pieces + rowCount 2 addresses) + blockCount blocks
+mostIn blocks addresses pieces = 3 * (pieceCount pieces + addressCount addresses) + blockCount blocks
 
 -- where it all stands, each part behind the one before: areas and items before the live pieces, the rows behind one local's touches and ends
 pub record Fits (blocks addresses ends pieces : List ℕ) (p : Places) (z : Sizes) (g : Grid) (mark : ℕ) (o : Listing) (w : List ℕ) : Type 0 where
   pub areas-fit : o .areas + o .room ≤ o .items
   pub items-fit : o .items + z .locals ≤ p .keys
-  pub spots-fit : p .ends + rowCount 2 ends ≤ g .written
+  pub spots-fit : p .ends + endCount ends ≤ g .written
   pub written-fits : g .written + blockCount blocks * g .words ≤ g .read
   pub read-fits : g .read + blockCount blocks * g .words ≤ g .to
   pub to-fits : g .to + z .locals * g .width ≤ mark
@@ -67,7 +67,7 @@ pub record Spared (blocks addresses ends pieces : List ℕ) (lay : Lay) (p : Pla
   pub below : (i : ℕ) → i < o .areas → getD w i 0 ≡ getD w₀ i 0
   pub tables : (i : ℕ) → p .keys ≤ i → i < lay .queue → getD w i 0 ≡ getD w₀ i 0
   pub chains : (i : ℕ) → p .heads ≤ i → i < p .at → getD w i 0 ≡ getD w₀ i 0
-  pub rows : (i : ℕ) → p .ends + rowCount 2 ends ≤ i → i < mark → getD w i 0 ≡ getD w₀ i 0
+  pub rows : (i : ℕ) → p .ends + endCount ends ≤ i → i < mark → getD w i 0 ≡ getD w₀ i 0
   pub past : (i : ℕ) → mark + g .width + blockCount blocks + mostIn blocks addresses pieces ≤ i → getD w i 0 ≡ getD w₀ i 0
 
 -- a local's area, by its kind

@@ -7,6 +7,7 @@ use area_pieces::Local;
 use follow::Sizes;
 use job_spots::Places;
 use reach::Lay;
+use words::widths::block;
 
 // Follows local l, fetches its touches and ends and puts its area behind the `total` ranges so far; an unfollowed local has none.
 fn measure_next(
@@ -38,7 +39,7 @@ fn measure_next(
     }
     let row = g.to + l * g.width;
     let span = mark + g.width;
-    let to = span + blocks.len() / 3;
+    let to = span + blocks.len() / block::WIDTH;
     area_measure::measure_one(
         blocks,
         work,

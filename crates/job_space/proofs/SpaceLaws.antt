@@ -11,6 +11,7 @@ use Rattle.job_space.specs.declared.Terms.{Terms}
 use Rattle.job_space.specs.declared.Sizes.{Sizes}
 use Rattle.job_space.specs.Rows.{rowsOf}
 use Rattle.job_space.specs.Space.{rowWords, sizesOf, spaceOf, Counted, Small, badShape}
+use Rattle.words.specs.Widths.{cellWidth, itemWidth}
 
 -- the rows of the places are short
 pub rows-small : {z : Sizes} → Small z → z .blocks * rowWords (z .locals) ≤ 131072
@@ -56,8 +57,8 @@ module _ (t : Terms) (cells items : ℕ) where
   pub over-budget : 1048576 < t .budget → true ≡ badShape t cells items
   over-budget h = simp (lt-ltb 1048576 (t .budget) h)
 
-  pub odd-cells : t .budget ≤ 1048576 → (cells % 2 ≡ 0 → ⊥) → true ≡ badShape t cells items
-  odd-cells h d = simp (le-ltb 1048576 (t .budget) h, ne-eqb (cells % 2) 0 d)
+  pub odd-cells : t .budget ≤ 1048576 → (cells % cellWidth ≡ 0 → ⊥) → true ≡ badShape t cells items
+  odd-cells h d = simp (le-ltb 1048576 (t .budget) h, ne-eqb (cells % cellWidth) 0 d)
 
-  pub by-items : (r : Bool) → t .budget ≤ 1048576 → cells % 2 ≡ 0 → r ≡ not (eqb (items % 4) 0) → r ≡ badShape t cells items
-  by-items r h e g = g ∙ simp (le-ltb 1048576 (t .budget) h, eq-eqb (cells % 2) 0 e)
+  pub by-items : (r : Bool) → t .budget ≤ 1048576 → cells % cellWidth ≡ 0 → r ≡ not (eqb (items % itemWidth) 0) → r ≡ badShape t cells items
+  by-items r h e g = g ∙ simp (le-ltb 1048576 (t .budget) h, eq-eqb (cells % cellWidth) 0 e)

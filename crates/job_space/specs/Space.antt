@@ -3,7 +3,7 @@ use Prim.Native.Nat.{ℕ, _+_, _*_, _/_, _%_, _^_, _≤_, _<_}
 use mathlib.Core.Bool.{Bool, not, _||_}
 use lib.ListN.{length}
 use lib.Dec.{ltb, eqb}
-use Rattle.words.specs.Rows.{rowCount}
+use Rattle.words.specs.Widths.{blockCount, edgeCount, instCount, operandCount, localCount, addressCount, endCount, pieceCount, assignedCount, moveCount, cellWidth, itemWidth, rangeWidth}
 use Rattle.job_space.specs.declared.Terms.{Terms}
 use Rattle.job_space.specs.declared.Sizes.{Sizes}
 use Rattle.job_space.specs.Rows.{Rows}
@@ -17,19 +17,19 @@ abbrev pub sizesOf : Rows → ℕ → Sizes
 sizesOf R areas =
     record {
       v = R .v;
-      blocks = rowCount 3 (R .blocks);
-      edges = rowCount 2 (R .edges);
-      insts = rowCount 9 (R .insts);
-      operands = rowCount 2 (R .operands);
+      blocks = blockCount (R .blocks);
+      edges = edgeCount (R .edges);
+      insts = instCount (R .insts);
+      operands = operandCount (R .operands);
       crossings = length (R .crossings);
-      locals = rowCount 2 (R .locals);
+      locals = localCount (R .locals);
       slots = length (R .slots);
-      addresses = rowCount 2 (R .addresses);
-      ends = rowCount 2 (R .ends);
-      pieces = rowCount 3 (R .pieces);
-      assigned = rowCount 2 (R .assigned);
-      moves = rowCount 4 (R .moves);
-      room = areas / 2;
+      addresses = addressCount (R .addresses);
+      ends = endCount (R .ends);
+      pieces = pieceCount (R .pieces);
+      assigned = assignedCount (R .assigned);
+      moves = moveCount (R .moves);
+      room = areas / rangeWidth;
     }
 
 -- W = 8 × (all record counts + B × ⌈locals/64⌉ + area list length + ⌈V/64⌉)
@@ -75,4 +75,4 @@ pub record Small (z : Sizes) : Type 0 where
 
 -- number 1 of what only fitting takes: the budget over 1,048,576, a cell or an item list that is no whole rows
 abbrev pub badShape : Terms → ℕ → ℕ → Bool
-badShape t cells items = ltb 1048576 (t .budget) || (not (eqb (cells % 2) 0) || not (eqb (items % 4) 0))
+badShape t cells items = ltb 1048576 (t .budget) || (not (eqb (cells % cellWidth) 0) || not (eqb (items % itemWidth) 0))

@@ -4,6 +4,9 @@ ghost use Rattle.job_space.specs.Space.{spaceOf, Counted, badShape};
 
 pub mod records; // records.rt: how many are lent
 
+use words::widths::cell;
+use words::widths::item;
+
 const BUDGET: u32 = 1048576;
 
 // What a fitting is asked to keep to: how many probes it may make.
@@ -107,8 +110,8 @@ pub fn bad_shape(terms: Terms, cells: usize, items: usize) -> bool
     if BUDGET < terms.budget {
         return true;
     }
-    if cells % 2 != 0 {
+    if cells % cell::WIDTH != 0 {
         return true;
     }
-    items % 4 != 0
+    items % item::WIDTH != 0
 }

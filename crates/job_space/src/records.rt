@@ -4,6 +4,16 @@ ghost use Prim.Native.Nat.{ℕ};
 ghost use Rattle.job_space.specs.Rows.{lentRows};
 ghost use Rattle.job_space.specs.Space.{sizesOf};
 use crate::Sizes;
+use words::widths::assigned;
+use words::widths::block;
+use words::widths::edge;
+use words::widths::inst;
+use words::widths::local;
+use words::widths::mention;
+use words::widths::moving;
+use words::widths::operand;
+use words::widths::piece;
+use words::widths::range;
 
 // The counts of the records, for an area list of `areas` numbers.
 pub fn sizes(
@@ -26,18 +36,18 @@ pub fn sizes(
 {
     Sizes {
         v: v as usize,
-        blocks: blocks.len() / 3,
-        edges: edges.len() / 2,
-        insts: insts.len() / 9,
-        operands: operands.len() / 2,
+        blocks: blocks.len() / block::WIDTH,
+        edges: edges.len() / edge::WIDTH,
+        insts: insts.len() / inst::WIDTH,
+        operands: operands.len() / operand::WIDTH,
         crossings: crossings.len(),
-        locals: locals.len() / 2,
+        locals: locals.len() / local::WIDTH,
         slots: slots.len(),
-        addresses: addresses.len() / 2,
-        ends: ends.len() / 2,
-        pieces: pieces.len() / 3,
-        assigned: assigned.len() / 2,
-        moves: moves.len() / 4,
-        room: areas / 2,
+        addresses: addresses.len() / mention::WIDTH,
+        ends: ends.len() / mention::WIDTH,
+        pieces: pieces.len() / piece::WIDTH,
+        assigned: assigned.len() / assigned::WIDTH,
+        moves: moves.len() / moving::WIDTH,
+        room: areas / range::WIDTH,
     }
 }

@@ -6,9 +6,9 @@ use mathlib.Core.Logic.{inr}
 use mathlib.Core.Bool.{true, false, true≢false}
 use mathlib.Core.List.{List}
 use lib.ListN.{length, getD}
-use Rattle.words.specs.Rows.{rowCount}
 use Rattle.words.specs.Regions.{part, Kept}
 use Rattle.words.specs.Sort.{Distinct}
+use Rattle.words.specs.Widths.{addressCount, endCount, pieceCount}
 use Rattle.words.proofs.RegionLaws.{kept-part-list}
 use Rattle.ranges.specs.Forms.{unpacked}
 use Rattle.ranges.specs.Merged.{Permuted}
@@ -123,7 +123,7 @@ module _ {insts addresses ends pieces : List ℕ} {lay : Lay} {p : Places} {z : 
     unfollowed-fetched u =
         let a = apart in let b = R .laid .ends-fit in let c = R .laid .at-fits in let d = F .kept .len in let q = R .laid .queue-fit in
         record {
-          kept = within-wider (lay .queue) (p .ends + rowCount 2 ends) (omega arith) (omega arith) (F .kept);
+          kept = within-wider (lay .queue) (p .ends + endCount ends) (omega arith) (omega arith) (F .kept);
           chains-kept = λ i x y. F .kept .past i (omega arith);
           stand = record { touches-fit = omega arith; ends-fit = omega arith; rising = λ i g. absurd (omega arith) };
           at-is = refl;
@@ -138,7 +138,7 @@ module _ {insts addresses ends pieces : List ℕ} {lay : Lay} {p : Places} {z : 
         }
 
     -- what the touches need
-    pub pieces-asked : InOrder pieces (p .keys) w₁ × (rowCount 3 pieces ≤ 65536) × (p .keys + rowCount 3 pieces ≤ p .at) × (lay .queue + f .count ≤ p .at) × (p .at + (rowCount 3 pieces + rowCount 3 pieces) ≤ length w₁)
+    pub pieces-asked : InOrder pieces (p .keys) w₁ × (pieceCount pieces ≤ 65536) × (p .keys + pieceCount pieces ≤ p .at) × (lay .queue + f .count ≤ p .at) × (p .at + (pieceCount pieces + pieceCount pieces) ≤ length w₁)
     pieces-asked =
         let a = apart in let b = R .laid .ends-fit in let c = R .laid .at-fits in let d = F .kept .len in let t = R .walks .tables .laid in let k = R .laid .keys-fit in let q = queue-in in
         (keys-kept (stays (F .kept)), R .laid .few-pieces, omega arith, omega arith, omega arith)
@@ -149,7 +149,7 @@ module _ {insts addresses ends pieces : List ℕ} {lay : Lay} {p : Places} {z : 
       λ k g. let b = carries-below (codeOf (z .v) insts (R .operands) (R .crossings) addresses ends) l (getD w₁ (lay .queue + k) 0) (told .only k g) in let c = R .walks .tables .registers in omega arith,
     )
 
-    pub entries-asked : Linked insts addresses (lay .heads) (lay .nexts) l (p .at) w₁ × (p .at + rowCount 3 pieces + rowCount 2 addresses ≤ length w₁)
+    pub entries-asked : Linked insts addresses (lay .heads) (lay .nexts) l (p .at) w₁ × (p .at + pieceCount pieces + addressCount addresses ≤ length w₁)
     entries-asked =
         let a = apart in let b = R .laid .ends-fit in let c = R .laid .at-fits in let d = F .kept .len in let t = R .walks .tables .laid in let q = R .laid .queue-fit in let x = R .laid .entries-fit in let y = R .laid .insts-are in (
           record {
@@ -192,9 +192,9 @@ module _ {insts addresses ends pieces : List ℕ} {lay : Lay} {p : Places} {z : 
         fetched =
             let a = apart in let b = low in let c = R .laid .at-fits in let d = R .laid .ends-fit in let e = F .kept .len in let g = T .kept .len in let o = E .kept .len in let s = E .count-le in let q = R .laid .queue-fit in
             record {
-              kept = within-trans (within-wider (lay .queue) (p .ends + rowCount 2 ends) (omega arith) (omega arith) (F .kept))
-                  (within-trans (within-wider (lay .queue) (p .ends + rowCount 2 ends) (omega arith) (omega arith) (T .kept))
-                  (within-wider (lay .queue) (p .ends + rowCount 2 ends) (omega arith) (omega arith) (E .kept)));
+              kept = within-trans (within-wider (lay .queue) (p .ends + endCount ends) (omega arith) (omega arith) (F .kept))
+                  (within-trans (within-wider (lay .queue) (p .ends + endCount ends) (omega arith) (omega arith) (T .kept))
+                  (within-wider (lay .queue) (p .ends + endCount ends) (omega arith) (omega arith) (E .kept)));
               chains-kept = λ i x y. E .kept .below i (omega arith) ∙ before-at i x y;
               stand = record { touches-fit = omega arith; ends-fit = omega arith; rising = E .rising };
               at-is = refl;

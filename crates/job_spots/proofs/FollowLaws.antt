@@ -6,9 +6,10 @@ use mathlib.Core.Logic.{_⊎_, _≢_}
 use mathlib.Core.Bool.{Bool, true}
 use mathlib.Core.List.{List, List·Memᴰ}
 use lib.ListN.{length, getD}
-use Rattle.words.specs.Rows.{rowCount, tabulate}
+use Rattle.words.specs.Rows.{tabulate}
 use Rattle.words.specs.Regions.{part}
 use Rattle.words.specs.Sort.{sortOf, Distinct}
+use Rattle.words.specs.Widths.{instCount, mentionWidth, addressCount, endCount}
 use Rattle.words.proofs.RowLaws.{length-tabulate, getD-tabulate}
 use Rattle.words.proofs.RegionLaws.{length-part, getD-part, part-is}
 use Rattle.sorting.proofs.RankLaws.{distinct-tabulate}
@@ -55,7 +56,7 @@ module _ (v : ℕ) (insts operands crossings addresses ends pieces : List ℕ) (
 
   -- the touches of a local that was followed, in another order
   pub touches-are : (whole : Bool) {w w' : List ℕ} {r : Followed} {to n : ℕ} → FollowedTo code lay z l whole w r → (whole ≡ true) ⊎ (r .kind ≢ Unfollowed) → lay .queue + r .count ≤ length w
-      → ((a : ℕ) → a < rowCount 2 addresses → getD addresses (2 * a) 0 < rowCount 9 insts) → ((y : ℕ) → getD insts y 0 < 2 ^ 32)
+      → ((a : ℕ) → a < addressCount addresses → getD addresses (mentionWidth * a) 0 < instCount insts) → ((y : ℕ) → getD insts y 0 < 2 ^ 32)
       → TouchesIn insts addresses pieces (lay .queue) (r .count) l to w w' n → Permuted (unpacked (part to n w')) (touchesOf code (piecesOf pieces) l)
   touches-are whole {w} {w'} {r} {to} {n} F known fits found small T =
       Permuted.then (perm-is (T .is))
@@ -64,5 +65,5 @@ module _ (v : ℕ) (insts operands crossings addresses ends pieces : List ℕ) (
       (λ q c. let (k, h, e) = F .all known q c in subst (λ (x : ℕ). List·Memᴰ x (part (lay .queue) (r .count) w)) e (of-queue lay w (r .count) fits k h)))
 
   -- its ends, rising
-  pub ends-are : {w₀ w : List ℕ} {to n : ℕ} → ((k : ℕ) → k < rowCount 2 ends → getD ends (2 * k) 0 < rowCount 9 insts) → EndsIn insts ends l to w₀ w n → part to n w ≡ sortOf (endsOf code l)
+  pub ends-are : {w₀ w : List ℕ} {to n : ℕ} → ((k : ℕ) → k < endCount ends → getD ends (mentionWidth * k) 0 < instCount insts) → EndsIn insts ends l to w₀ w n → part to n w ≡ sortOf (endsOf code l)
   ends-are found E = E .is ∙ ends-sorted v insts operands crossings addresses ends l found

@@ -4,9 +4,9 @@ use native.Mathlib.Omega.{arith}
 use mathlib.Core.Path.{_≡_, refl, sym, ap, _∙_}
 use mathlib.Core.List.{List, _++_}
 use lib.ListN.{length, getD}
-use Rattle.words.specs.Rows.{rowCount}
 use Rattle.words.specs.Regions.{Region, part}
 use Rattle.words.specs.Sort.{sortOf}
+use Rattle.words.specs.Widths.{addressCount, endCount, pieceCount}
 use Rattle.words.proofs.RegionLaws.{part-is, length-part, getD-part}
 use Rattle.words.proofs.SortLaws.{length-sort, sorted-rising}
 use Rattle.ranges.specs.declared.Range.{Range}
@@ -19,7 +19,7 @@ use Rattle.touches.specs.Touches.{entryAt, endAt, Linked, Gathered, Listed}
 use Rattle.touches.proofs.RegisterLaws.{part-two}
 use Rattle.job_spots.specs.Spots.{TouchesIn, EndsIn}
 
-module _ (insts addresses pieces : List ℕ) (from count heads nexts l to : ℕ) {w₀ w₁ : List ℕ} {n : ℕ} (L : Linked insts addresses heads nexts l to w₀) (room : to + rowCount 3 pieces + rowCount 2 addresses ≤ length w₀) (G : Gathered pieces from count to w₀ w₁ n) where
+module _ (insts addresses pieces : List ℕ) (from count heads nexts l to : ℕ) {w₀ w₁ : List ℕ} {n : ℕ} (L : Linked insts addresses heads nexts l to w₀) (room : to + pieceCount pieces + addressCount addresses ≤ length w₀) (G : Gathered pieces from count to w₀ w₁ n) where
   -- the entries' chain stands as before
   pub still-linked : Linked insts addresses heads nexts l (to + n) w₁
   still-linked = record {
@@ -47,7 +47,7 @@ module _ (insts addresses pieces : List ℕ) (from count heads nexts l to : ℕ)
       front = part-is to n w (part to n w₁) (omega (arith, fits)) (length-part to n w₁ (omega (arith, fits, E .kept .len)))
           (λ i h. E .kept .below (to + i) (omega arith) ∙ sym (getD-part to n w₁ i h))
 
-module _ (insts ends : List ℕ) (l to : ℕ) {w₀ w₁ w : List ℕ} {n : ℕ} (E : Listed ends (endAt insts ends) l to w₀ w₁ n) (room : to + rowCount 2 ends ≤ length w₀)
+module _ (insts ends : List ℕ) (l to : ℕ) {w₀ w₁ w : List ℕ} {n : ℕ} (E : Listed ends (endAt insts ends) l to w₀ w₁ n) (room : to + endCount ends ≤ length w₀)
     (S : Region w₁ w to n (λ i. getD (sortOf (part to n w₁)) i 0)) where
   pub sorted : EndsIn insts ends l to w₀ w n
   sorted = record {

@@ -5,8 +5,8 @@ use mathlib.Core.Logic.{_≢_}
 use mathlib.Core.Bool.{Bool, true, false}
 use mathlib.Core.List.{List}
 use lib.ListN.{length, getD}
-use Rattle.words.specs.Rows.{rowCount}
 use Rattle.words.specs.Sort.{sortOf}
+use Rattle.words.specs.Widths.{instCount, mentionWidth, addressCount, endCount, pieceCount}
 use Rattle.ranges.specs.Merged.{Permuted}
 use Rattle.graph.specs.Work.{Within}
 use Rattle.carrying.specs.declared.Kind.{Kind}
@@ -31,23 +31,23 @@ isUnfollowed Ending = false
 
 -- the regions, each past the one before
 pub record Laid (insts addresses ends pieces : List ℕ) (lay : Lay) (p : Places) (z : Sizes) (w : List ℕ) : Type 0 where
-  pub keys-fit : p .keys + rowCount 3 pieces ≤ lay .escapes
-  pub entries-fit : lay .nexts + rowCount 2 addresses ≤ lay .ended
+  pub keys-fit : p .keys + pieceCount pieces ≤ lay .escapes
+  pub entries-fit : lay .nexts + addressCount addresses ≤ lay .ended
   pub queue-fit : lay .queue + z .insts ≤ p .heads
   pub heads-fit : p .heads + z .locals ≤ p .nexts
-  pub nexts-fit : p .nexts + rowCount 2 ends ≤ p .at
-  pub at-fits : p .at + (rowCount 3 pieces + rowCount 3 pieces + rowCount 2 addresses) ≤ p .ends
-  pub ends-fit : p .ends + rowCount 2 ends ≤ length w
-  pub few-pieces : rowCount 3 pieces ≤ 65536
-  pub insts-are : z .insts ≡ rowCount 9 insts
-  pub ends-found : (k : ℕ) → k < rowCount 2 ends → getD ends (2 * k) 0 < rowCount 9 insts
+  pub nexts-fit : p .nexts + endCount ends ≤ p .at
+  pub at-fits : p .at + (pieceCount pieces + pieceCount pieces + addressCount addresses) ≤ p .ends
+  pub ends-fit : p .ends + endCount ends ≤ length w
+  pub few-pieces : pieceCount pieces ≤ 65536
+  pub insts-are : z .insts ≡ instCount insts
+  pub ends-found : (k : ℕ) → k < endCount ends → getD ends (mentionWidth * k) 0 < instCount insts
 
 -- all that fetching reads; the tables were prepared for some operands and crossings
 pub record Ready (insts addresses ends pieces : List ℕ) (lay : Lay) (p : Places) (z : Sizes) (w : List ℕ) : Type 0 where
   pub laid : Laid insts addresses ends pieces lay p z w
   pub walks : following.Ready lay z insts addresses w
   pub keys : InOrder pieces (p .keys) w
-  pub stops : Chain (rowLocal ends) (rowCount 2 ends) (z .locals) (p .heads) (p .nexts) w
+  pub stops : Chain (rowLocal ends) (endCount ends) (z .locals) (p .heads) (p .nexts) w
   pub operands : List ℕ
   pub crossings : List ℕ
   pub prepared : Prepared (codeOf (z .v) insts operands crossings addresses ends) lay w (z .locals) (z .edges)
@@ -60,12 +60,12 @@ pub record FetchedTo (C : Code) (ps : List Piece) (l : ℕ) (w : List ℕ) (r : 
 
 -- for whatever code the tables were prepared; nothing has changed but the queue and the local's own regions
 pub record FetchedAny (insts addresses ends pieces : List ℕ) (lay : Lay) (p : Places) (z : Sizes) (l : ℕ) (w₀ w : List ℕ) (r : JobLocal) : Type 0 where
-  pub kept : Within (lay .queue) (p .ends + rowCount 2 ends) w₀ w
+  pub kept : Within (lay .queue) (p .ends + endCount ends) w₀ w
   pub chains-kept : (i : ℕ) → p .heads ≤ i → i < p .at → getD w i 0 ≡ getD w₀ i 0
   pub stand : Stand (r .spots) w
   pub at-is : r .spots .at ≡ p .at
   pub ends-is : r .spots .ends ≡ p .ends
-  pub few : r .spots .count ≤ rowCount 3 pieces + rowCount 2 addresses
-  pub few-ends : r .spots .stops ≤ rowCount 2 ends
+  pub few : r .spots .count ≤ pieceCount pieces + addressCount addresses
+  pub few-ends : r .spots .stops ≤ endCount ends
   pub code : (operands crossings : List ℕ) → Prepared (codeOf (z .v) insts operands crossings addresses ends) lay w₀ (z .locals) (z .edges)
       → FetchedTo (codeOf (z .v) insts operands crossings addresses ends) (piecesOf pieces) l w r

@@ -2,8 +2,8 @@
 ghost use Prim.Native.Nat.{ℕ, _+_, _^_, _≤_, _<_};
 ghost use lib.ListN.{length, getD};
 ghost use Rattle.words.specs.Sort.{Distinct};
-ghost use Rattle.words.specs.Rows.{rowCount};
 ghost use Rattle.words.specs.Regions.{part};
+ghost use Rattle.words.specs.Widths.{addressCount, pieceCount};
 ghost use Rattle.live.specs.Live.{InOrder};
 ghost use Rattle.touches.specs.Touches.{Linked};
 ghost use Rattle.job_spots.specs.Spots.{TouchesIn, EndsIn};
@@ -41,10 +41,10 @@ pub fn touches(
     local: usize,
     to: usize,
 ) -> usize
-    requires { ⌜ InOrder (now pieces) keys (now work) × (rowCount 3 (now pieces) ≤ 65536) × (keys + rowCount 3 (now pieces) ≤ to) × (lay .queue + count ≤ to)
-        × (to + (rowCount 3 (now pieces) + rowCount 3 (now pieces)) ≤ length (now work)) ⌝ }
+    requires { ⌜ InOrder (now pieces) keys (now work) × (pieceCount (now pieces) ≤ 65536) × (keys + pieceCount (now pieces) ≤ to) × (lay .queue + count ≤ to)
+        × (to + (pieceCount (now pieces) + pieceCount (now pieces)) ≤ length (now work)) ⌝ }
     requires { ⌜ Distinct (part (lay .queue) count (now work)) × ((k : ℕ) → k < count → getD (now work) (lay .queue + k) 0 < 2 ^ 32) ⌝ }
-    requires { ⌜ Linked (now insts) (now addresses) (lay .heads) (lay .nexts) local to (now work) × (to + rowCount 3 (now pieces) + rowCount 2 (now addresses) ≤ length (now work)) ⌝ }
+    requires { ⌜ Linked (now insts) (now addresses) (lay .heads) (lay .nexts) local to (now work) × (to + pieceCount (now pieces) + addressCount (now addresses) ≤ length (now work)) ⌝ }
     ensures { λ r. ⌜ TouchesIn (now (insts .entry)) (now (addresses .entry)) (now (pieces .entry)) (lay .queue) count local to (now (work .entry)) (now (work .exit)) r ⌝ }
 {
     let n = touches::of_registers(pieces, work, keys, lay.queue, count, to);

@@ -4,6 +4,7 @@ use mathlib.Core.Path.{_≡_}
 use mathlib.Core.List.{List, _∷_, _++_}
 use lib.ListN.{length, getD, drop}
 use Rattle.words.specs.Rows.{tabulate, flat}
+use Rattle.words.specs.Widths.{cellWidth, itemWidth, rangeWidth, rangeCount}
 use Rattle.fit_tables.specs.Tables.{tablesAt, cellTable, homeTable, behind}
 use Rattle.fit_tables.specs.WantTables.{cellRowsIn}
 use Rattle.answer_rows.specs.Rows.{rowsIn}
@@ -19,15 +20,15 @@ rowsOf w from cells n = flat (tabulate n (λ i. rowOf (getD w (cells + i) 0) (ge
 -- room in the answer lists, given by their lengths, for n items in `used` cells with `total` ranges
 pub record Listable (cells items areas : ℕ) (w : List ℕ) (n used total : ℕ) : Type 0 where
   pub few : n ≤ 4096
-  pub short : areas / 2 ≤ 65536
-  pub in-cells : 2 * used ≤ cells
+  pub short : areas / rangeWidth ≤ 65536
+  pub in-cells : cellWidth * used ≤ cells
   pub used-few : used ≤ n
-  pub in-items : 4 * n ≤ items
-  pub in-areas : total ≤ areas / 2
-  pub in-work : behind (tablesAt (areas / 2) n) ≤ length w
-  pub small : (i : ℕ) → i < n → getD w (homeTable (tablesAt (areas / 2) n) + i) 0 < 2 ^ 32
+  pub in-items : itemWidth * n ≤ items
+  pub in-areas : total ≤ areas / rangeWidth
+  pub in-work : behind (tablesAt (areas / rangeWidth) n) ≤ length w
+  pub small : (i : ℕ) → i < n → getD w (homeTable (tablesAt (areas / rangeWidth) n) + i) 0 < 2 ^ 32
 
 pub record Written (cells items areas w : List ℕ) (n used total : ℕ) (cells′ items′ areas′ : List ℕ) : Type 0 where
-  pub in-cells : cells′ ≡ cellRowsIn w (cellTable (tablesAt (length areas / 2) n)) used ++ drop (2 * used) cells
-  pub in-items : items′ ≡ rowsOf w (length areas / 2) (homeTable (tablesAt (length areas / 2) n)) n ++ drop (4 * n) items
-  pub in-areas : areas′ ≡ rowsIn w 0 total 0 ++ drop (2 * total) areas
+  pub in-cells : cells′ ≡ cellRowsIn w (cellTable (tablesAt (rangeCount areas) n)) used ++ drop (cellWidth * used) cells
+  pub in-items : items′ ≡ rowsOf w (rangeCount areas) (homeTable (tablesAt (rangeCount areas) n)) n ++ drop (itemWidth * n) items
+  pub in-areas : areas′ ≡ rowsIn w 0 total 0 ++ drop (rangeWidth * total) areas

@@ -9,6 +9,7 @@ use cases::Cuts;
 use job::Shared;
 use job_space::Head;
 use job_space::Terms;
+use words::widths::moving;
 
 // How many plans there are, and how many of them have fewer cells than items, spent as many probes as the budget has, have an ending local, over 64 locals, and a move that
 // names a slot. There are fewer cases than bytes of text, so that no count wraps.
@@ -168,11 +169,11 @@ fn ending(n: &[u32], e: Cuts) -> bool
 // Whether a row of these moves names one of so many slots.
 fn moving(moves: &[u32], slots: usize) -> bool {
     let mut i = 0;
-    while i < moves.len() / 4 {
-        if (moves[4 * i + 2] as usize) < slots {
+    while i < moves.len() / moving::WIDTH {
+        if (moves[moving::WIDTH * i + moving::TO] as usize) < slots {
             return true;
         }
-        if (moves[4 * i + 3] as usize) < slots {
+        if (moves[moving::WIDTH * i + moving::FROM] as usize) < slots {
             return true;
         }
         i += 1;

@@ -8,6 +8,7 @@ use mathlib.Core.List.{List, []}
 use lib.ListN.{length, getD}
 use lib.Dec.{eqb, leb, ltb}
 use Rattle.words.specs.Sort.{Rising}
+use Rattle.words.specs.Widths.{blockCount, blockEnd}
 use Rattle.words.proofs.RegionLaws.{kept-part-list}
 use Rattle.ranges.specs.declared.Range.{Range}
 use Rattle.ranges.specs.Points.{range}
@@ -84,8 +85,8 @@ module _ {blocks : List ℕ} {s : Spots} {c : Column} {w₀ w : List ℕ} (t : T
   leave-as r p = put-as (λ j. leavesBy (lineOf blocks []) (endsAt s w₀) j r ≡ true) p (λ j h q. rw (← ends-same) q) (λ j h q. rw ends-same q)
 
 -- the test of one block
-pub covers-is : (blocks ends : List ℕ) (k start end last u : ℕ) (es : List Edge) → k < length blocks / 3 → last ≡ min end (getD blocks (3 * k + 2) 0) → u ≡ until ends last (getD blocks (3 * k + 2) 0)
-    → leb (getD blocks (3 * k + 2) 0) u ≡ leb (bottom (lineOf blocks es) k) (cover (lineOf blocks es) ends k (range start end) .end)
+pub covers-is : (blocks ends : List ℕ) (k start end last u : ℕ) (es : List Edge) → k < blockCount blocks → last ≡ min end (blockEnd blocks k) → u ≡ until ends last (blockEnd blocks k)
+    → leb (blockEnd blocks k) u ≡ leb (bottom (lineOf blocks es) k) (cover (lineOf blocks es) ends k (range start end) .end)
 covers-is blocks ends k start end last u es h e f =
-    ap (λ (x : ℕ). leb (getD blocks (3 * k + 2) 0) x) (f ∙ ap (λ (x : ℕ). until ends x (getD blocks (3 * k + 2) 0)) e)
+    ap (λ (x : ℕ). leb (blockEnd blocks k) x) (f ∙ ap (λ (x : ℕ). until ends x (blockEnd blocks k)) e)
     ∙ ap (λ (b : ℕ). leb b (until ends (min end b) b)) (sym (end-is blocks k h))

@@ -6,6 +6,7 @@ ghost use Prim.Native.Nat.{ℕ, _+_, _*_, _/_, _<_};
 ghost use lib.ListN.{length, getD};
 ghost use lib.Dec.{leb};
 ghost use Rattle.words.specs.Sort.{Rising};
+ghost use Rattle.words.specs.Widths.{blockCount};
 ghost use Rattle.ranges.specs.Points.{range};
 ghost use Rattle.graph.specs.Paths.{Edge};
 ghost use Rattle.graph.specs.Line.{blocksOf, Sound};
@@ -16,14 +17,15 @@ ghost use Rattle.area_rows.specs.Inner.{Put, leavesBy};
 use area_rows::Column;
 use area_rows::marks;
 use spots::Spots;
+use words::widths::block;
 
 // Whether a touch's cover reaches the last point of the block at place k, one of the touch's first and last.
 fn covers_bottom(blocks: &[u32], work: &[u64], s: Spots, k: usize, end: u32) -> bool
-    requires { ⌜ (k < length (now blocks) / 3) × Stand s (now work) ⌝ }
+    requires { ⌜ (k < blockCount (now blocks)) × Stand s (now work) ⌝ }
     ensures { λ r. ⌜ ((es : List Edge) (start : ℕ) → r ≡ leb (bottom (lineOf (now (blocks .entry)) es) k)
         (cover (lineOf (now (blocks .entry)) es) (endsAt s (now (work .entry))) k (range start end) .end)) ⌝ }
 {
-    let bottom = blocks[3 * k + 2];
+    let bottom = blocks[block::WIDTH * k + block::END];
     let last = spots::smaller(end, bottom);
     bottom <= spots::until(work, s.ends, s.stops, last, bottom)
 }
@@ -40,7 +42,7 @@ fn mark_if(work: &mut [u64], c: Column, k: usize, yes: bool)
 
 // Sets the bit where the local leaves by a touch.
 fn mark_leave(blocks: &[u32], work: &mut [u64], s: Spots, c: Column, start: u32, end: u32)
-    requires { ⌜ Sound (blocksOf (now blocks)) × (c .n ≡ length (now blocks) / 3) × Fits c (now work) × Stand s (now work) ⌝ }
+    requires { ⌜ Sound (blocksOf (now blocks)) × (c .n ≡ blockCount (now blocks)) × Fits c (now work) × Stand s (now work) ⌝ }
     ensures { λ _. ⌜ Put c true (λ j. leavesBy (lineOf (now (blocks .entry)) []) (endsAt s (now (work .entry))) j (range start end) ≡ true) (now (work .entry)) (now (work .exit)) ⌝ }
 {
     let first = spots::holding(blocks, start).0;

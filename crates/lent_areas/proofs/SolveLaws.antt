@@ -9,7 +9,8 @@ use mathlib.Core.Logic.{inl, inr}
 use mathlib.Core.Bool.{Bool, true, false}
 use mathlib.Core.List.{List, []}
 use lib.ListN.{length, getD}
-use Rattle.words.specs.Rows.{rowCount, tabulate}
+use Rattle.words.specs.Rows.{tabulate}
+use Rattle.words.specs.Widths.{blockCount, edgeCount, touchCount, stopCount, rangeWidth}
 use Rattle.words.proofs.RowLaws.{mem-tabulate}
 use Rattle.bits.specs.Bits.{bitOf}
 use Rattle.bits.proofs.DigitLaws.{bit-zero}
@@ -63,7 +64,7 @@ module _ (p : Places) (g : Grid) (blocks kinds touches ends : List ℕ) {w₀ w�
         passes-fit = omega (arith, M .passes-fit, C .kept .len);
       }
 
-  pub mark-done : {w : List ℕ} {r : Bool} → ((es : List Edge) → MarkedAll (lineOf blocks es) kinds touches ends p g (rowCount 3 blocks) w₁ w r) → Marking p g blocks kinds touches ends w₀ w r
+  pub mark-done : {w : List ℕ} {r : Bool} → ((es : List Edge) → MarkedAll (lineOf blocks es) kinds touches ends p g (blockCount blocks) w₁ w r) → Marking p g blocks kinds touches ends w₀ w r
   mark-done {w} {r} A =
       let L = M .laid in
       record {
@@ -81,28 +82,28 @@ module _ (p : Places) (g : Grid) (blocks kinds touches ends : List ℕ) {w₀ w�
 
 module _ (blocks edges kinds touches ends : List ℕ) (areas : ℕ) (p : Places) (g : Grid) {w₀ : List ℕ} (N : Lent blocks edges kinds touches ends areas w₀) (some : 0 < length kinds)
     (P : Placed (sizesOf blocks edges (length kinds) (length touches) (length ends) areas) p)
-    (G : Gridded (sizesOf blocks edges (length kinds) (length touches) (length ends) areas) (p .ends + rowCount 2 ends) g) where
+    (G : Gridded (sizesOf blocks edges (length kinds) (length touches) (length ends) areas) (p .ends + stopCount ends) g) where
   abbrev n : ℕ
-  n = rowCount 3 blocks
+  n = blockCount blocks
 
   abbrev z : Sizes
   z = sizesOf blocks edges (length kinds) (length touches) (length ends) areas
 
-  fit : markOf g + g .width + n + (3 * rowCount 3 touches + n) ≤ spaceFor z
+  fit : markOf g + g .width + n + (3 * touchCount touches + n) ≤ spaceFor z
   fit = layout-fits z p g (N .small) some P G
 
   -- the regions in their order
   pub record Order : Type 0 where
-    pub heads : p .heads ≡ areas / 2 + length kinds
-    pub ends-by : p .ends + rowCount 2 ends ≤ g .touched
-    pub base-by : g .base ≡ p .ends + rowCount 2 ends
+    pub heads : p .heads ≡ areas / rangeWidth + length kinds
+    pub ends-by : p .ends + stopCount ends ≤ g .touched
+    pub base-by : g .base ≡ p .ends + stopCount ends
     pub rows-by : g .written + n * g .words ≤ g .read
     pub touched-by : g .touched + n * g .words ≤ g .leaves
     pub leaves-by : g .leaves + n * g .words ≤ g .passes
     pub passes-by : g .passes + n * g .words ≤ g .written
     pub read-by : g .read + n * g .words ≤ g .wait
     pub wait-by : g .wait + (n / 64 + 1) + n * g .words ≤ g .to
-    pub mark-by : markOf g + g .width + n + (3 * rowCount 3 touches + n) ≤ length w₀
+    pub mark-by : markOf g + g .width + n + (3 * touchCount touches + n) ≤ length w₀
 
   pub order : Order
   order = record {
@@ -118,7 +119,7 @@ module _ (blocks edges kinds touches ends : List ℕ) (areas : ℕ) (p : Places)
     mark-by = omega (arith, fit, N .space);
   }
 
-  pub places-laid : {w : List ℕ} → length w ≡ length w₀ → Laid p (rowCount 3 touches) (rowCount 2 ends) w
+  pub places-laid : {w : List ℕ} → length w ≡ length w₀ → Laid p (touchCount touches) (stopCount ends) w
   places-laid e =
       let o = order in
       record {
@@ -146,7 +147,7 @@ module _ (blocks edges kinds touches ends : List ℕ) (areas : ℕ) (p : Places)
         passes-fit = omega (arith, o .passes-by, o .rows-by, o .read-by, o .wait-by, o .mark-by);
       }
 
-  pub grid-laid : {w : List ℕ} → length w ≡ length w₀ → GridLaid g n (rowCount 2 edges) w
+  pub grid-laid : {w : List ℕ} → length w ≡ length w₀ → GridLaid g n (edgeCount edges) w
   grid-laid e =
       let o = order in
       record {
@@ -177,13 +178,13 @@ module _ (blocks edges kinds touches ends : List ℕ) (areas : ℕ) (p : Places)
   pub mark-fits : WordFits w64 (g .locals * g .width) × WordFits w64 (markOf g)
   mark-fits = let a = from-small in (omega (arith, a), omega (arith, a))
 
-  few : length kinds * (3 * rowCount 3 touches + n) < 2 ^ 32
+  few : length kinds * (3 * touchCount touches + n) < 2 ^ 32
   few =
       let s = N .small in
-      let a : length kinds * (3 * rowCount 3 touches + n) ≤ 2048 * (3 * rowCount 3 touches + n) = mul-le-mul-right (3 * rowCount 3 touches + n) (s .few-locals) in
+      let a : length kinds * (3 * touchCount touches + n) ≤ 2048 * (3 * touchCount touches + n) = mul-le-mul-right (3 * touchCount touches + n) (s .few-locals) in
       omega (arith, s .few-touches, s .few-blocks)
 
-  measure-fits : {w : List ℕ} → length w ≡ length w₀ → Fits blocks kinds touches ends p g (markOf g) (listing (areas / 2)) w
+  measure-fits : {w : List ℕ} → length w ≡ length w₀ → Fits blocks kinds touches ends p g (markOf g) (listing (areas / rangeWidth)) w
   measure-fits e =
       let o = order in
       let x : g .locals * g .width ≡ length kinds * g .width = ap (λ (k : ℕ). k * g .width) (G .locals-are) in
@@ -236,7 +237,7 @@ module _ (blocks edges kinds touches ends : List ℕ) (areas : ℕ) (p : Places)
     length-is : length w₂ ≡ length w₀
     length-is = R .zero .len ∙ R .area .kept .len ∙ M .kept .len
 
-    pub ready : Ready blocks kinds touches ends p g (markOf g) (listing (areas / 2)) w₂
+    pub ready : Ready blocks kinds touches ends p g (markOf g) (listing (areas / rangeWidth)) w₂
     ready = record {
       laid = measure-fits length-is;
       chains = chains-kept touches ends p (places-laid (M .kept .len)) chained (M .chains);
@@ -246,7 +247,7 @@ module _ (blocks edges kinds touches ends : List ℕ) (areas : ℕ) (p : Places)
       upright = upright;
     }
 
-    pub solved : {w : List ℕ} {t : ℕ} → MeasuredAll blocks kinds touches ends p g (markOf g) (listing (areas / 2)) w₂ w t → Solved blocks edges kinds touches ends areas w₀ w (Ranges t)
+    pub solved : {w : List ℕ} {t : ℕ} → MeasuredAll blocks kinds touches ends p g (markOf g) (listing (areas / rangeWidth)) w₂ w t → Solved blocks edges kinds touches ends areas w₀ w (Ranges t)
     solved {w} {t} D =
         let o = order in
         record {
@@ -281,5 +282,5 @@ none-inverted G kinds touches = refl
 pub solved-none : (blocks edges kinds touches ends : List ℕ) (areas : ℕ) (w : List ℕ) → length kinds ≡ 0 → Solved blocks edges kinds touches ends areas w w (Ranges 0)
 solved-none blocks edges kinds touches ends areas w e = record {
   kept = record { len = refl; below = λ i h. refl; past = λ i h. refl };
-  found = (ap (λ (k : ℕ). someInverted (graphFor blocks edges) kinds touches k) e ∙ none-inverted (graphFor blocks edges) kinds touches, rw e (listed-none wordOf (listing (areas / 2)) (areaFor (graphFor blocks edges) kinds touches ends) w));
+  found = (ap (λ (k : ℕ). someInverted (graphFor blocks edges) kinds touches k) e ∙ none-inverted (graphFor blocks edges) kinds touches, rw e (listed-none wordOf (listing (areas / rangeWidth)) (areaFor (graphFor blocks edges) kinds touches ends) w));
 }

@@ -13,8 +13,8 @@ use Rattle.area_measure.specs.Locals.{areaFor, wordOf, ListedBy}
 use Rattle.area_layout.specs.Layout.{spaceFor}
 use Rattle.area_checks.specs.Checks.{sizesOf}
 use mathlib.Core.Bool.{Bool, true, false}
-use Rattle.words.specs.Rows.{rowCount}
 use Rattle.words.specs.Regions.{Region}
+use Rattle.words.specs.Widths.{blockCount, touchCount, stopCount, rangeWidth}
 use Rattle.graph.specs.Paths.{Edge}
 use Rattle.graph.specs.Line.{blocksOf, Sound}
 use Rattle.graph.specs.Work.{Within}
@@ -42,21 +42,21 @@ FoundAs bad A locals room w (Ranges n) = (bad ≡ false) × ListedBy wordOf (lis
 -- where the marks go
 pub record Markable (p : Places) (g : Grid) (blocks kinds touches ends w : List ℕ) : Type 0 where
   pub line : Sound (blocksOf blocks)
-  pub laid : Laid p (rowCount 3 touches) (rowCount 2 ends) w
+  pub laid : Laid p (touchCount touches) (stopCount ends) w
   pub counted : g .locals ≡ p .locals
   pub kinds-lent : p .locals ≤ length kinds
   pub long : g .locals ≤ g .words * 64
-  pub apart : p .ends + rowCount 2 ends ≤ g .touched
-  pub touched-fits : g .touched + rowCount 3 blocks * g .words ≤ g .leaves
-  pub leaves-fit : g .leaves + rowCount 3 blocks * g .words ≤ g .passes
-  pub passes-fit : g .passes + rowCount 3 blocks * g .words ≤ length w
+  pub apart : p .ends + stopCount ends ≤ g .touched
+  pub touched-fits : g .touched + blockCount blocks * g .words ≤ g .leaves
+  pub leaves-fit : g .leaves + blockCount blocks * g .words ≤ g .passes
+  pub passes-fit : g .passes + blockCount blocks * g .words ≤ length w
 
 -- number 8 is r, and where it is not the case all locals are chained and marked
 pub record Marking (p : Places) (g : Grid) (blocks kinds touches ends w₀ w : List ℕ) (r : Bool) : Type 0 where
-  pub kept : Within (p .heads) (g .passes + rowCount 3 blocks * g .words) w₀ w
+  pub kept : Within (p .heads) (g .passes + blockCount blocks * g .words) w₀ w
   pub chains : Chains p touches ends w
   pub answer : (es : List Edge) → r ≡ someInverted (lineOf blocks es) kinds touches (p .locals)
-  pub marks : (es : List Edge) → r ≡ false → Marks (lineOf blocks es) (kindFor kinds) (touchesFor touches) (endsFor ends) g (rowCount 3 blocks) w
+  pub marks : (es : List Edge) → r ≡ false → Marks (lineOf blocks es) (kindFor kinds) (touchesFor touches) (endsFor ends) g (blockCount blocks) w
 
 -- the rows stand, and behind them no block is marked
 pub record Rowed (es : List Edge) (g : Grid) (n from : ℕ) (w₀ w : List ℕ) : Type 0 where
@@ -67,4 +67,4 @@ pub record Rowed (es : List Edge) (g : Grid) (n from : ℕ) (w₀ w : List ℕ) 
 -- all of it: nothing past W has changed
 pub record Solved (blocks edges kinds touches ends : List ℕ) (areas : ℕ) (w₀ w : List ℕ) (r : Found) : Type 0 where
   pub kept : Within 0 (spaceFor (sizesOf blocks edges (length kinds) (length touches) (length ends) areas)) w₀ w
-  pub found : FoundAs (someInverted (graphFor blocks edges) kinds touches (length kinds)) (areaFor (graphFor blocks edges) kinds touches ends) (length kinds) (areas / 2) w r
+  pub found : FoundAs (someInverted (graphFor blocks edges) kinds touches (length kinds)) (areaFor (graphFor blocks edges) kinds touches ends) (length kinds) (areas / rangeWidth) w r

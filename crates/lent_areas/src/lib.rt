@@ -8,10 +8,16 @@ ghost use Rattle.components.specs.Entry.{edgesIn};
 ghost use Rattle.area_flow.specs.Grid.{Laid, Quiet};
 ghost use Rattle.area_checks.specs.Checks.{Lent};
 ghost use Rattle.lent_areas.specs.Areas.{Markable, Marking, Rowed, Solved};
+ghost use Rattle.words.specs.Widths.{blockCount, edgeCount};
 use area_flow::Grid;
 use area_layout::Sizes;
 use area_measure::Listing;
 use local_spots::Places;
+use words::widths::block;
+use words::widths::edge;
+use words::widths::range;
+use words::widths::stop;
+use words::widths::touch;
 
 // Some touch is inverted, or how many ranges the areas have.
 pub enum Found {
@@ -38,9 +44,9 @@ fn mark(
 
 // What flows and arrives, by the marks, and an empty row over the blocks from `from` on.
 fn rows(blocks: &[u32], edges: &[u32], work: &mut [u64], g: Grid, from: usize)
-    requires { ⌜ Sound (blocksOf (now blocks)) × (edgeVerdict (blocksOf (now blocks)) (jumpsOf (now edges)) ≡ Fine) × Laid g (length (now blocks) / 3) (length (now edges) / 2) (now work) ⌝ }
-    requires { ⌜ Quiet g (length (now blocks) / 3) (now work) × (from + g .width ≤ length (now work)) ⌝ }
-    ensures { λ _. ⌜ Rowed (edgesIn (now (blocks .entry)) (now (edges .entry))) g (length (now (blocks .entry)) / 3) from (now (work .entry)) (now (work .exit)) ⌝ }
+    requires { ⌜ Sound (blocksOf (now blocks)) × (edgeVerdict (blocksOf (now blocks)) (jumpsOf (now edges)) ≡ Fine) × Laid g (blockCount (now blocks)) (edgeCount (now edges)) (now work) ⌝ }
+    requires { ⌜ Quiet g (blockCount (now blocks)) (now work) × (from + g .width ≤ length (now work)) ⌝ }
+    ensures { λ _. ⌜ Rowed (edgesIn (now (blocks .entry)) (now (edges .entry))) g (blockCount (now (blocks .entry))) from (now (work .entry)) (now (work .exit)) ⌝ }
 {
     area_flow::area_rows(blocks, edges, work, g);
     words::fill(work, from, g.width, 0);
@@ -64,12 +70,12 @@ pub fn solve(
         return Found::Ranges(0);
     }
     let z = Sizes {
-        blocks: blocks.len() / 3,
-        edges: edges.len() / 2,
+        blocks: blocks.len() / block::WIDTH,
+        edges: edges.len() / edge::WIDTH,
         locals: kinds.len(),
-        touches: touches.len() / 3,
-        ends: ends.len() / 2,
-        room: areas / 2,
+        touches: touches.len() / touch::WIDTH,
+        ends: ends.len() / stop::WIDTH,
+        room: areas / range::WIDTH,
     };
     let p = area_layout::places(z);
     let g = area_layout::grid(z, p.ends + z.ends);
@@ -90,8 +96,8 @@ pub fn solve(
         from,
         Listing {
             areas: 0,
-            room: areas / 2,
-            items: areas / 2,
+            room: areas / range::WIDTH,
+            items: areas / range::WIDTH,
         },
     );
     Found::Ranges(n)

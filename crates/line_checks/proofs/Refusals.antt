@@ -23,52 +23,53 @@ use Rattle.words.proofs.Bools.{or-cond}
 use Rattle.graph.specs.Line.{Stretch, blocksOf, jumpsOf, blockAt, usedBefore, gapAt, badBlock, lineVerdict, badEdge, edgeVerdict, Sound}
 use Rattle.graph.specs.Checks.{badCount, countVerdict, badSpan, graphVerdict, rowsVerdict, spaceOf, spaceVerdict}
 use Rattle.graph.proofs.Line.{blocks-length, from-is, to-is, line-sound}
+use Rattle.words.specs.Widths.{blockWidth, blockCount, edgeWidth, edgeCount, edgeInto}
 
 -- ---- number 1
 
 module _ (blocks edges : List ℕ) where
-  pub not-whole : length blocks % 3 ≢ 0 → Bad Count 0 ≡ countVerdict blocks edges
+  pub not-whole : length blocks % blockWidth ≢ 0 → Bad Count 0 ≡ countVerdict blocks edges
   unfolding badCount
-  not-whole h = simp (ne-eqb (length blocks % 3) 0 h)
+  not-whole h = simp (ne-eqb (length blocks % blockWidth) 0 h)
 
-  pub no-block : length blocks % 3 ≡ 0 → length blocks / 3 < 1 → Bad Count 0 ≡ countVerdict blocks edges
+  pub no-block : length blocks % blockWidth ≡ 0 → blockCount blocks < 1 → Bad Count 0 ≡ countVerdict blocks edges
   unfolding badCount
-  no-block h a = simp (eq-eqb (length blocks % 3) 0 h, lt-ltb (length blocks / 3) 1 a)
+  no-block h a = simp (eq-eqb (length blocks % blockWidth) 0 h, lt-ltb (blockCount blocks) 1 a)
 
-  pub many-blocks : length blocks % 3 ≡ 0 → 1 ≤ length blocks / 3 → 4096 < length blocks / 3 → Bad Count 0 ≡ countVerdict blocks edges
+  pub many-blocks : length blocks % blockWidth ≡ 0 → 1 ≤ blockCount blocks → 4096 < blockCount blocks → Bad Count 0 ≡ countVerdict blocks edges
   unfolding badCount
-  many-blocks h a b = simp (eq-eqb (length blocks % 3) 0 h, le-ltb (length blocks / 3) 1 a, lt-ltb 4096 (length blocks / 3) b)
+  many-blocks h a b = simp (eq-eqb (length blocks % blockWidth) 0 h, le-ltb (blockCount blocks) 1 a, lt-ltb 4096 (blockCount blocks) b)
 
-  pub edges-cut : length blocks % 3 ≡ 0 → 1 ≤ length blocks / 3 → length blocks / 3 ≤ 4096 → length edges % 2 ≢ 0 → Bad Count 0 ≡ countVerdict blocks edges
+  pub edges-cut : length blocks % blockWidth ≡ 0 → 1 ≤ blockCount blocks → blockCount blocks ≤ 4096 → length edges % edgeWidth ≢ 0 → Bad Count 0 ≡ countVerdict blocks edges
   unfolding badCount
-  edges-cut h a b g = simp (eq-eqb (length blocks % 3) 0 h, le-ltb (length blocks / 3) 1 a, le-ltb 4096 (length blocks / 3) b, ne-eqb (length edges % 2) 0 g)
+  edges-cut h a b g = simp (eq-eqb (length blocks % blockWidth) 0 h, le-ltb (blockCount blocks) 1 a, le-ltb 4096 (blockCount blocks) b, ne-eqb (length edges % edgeWidth) 0 g)
 
-  pub many-edges : length blocks % 3 ≡ 0 → 1 ≤ length blocks / 3 → length blocks / 3 ≤ 4096 → length edges % 2 ≡ 0 → 16384 < length edges / 2 → Bad Count 0 ≡ countVerdict blocks edges
+  pub many-edges : length blocks % blockWidth ≡ 0 → 1 ≤ blockCount blocks → blockCount blocks ≤ 4096 → length edges % edgeWidth ≡ 0 → 16384 < edgeCount edges → Bad Count 0 ≡ countVerdict blocks edges
   unfolding badCount
-  many-edges h a b g d = simp (eq-eqb (length blocks % 3) 0 h, le-ltb (length blocks / 3) 1 a, le-ltb 4096 (length blocks / 3) b, eq-eqb (length edges % 2) 0 g, lt-ltb 16384 (length edges / 2) d)
+  many-edges h a b g d = simp (eq-eqb (length blocks % blockWidth) 0 h, le-ltb (blockCount blocks) 1 a, le-ltb 4096 (blockCount blocks) b, eq-eqb (length edges % edgeWidth) 0 g, lt-ltb 16384 (edgeCount edges) d)
 
-  pub counts-fine : length blocks % 3 ≡ 0 → 1 ≤ length blocks / 3 → length blocks / 3 ≤ 4096 → length edges % 2 ≡ 0 → length edges / 2 ≤ 16384 → Fine ≡ countVerdict blocks edges
+  pub counts-fine : length blocks % blockWidth ≡ 0 → 1 ≤ blockCount blocks → blockCount blocks ≤ 4096 → length edges % edgeWidth ≡ 0 → edgeCount edges ≤ 16384 → Fine ≡ countVerdict blocks edges
   unfolding badCount
-  counts-fine h a b g d = simp (eq-eqb (length blocks % 3) 0 h, le-ltb (length blocks / 3) 1 a, le-ltb 4096 (length blocks / 3) b, eq-eqb (length edges % 2) 0 g, le-ltb 16384 (length edges / 2) d)
+  counts-fine h a b g d = simp (eq-eqb (length blocks % blockWidth) 0 h, le-ltb (blockCount blocks) 1 a, le-ltb 4096 (blockCount blocks) b, eq-eqb (length edges % edgeWidth) 0 g, le-ltb 16384 (edgeCount edges) d)
 
   -- what a fine verdict says
   pub record Counts : Type 0 where
-    pub whole : length blocks % 3 ≡ 0
-    pub some : 1 ≤ length blocks / 3
-    pub few : length blocks / 3 ≤ 4096
-    pub whole-edges : length edges % 2 ≡ 0
-    pub few-edges : length edges / 2 ≤ 16384
+    pub whole : length blocks % blockWidth ≡ 0
+    pub some : 1 ≤ blockCount blocks
+    pub few : blockCount blocks ≤ 4096
+    pub whole-edges : length edges % edgeWidth ≡ 0
+    pub few-edges : edgeCount edges ≤ 16384
 
   bad-fine : Bad Count 0 ≡ Fine → ⊥
   bad-fine e = let z : _≡_ {A = ℕ} 0 1 = cc in omega arith
 
   pub counts : countVerdict blocks edges ≡ Fine → Counts
   counts v =
-      same (length blocks % 3) 0
-      (λ a. cut 1 (length blocks / 3)
-      (λ b. cut (length blocks / 3) 4096
-      (λ d. same (length edges % 2) 0
-      (λ e. cut (length edges / 2) 16384
+      same (length blocks % blockWidth) 0
+      (λ a. cut 1 (blockCount blocks)
+      (λ b. cut (blockCount blocks) 4096
+      (λ d. same (length edges % edgeWidth) 0
+      (λ e. cut (edgeCount edges) 16384
       (λ f. record { whole = a; some = b; few = d; whole-edges = e; few-edges = f })
       (λ f. absurd (bad-fine (many-edges a b d e f ∙ v))))
       (λ e. absurd (bad-fine (edges-cut a b d e ∙ v))))
@@ -137,14 +138,14 @@ used-more bs i b w₀ w e p f x h =
 
 -- ---- number 3
 
-module _ (n : ℕ) (js : List ℕ) (i : ℕ) (l : i < length js / 2) where
-  pub from-bad : n ≤ getD js (2 * i) 0 → badEdge n (jumpsOf js) i ≡ true
+module _ (n : ℕ) (js : List ℕ) (i : ℕ) (l : i < edgeCount js) where
+  pub from-bad : n ≤ getD js (edgeWidth * i) 0 → badEdge n (jumpsOf js) i ≡ true
   from-bad h = simp (le-leb n (getD (jumpsOf js) i (record { from = 0; to = 0 }) .from) (omega (arith, from-is js i l)))
 
-  pub to-bad : getD js (2 * i) 0 < n → n ≤ getD js (2 * i + 1) 0 → badEdge n (jumpsOf js) i ≡ true
+  pub to-bad : getD js (edgeWidth * i) 0 < n → n ≤ edgeInto js i → badEdge n (jumpsOf js) i ≡ true
   to-bad g h = simp (lt-leb n (getD (jumpsOf js) i (record { from = 0; to = 0 }) .from) (omega (arith, from-is js i l)), le-leb n (getD (jumpsOf js) i (record { from = 0; to = 0 }) .to) (omega (arith, to-is js i l)))
 
-  pub edge-fine : getD js (2 * i) 0 < n → getD js (2 * i + 1) 0 < n → badEdge n (jumpsOf js) i ≡ false
+  pub edge-fine : getD js (edgeWidth * i) 0 < n → edgeInto js i < n → badEdge n (jumpsOf js) i ≡ false
   edge-fine g h = simp (lt-leb n (getD (jumpsOf js) i (record { from = 0; to = 0 }) .from) (omega (arith, from-is js i l)), lt-leb n (getD (jumpsOf js) i (record { from = 0; to = 0 }) .to) (omega (arith, to-is js i l)))
 
 -- ---- the three in order

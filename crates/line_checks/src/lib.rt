@@ -7,8 +7,11 @@ ghost use Rattle.refusals.specs.declared.Refusal.the-variants.{Edge as EdgeWord
 ghost use Rattle.refusals.specs.Verdicts.{scan};
 ghost use Rattle.graph.specs.Line.{blocksOf, jumpsOf, lineVerdict, badEdge};
 ghost use Rattle.graph.specs.Checks.{badSpan, countVerdict, graphVerdict, rowsVerdict, spaceOf, spaceVerdict};
+ghost use Rattle.words.specs.Widths.{blockCount};
 use refusals::Refusal;
 use refusals::Verdict;
+use words::widths::block;
+use words::widths::edge;
 
 fn wide(x: u32) -> usize
     ensures { λ r. ⌜ r ≡ x ⌝ }
@@ -20,19 +23,19 @@ fn wide(x: u32) -> usize
 pub fn count(blocks: &[u32], edges: &[u32]) -> Verdict
     ensures { λ r. ⌜ r ≡ countVerdict (now (blocks .entry)) (now (edges .entry)) ⌝ }
 {
-    if blocks.len() % 3 != 0 {
+    if blocks.len() % block::WIDTH != 0 {
         return Verdict::Bad(Refusal::Count, 0);
     }
-    if blocks.len() / 3 < 1 {
+    if blocks.len() / block::WIDTH < 1 {
         return Verdict::Bad(Refusal::Count, 0);
     }
-    if 4096 < blocks.len() / 3 {
+    if 4096 < blocks.len() / block::WIDTH {
         return Verdict::Bad(Refusal::Count, 0);
     }
-    if edges.len() % 2 != 0 {
+    if edges.len() % edge::WIDTH != 0 {
         return Verdict::Bad(Refusal::Count, 0);
     }
-    if 16384 < edges.len() / 2 {
+    if 16384 < edges.len() / edge::WIDTH {
         return Verdict::Bad(Refusal::Count, 0);
     }
     Verdict::Fine
@@ -50,20 +53,20 @@ fn follows(start: u32, last: u32) -> bool
 
 // Whether block i is reversed, leaves a gap, or is the last and ends past the points.
 fn bad_span(blocks: &[u32], points: u32, i: usize) -> bool
-    requires { ⌜ i < length (now blocks) / 3 ⌝ }
+    requires { ⌜ i < blockCount (now blocks) ⌝ }
     ensures { λ r. ⌜ r ≡ badSpan (blocksOf (now (blocks .entry))) points i ⌝ }
 {
-    let start = blocks[3 * i + 1];
-    let end = blocks[3 * i + 2];
+    let start = blocks[block::WIDTH * i + block::START];
+    let end = blocks[block::WIDTH * i + block::END];
     if end < start {
         return true;
     }
     if 0 < i {
-        if !follows(start, blocks[3 * i - 1]) {
+        if !follows(start, blocks[block::WIDTH * i - 1]) {
             return true;
         }
     }
-    if i + 1 == blocks.len() / 3 {
+    if i + 1 == blocks.len() / block::WIDTH {
         return points < end;
     }
     false
@@ -71,14 +74,14 @@ fn bad_span(blocks: &[u32], points: u32, i: usize) -> bool
 
 // Refusal 2: the first block that is out of line. The block numbers that were seen are kept as bits.
 pub fn line(blocks: &[u32], points: u32) -> Verdict
-    requires { ⌜ length (now blocks) / 3 ≤ 4096 ⌝ }
+    requires { ⌜ blockCount (now blocks) ≤ 4096 ⌝ }
     ensures { λ r. ⌜ r ≡ lineVerdict (blocksOf (now (blocks .entry))) points ⌝ }
 {
-    let n = blocks.len() / 3;
+    let n = blocks.len() / block::WIDTH;
     let mut used: [u64; 64] = [0; 64];
     let mut i = 0;
     while i < n {
-        let number = wide(blocks[3 * i]);
+        let number = wide(blocks[block::WIDTH * i]);
         if n <= number {
             return Verdict::Bad(Refusal::Line, i);
         }
@@ -98,13 +101,13 @@ pub fn line(blocks: &[u32], points: u32) -> Verdict
 pub fn edge(edges: &[u32], n: usize) -> Verdict
     ensures { λ r. ⌜ r ≡ scan EdgeWord (badEdge n (jumpsOf (now (edges .entry)))) (length (jumpsOf (now (edges .entry)))) ⌝ }
 {
-    let m = edges.len() / 2;
+    let m = edges.len() / edge::WIDTH;
     let mut i = 0;
     while i < m {
-        if n <= wide(edges[2 * i]) {
+        if n <= wide(edges[edge::WIDTH * i]) {
             return Verdict::Bad(Refusal::Edge, i);
         }
-        if n <= wide(edges[2 * i + 1]) {
+        if n <= wide(edges[edge::WIDTH * i + edge::INTO]) {
             return Verdict::Bad(Refusal::Edge, i);
         }
         i += 1;
@@ -124,7 +127,7 @@ pub fn check(blocks: &[u32], edges: &[u32], points: u32) -> Verdict
     if let Verdict::Bad(r, i) = v {
         return Verdict::Bad(r, i);
     }
-    edge(edges, blocks.len() / 3)
+    edge(edges, blocks.len() / block::WIDTH)
 }
 
 // Refusal 1 for rows of bits: n rows of `words` words.

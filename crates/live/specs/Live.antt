@@ -4,7 +4,7 @@ use mathlib.Core.Path.{_≡_}
 use mathlib.Core.List.{List}
 use lib.ListN.{getD}
 use Rattle.words.specs.Regions.{part}
-use Rattle.words.specs.Rows.{rowCount, field}
+use Rattle.words.specs.Widths.{pieceCount, pieceRegister}
 use Rattle.sorting.specs.Ranks.{ranked}
 use Rattle.ranges.specs.Forms.{unpacked}
 use Rattle.graph.specs.Work.{Within}
@@ -12,18 +12,18 @@ use Rattle.carrying.specs.Carried.{piecesOf, livePieces}
 
 -- the register of piece i, of rows `R,register,start,end`
 abbrev pub registerOf : List ℕ → ℕ → ℕ
-registerOf pieces i = field 3 pieces i 0
+registerOf pieces i = pieceRegister pieces i
 
 -- from `at` on stand the registers with the indices of their pieces, in order
 pub record InOrder (pieces : List ℕ) (at : ℕ) (w : List ℕ) : Type 0 where
-  pub keys : (k : ℕ) → k < rowCount 3 pieces → getD w (at + k) 0 ≡ getD (ranked (registerOf pieces) (rowCount 3 pieces)) k 0
+  pub keys : (k : ℕ) → k < pieceCount pieces → getD w (at + k) 0 ≡ getD (ranked (registerOf pieces) (pieceCount pieces)) k 0
 
 pub record PutInOrder (pieces : List ℕ) (at : ℕ) (w₀ w : List ℕ) : Type 0 where
-  pub kept : Within at (at + rowCount 3 pieces) w₀ w
+  pub kept : Within at (at + pieceCount pieces) w₀ w
   pub order : InOrder pieces at w
 
 -- the register's live pieces stand from `to` on
 pub record Fetched (pieces : List ℕ) (register to : ℕ) (w₀ w : List ℕ) (r : ℕ) : Type 0 where
   pub kept : Within to (to + r) w₀ w
-  pub count : r ≤ rowCount 3 pieces
+  pub count : r ≤ pieceCount pieces
   pub is : unpacked (part to r w) ≡ livePieces (piecesOf pieces) register

@@ -7,8 +7,8 @@ use mathlib.Core.List.{List, _++_}
 use lib.ListN.{length, set, drop, length-set}
 use Rattle.refusals.specs.declared.Verdict.the-variants.{Fine, Bad}
 use Rattle.refusals.specs.declared.Refusal.{Refusal}
-use Rattle.words.specs.Rows.{rowCount}
 use Rattle.words.specs.Regions.{cleared}
+use Rattle.words.specs.Widths.{instCount, operandCount, localCount, addressCount}
 use Rattle.words.proofs.RowLaws.{length-tabulate}
 use Rattle.words.proofs.RegionLaws.{Done, done-start, done-more, done-all, region-front}
 use Rattle.graph.specs.Work.{Within}
@@ -84,11 +84,11 @@ module _ {insts addresses : List ℕ} {lay : Lay} {z : Sizes} {answer₀ answer 
 
 module _ (v : ℕ) (insts operands crossings locals addresses ends : List ℕ) (lay : Lay) (n : ℕ) {w₀ w₁ : List ℕ}
     (c : Checked v insts operands locals addresses ends (length w₀))
-    (a : Laid lay v (length insts / 9) (length operands / 2) (length locals / 2) (length addresses / 2) (usedOf (wordsOf v) (length insts / 9) (length operands / 2) (length locals / 2) (length addresses / 2)))
-    (b : Readied (codeOf v insts operands crossings addresses ends) lay (length operands / 2) (length locals / 2) n w₀ w₁) where
-  pub measured : {answer₀ answer w : List ℕ} → Kinds insts addresses lay (record { v = v; insts = length insts / 9; locals = length locals / 2; edges = n }) answer₀ answer w₁ w
-      → lay .queue + length insts / 9 ≡ usedOf (wordsOf v) (length insts / 9) (length operands / 2) (length locals / 2) (length addresses / 2)
-      → Measured (codeOf v insts operands crossings addresses ends) (length locals / 2) (usedOf (wordsOf v) (length insts / 9) (length operands / 2) (length locals / 2) (length addresses / 2)) answer₀ answer w₀ w
+    (a : Laid lay v (instCount insts) (operandCount operands) (localCount locals) (addressCount addresses) (usedOf (wordsOf v) (instCount insts) (operandCount operands) (localCount locals) (addressCount addresses)))
+    (b : Readied (codeOf v insts operands crossings addresses ends) lay (operandCount operands) (localCount locals) n w₀ w₁) where
+  pub measured : {answer₀ answer w : List ℕ} → Kinds insts addresses lay (record { v = v; insts = instCount insts; locals = localCount locals; edges = n }) answer₀ answer w₁ w
+      → lay .queue + instCount insts ≡ usedOf (wordsOf v) (instCount insts) (operandCount operands) (localCount locals) (addressCount addresses)
+      → Measured (codeOf v insts operands crossings addresses ends) (localCount locals) (usedOf (wordsOf v) (instCount insts) (operandCount operands) (localCount locals) (addressCount addresses)) answer₀ answer w₀ w
   measured k e = record {
     kept = within-trans (within-wider 0 _ (omega arith) (omega arith) (b .kept)) (within-wider 0 _ (omega arith) (omega arith) (k .kept));
     kinds = k .kinds operands crossings ends (b .prepared);
@@ -97,18 +97,18 @@ module _ (v : ℕ) (insts operands crossings locals addresses ends : List ℕ) (
 -- ---- the two ways out
 
 module _ (points v : ℕ) (blocks insts operands crossings locals addresses ends answer₀ work₀ : List ℕ) where
-  pub reach-refused : (r : Refusal) (i : ℕ) → carryVerdict points v blocks insts operands crossings locals addresses ends (length answer₀) (rowCount 2 locals) (length work₀) ≡ Bad r i
+  pub reach-refused : (r : Refusal) (i : ℕ) → carryVerdict points v blocks insts operands crossings locals addresses ends (length answer₀) (localCount locals) (length work₀) ≡ Bad r i
       → ReachTo points v blocks insts operands crossings locals addresses ends answer₀ work₀ (Refused r i) answer₀ work₀
   reach-refused r i e = record { outcome = rw e; list = rw e; space = rw e }
 
-  pub reach-given : {answer work₁ work : List ℕ} → carryVerdict points v blocks insts operands crossings locals addresses ends (length answer₀) (rowCount 2 locals) (length work₀) ≡ Fine
-      → rowCount 2 locals ≤ length answer₀
-      → Measured (codeOf v insts operands crossings addresses ends) (rowCount 2 locals) (usedOf (wordsOf v) (rowCount 9 insts) (rowCount 2 operands) (rowCount 2 locals) (rowCount 2 addresses)) answer₀ answer work₀ work₁
+  pub reach-given : {answer work₁ work : List ℕ} → carryVerdict points v blocks insts operands crossings locals addresses ends (length answer₀) (localCount locals) (length work₀) ≡ Fine
+      → localCount locals ≤ length answer₀
+      → Measured (codeOf v insts operands crossings addresses ends) (localCount locals) (usedOf (wordsOf v) (instCount insts) (operandCount operands) (localCount locals) (addressCount addresses)) answer₀ answer work₀ work₁
       → (words : ℕ) → words ≡ carrySpace v blocks insts operands crossings locals addresses ends → work ≡ cleared words work₁
-      → ReachTo points v blocks insts operands crossings locals addresses ends answer₀ work₀ (Given (rowCount 2 locals)) answer work
+      → ReachTo points v blocks insts operands crossings locals addresses ends answer₀ work₀ (Given (localCount locals)) answer work
   reach-given {answer} {work₁} {work} e h m words ew c = record {
     outcome = rw e;
-    list = rw e (region-front (m .kinds) h ∙ ap (λ (x : ℕ). kindsOf (codeOf v insts operands crossings addresses ends) (rowCount 2 locals) ++ drop x answer₀) (sym (length-tabulate (rowCount 2 locals) _)));
+    list = rw e (region-front (m .kinds) h ∙ ap (λ (x : ℕ). kindsOf (codeOf v insts operands crossings addresses ends) (localCount locals) ++ drop x answer₀) (sym (length-tabulate (localCount locals) _)));
     space = rw e (c ∙ ap (λ (x : ℕ). cleared x work₁) ew
         ∙ cleared-all (carrySpace v blocks insts operands crossings locals addresses ends) _ work₀ work₁ (omega arith) (m .kept));
   }

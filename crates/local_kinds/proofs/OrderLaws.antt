@@ -6,15 +6,15 @@ use lib.ListN.{length}
 use Rattle.refusals.specs.declared.Refusal.the-variants.{Count, Line, Inst, Stray, Space}
 use Rattle.refusals.specs.Verdicts.{numberOf, inOrder}
 use Rattle.refusals.specs.Orders.{Ordered}
-use Rattle.words.specs.Rows.{rowCount}
+use Rattle.words.specs.Widths.{localCount}
 use Rattle.carry_checks.specs.Checks.{carryVerdict}
 use Rattle.carry_checks.proofs.OrderLaws.{carry-ordered}
 use Rattle.local_kinds.specs.Entry.{reachChecks}
 
 module _ (points v : ℕ) (blocks insts operands crossings locals addresses ends answer work : List ℕ) where
-  pub reach-verdict : carryVerdict points v blocks insts operands crossings locals addresses ends (length answer) (rowCount 2 locals) (length work) ≡ inOrder (reachChecks points v blocks insts operands crossings locals addresses ends answer work)
+  pub reach-verdict : carryVerdict points v blocks insts operands crossings locals addresses ends (length answer) (localCount locals) (length work) ≡ inOrder (reachChecks points v blocks insts operands crossings locals addresses ends answer work)
   unfolding carryVerdict
   reach-verdict = refl
 
   pub reach-ordered : Ordered numberOf (Count ∷ Line ∷ Inst ∷ Inst ∷ Stray ∷ Stray ∷ Space ∷ []) (reachChecks points v blocks insts operands crossings locals addresses ends answer work)
-  reach-ordered = carry-ordered v blocks insts operands crossings locals addresses ends points (length answer) (rowCount 2 locals) (length work)
+  reach-ordered = carry-ordered v blocks insts operands crossings locals addresses ends points (length answer) (localCount locals) (length work)

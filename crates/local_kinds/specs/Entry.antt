@@ -6,8 +6,9 @@ use lib.ListN.{length, replicate}
 use Rattle.refusals.specs.declared.Verdict.{Verdict}
 use Rattle.refusals.specs.Verdicts.{numberOf}
 use Rattle.refusals.specs.Outcomes.{Outcome, given, refused, unless, after}
-use Rattle.words.specs.Rows.{tabulate, rowCount}
+use Rattle.words.specs.Rows.{tabulate}
 use Rattle.words.specs.Regions.{Region}
+use Rattle.words.specs.Widths.{localCount}
 use Rattle.graph.specs.Work.{Within}
 use Rattle.carrying.specs.Carried.{Code, kindOf}
 use Rattle.reach.specs.declared.Lay.{Lay}
@@ -42,12 +43,12 @@ pub record Measured (C : Code) (l used : ℕ) (answer₀ answer w₀ w : List �
 -- the checks of `reach` in their order: numbers 1, 2, 4, 5 and 7, the last of them for an answer list shorter than the locals or work space under W
 abbrev pub reachChecks : ℕ → ℕ → List ℕ → List ℕ → List ℕ → List ℕ → List ℕ → List ℕ → List ℕ → List ℕ → List ℕ → List Verdict
 reachChecks points v blocks insts operands crossings locals addresses ends answer work =
-    carryChecks points v blocks insts operands crossings locals addresses ends (length answer) (rowCount 2 locals) (length work)
+    carryChecks points v blocks insts operands crossings locals addresses ends (length answer) (localCount locals) (length work)
 
 -- the answer of `reach`, its list and the work space afterwards
 pub record ReachTo (points v : ℕ) (blocks insts operands crossings locals addresses ends answer₀ work₀ : List ℕ) (r : Answer) (answer work : List ℕ) : Type 0 where
-  pub outcome : answered r ≡ unless (carryVerdict points v blocks insts operands crossings locals addresses ends (length answer₀) (rowCount 2 locals) (length work₀)) (rowCount 2 locals)
-  pub list : answer ≡ after (unless (carryVerdict points v blocks insts operands crossings locals addresses ends (length answer₀) (rowCount 2 locals) (length work₀)) (rowCount 2 locals))
+  pub outcome : answered r ≡ unless (carryVerdict points v blocks insts operands crossings locals addresses ends (length answer₀) (localCount locals) (length work₀)) (localCount locals)
+  pub list : answer ≡ after (unless (carryVerdict points v blocks insts operands crossings locals addresses ends (length answer₀) (localCount locals) (length work₀)) (localCount locals))
       (kindsOf (codeOf v insts operands crossings addresses ends)) answer₀
-  pub space : work ≡ after (unless (carryVerdict points v blocks insts operands crossings locals addresses ends (length answer₀) (rowCount 2 locals) (length work₀))
+  pub space : work ≡ after (unless (carryVerdict points v blocks insts operands crossings locals addresses ends (length answer₀) (localCount locals) (length work₀))
       (carrySpace v blocks insts operands crossings locals addresses ends)) (λ n. replicate n 0) work₀

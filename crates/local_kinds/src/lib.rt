@@ -5,12 +5,17 @@ ghost use Rattle.reach.specs.Prepared.{wordsOf, codeOf};
 ghost use Rattle.follow.specs.Followed.{Ready};
 ghost use Rattle.local_kinds.specs.Entry.{Kinds, Measured, ReachTo};
 ghost use Rattle.carry_checks.specs.Layout.{usedOf, Checked};
+ghost use Rattle.words.specs.Widths.{instCount, operandCount, localCount, addressCount};
 use carry_checks::checks;
 use carry_checks::layout;
 use follow::Sizes;
 use reach::Lay;
 use refusals::Refusal;
 use refusals::Verdict;
+use words::widths::inst;
+use words::widths::local;
+use words::widths::mention;
+use words::widths::operand;
 
 // How many answers were given, or the refusal.
 pub enum Answer {
@@ -44,14 +49,20 @@ fn measure(
     answer: &mut [u32],
     work: &mut [u64],
 )
-    requires { ⌜ Checked v (now insts) (now operands) (now locals) (now addresses) (now ends) (length (now work)) × (length (now locals) / 2 ≤ length (now answer)) ⌝ }
+    requires { ⌜ Checked v (now insts) (now operands) (now locals) (now addresses) (now ends) (length (now work)) × (localCount (now locals) ≤ length (now answer)) ⌝ }
     ensures { λ _. ⌜ Measured (codeOf v (now (insts .entry)) (now (operands .entry)) (now (crossings .entry)) (now (addresses .entry)) (now (ends .entry)))
-        (length (now (locals .entry)) / 2) (usedOf (wordsOf v) (length (now (insts .entry)) / 9) (length (now (operands .entry)) / 2) (length (now (locals .entry)) / 2)
-        (length (now (addresses .entry)) / 2)) (now (answer .entry)) (now (answer .exit)) (now (work .entry)) (now (work .exit)) ⌝ }
+        (localCount (now (locals .entry))) (usedOf (wordsOf v) (instCount (now (insts .entry))) (operandCount (now (operands .entry))) (localCount (now (locals .entry)))
+        (addressCount (now (addresses .entry)))) (now (answer .entry)) (now (answer .exit)) (now (work .entry)) (now (work .exit)) ⌝ }
 {
-    let i = insts.len() / 9;
-    let l = locals.len() / 2;
-    let lay = layout::layout(v, i, operands.len() / 2, l, addresses.len() / 2);
+    let i = insts.len() / inst::WIDTH;
+    let l = locals.len() / local::WIDTH;
+    let lay = layout::layout(
+        v,
+        i,
+        operands.len() / operand::WIDTH,
+        l,
+        addresses.len() / mention::WIDTH,
+    );
     let n = preparing::prepare(insts, operands, crossings, l, addresses, ends, v, work, lay);
     kinds(
         insts,
@@ -99,7 +110,7 @@ pub fn reach(
         addresses,
         ends,
         answer.len(),
-        locals.len() / 2,
+        locals.len() / local::WIDTH,
         work.len(),
     );
     if let Verdict::Bad(r, i) = verdict {
@@ -127,5 +138,5 @@ pub fn reach(
         ends,
     );
     words::clear(work, w);
-    Answer::Given(locals.len() / 2)
+    Answer::Given(locals.len() / local::WIDTH)
 }

@@ -8,9 +8,9 @@ use mathlib.Core.List.{List, []}
 use lib.ListN.{length}
 use lib.Dec.{eqb}
 use borrow.Author.Tests.{eq-eqb, ne-eqb}
-use Rattle.words.specs.Rows.{rowCount}
 use Rattle.words.specs.Sort.{sortOf}
 use Rattle.words.specs.Regions.{Kept}
+use Rattle.words.specs.Widths.{blockCount}
 use Rattle.words.proofs.RegionLaws.{row-before, kept-part-list}
 use Rattle.bits.specs.Bits.{bitOf}
 use Rattle.ranges.specs.declared.Range.{Range}
@@ -96,7 +96,7 @@ marking-sorted {g} {n} {l} {plain} {ending} G ts es {w₀} {w} M =
 -- ---- one local whose touches and ends stand
 
 module _ (blocks : List ℕ) (s : Spots) (g : Grid) (l : ℕ) {w₀ : List ℕ} (S : Standing blocks s g l w₀) where
-  pub touches-ready : (from : ℕ) → g .touched ≤ from → from + rowCount 3 blocks * g .words ≤ length w₀ → TouchesReady blocks s (columnAt g from (rowCount 3 blocks) l) w₀
+  pub touches-ready : (from : ℕ) → g .touched ≤ from → from + blockCount blocks * g .words ≤ length w₀ → TouchesReady blocks s (columnAt g from (blockCount blocks) l) w₀
   touches-ready from a b = record {
     line = S .line;
     places = refl;
@@ -105,7 +105,7 @@ module _ (blocks : List ℕ) (s : Spots) (g : Grid) (l : ℕ) {w₀ : List ℕ} 
     apart = inl (let q = S .touches-apart in omega arith);
   }
 
-  pub ends-ready : (from : ℕ) {w : List ℕ} → length w ≡ length w₀ → g .touched ≤ from → from + rowCount 3 blocks * g .words ≤ length w₀ → EndsReady blocks s (columnAt g from (rowCount 3 blocks) l) w
+  pub ends-ready : (from : ℕ) {w : List ℕ} → length w ≡ length w₀ → g .touched ≤ from → from + blockCount blocks * g .words ≤ length w₀ → EndsReady blocks s (columnAt g from (blockCount blocks) l) w
   ends-ready from e a b = record {
     line = S .line;
     places = refl;
@@ -115,31 +115,31 @@ module _ (blocks : List ℕ) (s : Spots) (g : Grid) (l : ℕ) {w₀ : List ℕ} 
   }
 
   -- a plain local
-  module _ {w : List ℕ} (T : (es : List Edge) → Marked (columnAt g (g .touched) (rowCount 3 blocks) l) (λ k. touched (lineOf blocks es) (touchesAt s w₀) k || rowBit g (g .touched) w₀ k l) w₀ w) where
-    pub plain-kept : Within (g .touched) (g .passes + rowCount 3 blocks * g .words) w₀ w
+  module _ {w : List ℕ} (T : (es : List Edge) → Marked (columnAt g (g .touched) (blockCount blocks) l) (λ k. touched (lineOf blocks es) (touchesAt s w₀) k || rowBit g (g .touched) w₀ k l) w₀ w) where
+    pub plain-kept : Within (g .touched) (g .passes + blockCount blocks * g .words) w₀ w
     plain-kept =
         let a = S .touched-fits in let b = S .leaves-fit in
-        within-wider (g .touched) (g .passes + rowCount 3 blocks * g .words) (omega arith) (omega arith) (T [] .kept)
+        within-wider (g .touched) (g .passes + blockCount blocks * g .words) (omega arith) (omega arith) (T [] .kept)
 
     pub plain-marking : (plain : Bool) → plain ≡ true → (es : List Edge)
-        → Marking g (rowCount 3 blocks) l plain (not plain) (touched (lineOf blocks es) (touchesAt s w₀)) (leaves (lineOf blocks es) (touchesAt s w₀) (endsAt s w₀)) (passes (lineOf blocks es) (endsAt s w₀)) w₀ w
+        → Marking g (blockCount blocks) l plain (not plain) (touched (lineOf blocks es) (touchesAt s w₀)) (leaves (lineOf blocks es) (touchesAt s w₀) (endsAt s w₀)) (passes (lineOf blocks es) (endsAt s w₀)) w₀ w
     plain-marking plain e es =
         let a = S .touched-fits in let b = S .leaves-fit in
         rw e (record {
           touches-bits = bits-of (T es);
-          leaves-bits = bits-kept (S .bit-in) (row-kept g (g .leaves) (rowCount 3 blocks) (T es .kept) (inr (omega arith)));
-          passes-bits = bits-kept (S .bit-in) (row-kept g (g .passes) (rowCount 3 blocks) (T es .kept) (inr (omega arith)));
+          leaves-bits = bits-kept (S .bit-in) (row-kept g (g .leaves) (blockCount blocks) (T es .kept) (inr (omega arith)));
+          passes-bits = bits-kept (S .bit-in) (row-kept g (g .passes) (blockCount blocks) (T es .kept) (inr (omega arith)));
         })
 
   -- an ending local
   module _ {w₁ w : List ℕ}
-      (Lv : (es : List Edge) → Marked (columnAt g (g .leaves) (rowCount 3 blocks) l) (λ k. leaves (lineOf blocks es) (touchesAt s w₀) (endsAt s w₀) k || rowBit g (g .leaves) w₀ k l) w₀ w₁)
-      (P : (es : List Edge) → Marked (columnAt g (g .passes) (rowCount 3 blocks) l) (λ k. passes (lineOf blocks es) (endsAt s w₁) k && rowBit g (g .passes) w₁ k l) w₁ w) where
-    pub ending-kept : Within (g .touched) (g .passes + rowCount 3 blocks * g .words) w₀ w
+      (Lv : (es : List Edge) → Marked (columnAt g (g .leaves) (blockCount blocks) l) (λ k. leaves (lineOf blocks es) (touchesAt s w₀) (endsAt s w₀) k || rowBit g (g .leaves) w₀ k l) w₀ w₁)
+      (P : (es : List Edge) → Marked (columnAt g (g .passes) (blockCount blocks) l) (λ k. passes (lineOf blocks es) (endsAt s w₁) k && rowBit g (g .passes) w₁ k l) w₁ w) where
+    pub ending-kept : Within (g .touched) (g .passes + blockCount blocks * g .words) w₀ w
     ending-kept =
         let a = S .touched-fits in let b = S .leaves-fit in
-        within-trans (within-wider (g .touched) (g .passes + rowCount 3 blocks * g .words) (omega arith) (omega arith) (Lv [] .kept))
-        (within-wider (g .touched) (g .passes + rowCount 3 blocks * g .words) (omega arith) (omega arith) (P [] .kept))
+        within-trans (within-wider (g .touched) (g .passes + blockCount blocks * g .words) (omega arith) (omega arith) (Lv [] .kept))
+        (within-wider (g .touched) (g .passes + blockCount blocks * g .words) (omega arith) (omega arith) (P [] .kept))
 
     -- the ends have stood
     ends-same : endsAt s w₁ ≡ endsAt s w₀
@@ -149,22 +149,22 @@ module _ (blocks : List ℕ) (s : Spots) (g : Grid) (l : ℕ) {w₀ : List ℕ} 
         kept-part-list K c (Lv [] .kept .len)
 
     pub ending-marking : (plain : Bool) → plain ≡ false → (es : List Edge)
-        → Marking g (rowCount 3 blocks) l plain (not plain) (touched (lineOf blocks es) (touchesAt s w₀)) (leaves (lineOf blocks es) (touchesAt s w₀) (endsAt s w₀)) (passes (lineOf blocks es) (endsAt s w₀)) w₀ w
+        → Marking g (blockCount blocks) l plain (not plain) (touched (lineOf blocks es) (touchesAt s w₀)) (leaves (lineOf blocks es) (touchesAt s w₀) (endsAt s w₀)) (passes (lineOf blocks es) (endsAt s w₀)) w₀ w
     ending-marking plain e es =
         let a = S .touched-fits in let b = S .leaves-fit in
-        let before : (k j : ℕ) → k < rowCount 3 blocks → j < g .words * 64 → rowBit g (g .passes) w₁ k j ≡ rowBit g (g .passes) w₀ k j = row-kept g (g .passes) (rowCount 3 blocks) (Lv es .kept) (inr (omega arith)) in
+        let before : (k j : ℕ) → k < blockCount blocks → j < g .words * 64 → rowBit g (g .passes) w₁ k j ≡ rowBit g (g .passes) w₀ k j = row-kept g (g .passes) (blockCount blocks) (Lv es .kept) (inr (omega arith)) in
         rw e (record {
-          touches-bits = bits-kept (S .bit-in) (row-kept g (g .touched) (rowCount 3 blocks) ending-kept-past (inl (omega arith)));
-          leaves-bits = bits-then (S .bit-in) (bits-of (Lv es)) (row-kept g (g .leaves) (rowCount 3 blocks) (P es .kept) (inl (omega arith)));
+          touches-bits = bits-kept (S .bit-in) (row-kept g (g .touched) (blockCount blocks) ending-kept-past (inl (omega arith)));
+          leaves-bits = bits-then (S .bit-in) (bits-of (Lv es)) (row-kept g (g .leaves) (blockCount blocks) (P es .kept) (inl (omega arith)));
           passes-bits = bits-since before (bits-as (λ k. passes (lineOf blocks es) (endsAt s w₀) k && rowBit g (g .passes) w₀ k l) (bits-of (P es))
               (λ k h. ap (λ (x : List ℕ). passes (lineOf blocks es) x k && rowBit g (g .passes) w₁ k l) ends-same ∙ ap (λ (x : Bool). passes (lineOf blocks es) (endsAt s w₀) k && x) (before k l h (S .bit-in))));
         })
       where
-        ending-kept-past : Within (g .leaves) (g .passes + rowCount 3 blocks * g .words) w₀ w
+        ending-kept-past : Within (g .leaves) (g .passes + blockCount blocks * g .words) w₀ w
         ending-kept-past =
             let b = S .leaves-fit in
-            within-trans (within-wider (g .leaves) (g .passes + rowCount 3 blocks * g .words) (omega arith) (omega arith) (Lv [] .kept))
-            (within-wider (g .leaves) (g .passes + rowCount 3 blocks * g .words) (omega arith) (omega arith) (P [] .kept))
+            within-trans (within-wider (g .leaves) (g .passes + blockCount blocks * g .words) (omega arith) (omega arith) (Lv [] .kept))
+            (within-wider (g .leaves) (g .passes + blockCount blocks * g .words) (omega arith) (omega arith) (P [] .kept))
 
 -- ---- one local by the number of its kind
 
@@ -182,7 +182,7 @@ by-kind (suc (suc k)) u {g} {n} {l} {t} {v} {q} {w₀} {w} M = subst (λ (b : Bo
 
 -- an unfollowed local is not marked
 pub none-one : {p : Places} {g : Grid} {blocks touches ends : List ℕ} {l : ℕ} {w : List ℕ} → Ready p g blocks touches ends w → l < p .locals → (kind : ℕ) → kind ≡ 0
-    → (es : List Edge) → MarkedOne (lineOf blocks es) kind touches ends g (rowCount 3 blocks) l w w false
+    → (es : List Edge) → MarkedOne (lineOf blocks es) kind touches ends g (blockCount blocks) l w w false
 none-one {w = w} R h kind e es =
     let a = R .touched-fits in let b = R .leaves-fit in let c = R .long in let d = R .counted in
     rw e (record { answer = refl; marks = λ _. marking-none (within-refl 0 0 w) (omega arith) (omega arith) (omega arith) (omega arith) })
@@ -194,7 +194,7 @@ module _ {p : Places} {g : Grid} {blocks touches ends : List ℕ} {l : ℕ} {w�
   fetched-answer : (es : List Edge) (r : Bool) → r ≡ any (inverted (lineOf blocks es)) (touchesAt s w₁) → r ≡ any (inverted (lineOf blocks es)) (touchesFor touches l)
   fetched-answer es r e = e ∙ ap (any (inverted (lineOf blocks es))) (F .touches-are)
 
-  pub inverted-one : (kind : ℕ) → 0 < kind → (r : Bool) → r ≡ true → ((es : List Edge) → r ≡ any (inverted (lineOf blocks es)) (touchesAt s w₁)) → (es : List Edge) → MarkedOne (lineOf blocks es) kind touches ends g (rowCount 3 blocks) l w₀ w₁ true
+  pub inverted-one : (kind : ℕ) → 0 < kind → (r : Bool) → r ≡ true → ((es : List Edge) → r ≡ any (inverted (lineOf blocks es)) (touchesAt s w₁)) → (es : List Edge) → MarkedOne (lineOf blocks es) kind touches ends g (blockCount blocks) l w₀ w₁ true
   inverted-one kind u r t e es = record { answer = sym t ∙ fetched-answer es r (e es) ∙ sym (inverted-followed (lineOf blocks es) kind (touchesFor touches l) u); marks = λ f. absurd (let z : _≡_ {A = ℕ} 0 1 = cc in omega arith) }
 
   pub standing : (r : Bool) → r ≡ false → ((es : List Edge) → r ≡ any (inverted (lineOf blocks es)) (touchesAt s w₁)) → Standing blocks s g l w₁
@@ -213,29 +213,29 @@ module _ {p : Places} {g : Grid} {blocks touches ends : List ℕ} {l : ℕ} {w�
         passes-fit = omega arith;
       }
 
-  pub fetched-kept : Within (p .at) (g .passes + rowCount 3 blocks * g .words) w₀ w₁
-  fetched-kept = let a = R .apart in let b = R .touched-fits in let c = R .leaves-fit in within-wider (p .at) (g .passes + rowCount 3 blocks * g .words) (omega arith) (omega arith) (F .kept)
+  pub fetched-kept : Within (p .at) (g .passes + blockCount blocks * g .words) w₀ w₁
+  fetched-kept = let a = R .apart in let b = R .touched-fits in let c = R .leaves-fit in within-wider (p .at) (g .passes + blockCount blocks * g .words) (omega arith) (omega arith) (F .kept)
 
-  module _ {w : List ℕ} (K : Within (g .touched) (g .passes + rowCount 3 blocks * g .words) w₁ w) where
-    pub one-kept : Within (p .at) (g .passes + rowCount 3 blocks * g .words) w₀ w
-    one-kept = let a = R .apart in let z = R .laid .at-fits in within-trans fetched-kept (within-wider (p .at) (g .passes + rowCount 3 blocks * g .words) (omega arith) (omega arith) K)
+  module _ {w : List ℕ} (K : Within (g .touched) (g .passes + blockCount blocks * g .words) w₁ w) where
+    pub one-kept : Within (p .at) (g .passes + blockCount blocks * g .words) w₀ w
+    one-kept = let a = R .apart in let z = R .laid .at-fits in within-trans fetched-kept (within-wider (p .at) (g .passes + blockCount blocks * g .words) (omega arith) (omega arith) K)
 
     pub marked-one : (kind : ℕ) → 0 < kind → (r : Bool) → r ≡ false → ((es : List Edge) → r ≡ any (inverted (lineOf blocks es)) (touchesAt s w₁))
-        → ((es : List Edge) → Marking g (rowCount 3 blocks) l (eqb kind 1) (not (eqb kind 1)) (touched (lineOf blocks es) (touchesAt s w₁)) (leaves (lineOf blocks es) (touchesAt s w₁) (endsAt s w₁)) (passes (lineOf blocks es) (endsAt s w₁)) w₁ w)
-        → (es : List Edge) → MarkedOne (lineOf blocks es) kind touches ends g (rowCount 3 blocks) l w₀ w false
+        → ((es : List Edge) → Marking g (blockCount blocks) l (eqb kind 1) (not (eqb kind 1)) (touched (lineOf blocks es) (touchesAt s w₁)) (leaves (lineOf blocks es) (touchesAt s w₁) (endsAt s w₁)) (passes (lineOf blocks es) (endsAt s w₁)) w₁ w)
+        → (es : List Edge) → MarkedOne (lineOf blocks es) kind touches ends g (blockCount blocks) l w₀ w false
     marked-one kind u r f e M es = record { answer = sym f ∙ fetched-answer es r (e es) ∙ sym (inverted-followed G kind (touchesFor touches l) u); marks = λ _. by-kind kind u since }
       where
         G : Graph
         G = lineOf blocks es
 
         -- by the touches and the ends as they are lent
-        lent : Marking g (rowCount 3 blocks) l (eqb kind 1) (not (eqb kind 1)) (touched G (touchesFor touches l)) (leaves G (touchesFor touches l) (endsFor ends l)) (passes G (endsFor ends l)) w₁ w
+        lent : Marking g (blockCount blocks) l (eqb kind 1) (not (eqb kind 1)) (touched G (touchesFor touches l)) (leaves G (touchesFor touches l) (endsFor ends l)) (passes G (endsFor ends l)) w₁ w
         lent =
             marking-sorted G (touchesFor touches l) (endsFor ends l)
-            (subst (λ (es : List ℕ). Marking g (rowCount 3 blocks) l (eqb kind 1) (not (eqb kind 1)) (touched G (touchesFor touches l)) (leaves G (touchesFor touches l) es) (passes G es) w₁ w) (F .ends-are)
-            (subst (λ (ts : List Range). Marking g (rowCount 3 blocks) l (eqb kind 1) (not (eqb kind 1)) (touched G ts) (leaves G ts (endsAt s w₁)) (passes G (endsAt s w₁)) w₁ w) (F .touches-are) (M es)))
+            (subst (λ (es : List ℕ). Marking g (blockCount blocks) l (eqb kind 1) (not (eqb kind 1)) (touched G (touchesFor touches l)) (leaves G (touchesFor touches l) es) (passes G es) w₁ w) (F .ends-are)
+            (subst (λ (ts : List Range). Marking g (blockCount blocks) l (eqb kind 1) (not (eqb kind 1)) (touched G ts) (leaves G ts (endsAt s w₁)) (passes G (endsAt s w₁)) w₁ w) (F .touches-are) (M es)))
 
-        since : Marking g (rowCount 3 blocks) l (eqb kind 1) (not (eqb kind 1)) (touched G (touchesFor touches l)) (leaves G (touchesFor touches l) (endsFor ends l)) (passes G (endsFor ends l)) w₀ w
+        since : Marking g (blockCount blocks) l (eqb kind 1) (not (eqb kind 1)) (touched G (touchesFor touches l)) (leaves G (touchesFor touches l) (endsFor ends l)) (passes G (endsFor ends l)) w₀ w
         since =
             let a = R .touched-fits in let b = R .leaves-fit in let c = R .long in let d = R .counted in
             marking-since (F .kept) (R .apart) (omega arith) (omega arith) (omega arith) lent

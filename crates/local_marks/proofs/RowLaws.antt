@@ -5,7 +5,7 @@ use mathlib.Core.Path.{_≡_, sym, ap, _∙_}
 use mathlib.Core.Bool.{Bool, not, _&&_, _||_}
 use mathlib.Core.List.{List}
 use lib.ListN.{length, getD}
-use Rattle.words.specs.Rows.{rowCount}
+use Rattle.words.specs.Widths.{blockCount}
 use Rattle.words.proofs.RegionLaws.{row-before}
 use Rattle.bits.specs.Bits.{bitOf}
 use Rattle.ranges.specs.declared.Range.{Range}
@@ -25,10 +25,10 @@ use Rattle.local_marks.specs.Rows.{RowsBy}
 
 -- the rows made from the marks w₀ have stood since
 module _ (blocks w : List ℕ) {es : List Edge} {K : ℕ → Kind} {T : ℕ → List Range} {E : ℕ → List ℕ} {g : Grid} {e : ℕ} {w₀ w₁ : List ℕ}
-    (L : Laid g (rowCount 3 blocks) e w₀) (M : Marks (lineOf blocks es) K T E g (rowCount 3 blocks) w₀) (A : AreaRows es g (rowCount 3 blocks) w₀ w₁)
+    (L : Laid g (blockCount blocks) e w₀) (M : Marks (lineOf blocks es) K T E g (blockCount blocks) w₀) (A : AreaRows es g (blockCount blocks) w₀ w₁)
     (same : (i : ℕ) → i < g .to + g .locals * g .width → getD w i 0 ≡ getD w₁ i 0) (l : ℕ) (h : l < g .locals) where
   abbrev n : ℕ
-  n = rowCount 3 blocks
+  n = blockCount blocks
 
   abbrev G : Graph
   G = lineOf blocks es
@@ -84,7 +84,7 @@ module _ (blocks w : List ℕ) {es : List Edge} {K : ℕ → Kind} {T : ℕ → 
       (λ j z. leaves-is j z ∙ ap (λ (x : Kind). isEnding x && leaves G (T l) (E l) j) p)
       (λ j z. M .passes l j h (below j z) ∙ ap (λ (x : Kind). not (isEnding x) || passes G (E l) j) p)
 
-  pub rows-by : RowsBy (lineOf blocks es) (K l) (T l) (E l) g (rowCount 3 blocks) l w
+  pub rows-by : RowsBy (lineOf blocks es) (K l) (T l) (E l) g (blockCount blocks) l w
   rows-by = record {
     written = written-is;
     read = read-is;

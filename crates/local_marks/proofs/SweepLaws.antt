@@ -5,7 +5,8 @@ use mathlib.Core.Path.{_≡_, sym, ap, _∙_, subst}
 use mathlib.Core.Bool.{Bool, true, false, not, _&&_, _||_, or-false, and-true}
 use mathlib.Core.List.{List}
 use lib.ListN.{getD}
-use Rattle.words.specs.Rows.{tabulate, rowCount}
+use Rattle.words.specs.Rows.{tabulate}
+use Rattle.words.specs.Widths.{blockCount}
 use Rattle.words.proofs.RowLaws.{mem-tabulate, mem-of-tabulate}
 use Rattle.words.proofs.Points.{same}
 use Rattle.bits.specs.Bits.{bit}
@@ -89,15 +90,15 @@ module _ {G : Graph} {K : ℕ → Kind} {T : ℕ → List Range} {E : ℕ → Li
 
 pub record Sweep (p : Places) (g : Grid) (blocks kinds touches ends w₀ w : List ℕ) (l : ℕ) : Type 0 where
   pub ready : Ready p g blocks touches ends w
-  pub kept : Within (p .at) (g .passes + rowCount 3 blocks * g .words) w₀ w
+  pub kept : Within (p .at) (g .passes + blockCount blocks * g .words) w₀ w
   pub l-le : l ≤ p .locals
   pub none : (es : List Edge) (m : ℕ) → m < l → invertedIn (lineOf blocks es) (kindFor kinds m) (touchesFor touches m) ≡ false
-  pub so-far : (es : List Edge) → MarkedTo (lineOf blocks es) (kindFor kinds) (touchesFor touches) (endsFor ends) g (rowCount 3 blocks) l w
+  pub so-far : (es : List Edge) → MarkedTo (lineOf blocks es) (kindFor kinds) (touchesFor touches) (endsFor ends) g (blockCount blocks) l w
 
-pub cleared-kept : {p : Places} {g : Grid} {blocks touches ends w₀ w : List ℕ} → Ready p g blocks touches ends w₀ → Unmarked g (rowCount 3 blocks) w₀ w → Within (p .at) (g .passes + rowCount 3 blocks * g .words) w₀ w
-cleared-kept {p} {g} {blocks} R U = let a = R .apart in let b = R .laid .at-fits in within-wider (p .at) (g .passes + rowCount 3 blocks * g .words) (omega arith) (omega arith) (U .kept)
+pub cleared-kept : {p : Places} {g : Grid} {blocks touches ends w₀ w : List ℕ} → Ready p g blocks touches ends w₀ → Unmarked g (blockCount blocks) w₀ w → Within (p .at) (g .passes + blockCount blocks * g .words) w₀ w
+cleared-kept {p} {g} {blocks} R U = let a = R .apart in let b = R .laid .at-fits in within-wider (p .at) (g .passes + blockCount blocks * g .words) (omega arith) (omega arith) (U .kept)
 
-pub sweep-start : (p : Places) (g : Grid) (blocks kinds touches ends : List ℕ) {w₀ w : List ℕ} → Ready p g blocks touches ends w₀ → Unmarked g (rowCount 3 blocks) w₀ w → Sweep p g blocks kinds touches ends w w 0
+pub sweep-start : (p : Places) (g : Grid) (blocks kinds touches ends : List ℕ) {w₀ w : List ℕ} → Ready p g blocks touches ends w₀ → Unmarked g (blockCount blocks) w₀ w → Sweep p g blocks kinds touches ends w w 0
 sweep-start p g blocks kinds touches ends {w₀} {w} R U = record {
   ready = ready-kept R (cleared-kept R U);
   kept = within-refl _ _ w;
@@ -107,7 +108,7 @@ sweep-start p g blocks kinds touches ends {w₀} {w} R U = record {
 }
 
 module _ {p : Places} {g : Grid} {blocks kinds touches ends w₀ w : List ℕ} {l : ℕ} (d : Sweep p g blocks kinds touches ends w₀ w l) (h : l < p .locals) {w' : List ℕ} {r : Bool}
-    (K : Within (p .at) (g .passes + rowCount 3 blocks * g .words) w w') (O : (es : List Edge) → MarkedOne (lineOf blocks es) (getD kinds l 0) touches ends g (rowCount 3 blocks) l w w' r) where
+    (K : Within (p .at) (g .passes + blockCount blocks * g .words) w w') (O : (es : List Edge) → MarkedOne (lineOf blocks es) (getD kinds l 0) touches ends g (blockCount blocks) l w w' r) where
   pub sweep-more : r ≡ false → Sweep p g blocks kinds touches ends w₀ w' (l + 1)
   sweep-more f = record {
     ready = ready-kept (d .ready) K;
@@ -117,15 +118,15 @@ module _ {p : Places} {g : Grid} {blocks kinds touches ends w₀ w : List ℕ} {
     so-far = λ es. marked-next (d .so-far es) (let a = d .ready .long in let b = d .ready .counted in omega arith) (O es .marks f);
   }
 
-  pub sweep-found : {v : List ℕ} → Within (p .at) (g .passes + rowCount 3 blocks * g .words) v w₀ → r ≡ true → (es : List Edge) → MarkedAll (lineOf blocks es) kinds touches ends p g (rowCount 3 blocks) v w' true
+  pub sweep-found : {v : List ℕ} → Within (p .at) (g .passes + blockCount blocks * g .words) v w₀ → r ≡ true → (es : List Edge) → MarkedAll (lineOf blocks es) kinds touches ends p g (blockCount blocks) v w' true
   sweep-found C f es = record {
     kept = within-trans C (within-trans (d .kept) K);
     answer = sym (any-true (λ m. invertedIn (lineOf blocks es) (kindFor kinds m) (touchesFor touches m)) (tabulate (p .locals) (λ m. m)) l (mem-tabulate (p .locals) (λ m. m) l h) (sym (O es .answer) ∙ f));
     marks = λ e. absurd (let z : _≡_ {A = ℕ} 0 1 = cc in omega arith);
   }
 
-pub sweep-done : {p : Places} {g : Grid} {blocks kinds touches ends v w₀ w : List ℕ} {l : ℕ} → Sweep p g blocks kinds touches ends w₀ w l → p .locals ≤ l → Within (p .at) (g .passes + rowCount 3 blocks * g .words) v w₀
-    → (es : List Edge) → MarkedAll (lineOf blocks es) kinds touches ends p g (rowCount 3 blocks) v w false
+pub sweep-done : {p : Places} {g : Grid} {blocks kinds touches ends v w₀ w : List ℕ} {l : ℕ} → Sweep p g blocks kinds touches ends w₀ w l → p .locals ≤ l → Within (p .at) (g .passes + blockCount blocks * g .words) v w₀
+    → (es : List Edge) → MarkedAll (lineOf blocks es) kinds touches ends p g (blockCount blocks) v w false
 sweep-done {p} {g} {blocks} {kinds} {touches} d h C es =
     let b = d .ready .counted in let c = d .l-le in
     record {

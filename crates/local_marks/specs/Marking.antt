@@ -5,7 +5,7 @@ use mathlib.Core.Logic.{_≢_}
 use mathlib.Core.Bool.{Bool, false, not, _&&_, _||_}
 use mathlib.Core.List.{List, []}
 use lib.ListN.{length}
-use Rattle.words.specs.Rows.{rowCount}
+use Rattle.words.specs.Widths.{blockCount}
 use Rattle.graph.specs.Line.{blocksOf, Sound}
 use Rattle.carrying.specs.Lists.{any}
 use Rattle.areas.specs.Blocks.{inverted}
@@ -33,6 +33,6 @@ pub record Standing (blocks : List ℕ) (s : Spots) (g : Grid) (l : ℕ) (w : Li
   pub bit-in : l < g .words * 64
   pub touches-apart : s .at + s .count ≤ g .touched
   pub ends-apart : s .ends + s .stops ≤ g .touched
-  pub touched-fits : g .touched + rowCount 3 blocks * g .words ≤ g .leaves
-  pub leaves-fit : g .leaves + rowCount 3 blocks * g .words ≤ g .passes
-  pub passes-fit : g .passes + rowCount 3 blocks * g .words ≤ length w
+  pub touched-fits : g .touched + blockCount blocks * g .words ≤ g .leaves
+  pub leaves-fit : g .leaves + blockCount blocks * g .words ≤ g .passes
+  pub passes-fit : g .passes + blockCount blocks * g .words ≤ length w

@@ -4,7 +4,8 @@ use mathlib.Core.Path.{_≡_}
 use mathlib.Core.Bool.{Bool, true, false, not, _&&_, _||_}
 use mathlib.Core.List.{List}
 use lib.ListN.{length}
-use Rattle.words.specs.Rows.{tabulate, rowCount}
+use Rattle.words.specs.Rows.{tabulate}
+use Rattle.words.specs.Widths.{blockCount, touchCount, stopCount}
 use Rattle.ranges.specs.declared.Range.{Range}
 use Rattle.graph.specs.Line.{blocksOf, Sound}
 use Rattle.graph.specs.Work.{Within}
@@ -41,14 +42,14 @@ someInverted G kinds touches locals = any (λ l. invertedIn G (kindFor kinds l) 
 -- the regions of the locals' rows, and behind them the rows of the places
 pub record Ready (p : Places) (g : Grid) (blocks touches ends w : List ℕ) : Type 0 where
   pub line : Sound (blocksOf blocks)
-  pub laid : Laid p (rowCount 3 touches) (rowCount 2 ends) w
+  pub laid : Laid p (touchCount touches) (stopCount ends) w
   pub chains : Chains p touches ends w
   pub counted : g .locals ≡ p .locals
   pub long : g .locals ≤ g .words * 64
-  pub apart : p .ends + rowCount 2 ends ≤ g .touched
-  pub touched-fits : g .touched + rowCount 3 blocks * g .words ≤ g .leaves
-  pub leaves-fit : g .leaves + rowCount 3 blocks * g .words ≤ g .passes
-  pub passes-fit : g .passes + rowCount 3 blocks * g .words ≤ length w
+  pub apart : p .ends + stopCount ends ≤ g .touched
+  pub touched-fits : g .touched + blockCount blocks * g .words ≤ g .leaves
+  pub leaves-fit : g .leaves + blockCount blocks * g .words ≤ g .passes
+  pub passes-fit : g .passes + blockCount blocks * g .words ≤ length w
 
 -- of a plain local the touched places are marked; of an ending one those that it leaves, and those that it passes; every other passes each place
 pub record Marks (G : Graph) (K : ℕ → Kind) (T : ℕ → List Range) (E : ℕ → List ℕ) (g : Grid) (n : ℕ) (w : List ℕ) : Type 0 where

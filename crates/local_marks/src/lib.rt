@@ -10,20 +10,22 @@ ghost use Rattle.spots.specs.Spots.{lineOf, touchesAt, endsAt};
 ghost use Rattle.local_marks.specs.Marks.{Ready, MarkedAll};
 ghost use Rattle.local_marks.specs.Marking.{Marking, Standing};
 ghost use Rattle.local_marks.specs.Inner.{MarkedOne};
+ghost use Rattle.words.specs.Widths.{blockCount};
 use area_flow::Grid;
 use area_rows::Column;
 use local_spots::Places;
 use spots::Spots;
+use words::widths::block;
 
 // The marks of one local, plain or ending, whose touches and ends stand in the work space.
 pub fn mark_spots(blocks: &[u32], work: &mut [u64], s: Spots, g: Grid, l: usize, plain: bool)
     requires { ⌜ Standing (now blocks) s g l (now work) ⌝ }
-    ensures { λ _. ⌜ Within (g .touched) (g .passes + length (now (blocks .entry)) / 3 * g .words) (now (work .entry)) (now (work .exit)) ⌝ }
-    ensures { λ _. ⌜ ((es : List Edge) → Marking g (length (now (blocks .entry)) / 3) l plain (not plain) (touched (lineOf (now (blocks .entry)) es) (touchesAt s (now (work .entry))))
+    ensures { λ _. ⌜ Within (g .touched) (g .passes + blockCount (now (blocks .entry)) * g .words) (now (work .entry)) (now (work .exit)) ⌝ }
+    ensures { λ _. ⌜ ((es : List Edge) → Marking g (blockCount (now (blocks .entry))) l plain (not plain) (touched (lineOf (now (blocks .entry)) es) (touchesAt s (now (work .entry))))
         (leaves (lineOf (now (blocks .entry)) es) (touchesAt s (now (work .entry))) (endsAt s (now (work .entry))))
         (passes (lineOf (now (blocks .entry)) es) (endsAt s (now (work .entry)))) (now (work .entry)) (now (work .exit))) ⌝ }
 {
-    let n = blocks.len() / 3;
+    let n = blocks.len() / block::WIDTH;
     if plain {
         area_rows::marks::mark_touched(
             blocks,
@@ -75,8 +77,8 @@ fn mark_one(
     kind: u32,
 ) -> bool
     requires { ⌜ Ready p g (now blocks) (now touches) (now ends) (now work) × (l < p .locals) ⌝ }
-    ensures { λ _. ⌜ Within (p .at) (g .passes + length (now (blocks .entry)) / 3 * g .words) (now (work .entry)) (now (work .exit)) ⌝ }
-    ensures { λ r. ⌜ ((es : List Edge) → MarkedOne (lineOf (now (blocks .entry)) es) kind (now (touches .entry)) (now (ends .entry)) g (length (now (blocks .entry)) / 3) l
+    ensures { λ _. ⌜ Within (p .at) (g .passes + blockCount (now (blocks .entry)) * g .words) (now (work .entry)) (now (work .exit)) ⌝ }
+    ensures { λ r. ⌜ ((es : List Edge) → MarkedOne (lineOf (now (blocks .entry)) es) kind (now (touches .entry)) (now (ends .entry)) g (blockCount (now (blocks .entry))) l
         (now (work .entry)) (now (work .exit)) r) ⌝ }
 {
     if kind == 0 {
@@ -101,10 +103,10 @@ pub fn mark_all(
     g: Grid,
 ) -> bool
     requires { ⌜ Ready p g (now blocks) (now touches) (now ends) (now work) × (p .locals ≤ length (now kinds)) ⌝ }
-    ensures { λ r. ⌜ ((es : List Edge) → MarkedAll (lineOf (now (blocks .entry)) es) (now (kinds .entry)) (now (touches .entry)) (now (ends .entry)) p g (length (now (blocks .entry)) / 3)
+    ensures { λ r. ⌜ ((es : List Edge) → MarkedAll (lineOf (now (blocks .entry)) es) (now (kinds .entry)) (now (touches .entry)) (now (ends .entry)) p g (blockCount (now (blocks .entry)))
         (now (work .entry)) (now (work .exit)) r) ⌝ }
 {
-    area_flow::clear_marks(work, g, blocks.len() / 3);
+    area_flow::clear_marks(work, g, blocks.len() / block::WIDTH);
     let mut l = 0;
     while l < p.locals {
         let kind = kinds[l];

@@ -6,7 +6,8 @@ use mathlib.Core.List.{List, [], _∷_}
 use lib.ListN.{length, getD}
 use lib.Dec.{eqb}
 use Rattle.words.specs.Sort.{sortOf}
-use Rattle.words.specs.Rows.{rowCount, field, records}
+use Rattle.words.specs.Rows.{records}
+use Rattle.words.specs.Widths.{touchWidth, touchCount, touchLocal, stopWidth, stopCount, stopLocal}
 use Rattle.ranges.specs.declared.Range.{Range}
 use Rattle.ranges.specs.Points.{range}
 use Rattle.graph.specs.Work.{Within}
@@ -24,11 +25,11 @@ kindFor kinds l = kindBy (getD kinds l 0)
 
 -- the local's touches, in lent order: rows that name another count for others, or for nobody
 abbrev pub touchesFor : List ℕ → ℕ → List Range
-touchesFor rows l = gather (λ f. cond (eqb (f 0) l) (range (f 1) (f 2) ∷ []) []) (records 3 (λ f. f) rows)
+touchesFor rows l = gather (λ f. cond (eqb (f 0) l) (range (f 1) (f 2) ∷ []) []) (records touchWidth (λ f. f) rows)
 
 -- its ends, in lent order
 abbrev pub endsFor : List ℕ → ℕ → List ℕ
-endsFor rows l = gather (λ f. cond (eqb (f 0) l) (f 1 ∷ []) []) (records 2 (λ f. f) rows)
+endsFor rows l = gather (λ f. cond (eqb (f 0) l) (f 1 ∷ []) []) (records stopWidth (λ f. f) rows)
 
 -- the regions stand one behind another, of t touches and e ends
 pub record Laid (p : Places) (t e : ℕ) (w : List ℕ) : Type 0 where
@@ -39,20 +40,20 @@ pub record Laid (p : Places) (t e : ℕ) (w : List ℕ) : Type 0 where
 
 -- the chains of the touches, and behind them of the ends, by the local that each names first
 pub record Chains (p : Places) (touches ends w : List ℕ) : Type 0 where
-  pub touches-chain : Chain (λ i. field 3 touches i 0) (rowCount 3 touches) (p .locals) (p .heads) (p .nexts) w
-  pub ends-chain : Chain (λ i. field 2 ends i 0) (rowCount 2 ends) (p .locals) (p .heads + p .locals) (p .nexts + rowCount 3 touches) w
+  pub touches-chain : Chain (λ i. touchLocal touches i) (touchCount touches) (p .locals) (p .heads) (p .nexts) w
+  pub ends-chain : Chain (λ i. stopLocal ends i) (stopCount ends) (p .locals) (p .heads + p .locals) (p .nexts + touchCount touches) w
 
 pub record Chained (p : Places) (touches ends w₀ w : List ℕ) : Type 0 where
-  pub kept : Within (p .heads) (p .nexts + rowCount 3 touches + rowCount 2 ends) w₀ w
+  pub kept : Within (p .heads) (p .nexts + touchCount touches + stopCount ends) w₀ w
   pub chains : Chains p touches ends w
 
 -- a local's touches in lent order and its ends in rising order stand in the two last regions, and nothing else has changed
 pub record Fetched (p : Places) (touches ends : List ℕ) (l : ℕ) (w₀ w : List ℕ) (s : Spots) : Type 0 where
-  pub kept : Within (p .at) (p .ends + rowCount 2 ends) w₀ w
+  pub kept : Within (p .at) (p .ends + stopCount ends) w₀ w
   pub touches-are : touchesAt s w ≡ touchesFor touches l
   pub ends-are : endsAt s w ≡ sortOf (endsFor ends l)
   pub stand : Stand s w
   pub touches-low : p .at ≤ s .at
-  pub touches-high : s .at + s .count ≤ p .at + rowCount 3 touches
+  pub touches-high : s .at + s .count ≤ p .at + touchCount touches
   pub ends-low : p .ends ≤ s .ends
-  pub ends-high : s .ends + s .stops ≤ p .ends + rowCount 2 ends
+  pub ends-high : s .ends + s .stops ≤ p .ends + stopCount ends

@@ -10,7 +10,7 @@ use mathlib.Core.List.{List, [], _∷_, _++_, append-nil}
 use lib.ListN.{length, getD, set, drop, length-set, length-append}
 use lib.Dec.{ltb, eqb}
 use borrow.Author.Tests.{eq-eqb, ne-eqb}
-use Rattle.words.specs.Rows.{rowCount, field}
+use Rattle.words.specs.Widths.{itemWidth, itemRowCount, itemCell}
 use Rattle.words.proofs.Points.{stored}
 use Rattle.words.proofs.RegionLaws.{push}
 use Rattle.members.specs.Members.{members, Counted, picks, crowdedSlot, Picked}
@@ -18,14 +18,14 @@ use Rattle.members.specs.Members.{members, Counted, picks, crowdedSlot, 
 -- ---- one item more
 
 module _ (items : List ℕ) (c i : ℕ) where
-  test-is : eqb (getD items (4 * i) 0) c ≡ eqb (field 4 items i 0) c
-  test-is = ap (λ (k : ℕ). eqb (getD items k 0) c) (sym (add-zero (4 * i)))
+  test-is : eqb (getD items (itemWidth * i) 0) c ≡ eqb (itemCell items i) c
+  test-is = ap (λ (k : ℕ). eqb (getD items k 0) c) (sym (add-zero (itemWidth * i)))
 
-  pub members-hit : getD items (4 * i) 0 ≡ c → members items c (i + 1) ≡ members items c i + 1
+  pub members-hit : getD items (itemWidth * i) 0 ≡ c → members items c (i + 1) ≡ members items c i + 1
   unfolding members
   members-hit e = ap (members items c) (add-one i) ∙ ap (λ (t : Bool). members items c i + cond t 1 0) (sym test-is ∙ eq-eqb _ _ e)
 
-  pub members-miss : getD items (4 * i) 0 ≢ c → members items c (i + 1) ≡ members items c i
+  pub members-miss : getD items (itemWidth * i) 0 ≢ c → members items c (i + 1) ≡ members items c i
   unfolding members
   members-miss d = ap (members items c) (add-one i) ∙ ap (λ (t : Bool). members items c i + cond t 1 0) (sym test-is ∙ ne-eqb _ _ d) ∙ add-zero (members items c i)
 
@@ -36,7 +36,7 @@ members-none items c = refl
 pub members-le : (items : List ℕ) (c n : ℕ) → members items c n ≤ n
 unfolding members
 members-le items c zero = omega arith
-members-le items c (suc n) = go (members items c n) (members-le items c n) (eqb (field 4 items n 0) c)
+members-le items c (suc n) = go (members items c n) (members-le items c n) (eqb (itemCell items n) c)
   where
     go : (m : ℕ) → m ≤ n → (t : Bool) → m + cond t 1 0 ≤ suc n
     go m h true = omega arith
@@ -45,32 +45,32 @@ members-le items c (suc n) = go (members items c n) (members-le items c n) (eqb 
 -- ---- a count for each cell
 
 pub record Counting (items counts₀ counts : List ℕ) (i : ℕ) : Type 0 where
-  pub i-le : i ≤ rowCount 4 items
+  pub i-le : i ≤ itemRowCount items
   pub len : length counts ≡ length counts₀
   pub counted : Counted items counts i
 
-pub counting-start : (items counts : List ℕ) → ((i : ℕ) → i < rowCount 4 items → field 4 items i 0 < length counts) → ((c : ℕ) → c < length counts → getD counts c 0 ≡ 0) → Counting items counts counts 0
+pub counting-start : (items counts : List ℕ) → ((i : ℕ) → i < itemRowCount items → itemCell items i < length counts) → ((c : ℕ) → c < length counts → getD counts c 0 ≡ 0) → Counting items counts counts 0
 counting-start items counts known none = record {
   i-le = omega arith;
   len = refl;
   counted = record { known = known; is = λ c h. none c h ∙ sym (members-none items c) };
 }
 
-module _ {items counts₀ counts : List ℕ} {i : ℕ} (d : Counting items counts₀ counts i) (h : i < rowCount 4 items) where
-  pub cell-known : getD items (4 * i) 0 < length counts
-  cell-known = let q = d .counted .known i h in let e = add-zero (4 * i) in rw e at q
+module _ {items counts₀ counts : List ℕ} {i : ℕ} (d : Counting items counts₀ counts i) (h : i < itemRowCount items) where
+  pub cell-known : getD items (itemWidth * i) 0 < length counts
+  cell-known = let q = d .counted .known i h in let e = add-zero (itemWidth * i) in rw e at q
 
-  pub count-small : getD counts (getD items (4 * i) 0) 0 ≤ i
-  count-small = let e = d .counted .is (getD items (4 * i) 0) cell-known in omega (arith, e, members-le items (getD items (4 * i) 0) i)
+  pub count-small : getD counts (getD items (itemWidth * i) 0) 0 ≤ i
+  count-small = let e = d .counted .is (getD items (itemWidth * i) 0) cell-known in omega (arith, e, members-le items (getD items (itemWidth * i) 0) i)
 
-  pub counting-more : Counting items counts₀ (set counts (getD items (4 * i) 0) (getD counts (getD items (4 * i) 0) 0 + 1)) (i + 1)
+  pub counting-more : Counting items counts₀ (set counts (getD items (itemWidth * i) 0) (getD counts (getD items (itemWidth * i) 0) 0 + 1)) (i + 1)
   counting-more = record {
     i-le = omega arith;
     len = length-set counts _ _ ∙ d .len;
     counted = record {
-      known = λ j l. rw (length-set counts (getD items (4 * i) 0) (getD counts (getD items (4 * i) 0) 0 + 1)) (d .counted .known j l);
-      is = λ c l. let k : c < length counts = rw (length-set counts (getD items (4 * i) 0) (getD counts (getD items (4 * i) 0) 0 + 1)) at l in
-          stored (λ y. y ≡ members items c (i + 1)) counts (getD items (4 * i) 0) _ c cell-known
+      known = λ j l. rw (length-set counts (getD items (itemWidth * i) 0) (getD counts (getD items (itemWidth * i) 0) 0 + 1)) (d .counted .known j l);
+      is = λ c l. let k : c < length counts = rw (length-set counts (getD items (itemWidth * i) 0) (getD counts (getD items (itemWidth * i) 0) 0 + 1)) at l in
+          stored (λ y. y ≡ members items c (i + 1)) counts (getD items (itemWidth * i) 0) _ c cell-known
           (λ e. ap (λ (x : ℕ). getD counts x 0 + 1) (sym e) ∙ ap (λ (x : ℕ). x + 1) (d .counted .is c k) ∙ sym (members-hit items c i (sym e)))
           (λ e. d .counted .is c k ∙ sym (members-miss items c i (λ f. e (sym f))));
     };
@@ -131,11 +131,11 @@ picking-done {t} {n} {out₀} {out} {k} {s} d h =
     }
 
 -- what a count tells of a slot
-pub slot-test : {items counts : List ℕ} (locals s : ℕ) → Counted items counts (rowCount 4 items) → locals + s < rowCount 4 items
-    → ltb 1 (getD counts (getD items (4 * (locals + s)) 0) 0) ≡ crowdedSlot items locals s
+pub slot-test : {items counts : List ℕ} (locals s : ℕ) → Counted items counts (itemRowCount items) → locals + s < itemRowCount items
+    → ltb 1 (getD counts (getD items (itemWidth * (locals + s)) 0) 0) ≡ crowdedSlot items locals s
 slot-test {items} {counts} locals s d h =
-    let e = add-zero (4 * (locals + s)) in
-    ap (λ (x : ℕ). ltb 1 (getD counts (getD items x 0) 0)) (sym e) ∙ ap (ltb 1) (d .is (field 4 items (locals + s) 0) (d .known (locals + s) h))
+    let e = add-zero (itemWidth * (locals + s)) in
+    ap (λ (x : ℕ). ltb 1 (getD counts (getD items x 0) 0)) (sym e) ∙ ap (ltb 1) (d .is (itemCell items (locals + s)) (d .known (locals + s) h))
 
-pub slot-known : {items counts : List ℕ} (locals s : ℕ) → Counted items counts (rowCount 4 items) → locals + s < rowCount 4 items → getD items (4 * (locals + s)) 0 < length counts
-slot-known {items} {counts} locals s d h = let q = d .known (locals + s) h in let e = add-zero (4 * (locals + s)) in rw e at q
+pub slot-known : {items counts : List ℕ} (locals s : ℕ) → Counted items counts (itemRowCount items) → locals + s < itemRowCount items → getD items (itemWidth * (locals + s)) 0 < length counts
+slot-known {items} {counts} locals s d h = let q = d .known (locals + s) h in let e = add-zero (itemWidth * (locals + s)) in rw e at q

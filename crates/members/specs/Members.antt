@@ -5,20 +5,20 @@ use mathlib.Core.Bool.{Bool, cond}
 use mathlib.Core.List.{List, [], _∷_, _++_}
 use lib.ListN.{length, getD, drop}
 use lib.Dec.{ltb, eqb}
-use Rattle.words.specs.Rows.{rowCount, field}
+use Rattle.words.specs.Widths.{itemRowCount, itemCell}
 
 -- how many of the first n items are in cell c
 unfoldable pub members : List ℕ → ℕ → ℕ → ℕ
 members items c zero = 0
-members items c (suc n) = members items c n + cond (eqb (field 4 items n 0) c) 1 0
+members items c (suc n) = members items c n + cond (eqb (itemCell items n) c) 1 0
 
 -- of every item
 abbrev pub membersIn : List ℕ → ℕ → ℕ
-membersIn items c = members items c (rowCount 4 items)
+membersIn items c = members items c (itemRowCount items)
 
 -- a count for each cell
 pub record Counted (items counts : List ℕ) (n : ℕ) : Type 0 where
-  pub known : (i : ℕ) → i < rowCount 4 items → field 4 items i 0 < length counts
+  pub known : (i : ℕ) → i < itemRowCount items → itemCell items i < length counts
   pub is : (c : ℕ) → c < length counts → getD counts c 0 ≡ members items c n
 
 -- the numbers below n that pass a test, rising
@@ -28,10 +28,10 @@ picks t (suc n) = picks t n ++ cond (t n) (n ∷ []) []
 
 -- slot s is in a cell with two or more members
 abbrev pub crowdedSlot : List ℕ → ℕ → ℕ → Bool
-crowdedSlot items locals s = ltb 1 (membersIn items (field 4 items (locals + s) 0))
+crowdedSlot items locals s = ltb 1 (membersIn items (itemCell items (locals + s)))
 
 abbrev pub crowdedSlots : List ℕ → ℕ → List ℕ
-crowdedSlots items locals = picks (crowdedSlot items locals) (rowCount 4 items - locals)
+crowdedSlots items locals = picks (crowdedSlot items locals) (itemRowCount items - locals)
 
 pub record Picked (l out out′ : List ℕ) (r : ℕ) : Type 0 where
   pub count : r ≡ length l

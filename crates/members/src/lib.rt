@@ -2,18 +2,19 @@
 ghost use mathlib.Core.Path.{_≡_};
 ghost use Prim.Native.Nat.{ℕ, _+_, _-_, _≤_, _<_};
 ghost use lib.ListN.{length, getD};
-ghost use Rattle.words.specs.Rows.{rowCount, field};
+ghost use Rattle.words.specs.Widths.{itemRowCount, itemCell};
 ghost use Rattle.members.specs.Members.{membersIn, Counted, crowdedSlots, Picked};
+use words::widths::item;
 
 // How many items are in a cell.
 pub fn members(items: &[u32], cell: u32) -> usize
     ensures { λ r. ⌜ r ≡ membersIn (now (items .entry)) cell ⌝ }
 {
-    let n = items.len() / 4;
+    let n = items.len() / item::WIDTH;
     let mut m = 0;
     let mut i = 0;
     while i < n {
-        if items[4 * i] == cell {
+        if items[item::WIDTH * i] == cell {
             m += 1;
             i += 1;
         } else {
@@ -25,14 +26,14 @@ pub fn members(items: &[u32], cell: u32) -> usize
 
 // A count for each cell that an item names.
 fn count(items: &[u32], counts: &mut [u32])
-    requires { ⌜ (rowCount 4 (now items) ≤ 4096) × ((i : ℕ) → i < rowCount 4 (now items) → field 4 (now items) i 0 < length (now counts))
+    requires { ⌜ (itemRowCount (now items) ≤ 4096) × ((i : ℕ) → i < itemRowCount (now items) → itemCell (now items) i < length (now counts))
         × ((c : ℕ) → c < length (now counts) → getD (now counts) c 0 ≡ 0) ⌝ }
-    ensures { λ _. ⌜ Counted (now (items .entry)) (now (counts .exit)) (rowCount 4 (now (items .entry))) ⌝ }
+    ensures { λ _. ⌜ Counted (now (items .entry)) (now (counts .exit)) (itemRowCount (now (items .entry))) ⌝ }
 {
-    let n = items.len() / 4;
+    let n = items.len() / item::WIDTH;
     let mut i = 0;
     while i < n {
-        let c = items[4 * i] as usize;
+        let c = items[item::WIDTH * i] as usize;
         counts[c] = counts[c] + 1;
         i += 1;
     }
@@ -40,15 +41,15 @@ fn count(items: &[u32], counts: &mut [u32])
 
 // The slots whose cell has two or more members, rising.
 fn pick(items: &[u32], locals: usize, counts: &[u32], out: &mut [u32]) -> usize
-    requires { ⌜ Counted (now items) (now counts) (rowCount 4 (now items)) × (locals ≤ rowCount 4 (now items)) × (rowCount 4 (now items) ≤ 4096)
-        × (rowCount 4 (now items) - locals ≤ length (now out)) ⌝ }
+    requires { ⌜ Counted (now items) (now counts) (itemRowCount (now items)) × (locals ≤ itemRowCount (now items)) × (itemRowCount (now items) ≤ 4096)
+        × (itemRowCount (now items) - locals ≤ length (now out)) ⌝ }
     ensures { λ r. ⌜ Picked (crowdedSlots (now (items .entry)) locals) (now (out .entry)) (now (out .exit)) r ⌝ }
 {
-    let n = items.len() / 4 - locals;
+    let n = items.len() / item::WIDTH - locals;
     let mut k = 0;
     let mut s = 0;
     while s < n {
-        let c = items[4 * (locals + s)] as usize;
+        let c = items[item::WIDTH * (locals + s)] as usize;
         if 1 < counts[c] {
             out[k] = s as u32;
             k += 1;
@@ -62,8 +63,8 @@ fn pick(items: &[u32], locals: usize, counts: &[u32], out: &mut [u32]) -> usize
 
 // The same, with the counts in an array by value: there are at most 4,096 cells.
 pub fn crowded(items: &[u32], locals: usize, out: &mut [u32]) -> usize
-    requires { ⌜ (rowCount 4 (now items) ≤ 4096) × (locals ≤ rowCount 4 (now items)) × ((i : ℕ) → i < rowCount 4 (now items) → field 4 (now items) i 0 < 4096)
-        × (rowCount 4 (now items) - locals ≤ length (now out)) ⌝ }
+    requires { ⌜ (itemRowCount (now items) ≤ 4096) × (locals ≤ itemRowCount (now items)) × ((i : ℕ) → i < itemRowCount (now items) → itemCell (now items) i < 4096)
+        × (itemRowCount (now items) - locals ≤ length (now out)) ⌝ }
     ensures { λ r. ⌜ Picked (crowdedSlots (now (items .entry)) locals) (now (out .entry)) (now (out .exit)) r ⌝ }
 {
     let mut counts = [0u32; 4096];

@@ -6,6 +6,7 @@ use mathlib.Core.Path.{_≡_, refl, sym, ap, _∙_}
 use mathlib.Core.List.{List, [], _∷_, _++_, append-assoc}
 use lib.ListN.{length, set, length-set, length-append, drop}
 use Rattle.words.specs.Rows.{tabulate}
+use Rattle.words.specs.Widths.{rangeWidth}
 use Rattle.words.proofs.RowLaws.{tabulate-suc}
 use Rattle.words.proofs.RegionLaws.{push}
 use Rattle.ranges.specs.declared.Range.{Range}
@@ -19,7 +20,7 @@ unfolding rowsOf
 rows-append [] ss = refl
 rows-append (r ∷ rs) ss = ap (λ (l : List ℕ). r .start ∷ r .end ∷ l) (rows-append rs ss)
 
-pub rows-length : (rs : List Range) → length (rowsOf rs) ≡ 2 * length rs
+pub rows-length : (rs : List Range) → length (rowsOf rs) ≡ rangeWidth * length rs
 unfolding rowsOf
 rows-length [] = refl
 rows-length (r ∷ rs) = let e = rows-length rs in omega arith
@@ -33,22 +34,22 @@ unfolding rowsOf
 two a b r xs e f = append-assoc xs (a ∷ []) (b ∷ []) ∙ rw (e, f)
 
 pub wrote-none : (out : List ℕ) (k : ℕ) → Wrote out out k k []
-wrote-none out k = record { len = refl; count = omega arith; list = λ xs o p q e. e ∙ ap (λ (l : List Range). rowsOf l ++ drop (2 * k) o) (sym (append-none xs)) }
+wrote-none out k = record { len = refl; count = omega arith; list = λ xs o p q e. e ∙ ap (λ (l : List Range). rowsOf l ++ drop (rangeWidth * k) o) (sym (append-none xs)) }
 
-pub wrote-one : (out : List ℕ) (k x y a b : ℕ) (r : Range) → 2 * k + 2 ≤ length out → x ≡ 2 * k → y ≡ 2 * k + 1 → r .start ≡ a → r .end ≡ b
+pub wrote-one : (out : List ℕ) (k x y a b : ℕ) (r : Range) → rangeWidth * k + 2 ≤ length out → x ≡ rangeWidth * k → y ≡ rangeWidth * k + 1 → r .start ≡ a → r .end ≡ b
     → Wrote out (set (set out x a) y b) k (k + 1) (r ∷ [])
 wrote-one out k x y a b r h ex ey ea eb = record {
   len = length-set (set out x a) y b ∙ length-set out x a;
   count = omega arith;
   list = λ xs o p q e.
-      let l : length (rowsOf xs) ≡ 2 * k = rows-length xs ∙ ap (λ (j : ℕ). 2 * j) p in
-      let m : length (rowsOf xs ++ (a ∷ [])) ≡ 2 * k + 1 = length-append (rowsOf xs) (a ∷ []) ∙ ap (λ (j : ℕ). j + 1) l in
-      let z : 2 * k + 1 + 1 ≡ 2 * (k + 1) = omega arith in
-      ap (λ (j : ℕ). set (set out j a) y b) ex ∙ ap (λ (j : ℕ). set (set out (2 * k) a) j b) ey
-      ∙ ap (λ (t : List ℕ). set (set t (2 * k) a) (2 * k + 1) b) e
-      ∙ ap (λ (t : List ℕ). set t (2 * k + 1) b) (push (rowsOf xs) o (2 * k) a l (omega arith))
-      ∙ push (rowsOf xs ++ (a ∷ [])) o (2 * k + 1) b m (omega arith)
-      ∙ ap (λ (t : List ℕ). t ++ drop (2 * k + 1 + 1) o) (two a b r (rowsOf xs) ea eb ∙ sym (rows-append xs (r ∷ [])))
+      let l : length (rowsOf xs) ≡ rangeWidth * k = rows-length xs ∙ ap (λ (j : ℕ). rangeWidth * j) p in
+      let m : length (rowsOf xs ++ (a ∷ [])) ≡ rangeWidth * k + 1 = length-append (rowsOf xs) (a ∷ []) ∙ ap (λ (j : ℕ). j + 1) l in
+      let z : rangeWidth * k + 1 + 1 ≡ rangeWidth * (k + 1) = omega arith in
+      ap (λ (j : ℕ). set (set out j a) y b) ex ∙ ap (λ (j : ℕ). set (set out (rangeWidth * k) a) j b) ey
+      ∙ ap (λ (t : List ℕ). set (set t (rangeWidth * k) a) (rangeWidth * k + 1) b) e
+      ∙ ap (λ (t : List ℕ). set t (rangeWidth * k + 1) b) (push (rowsOf xs) o (rangeWidth * k) a l (omega arith))
+      ∙ push (rowsOf xs ++ (a ∷ [])) o (rangeWidth * k + 1) b m (omega arith)
+      ∙ ap (λ (t : List ℕ). t ++ drop (rangeWidth * k + 1 + 1) o) (two a b r (rowsOf xs) ea eb ∙ sym (rows-append xs (r ∷ [])))
       ∙ ap (λ (j : ℕ). rowsOf (xs ++ (r ∷ [])) ++ drop j o) z;
 }
 
@@ -59,7 +60,7 @@ wrote-then {k = k} {q = j} {rs = rs} {ss = ss} a b = record {
   list = λ xs o p q e.
       let l = length-append xs rs in
       let s = a .count in
-      b .list (xs ++ rs) o (omega arith) (q ∙ sym (a .len)) (a .list xs o p q e) ∙ ap (λ (t : List Range). rowsOf t ++ drop (2 * j) o) (append-assoc xs rs ss);
+      b .list (xs ++ rs) o (omega arith) (q ∙ sym (a .len)) (a .list xs o p q e) ∙ ap (λ (t : List Range). rowsOf t ++ drop (rangeWidth * j) o) (append-assoc xs rs ss);
 }
 
 -- ---- all moves, one after another

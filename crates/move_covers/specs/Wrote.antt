@@ -4,6 +4,7 @@ use mathlib.Core.Path.{_≡_}
 use mathlib.Core.List.{List, [], _∷_, _++_}
 use lib.ListN.{length, drop}
 use Rattle.ranges.specs.declared.Range.{Range}
+use Rattle.words.specs.Widths.{rangeWidth}
 
 -- ranges as rows of two numbers
 unfoldable pub rowsOf : List Range → List ℕ
@@ -14,4 +15,4 @@ rowsOf (r ∷ rs) = r .start ∷ r .end ∷ rowsOf rs
 pub record Wrote (out₀ out : List ℕ) (k n : ℕ) (rs : List Range) : Type 0 where
   pub len : length out ≡ length out₀
   pub count : n ≡ k + length rs
-  pub list : (xs : List Range) (o : List ℕ) → length xs ≡ k → length o ≡ length out₀ → out₀ ≡ rowsOf xs ++ drop (2 * k) o → out ≡ rowsOf (xs ++ rs) ++ drop (2 * n) o
+  pub list : (xs : List Range) (o : List ℕ) → length xs ≡ k → length o ≡ length out₀ → out₀ ≡ rowsOf xs ++ drop (rangeWidth * k) o → out ≡ rowsOf (xs ++ rs) ++ drop (rangeWidth * n) o

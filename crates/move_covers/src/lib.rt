@@ -10,17 +10,20 @@ ghost use Rattle.carrying.specs.Insts.{instsOf};
 ghost use Rattle.areas.specs.Slots.{movesOf, moveVerdict, around, covering};
 ghost use Rattle.move_points.specs.Moves.{moveRow};
 ghost use Rattle.move_covers.specs.Wrote.{Wrote};
+ghost use Rattle.words.specs.Widths.{blockCount, moveCount, rangeWidth};
 use move_points::Spot;
+use words::widths::moving;
+use words::widths::range;
 
 // Appends what a move at `p` covers to the first `k` ranges of the answer.
 fn cover(out: &mut [u32], k: usize, points: u32, p: u32) -> usize
-    requires { ⌜ 2 * k + 2 ≤ length (now out) ⌝ }
+    requires { ⌜ rangeWidth * k + 2 ≤ length (now out) ⌝ }
     ensures { λ r. ⌜ Wrote (now (out .entry)) (now (out .exit)) k r (around points p ∷ []) ⌝ }
 {
     let start = move_points::preceding(p);
     let end = move_points::beyond(p, points);
-    out[2 * k] = start;
-    out[2 * k + 1] = end;
+    out[range::WIDTH * k] = start;
+    out[range::WIDTH * k + range::END] = end;
     k + 1
 }
 
@@ -36,16 +39,23 @@ pub fn covers(
     k: usize,
     i: usize,
 ) -> usize
-    requires { ⌜ Sound (blocksOf (now blocks)) × Table (blocksOf (now blocks)) 0 (now work) × (length (now blocks) / 3 ≤ length (now work)) ⌝ }
-    requires { ⌜ (i < length (now moves) / 4) × (moveVerdict (blocksOf (now blocks)) (instsOf (now insts) []) (movesOf (now moves)) ≡ Fine) × (2 * k + 4 ≤ length (now out)) ⌝ }
+    requires { ⌜ Sound (blocksOf (now blocks)) × Table (blocksOf (now blocks)) 0 (now work) × (blockCount (now blocks) ≤ length (now work)) ⌝ }
+    requires { ⌜ (i < moveCount (now moves)) × (moveVerdict (blocksOf (now blocks)) (instsOf (now insts) []) (movesOf (now moves)) ≡ Fine) × (rangeWidth * k + 4 ≤ length (now out)) ⌝ }
     ensures { λ r. ⌜ Wrote (now (out .entry)) (now (out .exit)) k r (covering points (blocksOf (now (blocks .entry))) (instsOf (now (insts .entry)) []) slot (moveRow (now (moves .entry)) i)) ⌝ }
 {
-    let at = move_points::position(blocks, insts, work, 0, moves[4 * i], moves[4 * i + 1]);
+    let at = move_points::position(
+        blocks,
+        insts,
+        work,
+        0,
+        moves[moving::WIDTH * i],
+        moves[moving::WIDTH * i + moving::NUMBER],
+    );
     let Spot::At(p) = at else {
         return k;
     };
-    let to = moves[4 * i + 2];
-    let from = moves[4 * i + 3];
+    let to = moves[moving::WIDTH * i + moving::TO];
+    let from = moves[moving::WIDTH * i + moving::FROM];
     if to == slot {
         let k = cover(out, k, points, p);
         if from == slot {

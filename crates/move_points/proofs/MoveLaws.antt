@@ -11,7 +11,7 @@ use borrow.Author.Tests.{eq-eqb, ne-eqb, leb-false}
 use Rattle.refusals.specs.declared.Verdict.the-variants.{Fine}
 use Rattle.refusals.specs.declared.Refusal.the-variants.{Stray as StrayWord}
 use Rattle.refusals.proofs.Laws.{scan-fine}
-use Rattle.words.specs.Rows.{rowCount, field}
+use Rattle.words.specs.Widths.{blockCount, blockStart, blockEnd, instCount, instEarly, instLate, moveCount, moveKind, moveNumber}
 use Rattle.words.proofs.Bools.{or-neither}
 use Rattle.ranges.specs.declared.Range.{Range}
 use Rattle.graph.specs.declared.Block.{Block}
@@ -34,7 +34,7 @@ use Rattle.spill_checks.proofs.PositionLaws.{told, stray-told}
 
 -- the place of a block that is there is in the line
 pub row-there : (blocks : List ℕ) → Sound (blocksOf blocks) → (b : Block) (p : Place) → b .0 < length (blocksOf blocks) → p ≡ placeOf (blocksOf blocks) b
-    → (p .0 ≡ placeIn (blocksOf blocks) (b .0)) × (p .0 < rowCount 3 blocks)
+    → (p .0 ≡ placeIn (blocksOf blocks) (b .0)) × (p .0 < blockCount blocks)
 row-there blocks s b p h e =
     let q : p .0 ≡ placeIn (blocksOf blocks) (b .0) = ap (λ (x : Place). x .0) e in
     (q, (let l = place-lt s (b .0) h in let n = blocks-length blocks in omega arith))
@@ -47,7 +47,7 @@ module _ (blocks insts : List ℕ) (k n : ℕ) where
   abbrev Here : Position
   Here = positionOf (blocksOf blocks) (instsOf insts []) k n
 
-  there : (absent (instsOf insts []) n || not (isSet (instAt (instsOf insts []) n .placed))) ≡ false → n < rowCount 9 insts
+  there : (absent (instsOf insts []) n || not (isSet (instAt (instsOf insts []) n .placed))) ≡ false → n < instCount insts
   there e =
       let a = or-neither (absent (instsOf insts []) n) _ e .0 in
       let l = leb-false (length (instsOf insts [])) n a in
@@ -55,17 +55,17 @@ module _ (blocks insts : List ℕ) (k n : ℕ) where
       omega arith
 
   -- the instruction or block of a position is there, and its field is the point
-  pub at-early : (i : ℕ) → Here ≡ Early i → (i < rowCount 9 insts) × (At (field 9 insts i 2) ≡ positionAt (blocksOf blocks) (instsOf insts []) k n)
+  pub at-early : (i : ℕ) → Here ≡ Early i → (i < instCount insts) × (At (instEarly insts i) ≡ positionAt (blocksOf blocks) (instsOf insts []) k n)
   at-early i e =
       let t = told (blocksOf blocks) (instsOf insts []) k n (Early i) e (λ q. let z : _≡_ {A = ℕ} 0 1 = cc in omega arith) in
       let h = there (sym (kind-0 (blocksOf blocks) (instsOf insts []) n k (t .1)) ∙ t .0) in
-      (rw (t .2) at h, ap (λ (x : ℕ). At (field 9 insts x 2)) (sym (t .2)) ∙ ap At (sym (early-is insts [] n h)) ∙ ap (λ (x : ℕ). At (position (blocksOf blocks) (instsOf insts []) x n)) (sym (t .1)) ∙ sym (spot-is _ _ k n (t .0)))
+      (rw (t .2) at h, ap (λ (x : ℕ). At (instEarly insts x)) (sym (t .2)) ∙ ap At (sym (early-is insts [] n h)) ∙ ap (λ (x : ℕ). At (position (blocksOf blocks) (instsOf insts []) x n)) (sym (t .1)) ∙ sym (spot-is _ _ k n (t .0)))
 
-  pub at-late : (i : ℕ) → Here ≡ Late i → (i < rowCount 9 insts) × (At (field 9 insts i 3) ≡ positionAt (blocksOf blocks) (instsOf insts []) k n)
+  pub at-late : (i : ℕ) → Here ≡ Late i → (i < instCount insts) × (At (instLate insts i) ≡ positionAt (blocksOf blocks) (instsOf insts []) k n)
   at-late i e =
       let t = told (blocksOf blocks) (instsOf insts []) k n (Late i) e (λ q. let z : _≡_ {A = ℕ} 0 1 = cc in omega arith) in
       let h = there (sym (kind-1 (blocksOf blocks) (instsOf insts []) n k (t .1)) ∙ t .0) in
-      (rw (t .2) at h, ap (λ (x : ℕ). At (field 9 insts x 3)) (sym (t .2)) ∙ ap At (sym (late-is insts [] n h)) ∙ ap (λ (x : ℕ). At (position (blocksOf blocks) (instsOf insts []) x n)) (sym (t .1)) ∙ sym (spot-is _ _ k n (t .0)))
+      (rw (t .2) at h, ap (λ (x : ℕ). At (instLate insts x)) (sym (t .2)) ∙ ap At (sym (late-is insts [] n h)) ∙ ap (λ (x : ℕ). At (position (blocksOf blocks) (instsOf insts []) x n)) (sym (t .1)) ∙ sym (spot-is _ _ k n (t .0)))
 
   pub start-there : (b : Block) → Here ≡ Start b → b .0 < length (blocksOf blocks)
   start-there b e =
@@ -79,13 +79,13 @@ module _ (blocks insts : List ℕ) (k n : ℕ) where
       let h = leb-false (length (blocksOf blocks)) n (sym (kind-3 (blocksOf blocks) (instsOf insts []) n k (t .1)) ∙ t .0) in
       rw (t .2) at h
 
-  pub at-start : (b : Block) (p : ℕ) → Here ≡ Start b → p ≡ placeIn (blocksOf blocks) (b .0) → p < rowCount 3 blocks → At (field 3 blocks p 1) ≡ positionAt (blocksOf blocks) (instsOf insts []) k n
+  pub at-start : (b : Block) (p : ℕ) → Here ≡ Start b → p ≡ placeIn (blocksOf blocks) (b .0) → p < blockCount blocks → At (blockStart blocks p) ≡ positionAt (blocksOf blocks) (instsOf insts []) k n
   at-start b p e q h =
       let t = told (blocksOf blocks) (instsOf insts []) k n (Start b) e (λ q. let z : _≡_ {A = ℕ} 0 1 = cc in omega arith) in
       ap At (sym (start-is blocks p h) ∙ ap (λ (x : ℕ). blockAt (blocksOf blocks) x .start) (q ∙ ap (placeIn (blocksOf blocks)) (sym (t .2))))
       ∙ ap (λ (x : ℕ). At (position (blocksOf blocks) (instsOf insts []) x n)) (sym (t .1)) ∙ sym (spot-is _ _ k n (t .0))
 
-  pub at-end : (b : Block) (p : ℕ) → Here ≡ End b → p ≡ placeIn (blocksOf blocks) (b .0) → p < rowCount 3 blocks → At (field 3 blocks p 2) ≡ positionAt (blocksOf blocks) (instsOf insts []) k n
+  pub at-end : (b : Block) (p : ℕ) → Here ≡ End b → p ≡ placeIn (blocksOf blocks) (b .0) → p < blockCount blocks → At (blockEnd blocks p) ≡ positionAt (blocksOf blocks) (instsOf insts []) k n
   at-end b p e q h =
       let t = told (blocksOf blocks) (instsOf insts []) k n (End b) e (λ q. let z : _≡_ {A = ℕ} 0 1 = cc in omega arith) in
       ap At (sym (end-is blocks p h) ∙ ap (λ (x : ℕ). blockAt (blocksOf blocks) x .end) (q ∙ ap (placeIn (blocksOf blocks)) (sym (t .2))))
@@ -94,8 +94,8 @@ module _ (blocks insts : List ℕ) (k n : ℕ) where
   pub at-none : Here ≡ Stray → Nowhere ≡ positionAt (blocksOf blocks) (instsOf insts []) k n
   at-none e = rw (stray-told (blocksOf blocks) (instsOf insts []) k n e)
 
-pub move-fine : (bs : List Stretch) (is : List Inst) (s : List ℕ) (i : ℕ) → moveVerdict bs is (movesOf s) ≡ Fine → i < rowCount 4 s
-    → badMove bs is (field 4 s i 0) (field 4 s i 1) ≡ false
+pub move-fine : (bs : List Stretch) (is : List Inst) (s : List ℕ) (i : ℕ) → moveVerdict bs is (movesOf s) ≡ Fine → i < moveCount s
+    → badMove bs is (moveKind s i) (moveNumber s i) ≡ false
 move-fine bs is s i v h =
     ap (λ (m : Move). badMove bs is (m .kind) (m .number)) (sym (move-at s i h))
     ∙ scan-fine StrayWord (λ n. badMove bs is (moveAt (movesOf s) n .kind) (moveAt (movesOf s) n .number)) (length (movesOf s)) v i (let q = moves-length s in omega arith)

@@ -2,7 +2,7 @@
 use Prim.Native.Nat.{ℕ}
 use mathlib.Core.Bool.{cond}
 use mathlib.Core.List.{List}
-use Rattle.words.specs.Rows.{field}
+use Rattle.words.specs.Widths.{moveKind, moveNumber, moveTo, moveFrom}
 use Rattle.graph.specs.Line.{Stretch}
 use Rattle.carrying.specs.Insts.{Inst}
 use Rattle.areas.specs.Slots.{Move, position, badMove}
@@ -15,4 +15,4 @@ positionAt bs is k n = cond (badMove bs is k n) Nowhere (At (position bs is k n)
 
 -- move i of the rows
 abbrev pub moveRow : List ℕ → ℕ → Move
-moveRow moves i = record { kind = field 4 moves i 0; number = field 4 moves i 1; to = field 4 moves i 2; from = field 4 moves i 3 }
+moveRow moves i = record { kind = moveKind moves i; number = moveNumber moves i; to = moveTo moves i; from = moveFrom moves i }

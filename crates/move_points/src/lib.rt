@@ -7,7 +7,10 @@ ghost use Rattle.graph.specs.Line.{blocksOf, Sound};
 ghost use Rattle.graph.specs.Work.{Table};
 ghost use Rattle.carrying.specs.Insts.{instsOf};
 ghost use Rattle.move_points.specs.Moves.{positionAt};
+ghost use Rattle.words.specs.Widths.{blockCount};
 use spill_checks::Position;
+use words::widths::block;
+use words::widths::inst;
 
 // The point of a move, or that it stands nowhere.
 pub enum Spot {
@@ -24,14 +27,18 @@ pub fn position(
     kind: u32,
     number: u32,
 ) -> Spot
-    requires { ⌜ Sound (blocksOf (now blocks)) × Table (blocksOf (now blocks)) table (now work) × (table + length (now blocks) / 3 ≤ length (now work)) ⌝ }
+    requires { ⌜ Sound (blocksOf (now blocks)) × Table (blocksOf (now blocks)) table (now work) × (table + blockCount (now blocks) ≤ length (now work)) ⌝ }
     ensures { λ r. ⌜ r ≡ positionAt (blocksOf (now (blocks .entry))) (instsOf (now (insts .entry)) []) kind number ⌝ }
 {
     match spill_checks::locate(blocks, insts, kind, number) {
-        Position::Early(i) => Spot::At(insts[9 * i as usize + 2]),
-        Position::Late(i) => Spot::At(insts[9 * i as usize + 3]),
-        Position::Start(b) => Spot::At(blocks[3 * edge_rows::place_of(work, table, b).0 + 1]),
-        Position::End(b) => Spot::At(blocks[3 * edge_rows::place_of(work, table, b).0 + 2]),
+        Position::Early(i) => Spot::At(insts[inst::WIDTH * i as usize + inst::EARLY]),
+        Position::Late(i) => Spot::At(insts[inst::WIDTH * i as usize + inst::LATE]),
+        Position::Start(b) => Spot::At(
+            blocks[block::WIDTH * edge_rows::place_of(work, table, b).0 + block::START],
+        ),
+        Position::End(b) => Spot::At(
+            blocks[block::WIDTH * edge_rows::place_of(work, table, b).0 + block::END],
+        ),
         Position::Stray => Spot::Nowhere,
     }
 }

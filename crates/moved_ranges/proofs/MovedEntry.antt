@@ -14,8 +14,8 @@ use Rattle.refusals.specs.declared.Refusal.the-variants.{Count}
 use Rattle.refusals.specs.Verdicts.{first, inOrder, check}
 use Rattle.refusals.specs.Outcomes.{given}
 use Rattle.refusals.proofs.Laws.{first-fine, first-bad, first-left, first-right, first-assoc, bad-fine, check-last}
-use Rattle.words.specs.Rows.{rowCount}
 use Rattle.words.specs.Regions.{cleared}
+use Rattle.words.specs.Widths.{blockCount, instCount, operandCount, moveWidth, moveCount, rangeWidth}
 use Rattle.words.proofs.Points.{cut}
 use Rattle.words.proofs.RegionLaws.{drop-same}
 use Rattle.ranges.specs.declared.Range.{Range}
@@ -45,18 +45,18 @@ module _ (lent : ℕ) where
   whole-rows e = simp (eq-eqb (lent % 2) 0 e)
 
 module _ (v : ℕ) (blocks insts operands moves : List ℕ) (lent : ℕ) where
-  pub counts-chain : {a b c d e f g h r : Verdict} → a ≡ mostVerdict 65535 v → b ≡ blockCounts blocks → c ≡ instCounts insts operands → d ≡ rowsVerdict 4 65536 (length moves)
+  pub counts-chain : {a b c d e f g h r : Verdict} → a ≡ mostVerdict 65535 v → b ≡ blockCounts blocks → c ≡ instCounts insts operands → d ≡ rowsVerdict moveWidth 65536 (length moves)
       → e ≡ check Count (not (eqb (lent % 2) 0)) → f ≡ first d e → g ≡ first c f → h ≡ first b g → r ≡ first a h → r ≡ movedCounts v blocks insts operands moves lent
   unfolding movedCounts
   counts-chain ea eb ec ed ee ef eg eh er = cc
 
   pub record Counted : Type 0 where
     pub registers : v ≤ 65535
-    pub some : 1 ≤ length blocks / 3
-    pub few : length blocks / 3 ≤ 4096
-    pub few-insts : length insts / 9 ≤ 65536
-    pub few-operands : length operands / 2 ≤ 262144
-    pub few-moves : length moves / 4 ≤ 65536
+    pub some : 1 ≤ blockCount blocks
+    pub few : blockCount blocks ≤ 4096
+    pub few-insts : instCount insts ≤ 65536
+    pub few-operands : operandCount operands ≤ 262144
+    pub few-moves : moveCount moves ≤ 65536
     pub adds : AddsUp insts operands
 
   pub counted : movedCounts v blocks insts operands moves lent ≡ Fine → Counted
@@ -73,7 +73,7 @@ module _ (v : ℕ) (blocks insts operands moves : List ℕ) (lent : ℕ) where
         few = blocks-few blocks c;
         few-insts = i .few;
         few-operands = i .few-operands;
-        few-moves = rows-few 4 65536 (length moves) (first-left _ _ (first-right (instCounts insts operands) _ d));
+        few-moves = rows-few moveWidth 65536 (length moves) (first-left _ _ (first-right (instCounts insts operands) _ d));
         adds = i .adds;
       }
 
@@ -88,7 +88,7 @@ module _ (points v : ℕ) (blocks insts operands moves : List ℕ) (lent work : 
 
   all-checks : movedVerdict points v blocks insts operands moves lent work
       ≡ first (movedCounts v blocks insts operands moves lent) (first Located (first (moveVerdict (blocksOf blocks) (instsOf insts operands) (movesOf moves))
-      (movedRoom lent (rowCount 4 moves) work (movedSpace v blocks insts operands moves))))
+      (movedRoom lent (moveCount moves) work (movedSpace v blocks insts operands moves))))
   unfolding movedVerdict
   all-checks = joined _ _ _ _ _
 
@@ -99,7 +99,7 @@ module _ (points v : ℕ) (blocks insts operands moves : List ℕ) (lent work : 
   by-place r i e f = sym (all-checks ∙ first-fine _ _ e ∙ first-bad _ _ r i f)
 
   pub by-moves : {a b r : Verdict} → movedCounts v blocks insts operands moves lent ≡ Fine → Located ≡ Fine
-      → a ≡ moveVerdict (blocksOf blocks) (instsOf insts []) (movesOf moves) → b ≡ movedRoom lent (rowCount 4 moves) work (movedSpace v blocks insts operands moves)
+      → a ≡ moveVerdict (blocksOf blocks) (instsOf insts []) (movesOf moves) → b ≡ movedRoom lent (moveCount moves) work (movedSpace v blocks insts operands moves)
       → r ≡ first a b → r ≡ movedVerdict points v blocks insts operands moves lent work
   by-moves {a} {b} {r} e f p q z =
       z ∙ ap (λ (x : Verdict). first x b) (p ∙ moves-whatever (blocksOf blocks) insts operands moves)
@@ -111,7 +111,7 @@ module _ (points v : ℕ) (blocks insts operands moves : List ℕ) (lent work : 
     pub counts : Counted v blocks insts operands moves lent
     pub sound : Sound (blocksOf blocks)
     pub moves-fine : moveVerdict (blocksOf blocks) (instsOf insts []) (movesOf moves) ≡ Fine
-    pub answer : 4 * rowCount 4 moves ≤ lent
+    pub answer : 4 * moveCount moves ≤ lent
     pub space : movedSpace v blocks insts operands moves ≤ work
 
   pub fit : movedVerdict points v blocks insts operands moves lent work ≡ Fine → Fit
@@ -122,15 +122,15 @@ module _ (points v : ℕ) (blocks insts operands moves : List ℕ) (lent work : 
       let d = first-right Located _ b in
       let k = counted v blocks insts operands moves lent a in
       let m = first-left (moveVerdict (blocksOf blocks) (instsOf insts operands) (movesOf moves)) _ d in
-      let s = first-right (moveVerdict (blocksOf blocks) (instsOf insts operands) (movesOf moves)) (movedRoom lent (rowCount 4 moves) work (movedSpace v blocks insts operands moves)) d in
-      let p = cut {A = 4 * rowCount 4 moves ≤ lent} (4 * rowCount 4 moves) lent (λ h. h) (λ h. absurd (bad-fine (room-answer lent (4 * rowCount 4 moves) work (movedSpace v blocks insts operands moves) h ∙ s))) in
+      let s = first-right (moveVerdict (blocksOf blocks) (instsOf insts operands) (movesOf moves)) (movedRoom lent (moveCount moves) work (movedSpace v blocks insts operands moves)) d in
+      let p = cut {A = 4 * moveCount moves ≤ lent} (4 * moveCount moves) lent (λ h. h) (λ h. absurd (bad-fine (room-answer lent (4 * moveCount moves) work (movedSpace v blocks insts operands moves) h ∙ s))) in
       record {
         counts = k;
         sound = line-sound (blocksOf blocks) points (let n = blocks-length blocks in let q = k .some in omega arith) (first-left _ _ c);
         moves-fine = moves-whatever (blocksOf blocks) insts operands moves ∙ m;
         answer = p;
         space = cut (movedSpace v blocks insts operands moves) work (λ h. h)
-            (λ h. absurd (bad-fine (room-work lent (4 * rowCount 4 moves) work (movedSpace v blocks insts operands moves) p h ∙ s)));
+            (λ h. absurd (bad-fine (room-work lent (4 * moveCount moves) work (movedSpace v blocks insts operands moves) p h ∙ s)));
       }
 
 -- ---- the two ways out
@@ -152,10 +152,10 @@ module _ (points v : ℕ) (blocks insts operands moves : List ℕ) (slot : ℕ) 
       = moved-whatever (blocksOf blocks) insts operands points slot (movesOf moves) in
       let l = w .count in
       let f : n ≡ length (movedOf points blocks insts operands moves slot) = (let z : n ≡ length (moved points (blocksOf blocks) (instsOf insts []) (movesOf moves) slot) = omega arith in z ∙ ap length same) in
-      let g : 2 * n ≡ length (rowsOf (movedOf points blocks insts operands moves slot)) = ap (λ (x : ℕ). 2 * x) f ∙ sym (rows-length (movedOf points blocks insts operands moves slot)) in
+      let g : rangeWidth * n ≡ length (rowsOf (movedOf points blocks insts operands moves slot)) = ap (λ (x : ℕ). rangeWidth * x) f ∙ sym (rows-length (movedOf points blocks insts operands moves slot)) in
       record {
         outcome = rw e (ap given f);
-        list = rw e (w .list [] out₀ refl refl (rows-none out₀) ∙ ap (λ (rs : List Range). rowsOf rs ++ drop (2 * n) out₀) same
+        list = rw e (w .list [] out₀ refl refl (rows-none out₀) ∙ ap (λ (rs : List Range). rowsOf rs ++ drop (rangeWidth * n) out₀) same
             ∙ ap (λ (x : ℕ). rowsOf (movedOf points blocks insts operands moves slot) ++ drop x out₀) g);
         space = rw e (c ∙ ap (λ (x : ℕ). cleared x work₁) d ∙ ap (λ (t : List ℕ). replicate (movedSpace v blocks insts operands moves) 0 ++ t) rest
             ∙ ap (λ (x : ℕ). replicate (movedSpace v blocks insts operands moves) 0 ++ drop x work₀) (sym (length-replicate (movedSpace v blocks insts operands moves) 0)));

@@ -9,7 +9,7 @@ use Rattle.refusals.specs.declared.Verdict.{Verdict}
 use Rattle.refusals.specs.declared.Refusal.the-variants.{Count, Space}
 use Rattle.refusals.specs.Verdicts.{first, inOrder, check}
 use Rattle.refusals.specs.Outcomes.{unless, after}
-use Rattle.words.specs.Rows.{rowCount}
+use Rattle.words.specs.Widths.{blockCount, instCount, operandCount, moveWidth, moveCount}
 use Rattle.job_space.specs.Space.{rowWords}
 use Rattle.ranges.specs.declared.Range.{Range}
 use Rattle.graph.specs.Line.{blocksOf, lineVerdict}
@@ -25,14 +25,14 @@ use Rattle.spill_checks.specs.Answer.{answered}
 -- number 1: "B 1 to 4,096; instructions 65,536; operands 262,144; V 65,535; moves 65,536", and an answer list that is no whole rows
 unfoldable pub movedCounts : ℕ → List ℕ → List ℕ → List ℕ → List ℕ → ℕ → Verdict
 movedCounts v blocks insts operands moves lent =
-    first (mostVerdict 65535 v) (first (blockCounts blocks) (first (instCounts insts operands) (first (rowsVerdict 4 65536 (length moves)) (check Count (not (eqb (lent % 2) 0))))))
+    first (mostVerdict 65535 v) (first (blockCounts blocks) (first (instCounts insts operands) (first (rowsVerdict moveWidth 65536 (length moves)) (check Count (not (eqb (lent % 2) 0))))))
 
 -- W = 8 × (blocks + instructions + operands + moves + ⌈V/64⌉): "other entries count what they are lent"
 abbrev pub movedWords : ℕ → ℕ → ℕ → ℕ → ℕ → ℕ
 movedWords v blocks insts operands moves = 8 * (blocks + insts + operands + moves + rowWords v)
 
 abbrev pub movedSpace : ℕ → List ℕ → List ℕ → List ℕ → List ℕ → ℕ
-movedSpace v blocks insts operands moves = movedWords v (rowCount 3 blocks) (rowCount 9 insts) (rowCount 2 operands) (rowCount 4 moves)
+movedSpace v blocks insts operands moves = movedWords v (blockCount blocks) (instCount insts) (operandCount operands) (moveCount moves)
 
 -- number 7: an answer list under two ranges for each move, the most there can be, or work space under W
 abbrev pub movedRoom : ℕ → ℕ → ℕ → ℕ → Verdict
@@ -45,7 +45,7 @@ movedChecks points v blocks insts operands moves lent work =
     ∷ lineVerdict (blocksOf blocks) points
     ∷ instVerdict (blocksOf blocks) v (instsOf insts operands)
     ∷ moveVerdict (blocksOf blocks) (instsOf insts operands) (movesOf moves)
-    ∷ movedRoom lent (rowCount 4 moves) work (movedSpace v blocks insts operands moves) ∷ []
+    ∷ movedRoom lent (moveCount moves) work (movedSpace v blocks insts operands moves) ∷ []
 
 unfoldable pub movedVerdict : ℕ → ℕ → List ℕ → List ℕ → List ℕ → List ℕ → ℕ → ℕ → Verdict
 movedVerdict points v blocks insts operands moves lent work = inOrder (movedChecks points v blocks insts operands moves lent work)

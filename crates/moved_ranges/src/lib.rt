@@ -13,9 +13,14 @@ ghost use Rattle.graph.specs.Work.{Table};
 ghost use Rattle.carrying.specs.Insts.{instsOf};
 ghost use Rattle.areas.specs.Slots.{movesOf, moveVerdict, moved};
 ghost use Rattle.moved_ranges.specs.Moved.{Wrote, movedCounts, movedWords, movedSpace, movedVerdict, MovedTo};
+ghost use Rattle.words.specs.Widths.{blockCount, instCount, operandCount, moveCount};
 use refusals::Refusal;
 use refusals::Verdict;
 use spill_checks::Answer;
+use words::widths::block;
+use words::widths::inst;
+use words::widths::moving;
+use words::widths::operand;
 
 // What all moves cover of the slot.
 fn all(
@@ -27,11 +32,11 @@ fn all(
     work: &[u64],
     out: &mut [u32],
 ) -> usize
-    requires { ⌜ Sound (blocksOf (now blocks)) × Table (blocksOf (now blocks)) 0 (now work) × (length (now blocks) / 3 ≤ length (now work)) ⌝ }
-    requires { ⌜ (moveVerdict (blocksOf (now blocks)) (instsOf (now insts) []) (movesOf (now moves)) ≡ Fine) × (4 * (length (now moves) / 4) ≤ length (now out)) ⌝ }
+    requires { ⌜ Sound (blocksOf (now blocks)) × Table (blocksOf (now blocks)) 0 (now work) × (blockCount (now blocks) ≤ length (now work)) ⌝ }
+    requires { ⌜ (moveVerdict (blocksOf (now blocks)) (instsOf (now insts) []) (movesOf (now moves)) ≡ Fine) × (4 * (moveCount (now moves)) ≤ length (now out)) ⌝ }
     ensures { λ r. ⌜ Wrote (now (out .entry)) (now (out .exit)) 0 r (moved points (blocksOf (now (blocks .entry))) (instsOf (now (insts .entry)) []) (movesOf (now (moves .entry))) slot) ⌝ }
 {
-    let m = moves.len() / 4;
+    let m = moves.len() / moving::WIDTH;
     let mut k = 0;
     let mut i = 0;
     while i < m {
@@ -65,7 +70,7 @@ fn counts(
     let a = insts::counts::most(v as usize, 65535);
     let b = insts::counts::blocks(blocks);
     let c = insts::counts::insts(insts, operands);
-    let d = insts::counts::rows(moves.len(), 4, 65536);
+    let d = insts::counts::rows(moves.len(), moving::WIDTH, 65536);
     let e = whole(lent);
     let e = refusals::earlier(d, e);
     let e = refusals::earlier(c, e);
@@ -84,13 +89,13 @@ pub fn words(v: u32, blocks: u32, insts: u32, operands: u32, moves: u32) -> u64
 
 // The work space that `moved` needs.
 fn needed(v: u32, blocks: &[u32], insts: &[u32], operands: &[u32], moves: &[u32]) -> usize
-    requires { ⌜ (length (now blocks) / 3 ≤ 4096) × (length (now insts) / 9 ≤ 65536) × (length (now operands) / 2 ≤ 262144) × (length (now moves) / 4 ≤ 65536) ⌝ }
+    requires { ⌜ (blockCount (now blocks) ≤ 4096) × (instCount (now insts) ≤ 65536) × (operandCount (now operands) ≤ 262144) × (moveCount (now moves) ≤ 65536) ⌝ }
     ensures { λ r. ⌜ r ≡ movedSpace v (now (blocks .entry)) (now (insts .entry)) (now (operands .entry)) (now (moves .entry)) ⌝ }
 {
-    let b = (blocks.len() / 3) as u32;
-    let i = (insts.len() / 9) as u32;
-    let o = (operands.len() / 2) as u32;
-    let m = (moves.len() / 4) as u32;
+    let b = (blocks.len() / block::WIDTH) as u32;
+    let i = (insts.len() / inst::WIDTH) as u32;
+    let o = (operands.len() / operand::WIDTH) as u32;
+    let m = (moves.len() / moving::WIDTH) as u32;
     words(v, b, i, o, m) as usize
 }
 
@@ -117,7 +122,7 @@ fn refusal(
     }
     let stray = spill_checks::moves(blocks, insts, moves);
     let w = needed(v, blocks, insts, operands, moves);
-    let short = rooms::room(lent, 4 * (moves.len() / 4), work, w);
+    let short = rooms::room(lent, 4 * (moves.len() / moving::WIDTH), work, w);
     refusals::earlier(stray, short)
 }
 

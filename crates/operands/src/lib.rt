@@ -7,10 +7,12 @@ ghost use Rattle.carrying.specs.Lists.{keep};
 ghost use Rattle.carrying.specs.Insts.{isSet, onlyOne, isUse, addressPosition, eachAddress};
 ghost use Rattle.insts.specs.Rows.{operandAt, operandsFrom};
 ghost use Rattle.operands.specs.Numbers.{defNumber, addressing};
+ghost use Rattle.words.specs.Widths.{operandCount};
+use words::widths::operand;
 
 // The one numbered register that `n` operands from `from` on define, plus 1; 0 where there is none, two or a physical one.
 pub fn def(operands: &[u32], from: usize, n: usize, v: u32) -> u32
-    requires { ⌜ (from + n ≤ length (now operands) / 2) × (v ≤ 65535) ⌝ }
+    requires { ⌜ (from + n ≤ operandCount (now operands)) × (v ≤ 65535) ⌝ }
     ensures { λ r. ⌜ r ≡ defNumber (onlyOne v (keep (λ o. isSet (o .def)) (operandsFrom (now (operands .entry)) from n))) ⌝ }
 {
     let mut count: usize = 0;
@@ -18,12 +20,12 @@ pub fn def(operands: &[u32], from: usize, n: usize, v: u32) -> u32
     let mut p = 0;
     while p < n {
         let i = from + p;
-        if operands[2 * i] == 1 {
+        if operands[operand::WIDTH * i] == 1 {
             if count == 1 {
                 return 0;
             }
             count = 1;
-            register = operands[2 * i + 1];
+            register = operands[operand::WIDTH * i + operand::REGISTER];
             p += 1;
         } else {
             p += 1;
@@ -53,13 +55,13 @@ pub fn part(p: usize, base: u32, index: u32) -> bool
 
 // Whether operand `i`, at position `p`, uses register `r` other than as the base or the index.
 fn stray(operands: &[u32], i: usize, p: usize, r: u32, base: u32, index: u32) -> bool
-    requires { ⌜ i < length (now operands) / 2 ⌝ }
+    requires { ⌜ i < operandCount (now operands) ⌝ }
     ensures { λ t. ⌜ t ≡ (isUse r (operandAt (now (operands .entry)) i) && not (addressPosition (addressing base index) p)) ⌝ }
 {
-    if operands[2 * i + 1] != r {
+    if operands[operand::WIDTH * i + operand::REGISTER] != r {
         return false;
     }
-    if operands[2 * i] == 1 {
+    if operands[operand::WIDTH * i] == 1 {
         return false;
     }
     !part(p, base, index)
@@ -67,7 +69,7 @@ fn stray(operands: &[u32], i: usize, p: usize, r: u32, base: u32, index: u32) ->
 
 // Whether each use of register `r` among `n` operands from `from` on is the base or the index.
 pub fn addressed(operands: &[u32], from: usize, n: usize, r: u32, base: u32, index: u32) -> bool
-    requires { ⌜ from + n ≤ length (now operands) / 2 ⌝ }
+    requires { ⌜ from + n ≤ operandCount (now operands) ⌝ }
     ensures { λ t. ⌜ t ≡ eachAddress (addressing base index) r 0 (operandsFrom (now (operands .entry)) from n) ⌝ }
 {
     let mut p = 0;

@@ -26,28 +26,29 @@ use Rattle.area_rows.proofs.PutLaws.{put-none, put-then, put-as, put-fits, put-
 -- two tests that hold together are one
 use Rattle.area_rows.proofs.MarkLaws.{beside}
 use Rattle.words.proofs.Bools.{and-both, and-pair}
+use Rattle.words.specs.Widths.{blockWidth, blockCount, blockStart, blockEnd}
 
 module _ (blocks : List ℕ) (S : Sound (blocksOf blocks)) where
-  pub stopped-far : (point : ℕ) → 2 ^ 32 ≤ point → ((i : ℕ) → getD blocks i 0 < 2 ^ 32) → Stopped blocks point (length blocks / 3)
+  pub stopped-far : (point : ℕ) → 2 ^ 32 ≤ point → ((i : ℕ) → getD blocks i 0 < 2 ^ 32) → Stopped blocks point (blockCount blocks)
   stopped-far point h fit = record {
     has = λ l. absurd (omega arith);
-    only = λ k b. let l = b .block in let n = blocks-length blocks in let u = b .under in let e = end-is blocks k (omega arith) in let f = fit (3 * k + 2) in absurd (omega arith);
+    only = λ k b. let l = b .block in let n = blocks-length blocks in let u = b .under in let e = end-is blocks k (omega arith) in let f = fit (blockWidth * k + 2) in absurd (omega arith);
   }
 
   module _ (point k : ℕ) (held : Held blocks point k) where
     same-block : (j : ℕ) → InBlock (lineOf blocks []) j point → j ≡ k
     same-block j b = sym (block-is (lineOf blocks []) S j point b) ∙ sym (held .is [])
 
-    none : (InBlock (lineOf blocks []) k point → ⊥) → Stopped blocks point (length blocks / 3)
+    none : (InBlock (lineOf blocks []) k point → ⊥) → Stopped blocks point (blockCount blocks)
     none f = record { has = λ l. absurd (omega arith); only = λ j b. absurd (f (subst (λ (i : ℕ). InBlock (lineOf blocks []) i point) (same-block j b) b)) }
 
-    pub stopped-before : point < getD blocks (3 * k + 1) 0 → Stopped blocks point (length blocks / 3)
+    pub stopped-before : point < blockStart blocks k → Stopped blocks point (blockCount blocks)
     stopped-before h = none (λ b. let t = start-is blocks k (held .below) in let a = b .above in omega arith)
 
-    pub stopped-after : getD blocks (3 * k + 2) 0 < point → Stopped blocks point (length blocks / 3)
+    pub stopped-after : blockEnd blocks k < point → Stopped blocks point (blockCount blocks)
     stopped-after h = none (λ b. let t = end-is blocks k (held .below) in let a = b .under in omega arith)
 
-    pub stopped-in : getD blocks (3 * k + 1) 0 ≤ point → point ≤ getD blocks (3 * k + 2) 0 → Stopped blocks point k
+    pub stopped-in : blockStart blocks k ≤ point → point ≤ blockEnd blocks k → Stopped blocks point k
     stopped-in h l = record {
       has = λ m. record {
         block = let n = blocks-length blocks in omega arith;

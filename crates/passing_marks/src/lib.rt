@@ -11,6 +11,7 @@ ghost use Rattle.area_rows.specs.Marks.{Fits, marked, Marked, EndsReady};
 ghost use Rattle.area_rows.specs.Inner.{Put, Stopped};
 use area_rows::Column;
 use spots::Spots;
+use words::widths::block;
 
 // Unsets the bit in the row of place k.
 fn unmark(work: &mut [u64], c: Column, k: usize)
@@ -26,16 +27,16 @@ fn stopped(blocks: &[u32], point: u64) -> usize
     requires { ⌜ Sound (blocksOf (now blocks)) ⌝ }
     ensures { λ r. ⌜ Stopped (now (blocks .entry)) point r ⌝ }
 {
-    let n = blocks.len() / 3;
+    let n = blocks.len() / block::WIDTH;
     if point >= 0x1_0000_0000 {
         return n;
     }
     let p = point as u32;
     let k = spots::holding(blocks, p).0;
-    if p < blocks[3 * k + 1] {
+    if p < blocks[block::WIDTH * k + block::START] {
         return n;
     }
-    if blocks[3 * k + 2] < p {
+    if blocks[block::WIDTH * k + block::END] < p {
         return n;
     }
     k

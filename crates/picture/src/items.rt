@@ -1,6 +1,7 @@
 // The items of a cell: their areas as bars with their names.
 ghost use Prim.Native.Nat.{_*_, _≤_, _<_};
 ghost use lib.ListN.{length};
+ghost use Rattle.words.specs.Widths.{itemWidth};
 use crate::svg::fill;
 use crate::svg::say;
 use drawing::Axis;
@@ -10,6 +11,8 @@ use drawing::digits;
 use drawing::font;
 use drawing::hue;
 use drawing::row_of;
+use words::widths::item;
+use words::widths::range;
 
 // An item's name, as a job's text counts: a letter, and the place among the locals or the slots.
 struct Name {
@@ -99,10 +102,16 @@ fn whole(cell: u32, n: Name) {
 
 // The ranges of an area.
 fn area(a: Axis, cell: u32, n: Name, part: &[u32]) {
-    let m = part.len() / 2;
+    let m = part.len() / range::WIDTH;
     let mut k = 0;
     while k < m {
-        range(a, cell, n, part[2 * k], part[2 * k + 1]);
+        range(
+            a,
+            cell,
+            n,
+            part[range::WIDTH * k],
+            part[range::WIDTH * k + range::END],
+        );
         k += 1;
     }
 }
@@ -113,8 +122,8 @@ fn item(a: Axis, cell: u32, present: u32, first: u32, count: u32, areas: &[u32],
     let to = from + count as usize;
     if present == 0 {
         whole(cell, n);
-    } else if to <= areas.len() / 2 {
-        area(a, cell, n, &areas[2 * from..2 * to]);
+    } else if to <= areas.len() / range::WIDTH {
+        area(a, cell, n, &areas[range::WIDTH * from..range::WIDTH * to]);
     }
 }
 
@@ -129,20 +138,20 @@ fn group(item: u32, n: Name) {
 
 // The items of a cell, among `n` in rows of cell, present, first and count.
 pub fn of_cell(a: Axis, items: &[u32], areas: &[u32], cell: u32, locals: u32, n: u32)
-    requires { ⌜ 4 * n ≤ length (now items) ⌝ }
+    requires { ⌜ itemWidth * n ≤ length (now items) ⌝ }
 {
     let mut i: u32 = 0;
     while i < n {
-        let k = 4 * i as usize;
+        let k = item::WIDTH * i as usize;
         if items[k] == cell {
             let name = name_of(i, locals);
             group(i, name);
             item(
                 a,
                 cell,
-                items[k + 1],
-                items[k + 2],
-                items[k + 3],
+                items[k + item::PRESENT],
+                items[k + item::FIRST],
+                items[k + item::RANGES],
                 areas,
                 name,
             );

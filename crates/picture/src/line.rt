@@ -5,6 +5,7 @@ use drawing::Bar;
 use drawing::bar_of;
 use drawing::digits;
 use drawing::font;
+use words::widths::block;
 
 // A block's number, and below it its points, as large as fits; the end has the most digits.
 fn labels(b: Bar, number: u32, start: u32, end: u32) {
@@ -49,10 +50,16 @@ fn block(a: Axis, number: u32, start: u32, end: u32, bottom: u64) {
 
 // Blocks in rows of number, start and end.
 pub fn blocks(a: Axis, l: &[u32], bottom: u64) {
-    let n = l.len() / 3;
+    let n = l.len() / block::WIDTH;
     let mut i = 0;
     while i < n {
-        block(a, l[3 * i], l[3 * i + 1], l[3 * i + 2], bottom);
+        block(
+            a,
+            l[block::WIDTH * i],
+            l[block::WIDTH * i + block::START],
+            l[block::WIDTH * i + block::END],
+            bottom,
+        );
         i += 1;
     }
 }

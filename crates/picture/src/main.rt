@@ -5,6 +5,7 @@ ghost use Prim.Native.Nat.{_*_, _≤_};
 ghost use lib.ListN.{length};
 ghost use Rattle.text_grammar.specs.Groups.{groupCount, rowNumbers};
 ghost use Rattle.planning.specs.Groups.{Few};
+ghost use Rattle.words.specs.Widths.{cellWidth, itemWidth};
 use drawing::Axis;
 use drawing::axis_of;
 use drawing::height;
@@ -20,6 +21,8 @@ use text_grammar::GROUP_COUNT;
 use text_grammar::LOCALS;
 use text_grammar::ROW_NUMBERS;
 use text_grammar::SLOTS;
+use words::widths::item;
+use words::widths::range;
 
 mod frame; // frame.rt: what stands around the rows, and the refusal
 mod items; // items.rt: the items of a cell
@@ -38,7 +41,7 @@ fn draw(
     m: u32,
     n: u32,
 )
-    requires { ⌜ (2 * m ≤ length (now cells)) × (4 * n ≤ length (now items)) ⌝ }
+    requires { ⌜ (cellWidth * m ≤ length (now cells)) × (itemWidth * n ≤ length (now items)) ⌝ }
 {
     let h = height(m);
     line::blocks(a, blocks, h - 460);
@@ -48,12 +51,12 @@ fn draw(
 
 // The axis of the blocks and of the ranges that the items have.
 fn axis(blocks: &[u32], items: &[u32], areas: &[u32]) -> Axis {
-    let n = ranges(items, areas.len() / 2);
-    axis_of(blocks, &areas[0..2 * n])
+    let n = ranges(items, areas.len() / range::WIDTH);
+    axis_of(blocks, &areas[0..range::WIDTH * n])
 }
 
 fn show(blocks: &[u32], cells: &[u32], items: &[u32], areas: &[u32], locals: u32, m: u32, n: u32)
-    requires { ⌜ (2 * m ≤ length (now cells)) × (4 * n ≤ length (now items)) ⌝ }
+    requires { ⌜ (cellWidth * m ≤ length (now cells)) × (itemWidth * n ≤ length (now items)) ⌝ }
 {
     let a = axis(blocks, items, areas);
     draw(a, blocks, cells, items, areas, locals, m, n);
@@ -76,7 +79,7 @@ fn plan(rows: &[u32], counts: &[u32])
             show(
                 blocks,
                 &cells,
-                &items[0..4 * n],
+                &items[0..item::WIDTH * n],
                 &areas,
                 counts[LOCALS],
                 c as u32,

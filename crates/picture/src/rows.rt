@@ -1,6 +1,7 @@
 // A row a cell: its ground and caption.
 ghost use Prim.Native.Nat.{_*_, _≤_, _<_};
 ghost use lib.ListN.{length};
+ghost use Rattle.words.specs.Widths.{cellWidth, itemWidth};
 use crate::items::of_cell;
 use crate::svg::fill;
 use crate::svg::say;
@@ -8,6 +9,7 @@ use drawing::Axis;
 use drawing::digits;
 use drawing::font;
 use drawing::row_of;
+use words::widths::cell;
 
 // A cell's ground, which shows whether it is shared, and its number.
 fn ground(cell: u32, count: u64) {
@@ -46,13 +48,13 @@ fn measures(cell: u32, size: u32, align: u32) {
 
 // Cells in rows of size and alignment, `m` of them, and the `n` items in rows of cell, present, first and count.
 pub fn cells(a: Axis, cells: &[u32], items: &[u32], areas: &[u32], locals: u32, m: u32, n: u32)
-    requires { ⌜ (2 * m ≤ length (now cells)) × (4 * n ≤ length (now items)) ⌝ }
+    requires { ⌜ (cellWidth * m ≤ length (now cells)) × (itemWidth * n ≤ length (now items)) ⌝ }
 {
     let mut c: u32 = 0;
     while c < m {
-        let at = 2 * c as usize;
+        let at = cell::WIDTH * c as usize;
         ground(c, members::members(items, c) as u64);
-        measures(c, cells[at], cells[at + 1]);
+        measures(c, cells[at], cells[at + cell::ALIGN]);
         of_cell(a, items, areas, c, locals, n);
         say(b"</g>\n");
         c += 1;

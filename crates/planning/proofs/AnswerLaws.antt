@@ -16,6 +16,7 @@ use Rattle.refusals.specs.Outcomes.{Outcome, given, refused, unless, after}
 use Rattle.refusals.proofs.Laws.{first-left, first-right}
 use Rattle.refusals.proofs.Numbers.{numbered-same}
 use Rattle.words.specs.Regions.{part}
+use Rattle.words.specs.Widths.{localWidth, cellWidth, itemWidth}
 use Rattle.words.proofs.RowLaws.{length-records}
 use Rattle.words.proofs.RegionLaws.{length-part}
 use Rattle.areas.specs.Job.{Job, Local, itemCount, itemArea, itemsVerdict}
@@ -151,7 +152,7 @@ module _ (rows counts : List ℕ) (long : length rows ≡ rowNumbers) (F : Few c
   local-count =
       let f = F .few localGroup (lit< tt) in
       let l = length-part (baseAt localGroup) (2 * getD counts localGroup 0) rows (omega arith) in
-      length-records 2 makeLocal (group localGroup) ∙ (let z : length (group localGroup) / 2 ≡ getD counts localGroup 0 = omega arith in z)
+      length-records localWidth makeLocal (group localGroup) ∙ (let z : length (group localGroup) / 2 ≡ getD counts localGroup 0 = omega arith in z)
 
   slot-count : length (J .slots) ≡ getD counts slotGroup 0
   slot-count =
@@ -206,20 +207,20 @@ module _ (rows counts : List ℕ) (long : length rows ≡ rowNumbers) (F : Few c
 
       module _ (n : ℕ) (n-is : n ≡ getD counts localGroup 0 + getD counts slotGroup 0) (kept : length areas′ ≡ areaNumbers) where
         abbrev cs : List ℕ
-        cs = take (2 * c - 0) (drop 0 cells′)
+        cs = take (cellWidth * c - 0) (drop 0 cells′)
 
         abbrev is : List ℕ
-        is = take (4 * n - 0) (drop 0 items′)
+        is = take (itemWidth * n - 0) (drop 0 items′)
 
         cs-is : cs ≡ cellRows P
         cs-is =
-            ap (λ (l : List ℕ). take (2 * c - 0) (drop 0 l)) cells-are
-            ∙ take-front (cellRows P) (drop (length (cellRows P)) cells) (2 * c) (ap (λ (t : Tally). 2 * t .cells) tally-is ∙ sym (cells-long P))
+            ap (λ (l : List ℕ). take (cellWidth * c - 0) (drop 0 l)) cells-are
+            ∙ take-front (cellRows P) (drop (length (cellRows P)) cells) (cellWidth * c) (ap (λ (t : Tally). cellWidth * t .cells) tally-is ∙ sym (cells-long P))
 
         is-is : is ≡ itemRows (itemCount J) (itemArea J) P
         is-is =
-            ap (λ (l : List ℕ). take (4 * n - 0) (drop 0 l)) items-are
-            ∙ take-front (itemRows (itemCount J) (itemArea J) P) (drop (length (itemRows (itemCount J) (itemArea J) P)) items) (4 * n)
+            ap (λ (l : List ℕ). take (itemWidth * n - 0) (drop 0 l)) items-are
+            ∙ take-front (itemRows (itemCount J) (itemArea J) P) (drop (length (itemRows (itemCount J) (itemArea J) P)) items) (itemWidth * n)
             (let x = local-count in let y = slot-count in let z = items-long (itemArea J) (itemCount J) P in omega arith)
 
         abbrev behind : List ℕ

@@ -12,7 +12,8 @@ use Rattle.refusals.specs.declared.Verdict.the-variants.{Fine}
 use Rattle.refusals.specs.Verdicts.{first}
 use Rattle.refusals.specs.Outcomes.{unless}
 use Rattle.refusals.proofs.Laws.{first-left, first-right}
-use Rattle.words.specs.Rows.{rowCount, field, tabulate, flat}
+use Rattle.words.specs.Rows.{tabulate, flat}
+use Rattle.words.specs.Widths.{cellWidth, cellCount, cellSize, cellAlign, itemRowCount, itemCell}
 use Rattle.words.proofs.Points.{cut}
 use Rattle.words.proofs.FlatLaws.{flat-at}
 use Rattle.ranges.specs.declared.Range.{Range}
@@ -41,12 +42,12 @@ use Rattle.planning.proofs.TextLaws.{text-printable}
 use Rattle.planning.proofs.SizeLaws.{sizes-small}
 use Rattle.planning.proofs.LineLaws.{same-two, cell-in, local-in, slot-in, cell-line, local-line, slot-line}
 
-cell-size : (cs : List Cell) (c : ℕ) → c < length cs → field 2 (flat (map cellRow cs)) c 0 ≡ cellAt cs c .size
+cell-size : (cs : List Cell) (c : ℕ) → c < length cs → cellSize (flat (map cellRow cs)) c ≡ cellAt cs c .size
 unfolding flat
 cell-size [] c h = absurd (not-suc-le-zero h)
 cell-size (x ∷ cs) zero h = refl
 cell-size (x ∷ cs) (suc c) h =
-    let e : 2 * suc c + 0 ≡ suc (suc (2 * c + 0)) = omega arith in
+    let e : cellWidth * suc c + 0 ≡ suc (suc (cellWidth * c + 0)) = omega arith in
     ap (λ (k : ℕ). getD (flat (map cellRow (x ∷ cs))) k 0) e ∙ cell-size cs c (omega arith)
 
 -- ---- the lines of a plan's text
@@ -55,13 +56,13 @@ module _ {n locals : ℕ} {A : ℕ → Option (List Range)} {p : Plan} (P : Prin
   abbrev text : List ℕ
   text = textOf n A locals p
 
-  item-cell : (i : ℕ) → i < n → field 4 (itemRows n A p) i 0 ≡ p .cell i
+  item-cell : (i : ℕ) → i < n → itemCell (itemRows n A p) i ≡ p .cell i
   item-cell i h = flat-at 4 n (λ j. p .cell j ∷ itemRow (rangesOf (tabulate j A)) (A j)) (λ j q. ap (λ (k : ℕ). suc k) (row-long (rangesOf (tabulate j A)) (A j))) i 0 h (omega arith)
 
-  item-count : rowCount 4 (itemRows n A p) ≡ n
+  item-count : itemRowCount (itemRows n A p) ≡ n
   item-count = let l = items-long A n p in omega arith
 
-  cell-count : rowCount 2 (cellRows p) ≡ length (p .cells)
+  cell-count : cellCount (cellRows p) ≡ length (p .cells)
   cell-count = let l = cells-long p in omega arith
 
   few-items : n ≤ 128
@@ -73,7 +74,7 @@ module _ {n locals : ℕ} {A : ℕ → Option (List Range)} {p : Plan} (P : Prin
   -- each item's line and its cell's line are there
   local-listed : (i : ℕ) → i < locals → Listed text (lineText 76 (i ∷ p .cell i ∷ []))
   local-listed i h =
-      subst (λ (c : ℕ). Listed text (lineText 76 (i ∷ c ∷ []))) (ap (λ (k : ℕ). field 4 (itemRows n A p) k 0) (zero-add i) ∙ item-cell i (omega (arith, P .locals-in)))
+      subst (λ (c : ℕ). Listed text (lineText 76 (i ∷ c ∷ []))) (ap (λ (k : ℕ). itemCell (itemRows n A p) k) (zero-add i) ∙ item-cell i (omega (arith, P .locals-in)))
       (local-in (cellRows p) (itemRows n A p) (areaRows n A) locals (p .probes) (depthOf (p .cells)) i h)
 
   slot-listed : (i : ℕ) → i < n - locals → Listed text (lineText 83 (i ∷ p .cell (locals + i) ∷ []))
@@ -83,8 +84,8 @@ module _ {n locals : ℕ} {A : ℕ → Option (List Range)} {p : Plan} (P : Prin
 
   cell-listed : (c : ℕ) → c < length (p .cells) → (align : ℕ) × Listed text (lineText 67 (c ∷ cellAt (p .cells) c .size ∷ align ∷ []))
   cell-listed c h = (
-    field 2 (cellRows p) c 1,
-    subst (λ (s : ℕ). Listed text (lineText 67 (c ∷ s ∷ field 2 (cellRows p) c 1 ∷ []))) (cell-size (p .cells) c h)
+    cellAlign (cellRows p) c,
+    subst (λ (s : ℕ). Listed text (lineText 67 (c ∷ s ∷ cellAlign (cellRows p) c ∷ []))) (cell-size (p .cells) c h)
         (cell-in (cellRows p) (itemRows n A p) (areaRows n A) locals (p .probes) (depthOf (p .cells)) c (let e = cell-count in omega arith)),
   )
 
@@ -96,9 +97,9 @@ module _ {n locals : ℕ} {A : ℕ → Option (List Range)} {p : Plan} (P : Prin
   local-only i c h k m =
       let f = local-line (cellRows p) (itemRows n A p) (areaRows n A) locals (p .probes) (depthOf (p .cells)) (lineText 76 (i ∷ c ∷ [])) m refl in
       let j = f .0 in
-      let g : field 4 (itemRows n A p) (0 + j) 0 ≡ p .cell j = ap (λ (x : ℕ). field 4 (itemRows n A p) x 0) (zero-add j) ∙ item-cell j (let q = f .1 in omega (arith, P .locals-in)) in
+      let g : itemCell (itemRows n A p) (0 + j) ≡ p .cell j = ap (λ (x : ℕ). itemCell (itemRows n A p) x) (zero-add j) ∙ item-cell j (let q = f .1 in omega (arith, P .locals-in)) in
       let b = few-cells j (let q = f .1 in omega (arith, P .locals-in)) in
-      let s = same-two 76 i c j (field 4 (itemRows n A p) (0 + j) 0) [] [] (wide i (omega (arith, P .few-locals))) k (wide j (let q = f .1 in omega (arith, P .few-locals))) (wide _ (omega arith)) (f .2) in
+      let s = same-two 76 i c j (itemCell (itemRows n A p) (0 + j)) [] [] (wide i (omega (arith, P .few-locals))) k (wide j (let q = f .1 in omega (arith, P .few-locals))) (wide _ (omega arith)) (f .2) in
       s .1 ∙ g ∙ ap (p .cell) (sym (s .0))
 
   slot-only : (i c : ℕ) → i < n - locals → c < 2 ^ 64 → Listed text (lineText 83 (i ∷ c ∷ [])) → c ≡ p .cell (locals + i)
@@ -107,9 +108,9 @@ module _ {n locals : ℕ} {A : ℕ → Option (List Range)} {p : Plan} (P : Prin
       let j = f .0 in
       let q = f .1 in
       let e = item-count in
-      let g : field 4 (itemRows n A p) (locals + j) 0 ≡ p .cell (locals + j) = item-cell (locals + j) (omega arith) in
+      let g : itemCell (itemRows n A p) (locals + j) ≡ p .cell (locals + j) = item-cell (locals + j) (omega arith) in
       let b = few-cells (locals + j) (omega arith) in
-      let s = same-two 83 i c j (field 4 (itemRows n A p) (locals + j) 0) [] [] (wide i (omega (arith, few-items))) k (wide j (omega (arith, few-items))) (wide _ (omega arith)) (f .2) in
+      let s = same-two 83 i c j (itemCell (itemRows n A p) (locals + j)) [] [] (wide i (omega (arith, few-items))) k (wide j (omega (arith, few-items))) (wide _ (omega arith)) (f .2) in
       s .1 ∙ g ∙ ap (λ (x : ℕ). p .cell (locals + x)) (sym (s .0))
 
   size-only : (c s align : ℕ) → c < length (p .cells) → s < 2 ^ 64 → Listed text (lineText 67 (c ∷ s ∷ align ∷ [])) → s ≡ cellAt (p .cells) c .size
@@ -118,10 +119,10 @@ module _ {n locals : ℕ} {A : ℕ → Option (List Range)} {p : Plan} (P : Prin
       let j = f .0 in
       let q = f .1 in
       let e = cell-count in
-      let g : field 2 (cellRows p) j 0 ≡ cellAt (p .cells) j .size = cell-size (p .cells) j (omega arith) in
+      let g : cellSize (cellRows p) j ≡ cellAt (p .cells) j .size = cell-size (p .cells) j (omega arith) in
       let b = small j in
       let d = few-items in
-      let r = same-two 67 c s j (field 2 (cellRows p) j 0) (align ∷ []) (field 2 (cellRows p) j 1 ∷ []) (wide c (omega (arith, P .few))) k (wide j (omega (arith, P .few))) (wide _ (omega arith)) (f .2) in
+      let r = same-two 67 c s j (cellSize (cellRows p) j) (align ∷ []) (cellAlign (cellRows p) j ∷ []) (wide c (omega (arith, P .few))) k (wide j (omega (arith, P .few))) (wide _ (omega arith)) (f .2) in
       r .1 ∙ g ∙ ap (λ (x : ℕ). cellAt (p .cells) x .size) (sym (r .0))
 
 -- ---- a text that the program answers with a plan

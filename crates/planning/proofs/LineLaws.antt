@@ -9,7 +9,8 @@ use mathlib.Core.List.{List, [], _∷_, _++_, map, append-assoc, append-nil, Lis
 use lib.ListN.{getD, drop}
 use lib.Dec.{leb}
 use borrow.Author.Tests.{ne-eqb, leb-true}
-use Rattle.words.specs.Rows.{tabulate, rowCount, flat}
+use Rattle.words.specs.Rows.{tabulate, flat}
+use Rattle.words.specs.Widths.{cellCount, itemRowCount}
 use Rattle.words.proofs.Bools.{and-both, not-both}
 use Rattle.words.proofs.RowLaws.{mem-tabulate, mem-of-tabulate}
 use Rattle.ranges.specs.declared.Range.{Range}
@@ -123,13 +124,13 @@ same-two letter a b c d ms ns ha hb hc hd e =
 
 module _ (cells items areas : List ℕ) (locals probes depth : ℕ) where
   abbrev cs : List (List ℕ)
-  cs = tabulate (rowCount 2 cells) (cellLine cells)
+  cs = tabulate (cellCount cells) (cellLine cells)
 
   abbrev xs : List (List ℕ)
   xs = tabulate locals (itemLine 76 items 0)
 
   abbrev ss : List (List ℕ)
-  ss = tabulate (rowCount 4 items - locals) (itemLine 83 items locals)
+  ss = tabulate (itemRowCount items - locals) (itemLine 83 items locals)
 
   pub gs : Block 71 (sharedLines cells items areas locals)
   gs = block-flat (λ i. areaLines i (shared (slotsOf locals cells items areas) i)) (λ i. block-area i (shared (slotsOf locals cells items areas) i)) locals
@@ -140,33 +141,33 @@ module _ (cells items areas : List ℕ) (locals probes depth : ℕ) where
 
   last : linesOf (totalLine cells items probes depth) ≡ totalLine cells items probes depth ∷ []
   last =
-      ap linesOf (sym (append-nil (totalLine cells items probes depth))) ∙ line-is 84 (rowCount 2 cells ∷ (rowCount 4 items - rowCount 2 cells) ∷ probes ∷ depth ∷ []) (λ e. omega arith) []
+      ap linesOf (sym (append-nil (totalLine cells items probes depth))) ∙ line-is 84 (cellCount cells ∷ (itemRowCount items - cellCount cells) ∷ probes ∷ depth ∷ []) (λ e. omega arith) []
       ∙ ap (λ (l : List (List ℕ)). totalLine cells items probes depth ∷ l) no-lines
 
   pub printed-lines : linesOf (printed cells items areas locals probes depth) ≡ cs ++ (xs ++ (ss ++ (gs .lines ++ (totalLine cells items probes depth ∷ []))))
   printed-lines =
-      lines-flat (cellLine cells) (rowCount 2 cells) _ (λ i m. line-is 67 _ (λ e. omega arith) m)
+      lines-flat (cellLine cells) (cellCount cells) _ (λ i m. line-is 67 _ (λ e. omega arith) m)
       ∙ ap (λ (l : List (List ℕ)). cs ++ l)
       (lines-flat (itemLine 76 items 0) locals _ (λ i m. line-is 76 _ (λ e. omega arith) m)
       ∙ ap (λ (l : List (List ℕ)). xs ++ l)
-      (lines-flat (itemLine 83 items locals) (rowCount 4 items - locals) _ (λ i m. line-is 83 _ (λ e. omega arith) m)
+      (lines-flat (itemLine 83 items locals) (itemRowCount items - locals) _ (λ i m. line-is 83 _ (λ e. omega arith) m)
       ∙ ap (λ (l : List (List ℕ)). ss ++ l) (gs .split (totalLine cells items probes depth) ∙ ap (λ (l : List (List ℕ)). gs .lines ++ l) last)))
 
   abbrev Line : List ℕ → Type 0
   Line l = List·Memᴰ l (linesOf (printed cells items areas locals probes depth))
 
-  pub cell-in : (i : ℕ) → i < rowCount 2 cells → Line (cellLine cells i)
-  cell-in i h = subst (λ (x : List (List ℕ)). List·Memᴰ (cellLine cells i) x) (sym printed-lines) (Memᴰ·append-left (xs ++ (ss ++ (gs .lines ++ (totalLine cells items probes depth ∷ [])))) (mem-tabulate (rowCount 2 cells) (cellLine cells) i h))
+  pub cell-in : (i : ℕ) → i < cellCount cells → Line (cellLine cells i)
+  cell-in i h = subst (λ (x : List (List ℕ)). List·Memᴰ (cellLine cells i) x) (sym printed-lines) (Memᴰ·append-left (xs ++ (ss ++ (gs .lines ++ (totalLine cells items probes depth ∷ [])))) (mem-tabulate (cellCount cells) (cellLine cells) i h))
 
   pub local-in : (i : ℕ) → i < locals → Line (itemLine 76 items 0 i)
   local-in i h =
       subst (λ (x : List (List ℕ)). List·Memᴰ (itemLine 76 items 0 i) x) (sym printed-lines)
       (Memᴰ·append-right cs (Memᴰ·append-left (ss ++ (gs .lines ++ (totalLine cells items probes depth ∷ []))) (mem-tabulate locals (itemLine 76 items 0) i h)))
 
-  pub slot-in : (i : ℕ) → i < rowCount 4 items - locals → Line (itemLine 83 items locals i)
+  pub slot-in : (i : ℕ) → i < itemRowCount items - locals → Line (itemLine 83 items locals i)
   slot-in i h =
       subst (λ (x : List (List ℕ)). List·Memᴰ (itemLine 83 items locals i) x) (sym printed-lines)
-      (Memᴰ·append-right cs (Memᴰ·append-right xs (Memᴰ·append-left (gs .lines ++ (totalLine cells items probes depth ∷ [])) (mem-tabulate (rowCount 4 items - locals) (itemLine 83 items locals) i h))))
+      (Memᴰ·append-right cs (Memᴰ·append-right xs (Memᴰ·append-left (gs .lines ++ (totalLine cells items probes depth ∷ [])) (mem-tabulate (itemRowCount items - locals) (itemLine 83 items locals) i h))))
 
   -- a line of the text stands among those of its letter
   module _ (l : List ℕ) (m : List·Memᴰ l (linesOf (printed cells items areas locals probes depth))) where
@@ -189,23 +190,23 @@ module _ (cells items areas : List ℕ) (locals probes depth : ℕ) where
     not-else : (letter : ℕ) → getD l 0 0 ≡ letter → (letter ≡ 71 → ⊥) → (letter ≡ 84 → ⊥) → Else → ⊥
     not-else letter e a b = ⊎-elim (λ q. a (sym e ∙ q)) (λ q. b (sym e ∙ q))
 
-    pub cell-line : getD l 0 0 ≡ 67 → (i : ℕ) × (i < rowCount 2 cells) × (l ≡ cellLine cells i)
+    pub cell-line : getD l 0 0 ≡ 67 → (i : ℕ) × (i < cellCount cells) × (l ≡ cellLine cells i)
     cell-line e =
-        ⊎-elim (λ a. mem-of-tabulate (rowCount 2 cells) (cellLine cells) a)
+        ⊎-elim (λ a. mem-of-tabulate (cellCount cells) (cellLine cells) a)
         (⊎-elim (λ a. absurd (let z = sym e ∙ of-letter locals (itemLine 76 items 0) 76 (λ i. refl) a in omega arith))
-        (⊎-elim (λ a. absurd (let z = sym e ∙ of-letter (rowCount 4 items - locals) (itemLine 83 items locals) 83 (λ i. refl) a in omega arith))
+        (⊎-elim (λ a. absurd (let z = sym e ∙ of-letter (itemRowCount items - locals) (itemLine 83 items locals) 83 (λ i. refl) a in omega arith))
         (λ a. absurd (not-else 67 e (λ q. omega arith) (λ q. omega arith) a)))) blocks
 
     pub local-line : getD l 0 0 ≡ 76 → (i : ℕ) × (i < locals) × (l ≡ itemLine 76 items 0 i)
     local-line e =
-        ⊎-elim (λ a. absurd (let z = sym e ∙ of-letter (rowCount 2 cells) (cellLine cells) 67 (λ i. refl) a in omega arith))
+        ⊎-elim (λ a. absurd (let z = sym e ∙ of-letter (cellCount cells) (cellLine cells) 67 (λ i. refl) a in omega arith))
         (⊎-elim (λ a. mem-of-tabulate locals (itemLine 76 items 0) a)
-        (⊎-elim (λ a. absurd (let z = sym e ∙ of-letter (rowCount 4 items - locals) (itemLine 83 items locals) 83 (λ i. refl) a in omega arith))
+        (⊎-elim (λ a. absurd (let z = sym e ∙ of-letter (itemRowCount items - locals) (itemLine 83 items locals) 83 (λ i. refl) a in omega arith))
         (λ a. absurd (not-else 76 e (λ q. omega arith) (λ q. omega arith) a)))) blocks
 
-    pub slot-line : getD l 0 0 ≡ 83 → (i : ℕ) × (i < rowCount 4 items - locals) × (l ≡ itemLine 83 items locals i)
+    pub slot-line : getD l 0 0 ≡ 83 → (i : ℕ) × (i < itemRowCount items - locals) × (l ≡ itemLine 83 items locals i)
     slot-line e =
-        ⊎-elim (λ a. absurd (let z = sym e ∙ of-letter (rowCount 2 cells) (cellLine cells) 67 (λ i. refl) a in omega arith))
+        ⊎-elim (λ a. absurd (let z = sym e ∙ of-letter (cellCount cells) (cellLine cells) 67 (λ i. refl) a in omega arith))
         (⊎-elim (λ a. absurd (let z = sym e ∙ of-letter locals (itemLine 76 items 0) 76 (λ i. refl) a in omega arith))
-        (⊎-elim (λ a. mem-of-tabulate (rowCount 4 items - locals) (itemLine 83 items locals) a)
+        (⊎-elim (λ a. mem-of-tabulate (itemRowCount items - locals) (itemLine 83 items locals) a)
         (λ a. absurd (not-else 83 e (λ q. omega arith) (λ q. omega arith) a)))) blocks

@@ -8,7 +8,8 @@ use mathlib.Core.List.{List, [], _∷_, _++_, map, append-nil}
 use lib.ListN.{length, length-append}
 use lib.Dec.{lit≤}
 use Rattle.refusals.specs.declared.Verdict.the-variants.{Fine}
-use Rattle.words.specs.Rows.{rowCount, tabulate, flat}
+use Rattle.words.specs.Rows.{tabulate, flat}
+use Rattle.words.specs.Widths.{cellCount, itemRowCount, rangeWidth}
 use Rattle.words.proofs.RowLaws.{tabulate-eq, getD-tabulate}
 use Rattle.words.proofs.Points.{cut}
 use Rattle.ranges.specs.declared.Range.{Range}
@@ -74,7 +75,7 @@ module _ {n locals : ℕ} {A : ℕ → Option (List Range)} {p : Plan} (P : Prin
   area-at i h = ap (λ (w : Want). w .area) (getD-tabulate n (λ j. record { size = 0; align = 0; area = A j }) i (record { size = 0; align = 0; area = none }) h)
 
   -- the rows hold the plan, whatever stands behind the areas
-  held : (more : List ℕ) → length (areaRows n A ++ more) % 2 ≡ 0 → length (areaRows n A ++ more) ≤ 131072
+  held : (more : List ℕ) → length (areaRows n A ++ more) % rangeWidth ≡ 0 → length (areaRows n A ++ more) ≤ 131072
       → RowsHold (cellRows p) (itemRows n A p) (areaRows n A ++ more) locals (length (p .cells)) n (roomAt p) (itemOf ws p)
   held more w s =
       rows-held A n p ws area-at (P .known) (P .few) locals (P .locals-in) (omega (arith, P .few-locals)) (omega (arith, P .few-slots)) more w (omega arith)
@@ -95,7 +96,7 @@ module _ {n locals : ℕ} {A : ℕ → Option (List Range)} {p : Plan} (P : Prin
   -- and numbers behind the areas do not show
   pub text-before : (more : List ℕ) → length (areaRows n A ++ more) ≡ 128 → printed (cellRows p) (itemRows n A p) (areaRows n A ++ more) locals (p .probes) (depthOf (p .cells)) ≡ textOf n A locals p
   text-before more e =
-      ap (λ (s : List ℕ). cellLines (cellRows p) ++ (itemLines 76 (itemRows n A p) 0 locals ++ (itemLines 83 (itemRows n A p) locals (rowCount 4 (itemRows n A p) - locals) ++ (s ++ totalLine (cellRows p) (itemRows n A p) (p .probes) (depthOf (p .cells))))))
+      ap (λ (s : List ℕ). cellLines (cellRows p) ++ (itemLines 76 (itemRows n A p) 0 locals ++ (itemLines 83 (itemRows n A p) locals (itemRowCount (itemRows n A p) - locals) ++ (s ++ totalLine (cellRows p) (itemRows n A p) (p .probes) (depthOf (p .cells))))))
       (ap flat (tabulate-eq locals _ _ (λ i h. ap (λ (S : Slots). areaLines i (shared S i)) (plan-seen (held more (omega arith) (omega arith)) .rows ∙ sym areas-alone))))
 
   -- the text has room in the program's list
@@ -127,15 +128,15 @@ module _ {n locals : ℕ} {A : ℕ → Option (List Range)} {p : Plan} (P : Prin
       let k = cells-long p in
       let c = cells-length (cellRows p) in
       let i = items-length 76 (itemRows n A p) 0 locals in
-      let s = items-length 83 (itemRows n A p) locals (rowCount 4 (itemRows n A p) - locals) in
+      let s = items-length 83 (itemRows n A p) locals (itemRowCount (itemRows n A p) - locals) in
       let g = shared-long in
       let h = local-ranges in
-      let t = line-length 84 (rowCount 2 (cellRows p) ∷ (rowCount 4 (itemRows n A p) - rowCount 2 (cellRows p)) ∷ p .probes ∷ depthOf (p .cells) ∷ []) (lit≤ tt) in
+      let t = line-length 84 (cellCount (cellRows p) ∷ (itemRowCount (itemRows n A p) - cellCount (cellRows p)) ∷ p .probes ∷ depthOf (p .cells) ∷ []) (lit≤ tt) in
       let e₁ = length-append (cellLines (cellRows p))
-      (itemLines 76 (itemRows n A p) 0 locals ++ (itemLines 83 (itemRows n A p) locals (rowCount 4 (itemRows n A p) - locals)
+      (itemLines 76 (itemRows n A p) 0 locals ++ (itemLines 83 (itemRows n A p) locals (itemRowCount (itemRows n A p) - locals)
       ++ (sharedLines (cellRows p) (itemRows n A p) (areaRows n A) locals ++ totalLine (cellRows p) (itemRows n A p) (p .probes) (depthOf (p .cells))))) in
-      let e₂ = length-append (itemLines 76 (itemRows n A p) 0 locals) (itemLines 83 (itemRows n A p) locals (rowCount 4 (itemRows n A p) - locals) ++ (sharedLines (cellRows p) (itemRows n A p) (areaRows n A) locals ++ totalLine (cellRows p) (itemRows n A p) (p .probes) (depthOf (p .cells)))) in
-      let e₃ = length-append (itemLines 83 (itemRows n A p) locals (rowCount 4 (itemRows n A p) - locals)) (sharedLines (cellRows p) (itemRows n A p) (areaRows n A) locals ++ totalLine (cellRows p) (itemRows n A p) (p .probes) (depthOf (p .cells))) in
+      let e₂ = length-append (itemLines 76 (itemRows n A p) 0 locals) (itemLines 83 (itemRows n A p) locals (itemRowCount (itemRows n A p) - locals) ++ (sharedLines (cellRows p) (itemRows n A p) (areaRows n A) locals ++ totalLine (cellRows p) (itemRows n A p) (p .probes) (depthOf (p .cells)))) in
+      let e₃ = length-append (itemLines 83 (itemRows n A p) locals (itemRowCount (itemRows n A p) - locals)) (sharedLines (cellRows p) (itemRows n A p) (areaRows n A) locals ++ totalLine (cellRows p) (itemRows n A p) (p .probes) (depthOf (p .cells))) in
       let e₄ = length-append (sharedLines (cellRows p) (itemRows n A p) (areaRows n A) locals) (totalLine (cellRows p) (itemRows n A p) (p .probes) (depthOf (p .cells))) in
       omega (arith, P .few, P .locals-in, P .few-locals, P .few-slots)
 

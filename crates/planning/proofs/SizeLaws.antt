@@ -7,6 +7,7 @@ use mathlib.Core.List.{List, [], _∷_, _++_}
 use lib.ListN.{length, set, List·getD-eq-default}
 use lib.Dec.{ltb, lit<}
 use Rattle.words.specs.Rows.{rowCount}
+use Rattle.words.specs.Widths.{localWidth}
 use Rattle.words.proofs.Points.{cut}
 use Rattle.words.proofs.RowLaws.{length-tabulate, getD-tabulate, length-records, getD-records}
 use Rattle.ranges.specs.declared.Range.{Range}
@@ -60,8 +61,8 @@ module _ (text : List ℕ) where
   local-small : (i : ℕ) → localAt J i .size < limit
   local-small i =
       cut (rowCount 2 (numbersIn text localGroup)) i
-      (λ h. rw (List·getD-eq-default (J .locals) (record { size = 0; align = 0 }) {n = i} (let l = length-records 2 makeLocal (numbersIn text localGroup) in omega arith)) (lit< tt))
-      (λ h. rw (getD-records 2 makeLocal (numbersIn text localGroup) i (record { size = 0; align = 0 }) h) (rows-below localGroup (lit< tt) (λ e. omega arith) (linesOf text) _))
+      (λ h. rw (List·getD-eq-default (J .locals) (record { size = 0; align = 0 }) {n = i} (let l = length-records localWidth makeLocal (numbersIn text localGroup) in omega arith)) (lit< tt))
+      (λ h. rw (getD-records localWidth makeLocal (numbersIn text localGroup) i (record { size = 0; align = 0 }) h) (rows-below localGroup (lit< tt) (λ e. omega arith) (linesOf text) _))
 
   width-small : (i : ℕ) → widthAt J i < limit
   width-small i = rows-below slotGroup (lit< tt) (λ e. omega arith) (linesOf text) (i - length (J .locals))

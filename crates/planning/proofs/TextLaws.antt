@@ -29,6 +29,7 @@ use Rattle.planning.specs.Answer.{Read, Tells, Answers, roomFor}
 use Rattle.planning.proofs.PrintLaws.{Printable, text-short}
 use Rattle.planning.proofs.JobLaws.{job-printable}
 use Rattle.planning.proofs.AnswerLaws.{makeLocal, room-given, stands-of}
+use Rattle.words.specs.Widths.{localWidth}
 
 -- ---- a text that is accepted and whose job is not refused
 
@@ -40,7 +41,7 @@ module _ (text : List ℕ) (e : first (readVerdict text) (refusal (numbersIn tex
   local-few =
       let a = accepted-few text (first-left (readVerdict text) (refusal (numbersIn text)) e) localGroup (lit< tt) in
       let b = length-rows localGroup (lit< tt) (linesOf text) in
-      let c = length-records 2 makeLocal (numbersIn text localGroup) in
+      let c = length-records localWidth makeLocal (numbersIn text localGroup) in
       omega arith
 
   slot-few : length (J .slots) ≤ 64

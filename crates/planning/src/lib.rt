@@ -24,6 +24,8 @@ use text_lines::text::read_text;
 use text_plan::plan_text::Written;
 use text_plan::plan_text::print_plan;
 use text_plan::plan_text::print_refusal;
+use words::widths::cell;
+use words::widths::item;
 
 pub mod row_plans; // row_plans.rt: the whole job of the records that the reader left in its list
 
@@ -56,8 +58,8 @@ fn plan(rows: &[u32], counts: &[u32], out: &mut [u8]) -> Written
     let r = planned(rows, counts, &mut cells, &mut items, &mut areas, &mut work);
     match r {
         Shared::Plan(c, probes, depth) => print_plan(
-            &cells[0..2 * c],
-            &items[0..4 * n],
+            &cells[0..cell::WIDTH * c],
+            &items[0..item::WIDTH * n],
             &areas,
             counts[LOCALS],
             probes,

@@ -8,6 +8,7 @@ use native.Mathlib.Omega.{arith}
 use lib.ListN.{length, getD}
 use Rattle.words.proofs.FitLaws.{Word, word}
 use Rattle.preparing.proofs.StepLaws.{Firsting, first-def, Ending}
+use Rattle.words.specs.Widths.{instWidth, mentionWidth}
 
 pub skip : (a b c n : ℕ) → a + n ≤ b → b + n ≤ c → a + n ≤ c
 skip a b c n h k = omega arith
@@ -46,22 +47,22 @@ past k n m e h = omega arith
 
 -- end k, at instruction i
 pub record AtEnd (ends insts k i : ℕ) : Type 0 where
-  pub first : Fits w64 (2 * k)
-  pub first-bytes : Fits w64 (2 * k * 4)
-  pub first-in : 2 * k < ends
-  pub second : Fits w64 (2 * k + 1)
-  pub second-bytes : Fits w64 ((2 * k + 1) * 4)
-  pub second-in : 2 * k + 1 < ends
+  pub first : Fits w64 (mentionWidth * k)
+  pub first-bytes : Fits w64 (mentionWidth * k * 4)
+  pub first-in : mentionWidth * k < ends
+  pub second : Fits w64 (mentionWidth * k + 1)
+  pub second-bytes : Fits w64 ((mentionWidth * k + 1) * 4)
+  pub second-in : mentionWidth * k + 1 < ends
   pub inst : Fits w64 i
-  pub row : Fits w64 (9 * i)
-  pub row-bytes : Fits w64 (9 * i * 4)
-  pub row-in : 9 * i < insts
+  pub row : Fits w64 (instWidth * i)
+  pub row-bytes : Fits w64 (instWidth * i * 4)
+  pub row-in : instWidth * i < insts
   pub next : Fits w64 (k + 1)
 
-pub at-end : (ends insts k n i : ℕ) → n ≡ ends / 2 → k < n → i < insts / 9 → (ends * 4 < 2 ^ 63) × (insts * 4 < 2 ^ 63) → AtEnd ends insts k i
+pub at-end : (ends insts k n i : ℕ) → n ≡ ends / mentionWidth → k < n → i < insts / instWidth → (ends * 4 < 2 ^ 63) × (insts * 4 < 2 ^ 63) → AtEnd ends insts k i
 at-end ends insts k n i e h g b =
     let q = b .0 in let r = b .1 in
-    let x : 2 * k + 1 < ends = omega arith in let y : 9 * i < insts = omega arith in
+    let x : mentionWidth * k + 1 < ends = omega arith in let y : instWidth * i < insts = omega arith in
     record {
       first = omega (arith, q, x);
       first-bytes = omega (arith, q, x);

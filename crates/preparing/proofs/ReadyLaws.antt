@@ -8,9 +8,10 @@ use mathlib.Core.Bool.{Bool, true, false, not, _&&_, _||_}
 use mathlib.Core.List.{List, [], _∷_, map, List·Memᴰ}
 use lib.ListN.{length, getD}
 use lib.Dec.{eqb, ltb}
-use Rattle.words.specs.Rows.{tabulate, rowCount, field}
+use Rattle.words.specs.Rows.{tabulate}
 use Rattle.words.specs.Sort.{sortOf}
 use Rattle.words.specs.Regions.{Region, part}
+use Rattle.words.specs.Widths.{instCount, operandCount, mentionWidth, addressCount, endCount, mentionInst, mentionLocal}
 use Rattle.words.proofs.RowLaws.{tabulate-getD}
 use Rattle.words.proofs.SortLaws.{sorted-rising, mem-sort, mem-of-sort, length-sort}
 use Rattle.words.proofs.RegionLaws.{length-part, getD-part}
@@ -83,17 +84,17 @@ module _ (v : ℕ) (insts operands crossings : List ℕ) (lay : Lay) where
   abbrev Half : Code
   Half = codeOf v insts operands crossings [] []
 
-  all-of : tabulate (rowCount 9 insts) (instAt Is) ≡ Is
+  all-of : tabulate (instCount insts) (instAt Is) ≡ Is
   all-of = ap (λ (n : ℕ). tabulate n (instAt Is)) (sym (insts-length insts operands)) ∙ tabulate-getD Is _
 
   module _ (adds : AddsUp insts operands) (fits₁ : lay .escapes + wordsOf v ≤ lay .dead) (fits₂ : lay .dead + wordsOf v ≤ lay .defs)
-      (fits₃ : lay .defs + rowCount 9 insts ≤ lay .firsts) (fits₄ : lay .firsts + rowCount 9 insts ≤ lay .edges) (fits₅ : lay .edges + rowCount 2 operands ≤ lay .heads) where
+      (fits₃ : lay .defs + instCount insts ≤ lay .firsts) (fits₄ : lay .firsts + instCount insts ≤ lay .edges) (fits₅ : lay .edges + operandCount operands ≤ lay .heads) where
     module _ {w₀ w₁ w₂ w₃ : List ℕ} {n words : ℕ} (ew : words ≡ wordsOf v) (room : lay .heads ≤ length w₀) (a : Cleared lay words w₀ w₁)
-        (b : Scanning v Is insts lay w₁ w₂ (rowCount 9 insts) n) (c : Marked w₂ w₃ (lay .escapes) v (λ r. any (eqb r) crossings)) where
-      pub edges-few : n ≤ rowCount 2 operands
+        (b : Scanning v Is insts lay w₁ w₂ (instCount insts) n) (c : Marked w₂ w₃ (lay .escapes) v (λ r. any (eqb r) crossings)) where
+      pub edges-few : n ≤ operandCount operands
       edges-few = let q = b .few in omega arith
 
-      pub defs-small : v ≤ 65535 → (i : ℕ) → i < rowCount 9 insts → getD w₃ (lay .defs + i) 0 ≤ 65536
+      pub defs-small : v ≤ 65535 → (i : ℕ) → i < instCount insts → getD w₃ (lay .defs + i) 0 ≤ 65536
       defs-small h i l =
           let e = c .kept .past (lay .defs + i) (omega arith) in
           let d = b .defined i l in
@@ -103,10 +104,10 @@ module _ (v : ℕ) (insts operands crossings : List ℕ) (lay : Lay) where
       pub lengths : length w₃ ≡ length w₀
       lengths = c .kept .len ∙ b .kept .len ∙ a .kept .len
 
-      pub index-room : (lay .defs + rowCount 9 insts ≤ lay .firsts) × (lay .firsts + rowCount 9 insts ≤ lay .edges) × (lay .edges + n ≤ length w₃)
+      pub index-room : (lay .defs + instCount insts ≤ lay .firsts) × (lay .firsts + instCount insts ≤ lay .edges) × (lay .edges + n ≤ length w₃)
       index-room = (fits₃, fits₄, omega (arith, lengths, edges-few))
 
-      module _ {w : List ℕ} (d : Indexed lay (rowCount 9 insts) n w₃ w) where
+      module _ {w : List ℕ} (d : Indexed lay (instCount insts) n w₃ w) where
         same-low : (k : ℕ) → k < lay .firsts → getD w k 0 ≡ getD w₃ k 0
         same-low k h = d .kept .below k h
 
@@ -119,7 +120,7 @@ module _ (v : ℕ) (insts operands crossings : List ℕ) (lay : Lay) where
               same-bit w₃ w (lay .dead) v r l (λ k p q. same-low k (omega arith)) ∙ same-bit w₂ w₃ (lay .dead) v r l (λ k p q. c .kept .past k (omega arith))
               ∙ b .sticking r l ∙ ap (any (λ x. leaReader x r && isNone (defOf v x))) all-of;
           defined = λ i l.
-              let h : i < rowCount 9 insts = rw (insts-length insts operands) at l in
+              let h : i < instCount insts = rw (insts-length insts operands) at l in
               same-low (lay .defs + i) (omega arith) ∙ c .kept .past (lay .defs + i) (omega arith) ∙ b .defined i h;
         }
 
@@ -149,7 +150,7 @@ module _ (v : ℕ) (insts operands crossings : List ℕ) (lay : Lay) where
               (i, g, d .edges i g ∙ z ∙ getD-part (lay .edges) n w₃ k l ∙ old k ∙ y);
         }
 
-        pub registered : Registered Half lay (rowCount 2 operands) n w₀ w
+        pub registered : Registered Half lay (operandCount operands) n w₀ w
         registered = record {
           kept = within-trans (within-wider (lay .escapes) (lay .heads) (omega arith) (omega arith) (a .kept))
               (within-trans (b .kept) (within-trans (within-wider (lay .escapes) (lay .heads) (omega arith) (omega arith) (c .kept))
@@ -159,7 +160,7 @@ module _ (v : ℕ) (insts operands crossings : List ℕ) (lay : Lay) where
           edges = record {
             sorted = sorted;
             first = λ i q l e.
-                let h : i < rowCount 9 insts = rw (insts-length insts operands) at l in
+                let h : i < instCount insts = rw (insts-length insts operands) at l in
                 d .first i q h (c .kept .past (lay .defs + i) (omega arith) ∙ b .defined i h ∙ ap defNumber e ∙ omega arith);
           };
         }
@@ -167,8 +168,8 @@ module _ (v : ℕ) (insts operands crossings : List ℕ) (lay : Lay) where
 -- ---- the locals
 
 pub by-local : (lay : Lay) (words : ℕ) (insts addresses ends : List ℕ) (l : ℕ) {w₀ w₁ w₂ w : List ℕ}
-    → lay .seen + words ≤ lay .heads → lay .heads + l ≤ lay .nexts → lay .nexts + rowCount 2 addresses ≤ lay .ended
-    → Emptied lay words l w₀ w₁ → Linked (rowLocal addresses) (rowCount 2 addresses) l (lay .heads) (lay .nexts) w₁ w₂ → Ends lay insts ends l (rowCount 2 ends) w₂ w
+    → lay .seen + words ≤ lay .heads → lay .heads + l ≤ lay .nexts → lay .nexts + addressCount addresses ≤ lay .ended
+    → Emptied lay words l w₀ w₁ → Linked (rowLocal addresses) (addressCount addresses) l (lay .heads) (lay .nexts) w₁ w₂ → Ends lay insts ends l (endCount ends) w₂ w
     → ByLocal lay words insts addresses ends l w₀ w
 by-local lay words insts addresses ends l {w₀} {w₁} {w₂} {w} f g h a b c = record {
   len = c .kept .len ∙ b .len ∙ a .len;
@@ -188,24 +189,24 @@ empty-map f [] = refl
 empty-map f (a ∷ l) = refl
 
 module _ (v : ℕ) (insts operands crossings addresses ends : List ℕ) (lay : Lay) (l : ℕ)
-    (found : (k : ℕ) → k < rowCount 2 ends → getD ends (2 * k) 0 < rowCount 9 insts) where
+    (found : (k : ℕ) → k < endCount ends → getD ends (mentionWidth * k) 0 < instCount insts) where
   abbrev C : Code
   C = codeOf v insts operands crossings addresses ends
 
-  ends-empty : (m : ℕ) → empty (endsOf C m) ≡ not (Some (rowCount 2 ends) (placedEnd insts ends m))
+  ends-empty : (m : ℕ) → empty (endsOf C m) ≡ not (Some (endCount ends) (placedEnd insts ends m))
   ends-empty m =
       empty-map (λ x. mentioned C x .early) (keep (λ x. isSet (mentioned C x .placed)) (mentions (C .ends) m))
       ∙ empty-keep (λ x. isSet (mentioned C x .placed)) (mentions (C .ends) m)
       ∙ ap not (any-keep (λ x. isSet (mentioned C x .placed)) (λ x. eqb (x .local) m) (C .ends)
       ∙ any-rows (λ x. eqb (x .local) m && isSet (mentioned C x .placed)) ends (placedEnd insts ends m) row)
     where
-      row : (k : ℕ) → k < rowCount 2 ends → eqb (field 2 ends k 1) m && isSet (instAt (instsOf insts operands) (field 2 ends k 0) .placed) ≡ placedEnd insts ends m k
+      row : (k : ℕ) → k < endCount ends → eqb (mentionLocal ends k) m && isSet (instAt (instsOf insts operands) (mentionInst ends k) .placed) ≡ placedEnd insts ends m k
       row k h =
-          let z : field 2 ends k 0 ≡ getD ends (2 * k) 0 = ap (λ (i : ℕ). getD ends i 0) (add-zero (2 * k)) in
-          ap (λ (x : ℕ). eqb (field 2 ends k 1) m && isSet (instAt (instsOf insts operands) x .placed)) z
-          ∙ ap (λ (x : ℕ). eqb (field 2 ends k 1) m && isSet x) (placed-is insts operands (getD ends (2 * k) 0) (found k h))
+          let z : mentionInst ends k ≡ getD ends (mentionWidth * k) 0 = ap (λ (i : ℕ). getD ends i 0) (add-zero (mentionWidth * k)) in
+          ap (λ (x : ℕ). eqb (mentionLocal ends k) m && isSet (instAt (instsOf insts operands) x .placed)) z
+          ∙ ap (λ (x : ℕ). eqb (mentionLocal ends k) m && isSet x) (placed-is insts operands (getD ends (mentionWidth * k) 0) (found k h))
 
-  pub readied : {w₀ w₁ w : List ℕ} {words o n : ℕ} → words ≡ wordsOf v → Laid lay v (rowCount 9 insts) o l (rowCount 2 addresses) (length w₀)
+  pub readied : {w₀ w₁ w : List ℕ} {words o n : ℕ} → words ≡ wordsOf v → Laid lay v (instCount insts) o l (addressCount addresses) (length w₀)
       → Registered (codeOf v insts operands crossings [] []) lay o n w₀ w₁ → ByLocal lay words insts addresses ends l w₁ w → Readied C lay o l n w₀ w
   readied {w₀} {w₁} {w} {words} {o} {n} e d a b = record {
     kept = record {
@@ -219,7 +220,7 @@ module _ (v : ℕ) (insts operands crossings addresses ends : List ℕ) (lay : L
         escaping = λ r h. same-bit w₁ w (lay .escapes) v r h (λ k p q. b .outside k (inl (omega arith)) (inl (omega arith))) ∙ a .tables .escaping r h;
         sticking = λ r h. same-bit w₁ w (lay .dead) v r h (λ k p q. b .outside k (inl (omega arith)) (inl (omega arith))) ∙ a .tables .sticking r h;
         defined = λ i h.
-            let g : i < rowCount 9 insts = rw (insts-length insts operands) at h in
+            let g : i < instCount insts = rw (insts-length insts operands) at h in
             b .outside (lay .defs + i) (inr (omega arith)) (inl (omega arith)) ∙ a .tables .defined i h;
       };
       edges = record {
@@ -237,15 +238,15 @@ module _ (v : ℕ) (insts operands crossings addresses ends : List ℕ) (lay : L
               (k, h, edge k h ∙ z);
         };
         first = λ i q h f.
-            let g : i < rowCount 9 insts = rw (insts-length insts operands) at h in
+            let g : i < instCount insts = rw (insts-length insts operands) at h in
             let z : getD w (lay .firsts + i) 0 ≡ getD w₁ (lay .firsts + i) 0 = b .outside (lay .firsts + i) (inr (omega arith)) (inl (omega arith)) in
             rw z (splits-same (a .edges .first i q h f) (λ k p. ap (λ (x : ℕ). ltb x (q * 2 ^ 32)) (edge k p)));
       };
       chains = record {
-        head = λ m h. b .head m h ∙ latest-same (rowLocal addresses) (localOf (mentionsOf addresses)) m (rowCount 2 addresses) (local-is addresses)
+        head = λ m h. b .head m h ∙ latest-same (rowLocal addresses) (localOf (mentionsOf addresses)) m (addressCount addresses) (local-is addresses)
             ∙ ap (latest (localOf (mentionsOf addresses)) m) (sym (mentions-count addresses));
         next = λ x h g.
-            let p : x < rowCount 2 addresses = rw (mentions-count addresses) at h in
+            let p : x < addressCount addresses = rw (mentions-count addresses) at h in
             let z = local-is addresses x p in
             b .next x p (omega arith) ∙ latest-same (rowLocal addresses) (localOf (mentionsOf addresses)) (rowLocal addresses x) x (λ y q. local-is addresses y (omega arith))
             ∙ ap (λ (y : ℕ). latest (localOf (mentionsOf addresses)) y x) z;

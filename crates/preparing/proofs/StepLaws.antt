@@ -10,10 +10,10 @@ use lib.ListN.{length, getD, set}
 use lib.Seq.{getD-set-same, getD-set-other}
 use lib.Dec.{eqb, ltb}
 use borrow.Author.Tests.{eqb-true, eq-eqb, ne-eqb, lt-ltb}
-use Rattle.words.specs.Rows.{rowCount, field}
 use Rattle.words.specs.Sort.{Rising, sortOf}
 use Rattle.words.specs.Search.{Splits}
 use Rattle.words.specs.Regions.{Region, part}
+use Rattle.words.specs.Widths.{instWidth, instPlaced, mentionWidth, mentionCount}
 use Rattle.words.proofs.SortLaws.{sorted-rising}
 use Rattle.words.proofs.Points.{same, stored}
 use Rattle.words.proofs.RegionLaws.{length-part}
@@ -139,7 +139,7 @@ not-or false = refl
 
 pub record Ending (ended : ℕ) (insts s : List ℕ) (l : ℕ) (w₀ w : List ℕ) (k : ℕ) : Type 0 where
   pub high : ended + l ≤ length w₀
-  pub k-le : k ≤ rowCount 2 s
+  pub k-le : k ≤ mentionCount s
   pub kept : Within ended (ended + l) w₀ w
   pub is : (m : ℕ) → m < l → eqb (getD w (ended + m) 0) 0 ≡ not (Some k (placedEnd insts s m))
 
@@ -152,7 +152,7 @@ end-start ended insts s l w h z = record {
 }
 
 module _ {ended : ℕ} {insts s : List ℕ} {l : ℕ} {w₀ w : List ℕ} {k : ℕ} (d : Ending ended insts s l w₀ w k) where
-  end-none : k < rowCount 2 s → ((m : ℕ) → m < l → placedEnd insts s m k ≡ false) → Ending ended insts s l w₀ w (k + 1)
+  end-none : k < mentionCount s → ((m : ℕ) → m < l → placedEnd insts s m k ≡ false) → Ending ended insts s l w₀ w (k + 1)
   end-none h e = record {
     high = d .high;
     k-le = omega arith;
@@ -160,15 +160,15 @@ module _ {ended : ℕ} {insts s : List ℕ} {l : ℕ} {w₀ w : List ℕ} {k : �
     is = λ m g. d .is m g ∙ ap not (sym (any-next (placedEnd insts s m) (λ j. j) k ∙ ap (λ (t : Bool). Some k (placedEnd insts s m) || t) (e m g) ∙ or-false (Some k (placedEnd insts s m))));
   }
 
-  pub end-unplaced : (i : ℕ) → k < rowCount 2 s → i ≡ getD s (2 * k) 0 → getD insts (9 * i) 0 ≢ 1 → Ending ended insts s l w₀ w (k + 1)
+  pub end-unplaced : (i : ℕ) → k < mentionCount s → i ≡ getD s (mentionWidth * k) 0 → getD insts (instWidth * i) 0 ≢ 1 → Ending ended insts s l w₀ w (k + 1)
   end-unplaced i h z e =
       end-none h
-      (λ m g. ap (λ (t : Bool). eqb (rowLocal s k) m && t) (ne-eqb (field 9 insts (getD s (2 * k) 0) 0) 1 (λ q. e (ap (λ (c : ℕ). getD insts c 0) (ap (λ (c : ℕ). 9 * c) z ∙ sym (add-zero (9 * getD s (2 * k) 0))) ∙ q))) ∙ and-false (eqb (rowLocal s k) m))
+      (λ m g. ap (λ (t : Bool). eqb (rowLocal s k) m && t) (ne-eqb (instPlaced insts (getD s (mentionWidth * k) 0)) 1 (λ q. e (ap (λ (c : ℕ). getD insts c 0) (ap (λ (c : ℕ). instWidth * c) z ∙ sym (add-zero (instWidth * getD s (mentionWidth * k) 0))) ∙ q))) ∙ and-false (eqb (rowLocal s k) m))
 
-  pub end-past : k < rowCount 2 s → l ≤ rowLocal s k → Ending ended insts s l w₀ w (k + 1)
-  end-past h p = end-none h (λ m g. ap (λ (t : Bool). t && isSet (field 9 insts (getD s (2 * k) 0) 0)) (ne-eqb (rowLocal s k) m (λ z. absurd (omega arith))))
+  pub end-past : k < mentionCount s → l ≤ rowLocal s k → Ending ended insts s l w₀ w (k + 1)
+  end-past h p = end-none h (λ m g. ap (λ (t : Bool). t && isSet (instPlaced insts (getD s (mentionWidth * k) 0))) (ne-eqb (rowLocal s k) m (λ z. absurd (omega arith))))
 
-  pub end-put : (i x : ℕ) → k < rowCount 2 s → i ≡ getD s (2 * k) 0 → getD insts (9 * i) 0 ≡ 1 → rowLocal s k < l → x ≡ ended + rowLocal s k → Ending ended insts s l w₀ (set w x 1) (k + 1)
+  pub end-put : (i x : ℕ) → k < mentionCount s → i ≡ getD s (mentionWidth * k) 0 → getD insts (instWidth * i) 0 ≡ 1 → rowLocal s k < l → x ≡ ended + rowLocal s k → Ending ended insts s l w₀ (set w x 1) (k + 1)
   end-put i x h z e p ex = record {
     high = d .high;
     k-le = omega arith;
@@ -177,13 +177,13 @@ module _ {ended : ℕ} {insts s : List ℕ} {l : ℕ} {w₀ w : List ℕ} {k : �
         (λ q. sym (ap not (any-next (placedEnd insts s m) (λ j. j) k
         ∙ ap (λ (t : Bool). Some k (placedEnd insts s m) || t) (and-pair (eqb (rowLocal s k) m) _ (eq-eqb (rowLocal s k) m (omega arith)) placed)) ∙ not-or (Some k (placedEnd insts s m))))
         (λ q. d .is m g ∙ ap not (sym (any-next (placedEnd insts s m) (λ j. j) k
-        ∙ ap (λ (t : Bool). Some k (placedEnd insts s m) || (t && isSet (field 9 insts (getD s (2 * k) 0) 0))) (ne-eqb (rowLocal s k) m (λ y. q (omega arith))) ∙ or-false (Some k (placedEnd insts s m)))));
+        ∙ ap (λ (t : Bool). Some k (placedEnd insts s m) || (t && isSet (instPlaced insts (getD s (mentionWidth * k) 0)))) (ne-eqb (rowLocal s k) m (λ y. q (omega arith))) ∙ or-false (Some k (placedEnd insts s m)))));
   }
     where
-      placed : isSet (field 9 insts (getD s (2 * k) 0) 0) ≡ true
-      placed = eq-eqb _ 1 (ap (λ (c : ℕ). getD insts c 0) (add-zero (9 * getD s (2 * k) 0) ∙ ap (λ (c : ℕ). 9 * c) (sym z)) ∙ e)
+      placed : isSet (instPlaced insts (getD s (mentionWidth * k) 0)) ≡ true
+      placed = eq-eqb _ 1 (ap (λ (c : ℕ). getD insts c 0) (add-zero (instWidth * getD s (mentionWidth * k) 0) ∙ ap (λ (c : ℕ). instWidth * c) (sym z)) ∙ e)
 
-pub end-done : {lay : Lay} {insts s : List ℕ} {l : ℕ} {w₀ w : List ℕ} {k : ℕ} → Ending (lay .ended) insts s l w₀ w k → length s / 2 ≤ k → Ends lay insts s l (length s / 2) w₀ w
+pub end-done : {lay : Lay} {insts s : List ℕ} {l : ℕ} {w₀ w : List ℕ} {k : ℕ} → Ending (lay .ended) insts s l w₀ w k → mentionCount s ≤ k → Ends lay insts s l (mentionCount s) w₀ w
 end-done {insts = insts} {s = s} {k = k} d h =
-    let z : k ≡ length s / 2 = let q = d .k-le in omega arith in
+    let z : k ≡ mentionCount s = let q = d .k-le in omega arith in
     record { kept = d .kept; ended = λ m g. d .is m g ∙ ap (λ (c : ℕ). not (Some c (placedEnd insts s m))) z }

@@ -6,10 +6,11 @@ use mathlib.Core.Bool.{Bool, not, _&&_}
 use mathlib.Core.List.{List}
 use lib.ListN.{length, getD}
 use lib.Dec.{eqb, ltb}
-use Rattle.words.specs.Rows.{tabulate, rowCount, field}
+use Rattle.words.specs.Rows.{tabulate}
 use Rattle.words.specs.Sort.{sortOf}
 use Rattle.words.specs.Search.{Splits}
 use Rattle.words.specs.Regions.{part}
+use Rattle.words.specs.Widths.{instPlaced, mentionWidth, addressCount, endCount}
 use Rattle.graph.specs.Work.{Within}
 use Rattle.carrying.specs.Lists.{any}
 use Rattle.carrying.specs.Insts.{isSet}
@@ -30,7 +31,7 @@ pub record Indexed (lay : Lay) (m n : ℕ) (w₀ w : List ℕ) : Type 0 where
 
 -- row k is an end of local m that is placed
 abbrev pub placedEnd : List ℕ → List ℕ → ℕ → ℕ → Bool
-placedEnd insts s m k = eqb (rowLocal s k) m && isSet (field 9 insts (getD s (2 * k) 0) 0)
+placedEnd insts s m k = eqb (rowLocal s k) m && isSet (instPlaced insts (getD s (mentionWidth * k) 0))
 
 pub record Ends (lay : Lay) (insts s : List ℕ) (l k : ℕ) (w₀ w : List ℕ) : Type 0 where
   pub kept : Within (lay .ended) (lay .ended + l) w₀ w
@@ -55,6 +56,6 @@ pub record ByLocal (lay : Lay) (words : ℕ) (insts addresses ends : List ℕ) (
   pub len : length w ≡ length w₀
   pub outside : (k : ℕ) → (k < lay .seen) ⊎ (lay .seen + words ≤ k) → (k < lay .heads) ⊎ (lay .ended + l ≤ k) → getD w k 0 ≡ getD w₀ k 0
   pub seen : (k : ℕ) → k < words → getD w (lay .seen + k) 0 ≡ 0
-  pub head : (m : ℕ) → m < l → getD w (lay .heads + m) 0 ≡ latest (rowLocal addresses) m (rowCount 2 addresses)
-  pub next : (b : ℕ) → b < rowCount 2 addresses → rowLocal addresses b < l → getD w (lay .nexts + b) 0 ≡ latest (rowLocal addresses) (rowLocal addresses b) b
-  pub ended : (m : ℕ) → m < l → eqb (getD w (lay .ended + m) 0) 0 ≡ not (any (placedEnd insts ends m) (tabulate (rowCount 2 ends) (λ j. j)))
+  pub head : (m : ℕ) → m < l → getD w (lay .heads + m) 0 ≡ latest (rowLocal addresses) m (addressCount addresses)
+  pub next : (b : ℕ) → b < addressCount addresses → rowLocal addresses b < l → getD w (lay .nexts + b) 0 ≡ latest (rowLocal addresses) (rowLocal addresses b) b
+  pub ended : (m : ℕ) → m < l → eqb (getD w (lay .ended + m) 0) 0 ≡ not (any (placedEnd insts ends m) (tabulate (endCount ends) (λ j. j)))

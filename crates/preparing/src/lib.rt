@@ -5,6 +5,7 @@ ghost use mathlib.Core.List.{[]};
 ghost use lib.Dec.{eqb};
 ghost use lib.ListN.{length, getD};
 ghost use Rattle.words.specs.Sort.{Rising};
+ghost use Rattle.words.specs.Widths.{instCount, operandCount, mentionWidth, addressCount, endCount};
 ghost use Rattle.carrying.specs.Lists.{any};
 ghost use Rattle.insts.specs.Rows.{AddsUp};
 ghost use Rattle.reach.specs.Prepared.{codeOf, wordsOf, Laid, Registered, Readied};
@@ -12,6 +13,8 @@ ghost use Rattle.reach.specs.Scan.{Marked};
 ghost use Rattle.preparing.specs.Steps.{Firsts, Indexed, Ends, Cleared, Emptied, ByLocal};
 use reach::Lay;
 use reach::scan;
+use words::widths::inst;
+use words::widths::mention;
 
 // Sets the bit of each numbered register that crosses.
 fn cross(crossings: &[u32], v: u32, work: &mut [u64], row: usize)
@@ -62,16 +65,16 @@ fn index(work: &mut [u64], lay: Lay, m: usize, n: usize)
 
 // Marks each local that has a placed end.
 fn ends(insts: &[u32], ends: &[u32], locals: usize, work: &mut [u64], lay: Lay)
-    requires { ⌜ (lay .ended + locals ≤ length (now work)) × ((k : ℕ) → k < length (now ends) / 2 → getD (now ends) (2 * k) 0 < length (now insts) / 9) ⌝ }
+    requires { ⌜ (lay .ended + locals ≤ length (now work)) × ((k : ℕ) → k < endCount (now ends) → getD (now ends) (mentionWidth * k) 0 < instCount (now insts)) ⌝ }
     requires { ⌜ ((m : ℕ) → m < locals → getD (now work) (lay .ended + m) 0 ≡ 0) ⌝ }
-    ensures { λ _. ⌜ Ends lay (now (insts .entry)) (now (ends .entry)) locals (length (now (ends .entry)) / 2) (now (work .entry)) (now (work .exit)) ⌝ }
+    ensures { λ _. ⌜ Ends lay (now (insts .entry)) (now (ends .entry)) locals (endCount (now (ends .entry))) (now (work .entry)) (now (work .exit)) ⌝ }
 {
-    let n = ends.len() / 2;
+    let n = ends.len() / mention::WIDTH;
     let mut k = 0;
     while k < n {
-        let i = ends[2 * k] as usize;
-        let l = ends[2 * k + 1] as usize;
-        if insts[9 * i] != 1 {
+        let i = ends[mention::WIDTH * k] as usize;
+        let l = ends[mention::WIDTH * k + mention::LOCAL] as usize;
+        if insts[inst::WIDTH * i] != 1 {
             k += 1;
         } else if l < locals {
             work[lay.ended + l] = 1;
@@ -111,16 +114,16 @@ fn registers(
     lay: Lay,
     words: usize,
 ) -> usize
-    requires { ⌜ AddsUp (now insts) (now operands) × (length (now insts) / 9 ≤ 65536) × (v ≤ 65535) × (words ≡ wordsOf v) ⌝ }
-    requires { ⌜ (lay .escapes + wordsOf v ≤ lay .dead) × (lay .dead + wordsOf v ≤ lay .defs) × (lay .defs + length (now insts) / 9 ≤ lay .firsts)
-        × (lay .firsts + length (now insts) / 9 ≤ lay .edges) × (lay .edges + length (now operands) / 2 ≤ lay .heads) × (lay .heads ≤ length (now work)) ⌝ }
-    ensures { λ r. ⌜ Registered (codeOf v (now (insts .entry)) (now (operands .entry)) (now (crossings .entry)) [] []) lay (length (now (operands .entry)) / 2) r (now (work .entry))
+    requires { ⌜ AddsUp (now insts) (now operands) × (instCount (now insts) ≤ 65536) × (v ≤ 65535) × (words ≡ wordsOf v) ⌝ }
+    requires { ⌜ (lay .escapes + wordsOf v ≤ lay .dead) × (lay .dead + wordsOf v ≤ lay .defs) × (lay .defs + instCount (now insts) ≤ lay .firsts)
+        × (lay .firsts + instCount (now insts) ≤ lay .edges) × (lay .edges + operandCount (now operands) ≤ lay .heads) × (lay .heads ≤ length (now work)) ⌝ }
+    ensures { λ r. ⌜ Registered (codeOf v (now (insts .entry)) (now (operands .entry)) (now (crossings .entry)) [] []) lay (operandCount (now (operands .entry))) r (now (work .entry))
         (now (work .exit)) ⌝ }
 {
     clear(work, lay, words);
     let n = scan::scan(insts, operands, v, work, lay);
     cross(crossings, v, work, lay.escapes);
-    index(work, lay, insts.len() / 9, n);
+    index(work, lay, insts.len() / inst::WIDTH, n);
     n
 }
 
@@ -134,8 +137,8 @@ fn by_local(
     lay: Lay,
     words: usize,
 )
-    requires { ⌜ (lay .seen + words ≤ lay .heads) × (lay .heads + locals ≤ lay .nexts) × (lay .nexts + length (now addresses) / 2 ≤ lay .ended) × (lay .ended + locals ≤ length (now work)) ⌝ }
-    requires { ⌜ ((k : ℕ) → k < length (now ends) / 2 → getD (now ends) (2 * k) 0 < length (now insts) / 9) ⌝ }
+    requires { ⌜ (lay .seen + words ≤ lay .heads) × (lay .heads + locals ≤ lay .nexts) × (lay .nexts + addressCount (now addresses) ≤ lay .ended) × (lay .ended + locals ≤ length (now work)) ⌝ }
+    requires { ⌜ ((k : ℕ) → k < endCount (now ends) → getD (now ends) (mentionWidth * k) 0 < instCount (now insts)) ⌝ }
     ensures { λ _. ⌜ ByLocal lay words (now (insts .entry)) (now (addresses .entry)) (now (ends .entry)) locals (now (work .entry)) (now (work .exit)) ⌝ }
 {
     empty(work, lay, words, locals);
@@ -143,7 +146,7 @@ fn by_local(
         addresses,
         2,
         1,
-        addresses.len() / 2,
+        addresses.len() / mention::WIDTH,
         locals,
         work,
         lay.heads,
@@ -164,11 +167,11 @@ pub fn prepare(
     work: &mut [u64],
     lay: Lay,
 ) -> usize
-    requires { ⌜ AddsUp (now insts) (now operands) × (length (now insts) / 9 ≤ 65536) × (v ≤ 65535) ⌝ }
-    requires { ⌜ Laid lay v (length (now insts) / 9) (length (now operands) / 2) locals (length (now addresses) / 2) (length (now work)) ⌝ }
-    requires { ⌜ ((k : ℕ) → k < length (now ends) / 2 → getD (now ends) (2 * k) 0 < length (now insts) / 9) ⌝ }
+    requires { ⌜ AddsUp (now insts) (now operands) × (instCount (now insts) ≤ 65536) × (v ≤ 65535) ⌝ }
+    requires { ⌜ Laid lay v (instCount (now insts)) (operandCount (now operands)) locals (addressCount (now addresses)) (length (now work)) ⌝ }
+    requires { ⌜ ((k : ℕ) → k < endCount (now ends) → getD (now ends) (mentionWidth * k) 0 < instCount (now insts)) ⌝ }
     ensures { λ r. ⌜ Readied (codeOf v (now (insts .entry)) (now (operands .entry)) (now (crossings .entry)) (now (addresses .entry)) (now (ends .entry))) lay
-        (length (now (operands .entry)) / 2) locals r (now (work .entry)) (now (work .exit)) ⌝ }
+        (operandCount (now (operands .entry))) locals r (now (work .entry)) (now (work .exit)) ⌝ }
 {
     let words = (v as usize + 63) / 64;
     let n = registers(insts, operands, crossings, v, work, lay, words);

@@ -7,7 +7,8 @@ use mathlib.Core.Bool.{Bool, true, false, cond}
 use mathlib.Core.List.{List, [], _∷_, _++_}
 use lib.ListN.{length, take, drop}
 use lib.Dec.{ltb}
-use Rattle.words.specs.Rows.{rowCount, field, tabulate}
+use Rattle.words.specs.Rows.{tabulate}
+use Rattle.words.specs.Widths.{itemRowCount, itemCell}
 use Rattle.words.proofs.RowLaws.{tabulate-suc, length-tabulate}
 use Rattle.words.proofs.Points.{same}
 use Rattle.fitting.specs.Queries.{Item, Slots, slotsOf, itemsOf, areasOf, countIn, crowd, crowdedFrom, crowded}
@@ -36,7 +37,7 @@ count-members areas items c (suc n) =
     ∙ omega (arith, count-members areas items c n)
 
 pub crowd-is : (areas cells items : List ℕ) (locals c : ℕ) → crowd (slotsOf locals cells items areas) c ≡ ltb 1 (membersIn items c)
-crowd-is areas cells items locals c = ap (ltb 1) (count-split locals (itemsOf (areasOf areas) items) c ∙ count-members areas items c (rowCount 4 items))
+crowd-is areas cells items locals c = ap (ltb 1) (count-split locals (itemsOf (areasOf areas) items) c ∙ count-members areas items c (itemRowCount items))
 
 -- ---- the slots that are not alone
 
@@ -65,4 +66,4 @@ from-picks S f t same (suc m) =
 pub crowded-is : (cells items : List ℕ) (locals : ℕ) → Sound cells items locals → crowded (slotsOf locals cells items []) ≡ crowdedSlots items locals
 crowded-is cells items locals s =
     ap (crowdedFrom (slotsOf locals cells items []) 0) (slots-are [] cells items locals s)
-    ∙ from-picks (slotsOf locals cells items []) (λ i. itemAt [] items (locals + i)) (crowdedSlot items locals) (λ i. crowd-is [] cells items locals (field 4 items (locals + i) 0)) (rowCount 4 items - locals)
+    ∙ from-picks (slotsOf locals cells items []) (λ i. itemAt [] items (locals + i)) (crowdedSlot items locals) (λ i. crowd-is [] cells items locals (itemCell items (locals + i))) (itemRowCount items - locals)

@@ -10,7 +10,8 @@ use Rattle.refusals.specs.declared.Verdict.{Verdict}
 use Rattle.refusals.specs.declared.Verdict.the-variants.{Fine, Bad}
 use Rattle.refusals.specs.declared.Refusal.{Refusal}
 use Rattle.refusals.specs.Outcomes.{unless}
-use Rattle.words.specs.Rows.{rowCount, field, tabulate}
+use Rattle.words.specs.Rows.{tabulate}
+use Rattle.words.specs.Widths.{cellCount, itemWidth, itemRowCount, itemCell, itemPresent, itemFirst, itemRanges}
 use Rattle.words.proofs.RowLaws.{length-tabulate, take-tabulate, drop-tabulate}
 use Rattle.fitting.specs.Queries.{Item, slotsOf, areasOf, partOf, cellIn, local, slot, saved}
 use Rattle.queries.specs.declared.Place.the-variants.{At, Absent, Refused as PlaceRefused}
@@ -34,39 +35,39 @@ module _ {A : Type 0} where
   not-there (suc n) f (suc i) h = not-there n (λ j. f (suc j)) i (omega arith)
 
 abbrev pub itemAt : List ℕ → List ℕ → ℕ → Item
-itemAt areas s i = record { cell = field 4 s i 0; area = partOf (areasOf areas) (field 4 s i 1) (field 4 s i 2) (field 4 s i 3) }
+itemAt areas s i = record { cell = itemCell s i; area = partOf (areasOf areas) (itemPresent s i) (itemFirst s i) (itemRanges s i) }
 
 module _ (areas cells items : List ℕ) (locals : ℕ) (S : Sound cells items locals) where
   pub locals-are : slotsOf locals cells items areas .locals ≡ tabulate locals (itemAt areas items)
-  locals-are = take-tabulate locals (rowCount 4 items) (itemAt areas items) (S .whole .0)
+  locals-are = take-tabulate locals (itemRowCount items) (itemAt areas items) (S .whole .0)
 
-  pub slots-are : slotsOf locals cells items areas .slots ≡ tabulate (rowCount 4 items - locals) (λ i. itemAt areas items (locals + i))
-  slots-are = drop-tabulate locals (rowCount 4 items) (itemAt areas items) (S .whole .0)
+  pub slots-are : slotsOf locals cells items areas .slots ≡ tabulate (itemRowCount items - locals) (λ i. itemAt areas items (locals + i))
+  slots-are = drop-tabulate locals (itemRowCount items) (itemAt areas items) (S .whole .0)
 
-  pub cell-at : (i : ℕ) → getD items (4 * i) 0 ≡ field 4 items i 0
-  cell-at i = ap (λ (k : ℕ). getD items k 0) (sym (add-zero (4 * i)))
+  pub cell-at : (i : ℕ) → getD items (itemWidth * i) 0 ≡ itemCell items i
+  cell-at i = ap (λ (k : ℕ). getD items k 0) (sym (add-zero (itemWidth * i)))
 
-  pub local-at : (i : ℕ) → i < locals → local (slotsOf locals cells items areas) i ≡ some (getD items (4 * i) 0)
+  pub local-at : (i : ℕ) → i < locals → local (slotsOf locals cells items areas) i ≡ some (getD items (itemWidth * i) 0)
   local-at i h =
       ap (λ (l : List Item). cellIn (getElem? l i)) locals-are ∙ ap cellIn (there locals (itemAt areas items) i h) ∙ ap some (sym (cell-at i))
 
   pub local-none : (i : ℕ) → locals ≤ i → local (slotsOf locals cells items areas) i ≡ none
   local-none i h = ap (λ (l : List Item). cellIn (getElem? l i)) locals-are ∙ ap cellIn (not-there locals (itemAt areas items) i h)
 
-  pub slot-at : (i : ℕ) → locals + i < rowCount 4 items → slot (slotsOf locals cells items areas) i ≡ some (getD items (4 * (locals + i)) 0)
+  pub slot-at : (i : ℕ) → locals + i < itemRowCount items → slot (slotsOf locals cells items areas) i ≡ some (getD items (itemWidth * (locals + i)) 0)
   slot-at i h =
       ap (λ (l : List Item). cellIn (getElem? l i)) slots-are
-      ∙ ap cellIn (there (rowCount 4 items - locals) (λ j. itemAt areas items (locals + j)) i (omega arith)) ∙ ap some (sym (cell-at (locals + i)))
+      ∙ ap cellIn (there (itemRowCount items - locals) (λ j. itemAt areas items (locals + j)) i (omega arith)) ∙ ap some (sym (cell-at (locals + i)))
 
-  pub slot-none : (i : ℕ) → rowCount 4 items ≤ locals + i → slot (slotsOf locals cells items areas) i ≡ none
+  pub slot-none : (i : ℕ) → itemRowCount items ≤ locals + i → slot (slotsOf locals cells items areas) i ≡ none
   slot-none i h =
-      ap (λ (l : List Item). cellIn (getElem? l i)) slots-are ∙ ap cellIn (not-there (rowCount 4 items - locals) (λ j. itemAt areas items (locals + j)) i (omega arith))
+      ap (λ (l : List Item). cellIn (getElem? l i)) slots-are ∙ ap cellIn (not-there (itemRowCount items - locals) (λ j. itemAt areas items (locals + j)) i (omega arith))
 
-  pub saved-is : saved (slotsOf locals cells items areas) ≡ rowCount 4 items - rowCount 2 cells
+  pub saved-is : saved (slotsOf locals cells items areas) ≡ itemRowCount items - cellCount cells
   saved-is =
       let a : length (slotsOf locals cells items areas .locals) ≡ locals = ap length locals-are ∙ length-tabulate locals (itemAt areas items) in
-      let b : length (slotsOf locals cells items areas .slots) ≡ rowCount 4 items - locals = ap length slots-are ∙ length-tabulate (rowCount 4 items - locals) (λ i. itemAt areas items (locals + i)) in
-      let c : length (slotsOf locals cells items areas .cells) ≡ rowCount 2 cells = length-tabulate (rowCount 2 cells) _ in
+      let b : length (slotsOf locals cells items areas .slots) ≡ itemRowCount items - locals = ap length slots-are ∙ length-tabulate (itemRowCount items - locals) (λ i. itemAt areas items (locals + i)) in
+      let c : length (slotsOf locals cells items areas .cells) ≡ cellCount cells = length-tabulate (cellCount cells) _ in
       omega (arith, a, b, c, S .whole .0)
 
 -- ---- outcomes

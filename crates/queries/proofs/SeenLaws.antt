@@ -15,7 +15,8 @@ use Rattle.refusals.specs.declared.Verdict.the-variants.{Fine}
 use Rattle.refusals.specs.declared.Refusal.the-variants.{Want as WantRefused}
 use Rattle.refusals.specs.Outcomes.{given, unless}
 use Rattle.refusals.proofs.Laws.{scan-all}
-use Rattle.words.specs.Rows.{rowCount, field, tabulate}
+use Rattle.words.specs.Rows.{tabulate}
+use Rattle.words.specs.Widths.{cellWidth, cellCount, cellSize, cellAlign, itemWidth, itemRowCount, itemCell, itemPresent, itemFirst, itemRanges, rangeWidth, rangeCount, rangeStart, rangeEnd}
 use Rattle.words.proofs.RowLaws.{length-tabulate, tabulate-eq, take-tabulate, drop-tabulate, tabulate-getD, map-tabulate}
 use Rattle.words.proofs.Points.{cut, same}
 use Rattle.ranges.specs.declared.Range.{Range}
@@ -38,42 +39,42 @@ planBy locals c n room item = record { cells = tabulate c room; locals = tabulat
 
 -- rows of these cells and items, and an area list that their parts lie in
 pub record RowsHold (cells items areas : List ℕ) (locals c n : ℕ) (room : ℕ → Room) (item : ℕ → Item) : Type 0 where
-  pub cells-long : length cells ≡ 2 * c
-  pub items-long : length items ≡ 4 * n
-  pub areas-whole : length areas % 2 ≡ 0
-  pub areas-short : rowCount 2 areas ≤ 65536
+  pub cells-long : length cells ≡ cellWidth * c
+  pub items-long : length items ≡ itemWidth * n
+  pub areas-whole : length areas % rangeWidth ≡ 0
+  pub areas-short : rangeCount areas ≤ 65536
   pub locals-in : locals ≤ n
   pub few-locals : locals ≤ 2048
   pub few-slots : n - locals ≤ 2048
   pub few-cells : c ≤ n
-  pub room-is : (i : ℕ) → i < c → record { size = field 2 cells i 0; align = field 2 cells i 1 } ≡ room i
-  pub cell-is : (i : ℕ) → i < n → field 4 items i 0 ≡ item i .cell
+  pub room-is : (i : ℕ) → i < c → record { size = cellSize cells i; align = cellAlign cells i } ≡ room i
+  pub cell-is : (i : ℕ) → i < n → itemCell items i ≡ item i .cell
   pub named : (i : ℕ) → i < n → item i .cell < c
-  pub area-is : (i : ℕ) → i < n → partOf (areasOf areas) (field 4 items i 1) (field 4 items i 2) (field 4 items i 3) ≡ item i .area
-  pub inside : (i : ℕ) → i < n → (field 4 items i 1 ≡ 0 → ⊥) → field 4 items i 2 + field 4 items i 3 ≤ rowCount 2 areas
+  pub area-is : (i : ℕ) → i < n → partOf (areasOf areas) (itemPresent items i) (itemFirst items i) (itemRanges items i) ≡ item i .area
+  pub inside : (i : ℕ) → i < n → (itemPresent items i ≡ 0 → ⊥) → itemFirst items i + itemRanges items i ≤ rangeCount areas
 
 -- ---- an area list cut behind the parts
 
 abbrev rangeIn : List ℕ → ℕ → Range
-rangeIn s i = range (field 2 s i 0) (field 2 s i 1)
+rangeIn s i = range (rangeStart s i) (rangeEnd s i)
 
-part-at : (s : List ℕ) (first count : ℕ) → first + count ≤ rowCount 2 s → take count (drop first (areasOf s)) ≡ tabulate count (λ j. rangeIn s (first + j))
+part-at : (s : List ℕ) (first count : ℕ) → first + count ≤ rangeCount s → take count (drop first (areasOf s)) ≡ tabulate count (λ j. rangeIn s (first + j))
 part-at s first count h =
-    ap (take count) (drop-tabulate first (rowCount 2 s) (rangeIn s) (omega arith)) ∙ take-tabulate count (rowCount 2 s - first) (λ j. rangeIn s (first + j)) (omega arith)
+    ap (take count) (drop-tabulate first (rangeCount s) (rangeIn s) (omega arith)) ∙ take-tabulate count (rangeCount s - first) (λ j. rangeIn s (first + j)) (omega arith)
 
-part-cut : (s : List ℕ) (k first count : ℕ) → k ≤ rowCount 2 s → first + count ≤ k → take count (drop first (areasOf (take (2 * k) s))) ≡ take count (drop first (areasOf s))
+part-cut : (s : List ℕ) (k first count : ℕ) → k ≤ rangeCount s → first + count ≤ k → take count (drop first (areasOf (take (rangeWidth * k) s))) ≡ take count (drop first (areasOf s))
 part-cut s k first count h l =
-    let e = length-take-le (2 * k) s (omega arith) in
-    part-at (take (2 * k) s) first count (omega arith)
-    ∙ tabulate-eq count _ _ (λ j q. ap (λ (x : ℕ). range x (field 2 (take (2 * k) s) (first + j) 1)) (getD-take (2 * k) s (2 * (first + j) + 0) 0 (omega arith))
-    ∙ ap (λ (x : ℕ). range (field 2 s (first + j) 0) x) (getD-take (2 * k) s (2 * (first + j) + 1) 0 (omega arith)))
+    let e = length-take-le (rangeWidth * k) s (omega arith) in
+    part-at (take (rangeWidth * k) s) first count (omega arith)
+    ∙ tabulate-eq count _ _ (λ j q. ap (λ (x : ℕ). range x (rangeEnd (take (rangeWidth * k) s) (first + j))) (getD-take (rangeWidth * k) s (rangeWidth * (first + j) + 0) 0 (omega arith))
+    ∙ ap (λ (x : ℕ). range (rangeStart s (first + j)) x) (getD-take (rangeWidth * k) s (rangeWidth * (first + j) + 1) 0 (omega arith)))
     ∙ sym (part-at s first count (omega arith))
 
 module _ {cells items areas : List ℕ} {locals c n : ℕ} {room : ℕ → Room} {item : ℕ → Item} (H : RowsHold cells items areas locals c n room item) where
   -- the first k ranges are enough where every part ends by k
-  pub cut-held : (k : ℕ) → k ≤ rowCount 2 areas → ((i : ℕ) → i < n → (field 4 items i 1 ≡ 0 → ⊥) → field 4 items i 2 + field 4 items i 3 ≤ k) → RowsHold cells items (take (2 * k) areas) locals c n room item
+  pub cut-held : (k : ℕ) → k ≤ rangeCount areas → ((i : ℕ) → i < n → (itemPresent items i ≡ 0 → ⊥) → itemFirst items i + itemRanges items i ≤ k) → RowsHold cells items (take (rangeWidth * k) areas) locals c n room item
   cut-held k h ends =
-      let e = length-take-le (2 * k) areas (omega arith) in
+      let e = length-take-le (rangeWidth * k) areas (omega arith) in
       record {
         cells-long = H .cells-long;
         items-long = H .items-long;
@@ -86,16 +87,16 @@ module _ {cells items areas : List ℕ} {locals c n : ℕ} {room : ℕ → Room}
         room-is = H .room-is;
         cell-is = H .cell-is;
         named = H .named;
-        area-is = λ i q. area i q (ℕ-discrete (field 4 items i 1) 0);
+        area-is = λ i q. area i q (ℕ-discrete (itemPresent items i) 0);
         inside = λ i q d. omega (arith, ends i q d);
       }
     where
-      area : (i : ℕ) → i < n → Dec (field 4 items i 1 ≡ 0) → partOf (areasOf (take (2 * k) areas)) (field 4 items i 1) (field 4 items i 2) (field 4 items i 3) ≡ item i .area
+      area : (i : ℕ) → i < n → Dec (itemPresent items i ≡ 0) → partOf (areasOf (take (rangeWidth * k) areas)) (itemPresent items i) (itemFirst items i) (itemRanges items i) ≡ item i .area
       area i q (yes z) =
-          ap (λ (t : Bool). cond t none (some (take (field 4 items i 3) (drop (field 4 items i 2) (areasOf (take (2 * k) areas)))))) (eq-eqb (field 4 items i 1) 0 z)
-          ∙ sym (ap (λ (t : Bool). cond t none (some (take (field 4 items i 3) (drop (field 4 items i 2) (areasOf areas))))) (eq-eqb (field 4 items i 1) 0 z)) ∙ H .area-is i q
+          ap (λ (t : Bool). cond t none (some (take (itemRanges items i) (drop (itemFirst items i) (areasOf (take (rangeWidth * k) areas)))))) (eq-eqb (itemPresent items i) 0 z)
+          ∙ sym (ap (λ (t : Bool). cond t none (some (take (itemRanges items i) (drop (itemFirst items i) (areasOf areas))))) (eq-eqb (itemPresent items i) 0 z)) ∙ H .area-is i q
       area i q (no d) =
-          ap (λ (rs : List Range). cond (eqb (field 4 items i 1) 0) none (some rs)) (part-cut areas k (field 4 items i 2) (field 4 items i 3) h (ends i q d)) ∙ H .area-is i q
+          ap (λ (rs : List Range). cond (eqb (itemPresent items i) 0) none (some rs)) (part-cut areas k (itemFirst items i) (itemRanges items i) h (ends i q d)) ∙ H .area-is i q
 
 -- ---- what depends on the items' cells alone
 
@@ -158,16 +159,16 @@ two : {x y : ℕ} {a b : Option (List Range)} → x ≡ y → a ≡ b → _≡_ 
 two e f = rw (e, f) refl
 
 module _ {cells items areas : List ℕ} {locals c n : ℕ} {room : ℕ → Room} {item : ℕ → Item} (H : RowsHold cells items areas locals c n room item) where
-  count-is : rowCount 2 cells ≡ c
+  count-is : cellCount cells ≡ c
   count-is = omega (arith, H .cells-long)
 
-  items-are : rowCount 4 items ≡ n
+  items-are : itemRowCount items ≡ n
   items-are = omega (arith, H .items-long)
 
   -- whatever the area list is
   rows-of : (a : List ℕ) → slotsOf locals cells items a ≡ planBy locals c n room (itemAt a items)
   rows-of a = three
-      (ap (λ (k : ℕ). tabulate k (λ i. record { size = field 2 cells i 0; align = field 2 cells i 1 })) count-is ∙ tabulate-eq c _ room (H .room-is))
+      (ap (λ (k : ℕ). tabulate k (λ i. record { size = cellSize cells i; align = cellAlign cells i })) count-is ∙ tabulate-eq c _ room (H .room-is))
       (ap (λ (k : ℕ). take locals (tabulate k (itemAt a items))) items-are ∙ take-tabulate locals n (itemAt a items) (H .locals-in))
       (ap (λ (k : ℕ). drop locals (tabulate k (itemAt a items))) items-are ∙ drop-tabulate locals n (itemAt a items) (H .locals-in))
 
@@ -185,41 +186,41 @@ module _ {cells items areas : List ℕ} {locals c n : ℕ} {room : ℕ → Room}
   count-fine : badCount cells items locals ≡ false
   count-fine =
       simp (
-        eq-eqb (length cells % 2) 0 (omega (arith, H .cells-long)),
-        eq-eqb (length items % 4) 0 (omega (arith, H .items-long)),
-        le-ltb (rowCount 4 items) locals (omega (arith, items-are, H .locals-in)),
+        eq-eqb (length cells % cellWidth) 0 (omega (arith, H .cells-long)),
+        eq-eqb (length items % itemWidth) 0 (omega (arith, H .items-long)),
+        le-ltb (itemRowCount items) locals (omega (arith, items-are, H .locals-in)),
         le-ltb 2048 locals (H .few-locals),
-        le-ltb 2048 (rowCount 4 items - locals) (omega (arith, items-are, H .few-slots)),
+        le-ltb 2048 (itemRowCount items - locals) (omega (arith, items-are, H .few-slots)),
       )
 
   areas-fine : badAreas areas ≡ false
-  areas-fine = simp (eq-eqb (length areas % 2) 0 (H .areas-whole), le-ltb 65536 (rowCount 2 areas) (H .areas-short))
+  areas-fine = simp (eq-eqb (length areas % rangeWidth) 0 (H .areas-whole), le-ltb 65536 (rangeCount areas) (H .areas-short))
 
   counts-fine : badCount cells items locals || badAreas areas ≡ false
   counts-fine = ap (λ (t : Bool). t || badAreas areas) count-fine ∙ areas-fine
 
-  cell-fine : (i : ℕ) → i < rowCount 4 items → noCell cells items i ≡ false
+  cell-fine : (i : ℕ) → i < itemRowCount items → noCell cells items i ≡ false
   cell-fine i h =
       let k : i < n = omega (arith, items-are) in
-      lt-leb (rowCount 2 cells) (field 4 items i 0) (omega (arith, count-is, H .cell-is i k, H .named i k))
+      lt-leb (cellCount cells) (itemCell items i) (omega (arith, count-is, H .cell-is i k, H .named i k))
 
-  part-fine : (i : ℕ) → i < rowCount 4 items → outside (rowCount 2 areas) (field 4 items i 1) (field 4 items i 2) (field 4 items i 3) ≡ false
-  part-fine i h = same (field 4 items i 1) 0
-      (λ e. sym (out-absent (rowCount 2 areas) (field 4 items i 1) (field 4 items i 2) (field 4 items i 3) e))
-      (λ d. sym (out-present (rowCount 2 areas) (field 4 items i 1) (field 4 items i 2) (field 4 items i 3) d)
-      ∙ le-ltb (rowCount 2 areas) (field 4 items i 2 + field 4 items i 3) (H .inside i (omega (arith, items-are)) d))
+  part-fine : (i : ℕ) → i < itemRowCount items → outside (rangeCount areas) (itemPresent items i) (itemFirst items i) (itemRanges items i) ≡ false
+  part-fine i h = same (itemPresent items i) 0
+      (λ e. sym (out-absent (rangeCount areas) (itemPresent items i) (itemFirst items i) (itemRanges items i) e))
+      (λ d. sym (out-present (rangeCount areas) (itemPresent items i) (itemFirst items i) (itemRanges items i) d)
+      ∙ le-ltb (rangeCount areas) (itemFirst items i + itemRanges items i) (H .inside i (omega (arith, items-are)) d))
 
-  item-fine : (i : ℕ) → i < rowCount 4 items → badItem cells items (rowCount 2 areas) i ≡ false
-  item-fine i h = ap (λ (t : Bool). t || outside (rowCount 2 areas) (field 4 items i 1) (field 4 items i 2) (field 4 items i 3)) (cell-fine i h) ∙ part-fine i h
+  item-fine : (i : ℕ) → i < itemRowCount items → badItem cells items (rangeCount areas) i ≡ false
+  item-fine i h = ap (λ (t : Bool). t || outside (rangeCount areas) (itemPresent items i) (itemFirst items i) (itemRanges items i)) (cell-fine i h) ∙ part-fine i h
 
-  few : rowCount 2 cells ≤ rowCount 4 items
+  few : cellCount cells ≤ itemRowCount items
   few = omega (arith, count-is, items-are, H .few-cells)
 
   pub plan-passes : planVerdict cells items locals ≡ Fine
-  plan-passes = sym (plan-fine cells items locals count-fine (scan-all WantRefused (noCell cells items) (rowCount 4 items) cell-fine) few)
+  plan-passes = sym (plan-fine cells items locals count-fine (scan-all WantRefused (noCell cells items) (itemRowCount items) cell-fine) few)
 
   pub shared-passes : sharedVerdict cells items areas locals ≡ Fine
-  shared-passes = sym (parts-fine cells items areas locals counts-fine (scan-all WantRefused (badItem cells items (rowCount 2 areas)) (rowCount 4 items) item-fine) few)
+  shared-passes = sym (parts-fine cells items areas locals counts-fine (scan-all WantRefused (badItem cells items (rangeCount areas)) (itemRowCount items) item-fine) few)
 
   pub crowded-passes : (r : ℕ) → n - locals ≤ r → crowdedVerdict cells items locals r ≡ Fine
   crowded-passes r h = sym (crowd-plan cells items locals r count-fine (omega (arith, items-are))) ∙ plan-passes

@@ -13,7 +13,7 @@ use Rattle.refusals.specs.declared.Verdict.{Verdict}
 use Rattle.refusals.specs.declared.Verdict.the-variants.{Fine, Bad}
 use Rattle.refusals.specs.declared.Refusal.{Refusal}
 use Rattle.refusals.specs.Outcomes.{given, unless}
-use Rattle.words.specs.Rows.{rowCount, field}
+use Rattle.words.specs.Widths.{itemWidth, itemCell, itemPresent, itemFirst, itemRanges, rangeCount}
 use Rattle.words.proofs.Points.{cut}
 use Rattle.ranges.specs.declared.Range.{Range}
 use Rattle.fitting.specs.Queries.{Item, slotsOf, areasOf, crowd, sharedBy, shared}
@@ -30,33 +30,33 @@ use Rattle.queries.proofs.MemberLaws.{crowd-is, crowded-is}
 
 module _ (cells items : List ℕ) (locals i : ℕ) where
   pub part-past : locals ≤ i → sharedPart cells items locals i ≡ none
-  part-past h = ap (λ (t : Bool). cond t (cond (crowd (slotsOf locals cells items []) (field 4 items i 0)) (partNamed items i) none) none) (le-ltb i locals h)
+  part-past h = ap (λ (t : Bool). cond t (cond (crowd (slotsOf locals cells items []) (itemCell items i)) (partNamed items i) none) none) (le-ltb i locals h)
 
   module _ (h : i < locals) where
-    part-here : sharedPart cells items locals i ≡ cond (ltb 1 (membersIn items (getD items (4 * i) 0))) (partNamed items i) none
+    part-here : sharedPart cells items locals i ≡ cond (ltb 1 (membersIn items (getD items (itemWidth * i) 0))) (partNamed items i) none
     part-here =
-        ap (λ (t : Bool). cond t (cond (crowd (slotsOf locals cells items []) (field 4 items i 0)) (partNamed items i) none) none) (lt-ltb i locals h)
+        ap (λ (t : Bool). cond t (cond (crowd (slotsOf locals cells items []) (itemCell items i)) (partNamed items i) none) none) (lt-ltb i locals h)
         ∙ ap (λ (t : Bool). cond t (partNamed items i) none)
-        (crowd-is [] cells items locals (field 4 items i 0) ∙ ap (λ (k : ℕ). ltb 1 (membersIn items (getD items k 0))) (add-zero (4 * i)))
+        (crowd-is [] cells items locals (itemCell items i) ∙ ap (λ (k : ℕ). ltb 1 (membersIn items (getD items k 0))) (add-zero (itemWidth * i)))
 
-    pub part-absent : field 4 items i 1 ≡ 0 → sharedPart cells items locals i ≡ none
+    pub part-absent : itemPresent items i ≡ 0 → sharedPart cells items locals i ≡ none
     part-absent e =
         part-here
-        ∙ ap (λ (t : Bool). cond (ltb 1 (membersIn items (getD items (4 * i) 0))) (cond t none (some (record { first = field 4 items i 2; count = field 4 items i 3 }))) none) (eq-eqb _ _ e)
-        ∙ both (ltb 1 (membersIn items (getD items (4 * i) 0)))
+        ∙ ap (λ (t : Bool). cond (ltb 1 (membersIn items (getD items (itemWidth * i) 0))) (cond t none (some (record { first = itemFirst items i; count = itemRanges items i }))) none) (eq-eqb _ _ e)
+        ∙ both (ltb 1 (membersIn items (getD items (itemWidth * i) 0)))
       where
         both : (t : Bool) → _≡_ {A = Option Stretch} (cond t none none) none
         both true = refl
         both false = refl
 
-    pub part-lone : membersIn items (getD items (4 * i) 0) < 2 → sharedPart cells items locals i ≡ none
-    part-lone l = part-here ∙ ap (λ (t : Bool). cond t (partNamed items i) none) (le-ltb 1 (membersIn items (getD items (4 * i) 0)) (omega arith))
+    pub part-lone : membersIn items (getD items (itemWidth * i) 0) < 2 → sharedPart cells items locals i ≡ none
+    part-lone l = part-here ∙ ap (λ (t : Bool). cond t (partNamed items i) none) (le-ltb 1 (membersIn items (getD items (itemWidth * i) 0)) (omega arith))
 
-    pub part-shared : (field 4 items i 1 ≡ 0 → ⊥) → 2 ≤ membersIn items (getD items (4 * i) 0)
-        → sharedPart cells items locals i ≡ some (record { first = field 4 items i 2; count = field 4 items i 3 })
+    pub part-shared : (itemPresent items i ≡ 0 → ⊥) → 2 ≤ membersIn items (getD items (itemWidth * i) 0)
+        → sharedPart cells items locals i ≡ some (record { first = itemFirst items i; count = itemRanges items i })
     part-shared d l =
-        part-here ∙ ap (λ (t : Bool). cond t (partNamed items i) none) (lt-ltb 1 (membersIn items (getD items (4 * i) 0)) (omega arith))
-        ∙ ap (λ (t : Bool). cond t none (some (record { first = field 4 items i 2; count = field 4 items i 3 }))) (ne-eqb _ _ d)
+        part-here ∙ ap (λ (t : Bool). cond t (partNamed items i) none) (lt-ltb 1 (membersIn items (getD items (itemWidth * i) 0)) (omega arith))
+        ∙ ap (λ (t : Bool). cond t none (some (record { first = itemFirst items i; count = itemRanges items i }))) (ne-eqb _ _ d)
 
 module _ (cells items areas : List ℕ) (locals i : ℕ) where
   pub share-refused : (r : Refusal) (k : ℕ) → sharedVerdict cells items areas locals ≡ Bad r k → shareOf (ShareRefused r k) ≡ sharedOf cells items areas locals i
@@ -77,7 +77,7 @@ module _ (cells items areas : List ℕ) (locals : ℕ) (S : Sound cells items lo
       ap (λ (l : List Item). sharedBy (slotsOf locals cells items areas) (getElem? l i)) (locals-are areas cells items locals S)
       ∙ ap (sharedBy (slotsOf locals cells items areas)) (not-there locals (itemAt areas items) i h)
 
-  shared-at : i < locals → shared (slotsOf locals cells items areas) i ≡ cond (crowd (slotsOf locals cells items areas) (field 4 items i 0)) (itemAt areas items i .area) none
+  shared-at : i < locals → shared (slotsOf locals cells items areas) i ≡ cond (crowd (slotsOf locals cells items areas) (itemCell items i)) (itemAt areas items i .area) none
   shared-at h =
       ap (λ (l : List Item). sharedBy (slotsOf locals cells items areas) (getElem? l i)) (locals-are areas cells items locals S)
       ∙ ap (sharedBy (slotsOf locals cells items areas)) (there locals (itemAt areas items) i h)
@@ -87,30 +87,30 @@ module _ (cells items areas : List ℕ) (locals : ℕ) (S : Sound cells items lo
   shared-area = cut locals i
       (λ h. ap (rangesOf (areasOf areas)) (part-past cells items locals i h) ∙ sym (shared-past h))
       (λ h.
-      ap (λ (t : Bool). rangesOf (areasOf areas) (cond t (cond (crowd (slotsOf locals cells items []) (field 4 items i 0)) (partNamed items i) none) none)) (lt-ltb i locals h)
-      ∙ ap (λ (t : Bool). rangesOf (areasOf areas) (cond t (partNamed items i) none)) (crowd-is [] cells items locals (field 4 items i 0) ∙ sym (crowd-is areas cells items locals (field 4 items i 0)))
-      ∙ go (crowd (slotsOf locals cells items areas) (field 4 items i 0)) (eqb (field 4 items i 1) 0) ∙ sym (shared-at h))
+      ap (λ (t : Bool). rangesOf (areasOf areas) (cond t (cond (crowd (slotsOf locals cells items []) (itemCell items i)) (partNamed items i) none) none)) (lt-ltb i locals h)
+      ∙ ap (λ (t : Bool). rangesOf (areasOf areas) (cond t (partNamed items i) none)) (crowd-is [] cells items locals (itemCell items i) ∙ sym (crowd-is areas cells items locals (itemCell items i)))
+      ∙ go (crowd (slotsOf locals cells items areas) (itemCell items i)) (eqb (itemPresent items i) 0) ∙ sym (shared-at h))
     where
-      go : (b t : Bool) → rangesOf (areasOf areas) (cond b (cond t none (some (record { first = field 4 items i 2; count = field 4 items i 3 }))) none)
-          ≡ cond b (cond t none (some (take (field 4 items i 3) (drop (field 4 items i 2) (areasOf areas))))) none
+      go : (b t : Bool) → rangesOf (areasOf areas) (cond b (cond t none (some (record { first = itemFirst items i; count = itemRanges items i }))) none)
+          ≡ cond b (cond t none (some (take (itemRanges items i) (drop (itemFirst items i) (areasOf areas))))) none
       go true true = refl
       go true false = refl
       go false t = refl
 
 module _ (cells items areas : List ℕ) (locals i : ℕ) (fine : sharedVerdict cells items areas locals ≡ Fine) where
   -- a part that is answered lies in the area list
-  pub shared-inside : (s : Stretch) → sharedPart cells items locals i ≡ some s → s .first + s .count ≤ rowCount 2 areas
+  pub shared-inside : (s : Stretch) → sharedPart cells items locals i ≡ some s → s .first + s .count ≤ rangeCount areas
   shared-inside s e = cut locals i
       (λ h. absurd (let f = sym (part-past cells items locals i h) ∙ e in let z : _≡_ {A = ℕ} 0 1 = cc in omega arith))
-      (λ h. go h (ltb 1 (membersIn items (getD items (4 * i) 0))) (eqb (field 4 items i 1) 0) refl (sym (part-here cells items locals i h) ∙ e))
+      (λ h. go h (ltb 1 (membersIn items (getD items (itemWidth * i) 0))) (eqb (itemPresent items i) 0) refl (sym (part-here cells items locals i h) ∙ e))
     where
-      go : i < locals → (b t : Bool) → eqb (field 4 items i 1) 0 ≡ t → cond b (cond t none (some (record { first = field 4 items i 2; count = field 4 items i 3 }))) none ≡ some s → s .first + s .count ≤ rowCount 2 areas
+      go : i < locals → (b t : Bool) → eqb (itemPresent items i) 0 ≡ t → cond b (cond t none (some (record { first = itemFirst items i; count = itemRanges items i }))) none ≡ some s → s .first + s .count ≤ rangeCount areas
       go h false t q f = absurd (let z : _≡_ {A = ℕ} 0 1 = cc in omega arith)
       go h true true q f = absurd (let z : _≡_ {A = ℕ} 0 1 = cc in omega arith)
       go h true false q f =
           let p = part-inside cells items areas locals fine i (omega (arith, shared-sound cells items areas locals fine .whole .0)) (eqb-false _ _ q) in
-          let x : field 4 items i 2 ≡ s .first = cc in
-          let y : field 4 items i 3 ≡ s .count = cc in
+          let x : itemFirst items i ≡ s .first = cc in
+          let y : itemRanges items i ≡ s .count = cc in
           omega arith
 
 -- ---- `crowded`

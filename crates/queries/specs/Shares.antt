@@ -8,7 +8,7 @@ use lib.ListN.{length, take, drop}
 use lib.Dec.{ltb, eqb}
 use Rattle.refusals.specs.Verdicts.{numberOf}
 use Rattle.refusals.specs.Outcomes.{Outcome, given, refused, unless, after}
-use Rattle.words.specs.Rows.{field}
+use Rattle.words.specs.Widths.{itemCell, itemPresent, itemFirst, itemRanges}
 use Rattle.ranges.specs.declared.Range.{Range}
 use Rattle.fitting.specs.Queries.{slotsOf, crowd, crowded}
 use Rattle.query_checks.specs.Checks.{sharedVerdict, crowdedVerdict}
@@ -32,11 +32,11 @@ shareOf (ShareRefused r i) = refused (numberOf r) i
 
 -- the part that an item's row names: "a present flag and a part of the area list"
 abbrev pub partNamed : List ℕ → ℕ → Option Stretch
-partNamed items i = cond (eqb (field 4 items i 1) 0) none (some (record { first = field 4 items i 2; count = field 4 items i 3 }))
+partNamed items i = cond (eqb (itemPresent items i) 0) none (some (record { first = itemFirst items i; count = itemRanges items i }))
 
 -- "`shared` gives a local's area only if its cell has two or more members": the numbers of its own row
 abbrev pub sharedPart : List ℕ → List ℕ → ℕ → ℕ → Option Stretch
-sharedPart cells items locals i = cond (ltb i locals) (cond (crowd (slotsOf locals cells items []) (field 4 items i 0)) (partNamed items i) none) none
+sharedPart cells items locals i = cond (ltb i locals) (cond (crowd (slotsOf locals cells items []) (itemCell items i)) (partNamed items i) none) none
 
 abbrev pub sharedOf : List ℕ → List ℕ → List ℕ → ℕ → ℕ → Outcome (Option Stretch)
 sharedOf cells items areas locals i = unless (sharedVerdict cells items areas locals) (sharedPart cells items locals i)

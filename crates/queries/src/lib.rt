@@ -6,6 +6,8 @@ ghost use Rattle.queries.specs.Entry.{placeOf, savedOf, localOf, slotOf,
 ghost use Rattle.queries.specs.Shares.{shareOf, sharedOf, crowdedOf, CrowdedBy};
 use refusals::Refusal;
 use refusals::Verdict;
+use words::widths::cell;
+use words::widths::item;
 
 // An item's cell; or there is no such item; or a refusal.
 pub enum Place {
@@ -42,7 +44,7 @@ pub fn local(cells: &[u32], items: &[u32], locals: u32, i: u32) -> Place
         return Place::Refused(r, k);
     }
     if i < locals {
-        return Place::At(items[4 * i as usize] as usize);
+        return Place::At(items[item::WIDTH * i as usize] as usize);
     }
     Place::Absent
 }
@@ -56,8 +58,8 @@ pub fn slot(cells: &[u32], items: &[u32], locals: u32, i: u32) -> Place
         return Place::Refused(r, k);
     }
     let at = locals as usize + i as usize;
-    if at < items.len() / 4 {
-        return Place::At(items[4 * at] as usize);
+    if at < items.len() / item::WIDTH {
+        return Place::At(items[item::WIDTH * at] as usize);
     }
     Place::Absent
 }
@@ -70,7 +72,7 @@ pub fn saved(cells: &[u32], items: &[u32], locals: u32) -> Saving
     if let Verdict::Bad(r, k) = v {
         return Saving::Refused(r, k);
     }
-    Saving::Cells(items.len() / 4 - cells.len() / 2)
+    Saving::Cells(items.len() / item::WIDTH - cells.len() / cell::WIDTH)
 }
 
 // The area of local `i`, only if its cell has two or more members. Refuses as `local` does, and an area list that is no whole rows or over its limit (1), a part outside it (10).
@@ -84,14 +86,17 @@ pub fn shared(cells: &[u32], items: &[u32], areas: &[u32], locals: u32, i: u32) 
     if locals <= i {
         return Share::Absent;
     }
-    let at = 4 * i as usize;
-    if items[at + 1] == 0 {
+    let at = item::WIDTH * i as usize;
+    if items[at + item::PRESENT] == 0 {
         return Share::Absent;
     }
     if members::members(items, items[at]) < 2 {
         return Share::Absent;
     }
-    Share::Part(items[at + 2] as usize, items[at + 3] as usize)
+    Share::Part(
+        items[at + item::FIRST] as usize,
+        items[at + item::RANGES] as usize,
+    )
 }
 
 // Lists the slots whose cell has two or more members, rising. Refuses as `local` does, and an answer list under the slots (7).

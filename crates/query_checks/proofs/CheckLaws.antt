@@ -14,7 +14,8 @@ use Rattle.refusals.specs.declared.Refusal.{Refusal}
 use Rattle.refusals.specs.declared.Refusal.the-variants.{Count, Want, Space}
 use Rattle.refusals.specs.Verdicts.{inOrder, first, check}
 use Rattle.refusals.proofs.Laws.{check-bad, check-fine, check-last, first-fine, first-bad, first-left, first-right, scan-fine}
-use Rattle.words.specs.Rows.{rowCount, wholeRows, field}
+use Rattle.words.specs.Rows.{wholeRows}
+use Rattle.words.specs.Widths.{cellWidth, cellCount, itemWidth, itemRowCount, itemCell, itemPresent, itemFirst, itemRanges, rangeCount}
 use Rattle.words.proofs.Bools.{or-right, or-neither}
 use Rattle.query_checks.specs.Checks.{badCount, noCell, itemsVerdict, surplus, planVerdict, badAreas, outside, badItem, partsVerdict, sharedVerdict, toldVerdict, crowdedVerdict}
 
@@ -32,13 +33,13 @@ module _ (b : Bool) (v : Verdict) (cells items : List ℕ) where
   pub checks-item : b ≡ false → (r : Refusal) (i : ℕ) → v ≡ Bad r i → Bad r i ≡ inOrder (check Count b ∷ v ∷ surplus cells items ∷ [])
   checks-item e r i f = sym (checks-rest e ∙ first-bad v (surplus cells items) r i f)
 
-  pub checks-surplus : b ≡ false → v ≡ Fine → rowCount 4 items < rowCount 2 cells → Bad Want (rowCount 4 items) ≡ inOrder (check Count b ∷ v ∷ surplus cells items ∷ [])
+  pub checks-surplus : b ≡ false → v ≡ Fine → itemRowCount items < cellCount cells → Bad Want (itemRowCount items) ≡ inOrder (check Count b ∷ v ∷ surplus cells items ∷ [])
   checks-surplus e f h =
-      sym (checks-rest e ∙ first-fine v (surplus cells items) f ∙ ap (λ (t : Bool). cond t (Bad Want (rowCount 4 items)) Fine) (lt-ltb (rowCount 4 items) (rowCount 2 cells) h))
+      sym (checks-rest e ∙ first-fine v (surplus cells items) f ∙ ap (λ (t : Bool). cond t (Bad Want (itemRowCount items)) Fine) (lt-ltb (itemRowCount items) (cellCount cells) h))
 
-  pub checks-fine : b ≡ false → v ≡ Fine → rowCount 2 cells ≤ rowCount 4 items → Fine ≡ inOrder (check Count b ∷ v ∷ surplus cells items ∷ [])
+  pub checks-fine : b ≡ false → v ≡ Fine → cellCount cells ≤ itemRowCount items → Fine ≡ inOrder (check Count b ∷ v ∷ surplus cells items ∷ [])
   checks-fine e f h =
-      sym (checks-rest e ∙ first-fine v (surplus cells items) f ∙ ap (λ (t : Bool). cond t (Bad Want (rowCount 4 items)) Fine) (le-ltb (rowCount 4 items) (rowCount 2 cells) h))
+      sym (checks-rest e ∙ first-fine v (surplus cells items) f ∙ ap (λ (t : Bool). cond t (Bad Want (itemRowCount items)) Fine) (le-ltb (itemRowCount items) (cellCount cells) h))
 
   -- what holds where none refuses
   pub checks-passed : inOrder (check Count b ∷ v ∷ surplus cells items ∷ []) ≡ Fine → (b ≡ false) × (v ≡ Fine) × (surplus cells items ≡ Fine)
@@ -57,11 +58,11 @@ module _ (cells items : List ℕ) (locals : ℕ) where
   unfolding planVerdict
   plan-item e r i f = checks-item (badCount cells items locals) (itemsVerdict cells items) cells items e r i f
 
-  pub plan-surplus : badCount cells items locals ≡ false → itemsVerdict cells items ≡ Fine → rowCount 4 items < rowCount 2 cells → Bad Want (rowCount 4 items) ≡ planVerdict cells items locals
+  pub plan-surplus : badCount cells items locals ≡ false → itemsVerdict cells items ≡ Fine → itemRowCount items < cellCount cells → Bad Want (itemRowCount items) ≡ planVerdict cells items locals
   unfolding planVerdict
   plan-surplus e f h = checks-surplus (badCount cells items locals) (itemsVerdict cells items) cells items e f h
 
-  pub plan-fine : badCount cells items locals ≡ false → itemsVerdict cells items ≡ Fine → rowCount 2 cells ≤ rowCount 4 items → Fine ≡ planVerdict cells items locals
+  pub plan-fine : badCount cells items locals ≡ false → itemsVerdict cells items ≡ Fine → cellCount cells ≤ itemRowCount items → Fine ≡ planVerdict cells items locals
   unfolding planVerdict
   plan-fine e f h = checks-fine (badCount cells items locals) (itemsVerdict cells items) cells items e f h
 
@@ -71,55 +72,55 @@ module _ (cells items : List ℕ) (locals : ℕ) where
 
   -- what holds of a plan that is not refused
   pub record Sound : Type 0 where
-    pub whole : (locals ≤ rowCount 4 items) × (rowCount 4 items ≤ 4096)
-    pub enough : rowCount 2 cells ≤ rowCount 4 items
+    pub whole : (locals ≤ itemRowCount items) × (itemRowCount items ≤ 4096)
+    pub enough : cellCount cells ≤ itemRowCount items
 
-  surplus-none : surplus cells items ≡ Fine → rowCount 2 cells ≤ rowCount 4 items
-  surplus-none e = go (ltb (rowCount 4 items) (rowCount 2 cells)) refl
+  surplus-none : surplus cells items ≡ Fine → cellCount cells ≤ itemRowCount items
+  surplus-none e = go (ltb (itemRowCount items) (cellCount cells)) refl
     where
-      go : (t : Bool) → ltb (rowCount 4 items) (rowCount 2 cells) ≡ t → rowCount 2 cells ≤ rowCount 4 items
-      go true f = let q : surplus cells items ≡ Bad Want (rowCount 4 items) = ap (λ (t : Bool). cond t (Bad Want (rowCount 4 items)) Fine) f in let z : _≡_ {A = ℕ} 0 1 = cc in absurd (omega arith)
+      go : (t : Bool) → ltb (itemRowCount items) (cellCount cells) ≡ t → cellCount cells ≤ itemRowCount items
+      go true f = let q : surplus cells items ≡ Bad Want (itemRowCount items) = ap (λ (t : Bool). cond t (Bad Want (itemRowCount items)) Fine) f in let z : _≡_ {A = ℕ} 0 1 = cc in absurd (omega arith)
       go false f = ltb-false _ _ f
 
   pub sound-of : badCount cells items locals ≡ false → surplus cells items ≡ Fine → Sound
   sound-of c s =
-      let (a, b) = or-neither (not (wholeRows 2 cells)) _ c in
-      let (d, f) = or-neither (not (wholeRows 4 items)) _ b in
-      let (g, h) = or-neither (ltb (rowCount 4 items) locals) _ f in
+      let (a, b) = or-neither (not (wholeRows cellWidth cells)) _ c in
+      let (d, f) = or-neither (not (wholeRows itemWidth items)) _ b in
+      let (g, h) = or-neither (ltb (itemRowCount items) locals) _ f in
       let (k, l) = or-neither (ltb 2048 locals) _ h in
       record {
-        whole = (ltb-false (rowCount 4 items) locals g, omega (arith, ltb-false (rowCount 4 items) locals g, ltb-false 2048 locals k, ltb-false 2048 (rowCount 4 items - locals) l));
+        whole = (ltb-false (itemRowCount items) locals g, omega (arith, ltb-false (itemRowCount items) locals g, ltb-false 2048 locals k, ltb-false 2048 (itemRowCount items - locals) l));
         enough = surplus-none s;
       }
 
-  pub locals-fit : badCount cells items locals ≡ false → locals ≤ rowCount 4 items
+  pub locals-fit : badCount cells items locals ≡ false → locals ≤ itemRowCount items
   locals-fit c =
-      let (a, b) = or-neither (not (wholeRows 2 cells)) _ c in
-      let (d, f) = or-neither (not (wholeRows 4 items)) _ b in
-      ltb-false _ _ (or-neither (ltb (rowCount 4 items) locals) _ f .0)
+      let (a, b) = or-neither (not (wholeRows cellWidth cells)) _ c in
+      let (d, f) = or-neither (not (wholeRows itemWidth items)) _ b in
+      ltb-false _ _ (or-neither (ltb (itemRowCount items) locals) _ f .0)
 
   pub sound : planVerdict cells items locals ≡ Fine → Sound
   sound e = let p = plan-passed e in sound-of (p .0) (p .2)
 
   -- each item names a cell
-  pub named : planVerdict cells items locals ≡ Fine → (i : ℕ) → i < rowCount 4 items → field 4 items i 0 < rowCount 2 cells
-  named e i h = leb-false _ _ (scan-fine Want (noCell cells items) (rowCount 4 items) (plan-passed e .1) i h)
+  pub named : planVerdict cells items locals ≡ Fine → (i : ℕ) → i < itemRowCount items → itemCell items i < cellCount cells
+  named e i h = leb-false _ _ (scan-fine Want (noCell cells items) (itemRowCount items) (plan-passed e .1) i h)
 
 -- ---- an item's cell
 
-pub names-none : (cells items : List ℕ) (i : ℕ) → rowCount 2 cells ≤ getD items (4 * i) 0 → noCell cells items i ≡ true
-names-none cells items i h = ap (λ (k : ℕ). leb (rowCount 2 cells) (getD items k 0)) (add-zero (4 * i)) ∙ le-leb (rowCount 2 cells) (getD items (4 * i) 0) h
+pub names-none : (cells items : List ℕ) (i : ℕ) → cellCount cells ≤ getD items (itemWidth * i) 0 → noCell cells items i ≡ true
+names-none cells items i h = ap (λ (k : ℕ). leb (cellCount cells) (getD items k 0)) (add-zero (itemWidth * i)) ∙ le-leb (cellCount cells) (getD items (itemWidth * i) 0) h
 
-pub names-one : (cells items : List ℕ) (i : ℕ) → getD items (4 * i) 0 < rowCount 2 cells → noCell cells items i ≡ false
-names-one cells items i h = ap (λ (k : ℕ). leb (rowCount 2 cells) (getD items k 0)) (add-zero (4 * i)) ∙ lt-leb (rowCount 2 cells) (getD items (4 * i) 0) h
+pub names-one : (cells items : List ℕ) (i : ℕ) → getD items (itemWidth * i) 0 < cellCount cells → noCell cells items i ≡ false
+names-one cells items i h = ap (λ (k : ℕ). leb (cellCount cells) (getD items k 0)) (add-zero (itemWidth * i)) ∙ lt-leb (cellCount cells) (getD items (itemWidth * i) 0) h
 
 -- ---- the test of one item
 
-pub item-nameless : (cells items : List ℕ) (ranges i : ℕ) → rowCount 2 cells ≤ getD items (4 * i) 0 → badItem cells items ranges i ≡ true
-item-nameless cells items ranges i h = ap (λ (t : Bool). t || outside ranges (field 4 items i 1) (field 4 items i 2) (field 4 items i 3)) (names-none cells items i h)
+pub item-nameless : (cells items : List ℕ) (ranges i : ℕ) → cellCount cells ≤ getD items (itemWidth * i) 0 → badItem cells items ranges i ≡ true
+item-nameless cells items ranges i h = ap (λ (t : Bool). t || outside ranges (itemPresent items i) (itemFirst items i) (itemRanges items i)) (names-none cells items i h)
 
-pub item-named : (cells items : List ℕ) (ranges i : ℕ) → getD items (4 * i) 0 < rowCount 2 cells → badItem cells items ranges i ≡ outside ranges (field 4 items i 1) (field 4 items i 2) (field 4 items i 3)
-item-named cells items ranges i h = ap (λ (t : Bool). t || outside ranges (field 4 items i 1) (field 4 items i 2) (field 4 items i 3)) (names-one cells items i h)
+pub item-named : (cells items : List ℕ) (ranges i : ℕ) → getD items (itemWidth * i) 0 < cellCount cells → badItem cells items ranges i ≡ outside ranges (itemPresent items i) (itemFirst items i) (itemRanges items i)
+item-named cells items ranges i h = ap (λ (t : Bool). t || outside ranges (itemPresent items i) (itemFirst items i) (itemRanges items i)) (names-one cells items i h)
 
 pub out-absent : (ranges present first count : ℕ) → present ≡ 0 → false ≡ outside ranges present first count
 out-absent ranges present first count e = sym (ap (λ (t : Bool). cond t false (ltb ranges (first + count))) (eq-eqb present 0 e))
@@ -138,39 +139,39 @@ module _ (cells items areas : List ℕ) (locals : ℕ) where
 
   pub parts-count : badCount cells items locals || badAreas areas ≡ true → Bad Count 0 ≡ sharedVerdict cells items areas locals
   unfolding sharedVerdict
-  parts-count e = checks-count (badCount cells items locals || badAreas areas) (partsVerdict cells items (rowCount 2 areas)) cells items e
+  parts-count e = checks-count (badCount cells items locals || badAreas areas) (partsVerdict cells items (rangeCount areas)) cells items e
 
   module _ (e : badCount cells items locals || badAreas areas ≡ false) where
-    pub parts-item : (r : Refusal) (i : ℕ) → partsVerdict cells items (rowCount 2 areas) ≡ Bad r i → Bad r i ≡ sharedVerdict cells items areas locals
+    pub parts-item : (r : Refusal) (i : ℕ) → partsVerdict cells items (rangeCount areas) ≡ Bad r i → Bad r i ≡ sharedVerdict cells items areas locals
     unfolding sharedVerdict
-    parts-item r i g = checks-item (badCount cells items locals || badAreas areas) (partsVerdict cells items (rowCount 2 areas)) cells items e r i g
+    parts-item r i g = checks-item (badCount cells items locals || badAreas areas) (partsVerdict cells items (rangeCount areas)) cells items e r i g
 
-    pub parts-surplus : partsVerdict cells items (rowCount 2 areas) ≡ Fine → rowCount 4 items < rowCount 2 cells → Bad Want (rowCount 4 items) ≡ sharedVerdict cells items areas locals
+    pub parts-surplus : partsVerdict cells items (rangeCount areas) ≡ Fine → itemRowCount items < cellCount cells → Bad Want (itemRowCount items) ≡ sharedVerdict cells items areas locals
     unfolding sharedVerdict
-    parts-surplus g h = checks-surplus (badCount cells items locals || badAreas areas) (partsVerdict cells items (rowCount 2 areas)) cells items e g h
+    parts-surplus g h = checks-surplus (badCount cells items locals || badAreas areas) (partsVerdict cells items (rangeCount areas)) cells items e g h
 
-    pub parts-fine : partsVerdict cells items (rowCount 2 areas) ≡ Fine → rowCount 2 cells ≤ rowCount 4 items → Fine ≡ sharedVerdict cells items areas locals
+    pub parts-fine : partsVerdict cells items (rangeCount areas) ≡ Fine → cellCount cells ≤ itemRowCount items → Fine ≡ sharedVerdict cells items areas locals
     unfolding sharedVerdict
-    parts-fine g h = checks-fine (badCount cells items locals || badAreas areas) (partsVerdict cells items (rowCount 2 areas)) cells items e g h
+    parts-fine g h = checks-fine (badCount cells items locals || badAreas areas) (partsVerdict cells items (rangeCount areas)) cells items e g h
 
   passed : sharedVerdict cells items areas locals ≡ Fine
-      → (badCount cells items locals || badAreas areas ≡ false) × (partsVerdict cells items (rowCount 2 areas) ≡ Fine) × (surplus cells items ≡ Fine)
+      → (badCount cells items locals || badAreas areas ≡ false) × (partsVerdict cells items (rangeCount areas) ≡ Fine) × (surplus cells items ≡ Fine)
   unfolding sharedVerdict
-  passed e = checks-passed (badCount cells items locals || badAreas areas) (partsVerdict cells items (rowCount 2 areas)) cells items e
+  passed e = checks-passed (badCount cells items locals || badAreas areas) (partsVerdict cells items (rangeCount areas)) cells items e
 
   pub shared-sound : sharedVerdict cells items areas locals ≡ Fine → Sound cells items locals
   shared-sound e = let p = passed e in sound-of cells items locals (or-neither (badCount cells items locals) (badAreas areas) (p .0) .0) (p .2)
 
-  pub part-inside : sharedVerdict cells items areas locals ≡ Fine → (i : ℕ) → i < rowCount 4 items → (field 4 items i 1 ≡ 0 → ⊥) → field 4 items i 2 + field 4 items i 3 ≤ rowCount 2 areas
+  pub part-inside : sharedVerdict cells items areas locals ≡ Fine → (i : ℕ) → i < itemRowCount items → (itemPresent items i ≡ 0 → ⊥) → itemFirst items i + itemRanges items i ≤ rangeCount areas
   part-inside e i h d =
-      let q = or-neither (noCell cells items i) _ (scan-fine Want (badItem cells items (rowCount 2 areas)) (rowCount 4 items) (passed e .1) i h) .1 in
-      ltb-false _ _ (out-present (rowCount 2 areas) (field 4 items i 1) (field 4 items i 2) (field 4 items i 3) d ∙ q)
+      let q = or-neither (noCell cells items i) _ (scan-fine Want (badItem cells items (rangeCount areas)) (itemRowCount items) (passed e .1) i h) .1 in
+      ltb-false _ _ (out-present (rangeCount areas) (itemPresent items i) (itemFirst items i) (itemRanges items i) d ∙ q)
 
 -- ---- `shared` with its part told
 
 module _ (cells items areas : List ℕ) (locals room : ℕ) where
   abbrev records : List Verdict
-  records = partsVerdict cells items (rowCount 2 areas) ∷ surplus cells items ∷ []
+  records = partsVerdict cells items (rangeCount areas) ∷ surplus cells items ∷ []
 
   pub told-count : badCount cells items locals || badAreas areas ≡ true → Bad Count 0 ≡ toldVerdict cells items areas locals room
   unfolding toldVerdict
@@ -199,31 +200,31 @@ module _ (cells items : List ℕ) (locals room : ℕ) where
 
   pub crowd-count : badCount cells items locals ≡ true → Bad Count 0 ≡ crowdedVerdict cells items locals room
   unfolding crowdedVerdict
-  crowd-count e = sym (check-bad Count (badCount cells items locals) (check Space (ltb room (rowCount 4 items - locals)) ∷ rest) e)
+  crowd-count e = sym (check-bad Count (badCount cells items locals) (check Space (ltb room (itemRowCount items - locals)) ∷ rest) e)
 
   module _ (e : badCount cells items locals ≡ false) where
-    pub crowd-space : room < rowCount 4 items - locals → Bad Space 0 ≡ crowdedVerdict cells items locals room
+    pub crowd-space : room < itemRowCount items - locals → Bad Space 0 ≡ crowdedVerdict cells items locals room
     unfolding crowdedVerdict
     crowd-space h =
-        sym (check-fine Count (badCount cells items locals) (check Space (ltb room (rowCount 4 items - locals)) ∷ rest) e
-        ∙ check-bad Space (ltb room (rowCount 4 items - locals)) rest (lt-ltb _ _ h))
+        sym (check-fine Count (badCount cells items locals) (check Space (ltb room (itemRowCount items - locals)) ∷ rest) e
+        ∙ check-bad Space (ltb room (itemRowCount items - locals)) rest (lt-ltb _ _ h))
 
-    pub crowd-plan : rowCount 4 items - locals ≤ room → planVerdict cells items locals ≡ crowdedVerdict cells items locals room
+    pub crowd-plan : itemRowCount items - locals ≤ room → planVerdict cells items locals ≡ crowdedVerdict cells items locals room
     unfolding planVerdict crowdedVerdict
     crowd-plan h =
         check-fine Count (badCount cells items locals) rest e
-        ∙ sym (check-fine Count (badCount cells items locals) (check Space (ltb room (rowCount 4 items - locals)) ∷ rest) e
-        ∙ check-fine Space (ltb room (rowCount 4 items - locals)) rest (le-ltb _ _ h))
+        ∙ sym (check-fine Count (badCount cells items locals) (check Space (ltb room (itemRowCount items - locals)) ∷ rest) e
+        ∙ check-fine Space (ltb room (itemRowCount items - locals)) rest (le-ltb _ _ h))
 
   -- what holds where nothing is refused
   pub record Roomy : Type 0 where
     pub plan : planVerdict cells items locals ≡ Fine
-    pub fits : rowCount 4 items - locals ≤ room
+    pub fits : itemRowCount items - locals ≤ room
 
   pub crowd-passed : crowdedVerdict cells items locals room ≡ Fine → Roomy
-  crowd-passed e = go (badCount cells items locals) refl (ltb room (rowCount 4 items - locals)) refl
+  crowd-passed e = go (badCount cells items locals) refl (ltb room (itemRowCount items - locals)) refl
     where
-      go : (b : Bool) → badCount cells items locals ≡ b → (s : Bool) → ltb room (rowCount 4 items - locals) ≡ s → Roomy
+      go : (b : Bool) → badCount cells items locals ≡ b → (s : Bool) → ltb room (itemRowCount items - locals) ≡ s → Roomy
       go true f s g = let q = crowd-count f in let z : _≡_ {A = ℕ} 0 1 = cc in absurd (omega arith)
       go false f true g = let q = crowd-space f (ltb-true _ _ g) in let z : _≡_ {A = ℕ} 0 1 = cc in absurd (omega arith)
       go false f false g = let l = ltb-false _ _ g in record { plan = crowd-plan f l ∙ e; fits = l }

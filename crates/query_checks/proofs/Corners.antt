@@ -8,6 +8,7 @@ use Rattle.refusals.specs.declared.Verdict.the-variants.{Fine, Bad}
 use Rattle.refusals.specs.declared.Refusal.the-variants.{Count, Space, Want}
 use Rattle.refusals.specs.Verdicts.{first, inOrder, scan}
 use Rattle.query_checks.specs.Checks.{badCount, planVerdict, badAreas, outside, sharedVerdict, crowdedVerdict}
+use Rattle.words.specs.Widths.{itemWidth, rangeWidth}
 
 -- three items, two locals and a slot, in two cells; the fields of an item are cell, present, first, count
 abbrev cells : List ℕ
@@ -24,11 +25,11 @@ pub counts : (badCount cells items 3 ≡ false) × (badCount cells items 4 ≡ t
 counts = (refl, refl, refl, refl, refl)
 
 -- "locals and slots 2,048 each", by how many numbers are lent: of 4,096 items 2,048 are locals, one more, one less
-pub item-limit : (items : List ℕ) → (length items ≡ 4 * 4096 → badCount [] items 2048 ≡ false) × (length items ≡ 4 * 4096 → badCount [] items 2049 ≡ true) × (length items ≡ 4 * 4096 → badCount [] items 2047 ≡ true)
+pub item-limit : (items : List ℕ) → (length items ≡ itemWidth * 4096 → badCount [] items 2048 ≡ false) × (length items ≡ itemWidth * 4096 → badCount [] items 2049 ≡ true) × (length items ≡ itemWidth * 4096 → badCount [] items 2047 ≡ true)
 item-limit items = (λ e. rw e refl, λ e. rw e refl, λ e. rw e refl)
 
 -- "the area list 65,536"
-pub area-limit : (areas : List ℕ) → (length areas ≡ 2 * 65536 → badAreas areas ≡ false) × (length areas ≡ 2 * 65537 → badAreas areas ≡ true)
+pub area-limit : (areas : List ℕ) → (length areas ≡ rangeWidth * 65536 → badAreas areas ≡ false) × (length areas ≡ rangeWidth * 65537 → badAreas areas ≡ true)
 area-limit areas = (λ e. rw e refl, λ e. rw e refl)
 
 pub areas-whole : badAreas (0 ∷ 1 ∷ 2 ∷ []) ≡ true

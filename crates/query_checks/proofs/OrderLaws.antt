@@ -9,13 +9,13 @@ use Rattle.refusals.specs.declared.Refusal.the-variants.{Count, Space, Want}
 use Rattle.refusals.specs.Verdicts.{numberOf}
 use Rattle.refusals.specs.Orders.{Gives, Ordered}
 use Rattle.refusals.proofs.Orders.{check-gives, scan-gives}
-use Rattle.words.specs.Rows.{rowCount}
+use Rattle.words.specs.Widths.{cellCount, itemRowCount}
 use Rattle.query_checks.specs.Checks.{badCount, surplus, badAreas, planChecks, sharedChecks, toldChecks, crowdedChecks}
 
 surplus-gives : (cells items : List ℕ) → Gives Want (surplus cells items)
-surplus-gives cells items = go (ltb (rowCount 4 items) (rowCount 2 cells))
+surplus-gives cells items = go (ltb (itemRowCount items) (cellCount cells))
   where
-    go : (t : Bool) → Gives Want (cond t (Bad Want (rowCount 4 items)) Fine)
+    go : (t : Bool) → Gives Want (cond t (Bad Want (itemRowCount items)) Fine)
     go true = refl
     go false = tt
 
@@ -30,4 +30,4 @@ module _ (cells items : List ℕ) (locals : ℕ) where
   told-ordered areas room = record { gives = (check-gives Count (badCount cells items locals || badAreas areas), (check-gives Space (ltb room 2), (scan-gives Want _ _, (surplus-gives cells items, tt)))); rises = refl }
 
   pub crowded-ordered : (room : ℕ) → Ordered numberOf (Count ∷ Space ∷ Want ∷ Want ∷ []) (crowdedChecks cells items locals room)
-  crowded-ordered room = record { gives = (check-gives Count (badCount cells items locals), (check-gives Space (ltb room (rowCount 4 items - locals)), (scan-gives Want _ _, (surplus-gives cells items, tt)))); rises = refl }
+  crowded-ordered room = record { gives = (check-gives Count (badCount cells items locals), (check-gives Space (ltb room (itemRowCount items - locals)), (scan-gives Want _ _, (surplus-gives cells items, tt)))); rises = refl }

@@ -5,6 +5,9 @@ ghost use Prim.Native.Nat.{_+_};
 ghost use Rattle.query_checks.specs.Checks.{badCount, itemsVerdict, planVerdict, badAreas, outside, partsVerdict, sharedVerdict, crowdedVerdict};
 use refusals::Refusal;
 use refusals::Verdict;
+use words::widths::cell;
+use words::widths::item;
+use words::widths::range;
 
 // The most locals, slots and ranges.
 const MOST: usize = 2048;
@@ -15,13 +18,13 @@ const RANGES: usize = 65536;
 fn bad_count(cells: &[u32], items: &[u32], locals: u32) -> bool
     ensures { λ r. ⌜ r ≡ badCount (now (cells .entry)) (now (items .entry)) locals ⌝ }
 {
-    if cells.len() % 2 != 0 {
+    if cells.len() % cell::WIDTH != 0 {
         return true;
     }
-    if items.len() % 4 != 0 {
+    if items.len() % item::WIDTH != 0 {
         return true;
     }
-    let n = items.len() / 4;
+    let n = items.len() / item::WIDTH;
     let l = locals as usize;
     if n < l {
         return true;
@@ -36,11 +39,11 @@ fn bad_count(cells: &[u32], items: &[u32], locals: u32) -> bool
 fn items_named(cells: &[u32], items: &[u32]) -> Verdict
     ensures { λ r. ⌜ r ≡ itemsVerdict (now (cells .entry)) (now (items .entry)) ⌝ }
 {
-    let count = cells.len() / 2;
-    let n = items.len() / 4;
+    let count = cells.len() / cell::WIDTH;
+    let n = items.len() / item::WIDTH;
     let mut i = 0;
     while i < n {
-        if count <= items[4 * i] as usize {
+        if count <= items[item::WIDTH * i] as usize {
             return Verdict::Bad(Refusal::Want, i);
         }
         i += 1;
@@ -59,8 +62,8 @@ pub fn plan(cells: &[u32], items: &[u32], locals: u32) -> Verdict
     if let Verdict::Bad(r, i) = v {
         return Verdict::Bad(r, i);
     }
-    if items.len() / 4 < cells.len() / 2 {
-        return Verdict::Bad(Refusal::Want, items.len() / 4);
+    if items.len() / item::WIDTH < cells.len() / cell::WIDTH {
+        return Verdict::Bad(Refusal::Want, items.len() / item::WIDTH);
     }
     Verdict::Fine
 }
@@ -69,10 +72,10 @@ pub fn plan(cells: &[u32], items: &[u32], locals: u32) -> Verdict
 fn bad_areas(areas: &[u32]) -> bool
     ensures { λ r. ⌜ r ≡ badAreas (now (areas .entry)) ⌝ }
 {
-    if areas.len() % 2 != 0 {
+    if areas.len() % range::WIDTH != 0 {
         return true;
     }
-    RANGES < areas.len() / 2
+    RANGES < areas.len() / range::WIDTH
 }
 
 // Whether a list of a plan with its areas is no whole rows, or a count is over its limit: number 1 of `shared`.
@@ -99,15 +102,20 @@ fn part_outside(ranges: usize, present: u32, first: u32, count: u32) -> bool
 fn items_within(cells: &[u32], items: &[u32], ranges: usize) -> Verdict
     ensures { λ r. ⌜ r ≡ partsVerdict (now (cells .entry)) (now (items .entry)) ranges ⌝ }
 {
-    let count = cells.len() / 2;
-    let n = items.len() / 4;
+    let count = cells.len() / cell::WIDTH;
+    let n = items.len() / item::WIDTH;
     let mut i = 0;
     while i < n {
-        let at = 4 * i;
+        let at = item::WIDTH * i;
         if count <= items[at] as usize {
             return Verdict::Bad(Refusal::Want, i);
         }
-        if part_outside(ranges, items[at + 1], items[at + 2], items[at + 3]) {
+        if part_outside(
+            ranges,
+            items[at + item::PRESENT],
+            items[at + item::FIRST],
+            items[at + item::RANGES],
+        ) {
             return Verdict::Bad(Refusal::Want, i);
         }
         i += 1;
@@ -122,12 +130,12 @@ pub fn parts(cells: &[u32], items: &[u32], areas: &[u32], locals: u32) -> Verdic
     if counts(cells, items, areas, locals) {
         return Verdict::Bad(Refusal::Count, 0);
     }
-    let v = items_within(cells, items, areas.len() / 2);
+    let v = items_within(cells, items, areas.len() / range::WIDTH);
     if let Verdict::Bad(r, i) = v {
         return Verdict::Bad(r, i);
     }
-    if items.len() / 4 < cells.len() / 2 {
-        return Verdict::Bad(Refusal::Want, items.len() / 4);
+    if items.len() / item::WIDTH < cells.len() / cell::WIDTH {
+        return Verdict::Bad(Refusal::Want, items.len() / item::WIDTH);
     }
     Verdict::Fine
 }
@@ -139,7 +147,7 @@ pub fn crowd(cells: &[u32], items: &[u32], locals: u32, room: usize) -> Verdict
     if bad_count(cells, items, locals) {
         return Verdict::Bad(Refusal::Count, 0);
     }
-    if room < items.len() / 4 - locals as usize {
+    if room < items.len() / item::WIDTH - locals as usize {
         return Verdict::Bad(Refusal::Space, 0);
     }
     plan(cells, items, locals)

@@ -8,32 +8,33 @@ use native.Mathlib.Omega.{arith}
 use lib.ListN.{length}
 use Rattle.words.proofs.FitLaws.{Word, word}
 use Rattle.reach.proofs.MarkLaws.{Linking}
+use Rattle.words.specs.Widths.{instWidth, operandWidth}
 
 -- how many operands instruction i has is read, of a list of n numbers
 pub record CountAt (n i : ℕ) : Type 0 where
-  pub row : Fits w64 (9 * i)
-  pub fits : Fits w64 (9 * i + 8)
-  pub in-bytes : Fits w64 ((9 * i + 8) * 4)
-  pub inside : 9 * i + 8 < n
+  pub row : Fits w64 (instWidth * i)
+  pub fits : Fits w64 (instWidth * i + 8)
+  pub in-bytes : Fits w64 ((instWidth * i + 8) * 4)
+  pub inside : instWidth * i + 8 < n
 
 pub count-at : (n i : ℕ) → i < n / 9 → n * 4 < 2 ^ 63 → CountAt n i
 count-at n i h r =
-    let x : 9 * i + 8 < n = omega arith in
+    let x : instWidth * i + 8 < n = omega arith in
     record { row = omega (arith, r, x); fits = omega (arith, r, x); in-bytes = omega (arith, r, x); inside = x }
 
 -- the register of operand p of the n from `from` on is read, of a list of m numbers
 pub record OperandAt (m from p : ℕ) : Type 0 where
   pub place : Fits w64 (from + p)
-  pub row : Fits w64 (2 * (from + p))
-  pub fits : Fits w64 (2 * (from + p) + 1)
-  pub in-bytes : Fits w64 ((2 * (from + p) + 1) * 4)
-  pub inside : 2 * (from + p) + 1 < m
+  pub row : Fits w64 (operandWidth * (from + p))
+  pub fits : Fits w64 (operandWidth * (from + p) + 1)
+  pub in-bytes : Fits w64 ((operandWidth * (from + p) + 1) * 4)
+  pub inside : operandWidth * (from + p) + 1 < m
   pub low : from + p < m / 2
   pub next : Fits w64 (p + 1)
 
 pub operand-at : (m from n p : ℕ) → from + n ≤ m / 2 → p < n → m * 4 < 2 ^ 63 → OperandAt m from p
 operand-at m from n p h k r =
-    let x : 2 * (from + p) + 1 < m = omega arith in
+    let x : operandWidth * (from + p) + 1 < m = omega arith in
     record { place = omega (arith, r, x); row = omega (arith, r, x); fits = omega (arith, r, x); in-bytes = omega (arith, r, x); inside = x; low = omega arith; next = omega (arith, r, x) }
 
 -- a register below v and an instruction as one key

@@ -7,7 +7,7 @@ use mathlib.Core.Option.{Option, some, none}
 use mathlib.Core.List.{List, [], _∷_}
 use lib.ListN.{length}
 use lib.Dec.{eqb}
-use Rattle.words.specs.Rows.{rowCount, field}
+use Rattle.words.specs.Widths.{mentionWidth, mentionCount, mentionInst, mentionLocal}
 use Rattle.words.proofs.RowLaws.{length-records, getD-records}
 use Rattle.words.proofs.Bools.{both-ways}
 use Rattle.carrying.specs.Lists.{any, keep}
@@ -32,11 +32,11 @@ latest-same f g m zero e = refl
 latest-same f g m (suc k) e =
     ap (λ (x : ℕ). cond (eqb x m) (suc k) (latest f m k)) (e k (omega arith)) ∙ ap (λ (x : ℕ). cond (eqb (g k) m) (suc k) x) (latest-same f g m k (λ a h. e a (omega arith)))
 
-pub local-is : (s : List ℕ) (a : ℕ) → a < rowCount 2 s → rowLocal s a ≡ localOf (mentionsOf s) a
-local-is s a h = sym (ap (λ (m : Mention). m .local) (getD-records 2 (λ f. record { inst = f 0; local = f 1 }) s a (record { inst = 0; local = 0 }) h))
+pub local-is : (s : List ℕ) (a : ℕ) → a < mentionCount s → rowLocal s a ≡ localOf (mentionsOf s) a
+local-is s a h = sym (ap (λ (m : Mention). m .local) (getD-records mentionWidth (λ f. record { inst = f 0; local = f 1 }) s a (record { inst = 0; local = 0 }) h))
 
-pub mentions-count : (s : List ℕ) → length (mentionsOf s) ≡ rowCount 2 s
-mentions-count s = length-records 2 (λ f. record { inst = f 0; local = f 1 }) s
+pub mentions-count : (s : List ℕ) → length (mentionsOf s) ≡ mentionCount s
+mentions-count s = length-records mentionWidth (λ f. record { inst = f 0; local = f 1 }) s
 
 pub empty-keep : {A : Type 0} (p : A → Bool) (l : List A) → empty (keep p l) ≡ not (any p l)
 unfolding keep any
@@ -57,12 +57,12 @@ any-keep p q (a ∷ l) = go (q a) (any-keep p q l)
     go false e = e
 
 -- some row passes, by its record or by its numbers
-pub any-rows : (p : Mention → Bool) (s : List ℕ) (f : ℕ → Bool) → ((k : ℕ) → k < rowCount 2 s → p (record { inst = field 2 s k 0; local = field 2 s k 1 }) ≡ f k)
-    → any p (mentionsOf s) ≡ Some (rowCount 2 s) f
+pub any-rows : (p : Mention → Bool) (s : List ℕ) (f : ℕ → Bool) → ((k : ℕ) → k < mentionCount s → p (record { inst = mentionInst s k; local = mentionLocal s k }) ≡ f k)
+    → any p (mentionsOf s) ≡ Some (mentionCount s) f
 any-rows p s f e = both-ways _ _
     (λ t.
-    let (k, h, u) = entry-index p (rowCount 2 s) (λ k. record { inst = field 2 s k 0; local = field 2 s k 1 }) t in
-    some-at (rowCount 2 s) f k h (sym (e k h) ∙ u))
+    let (k, h, u) = entry-index p (mentionCount s) (λ k. record { inst = mentionInst s k; local = mentionLocal s k }) t in
+    some-at (mentionCount s) f k h (sym (e k h) ∙ u))
     (λ t.
-    let (k, h, u) = some-index (rowCount 2 s) f t in
-    index-entry p (rowCount 2 s) (λ k. record { inst = field 2 s k 0; local = field 2 s k 1 }) k h (e k h ∙ u))
+    let (k, h, u) = some-index (mentionCount s) f t in
+    index-entry p (mentionCount s) (λ k. record { inst = mentionInst s k; local = mentionLocal s k }) k h (e k h ∙ u))

@@ -10,6 +10,7 @@ use lib.ListN.{length, getD, set, length-set}
 use lib.Seq.{getD-set-same, getD-set-other}
 use borrow.Author.Tests.{not-true, not-false}
 use Rattle.words.specs.Rows.{field}
+use Rattle.words.specs.Widths.{instWidth, instCount, instPlaced, instLea, instMem, instBase, instIndex, instOperands, operandCount}
 use Rattle.words.proofs.Points.{cut, same}
 use Rattle.bits.specs.Bits.{bit, bitOf}
 use Rattle.graph.proofs.Within.{within-refl, within-trans, within-wider}
@@ -61,26 +62,26 @@ each-row f ps r p [] = refl
 each-row f ps r p (o ∷ os) = ap (λ (t : Bool). (not (isUse r o) || addressPosition (addressing (f 6) (f 7)) p) && t) (each-row f ps r (suc p) os)
 
 module _ (insts operands : List ℕ) (i from : ℕ) where
-  pub unplaced-stray : not (isSet (field 9 insts i 0)) ≡ true → (r : ℕ) → strayReader (rowOf insts operands i from) r ≡ false
-  unplaced-stray e r = rw (not-true (isSet (field 9 insts i 0)) e)
+  pub unplaced-stray : not (isSet (instPlaced insts i)) ≡ true → (r : ℕ) → strayReader (rowOf insts operands i from) r ≡ false
+  unplaced-stray e r = rw (not-true (isSet (instPlaced insts i)) e)
 
-  pub placed-stray : not (isSet (field 9 insts i 0)) ≡ false → (n : ℕ) → n ≡ field 9 insts i 8 → (r : ℕ)
-      → escapesIn (field 9 insts i 5) (field 9 insts i 6) (field 9 insts i 7) (operandsFrom operands from n) r ≡ strayReader (rowOf insts operands i from) r
+  pub placed-stray : not (isSet (instPlaced insts i)) ≡ false → (n : ℕ) → n ≡ instOperands insts i → (r : ℕ)
+      → escapesIn (instMem insts i) (instBase insts i) (instIndex insts i) (operandsFrom operands from n) r ≡ strayReader (rowOf insts operands i from) r
   placed-stray e n q r =
-      ap (λ (k : ℕ). escapesIn (field 9 insts i 5) (field 9 insts i 6) (field 9 insts i 7) (operandsFrom operands from k) r) q
-      ∙ rw (not-false (isSet (field 9 insts i 0)) e) (ap (λ (t : Bool). any (isUse r) (operandsFrom operands from (field 9 insts i 8)) && not (isSet (field 9 insts i 5) && t))
-      (sym (each-row (field 9 insts i) (operandsFrom operands from (field 9 insts i 8)) r 0 (operandsFrom operands from (field 9 insts i 8)))))
+      ap (λ (k : ℕ). escapesIn (instMem insts i) (instBase insts i) (instIndex insts i) (operandsFrom operands from k) r) q
+      ∙ rw (not-false (isSet (instPlaced insts i)) e) (ap (λ (t : Bool). any (isUse r) (operandsFrom operands from (instOperands insts i)) && not (isSet (instMem insts i) && t))
+      (sym (each-row (field instWidth insts i) (operandsFrom operands from (instOperands insts i)) r 0 (operandsFrom operands from (instOperands insts i)))))
 
-  pub no-lea : (isSet (field 9 insts i 0) && (isSet (field 9 insts i 4) && isSet (field 9 insts i 5))) ≡ false → (r : ℕ) → leaReader (rowOf insts operands i from) r ≡ false
-  no-lea e r = lea-no (isSet (field 9 insts i 0)) (isSet (field 9 insts i 4)) (isSet (field 9 insts i 5)) _ _ e
+  pub no-lea : (isSet (instPlaced insts i) && (isSet (instLea insts i) && isSet (instMem insts i))) ≡ false → (r : ℕ) → leaReader (rowOf insts operands i from) r ≡ false
+  no-lea e r = lea-no (isSet (instPlaced insts i)) (isSet (instLea insts i)) (isSet (instMem insts i)) _ _ e
 
-  pub placed-lea : (isSet (field 9 insts i 0) && (isSet (field 9 insts i 4) && isSet (field 9 insts i 5))) ≡ true → (n : ℕ) → n ≡ field 9 insts i 8 → (r : ℕ)
-      → handsIn (field 9 insts i 6) (field 9 insts i 7) (operandsFrom operands from n) r ≡ leaReader (rowOf insts operands i from) r
+  pub placed-lea : (isSet (instPlaced insts i) && (isSet (instLea insts i) && isSet (instMem insts i))) ≡ true → (n : ℕ) → n ≡ instOperands insts i → (r : ℕ)
+      → handsIn (instBase insts i) (instIndex insts i) (operandsFrom operands from n) r ≡ leaReader (rowOf insts operands i from) r
   placed-lea e n q r =
-      ap (λ (k : ℕ). handsIn (field 9 insts i 6) (field 9 insts i 7) (operandsFrom operands from k) r) q
-      ∙ ap (λ (t : Bool). any (isUse r) (operandsFrom operands from (field 9 insts i 8)) && t)
-      (sym (each-row (field 9 insts i) (operandsFrom operands from (field 9 insts i 8)) r 0 (operandsFrom operands from (field 9 insts i 8))))
-      ∙ lea-yes (isSet (field 9 insts i 0)) (isSet (field 9 insts i 4)) (isSet (field 9 insts i 5)) _ _ e
+      ap (λ (k : ℕ). handsIn (instBase insts i) (instIndex insts i) (operandsFrom operands from k) r) q
+      ∙ ap (λ (t : Bool). any (isUse r) (operandsFrom operands from (instOperands insts i)) && t)
+      (sym (each-row (field instWidth insts i) (operandsFrom operands from (instOperands insts i)) r 0 (operandsFrom operands from (instOperands insts i))))
+      ∙ lea-yes (isSet (instPlaced insts i)) (isSet (instLea insts i)) (isSet (instMem insts i)) _ _ e
 
 -- ---- one instruction
 
@@ -182,9 +183,9 @@ module _ (v : ℕ) (insts operands : List ℕ) (lay : Lay) where
     has = λ q j l. absurd (omega arith);
   }
 
-  module _ (adds : AddsUp insts operands) (fits : lay .edges + length operands / 2 ≤ lay .heads) where
-    pub scan-more : {w₀ w w' : List ℕ} {i n n' : ℕ} → Scanning v (instsOf insts operands) insts lay w₀ w i n → i < length insts / 9 → (from : ℕ) → from ≡ offset insts i
-        → Added w w' lay v (rowOf insts operands i from) i (field 9 insts i 8) n n' → Scanning v (instsOf insts operands) insts lay w₀ w' (i + 1) n'
+  module _ (adds : AddsUp insts operands) (fits : lay .edges + operandCount operands ≤ lay .heads) where
+    pub scan-more : {w₀ w w' : List ℕ} {i n n' : ℕ} → Scanning v (instsOf insts operands) insts lay w₀ w i n → i < instCount insts → (from : ℕ) → from ≡ offset insts i
+        → Added w w' lay v (rowOf insts operands i from) i (instOperands insts i) n n' → Scanning v (instsOf insts operands) insts lay w₀ w' (i + 1) n'
     scan-more {w₀} {w} {w'} {i} {n} {n'} s h from e a = record {
       kept = within-trans (s .kept) (within-wider (lay .escapes) (lay .heads) (omega arith) within (b .kept));
       few = few;
@@ -215,15 +216,15 @@ module _ (v : ℕ) (insts operands : List ℕ) (lay : Lay) where
         is : List Inst
         is = instsOf insts operands
 
-        b : Added w w' lay v (instAt is i) i (field 9 insts i 8) n n'
-        b = subst (λ (x : Inst). Added w w' lay v x i (field 9 insts i 8) n n')
+        b : Added w w' lay v (instAt is i) i (instOperands insts i) n n'
+        b = subst (λ (x : Inst). Added w w' lay v x i (instOperands insts i) n n')
             (ap (λ (k : ℕ). rowOf insts operands i k) e ∙ sym (inst-at insts operands adds i h)) a
 
         listed : i < length is
         listed = rw (insts-length insts operands) h
 
         few : n' ≤ offset insts (i + 1)
-        few = let p = b .few in let q = s .few in let z = sum-next (λ k. field 9 insts k 8) i in omega arith
+        few = let p = b .few in let q = s .few in let z = sum-next (λ k. instOperands insts k) i in omega arith
 
         within : lay .edges + n' ≤ lay .heads
         within = let p = b .few in let q = s .few in let z = operands-within insts operands adds i h in omega arith

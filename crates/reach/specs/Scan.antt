@@ -6,6 +6,7 @@ use mathlib.Core.Bool.{Bool, true, false, not, _&&_, _||_}
 use mathlib.Core.List.{List}
 use lib.ListN.{length, getD}
 use Rattle.words.specs.Rows.{tabulate, field}
+use Rattle.words.specs.Widths.{instWidth, instOperands}
 use Rattle.bits.specs.Bits.{bit}
 use Rattle.graph.specs.Work.{Within}
 use Rattle.carrying.specs.Lists.{any}
@@ -39,7 +40,7 @@ pub record Linked (w₀ w : List ℕ) (at v j m n₀ n : ℕ) (f : ℕ → Bool)
 
 -- instruction i with the operands from `from` on
 abbrev pub rowOf : List ℕ → List ℕ → ℕ → ℕ → Inst
-rowOf insts operands i from = instOf (field 9 insts i) (operandsFrom operands from (field 9 insts i 8))
+rowOf insts operands i from = instOf (field instWidth insts i) (operandsFrom operands from (instOperands insts i))
 
 -- a reader other than an addressed one
 abbrev pub strayReader : Inst → ℕ → Bool

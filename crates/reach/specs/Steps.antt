@@ -2,7 +2,8 @@
 use Prim.Native.Nat.{ℕ, _+_, _*_}
 use mathlib.Core.List.{List}
 use lib.ListN.{getD}
+use Rattle.words.specs.Widths.{mentionLocal}
 
 -- the local of row a
 abbrev pub rowLocal : List ℕ → ℕ → ℕ
-rowLocal s a = getD s (2 * a + 1) 0
+rowLocal s a = mentionLocal s a

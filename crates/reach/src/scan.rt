@@ -4,13 +4,15 @@ ghost use mathlib.Core.Bool.{not, _&&_};
 ghost use Prim.Native.Nat.{_+_, _*_, _/_, _≤_, _<_};
 ghost use lib.ListN.{length};
 ghost use lib.Dec.{ltb};
-ghost use Rattle.words.specs.Rows.{field};
+ghost use Rattle.words.specs.Widths.{instCount, instOperands, operandCount};
 ghost use Rattle.carrying.specs.Insts.{instsOf, isSet, addressPosition, eachAddress, defOf};
 ghost use Rattle.insts.specs.Rows.{operandAt, operandsFrom, AddsUp};
 ghost use Rattle.operands.specs.Numbers.{defNumber, addressing};
 ghost use Rattle.reach.specs.Prepared.{wordsOf};
 ghost use Rattle.reach.specs.Scan.{Marked, Linked, escapesIn, handsIn, rowOf, strayReader, Handing, Added, Blank, Scanning};
 use crate::Lay;
+use words::widths::inst;
+use words::widths::operand;
 
 fn wide(x: u32) -> usize
     ensures { λ r. ⌜ r ≡ x ⌝ }
@@ -20,14 +22,14 @@ fn wide(x: u32) -> usize
 
 // Whether operand `i`, at position `p`, uses a numbered register other than as the base or the index.
 fn strays(operands: &[u32], i: usize, p: usize, v: u32, mem: u32, base: u32, index: u32) -> bool
-    requires { ⌜ i < length (now operands) / 2 ⌝ }
+    requires { ⌜ i < operandCount (now operands) ⌝ }
     ensures { λ t. ⌜ t ≡ (not (isSet (operandAt (now (operands .entry)) i .def)) &&
         (ltb (operandAt (now (operands .entry)) i .register) v && not (isSet mem && addressPosition (addressing base index) p))) ⌝ }
 {
-    if operands[2 * i] == 1 {
+    if operands[operand::WIDTH * i] == 1 {
         return false;
     }
-    if v <= operands[2 * i + 1] {
+    if v <= operands[operand::WIDTH * i + operand::REGISTER] {
         return false;
     }
     if mem != 1 {
@@ -48,13 +50,13 @@ fn escape(
     work: &mut [u64],
     row: usize,
 )
-    requires { ⌜ (from + n ≤ length (now operands) / 2) × (row + wordsOf v ≤ length (now work)) ⌝ }
+    requires { ⌜ (from + n ≤ operandCount (now operands)) × (row + wordsOf v ≤ length (now work)) ⌝ }
     ensures { λ _. ⌜ Marked (now (work .entry)) (now (work .exit)) row v (escapesIn mem base index (operandsFrom (now (operands .entry)) from n)) ⌝ }
 {
     let mut p = 0;
     while p < n {
         if strays(operands, from + p, p, v, mem, base, index) {
-            let r = wide(operands[2 * (from + p) + 1]);
+            let r = wide(operands[operand::WIDTH * (from + p) + operand::REGISTER]);
             bits::set(work, row, r);
             p += 1;
         } else {
@@ -65,17 +67,17 @@ fn escape(
 
 // Whether operand `p` of the `n` from `from` on is the base or the index, of a numbered register of which each use is one of the two.
 fn handed(operands: &[u32], from: usize, n: usize, p: usize, v: u32, base: u32, index: u32) -> bool
-    requires { ⌜ (from + n ≤ length (now operands) / 2) × (p < n) ⌝ }
+    requires { ⌜ (from + n ≤ operandCount (now operands)) × (p < n) ⌝ }
     ensures { λ t. ⌜ t ≡ (not (isSet (operandAt (now (operands .entry)) (from + p) .def)) &&
         (ltb (operandAt (now (operands .entry)) (from + p) .register) v &&
         (addressPosition (addressing base index) p && eachAddress (addressing base index) (operandAt (now (operands .entry)) (from + p) .register) 0
         (operandsFrom (now (operands .entry)) from n)))) ⌝ }
 {
     let i = from + p;
-    if operands[2 * i] == 1 {
+    if operands[operand::WIDTH * i] == 1 {
         return false;
     }
-    let r = operands[2 * i + 1];
+    let r = operands[operand::WIDTH * i + operand::REGISTER];
     if v <= r {
         return false;
     }
@@ -96,13 +98,13 @@ fn stick(
     work: &mut [u64],
     row: usize,
 )
-    requires { ⌜ (from + n ≤ length (now operands) / 2) × (row + wordsOf v ≤ length (now work)) ⌝ }
+    requires { ⌜ (from + n ≤ operandCount (now operands)) × (row + wordsOf v ≤ length (now work)) ⌝ }
     ensures { λ _. ⌜ Marked (now (work .entry)) (now (work .exit)) row v (handsIn base index (operandsFrom (now (operands .entry)) from n)) ⌝ }
 {
     let mut p = 0;
     while p < n {
         if handed(operands, from, n, p, v, base, index) {
-            let r = wide(operands[2 * (from + p) + 1]);
+            let r = wide(operands[operand::WIDTH * (from + p) + operand::REGISTER]);
             bits::set(work, row, r);
             p += 1;
         } else {
@@ -124,14 +126,14 @@ fn link(
     at: usize,
     count: usize,
 ) -> usize
-    requires { ⌜ (from + n ≤ length (now operands) / 2) × (at + count + n ≤ length (now work)) × (inst < 65536) × (v ≤ 65535) ⌝ }
+    requires { ⌜ (from + n ≤ operandCount (now operands)) × (at + count + n ≤ length (now work)) × (inst < 65536) × (v ≤ 65535) ⌝ }
     ensures { λ r. ⌜ Linked (now (work .entry)) (now (work .exit)) at v inst n count r (handsIn base index (operandsFrom (now (operands .entry)) from n)) ⌝ }
 {
     let mut k = count;
     let mut p = 0;
     while p < n {
         if handed(operands, from, n, p, v, base, index) {
-            let r = operands[2 * (from + p) + 1] as u64;
+            let r = operands[operand::WIDTH * (from + p) + operand::REGISTER] as u64;
             work[at + k] = r * 4294967296 + inst as u64;
             k += 1;
             p += 1;
@@ -153,21 +155,21 @@ fn escapes(
     work: &mut [u64],
     row: usize,
 )
-    requires { ⌜ (i < length (now insts) / 9) × (n ≡ field 9 (now insts) i 8) × (from + n ≤ length (now operands) / 2) × (row + wordsOf v ≤ length (now work)) ⌝ }
+    requires { ⌜ (i < instCount (now insts)) × (n ≡ instOperands (now insts) i) × (from + n ≤ operandCount (now operands)) × (row + wordsOf v ≤ length (now work)) ⌝ }
     ensures { λ _. ⌜ Marked (now (work .entry)) (now (work .exit)) row v (strayReader (rowOf (now (insts .entry)) (now (operands .entry)) i from)) ⌝ }
 {
     if inst_flags::unplaced(insts, i) {
         return;
     }
-    let at = 9 * i;
+    let at = inst::WIDTH * i;
     escape(
         operands,
         from,
         n,
         v,
-        insts[at + 5],
-        insts[at + 6],
-        insts[at + 7],
+        insts[at + inst::MEM],
+        insts[at + inst::BASE],
+        insts[at + inst::INDEX],
         work,
         row,
     );
@@ -186,15 +188,15 @@ fn hand(
     lay: Lay,
     count: usize,
 ) -> usize
-    requires { ⌜ (i < length (now insts) / 9) × (n ≡ field 9 (now insts) i 8) × (from + n ≤ length (now operands) / 2) × (i < 65536) × (v ≤ 65535) ⌝ }
+    requires { ⌜ (i < instCount (now insts)) × (n ≡ instOperands (now insts) i) × (from + n ≤ operandCount (now operands)) × (i < 65536) × (v ≤ 65535) ⌝ }
     requires { ⌜ (lay .dead + wordsOf v ≤ lay .edges) × (lay .edges + count + n ≤ length (now work)) ⌝ }
     requires { ⌜ def ≡ defNumber (defOf v (rowOf (now insts) (now operands) i from)) ⌝ }
-    ensures { λ r. ⌜ Handing (now (work .entry)) (now (work .exit)) lay v (rowOf (now (insts .entry)) (now (operands .entry)) i from) i (field 9 (now (insts .entry)) i 8) count r ⌝ }
+    ensures { λ r. ⌜ Handing (now (work .entry)) (now (work .exit)) lay v (rowOf (now (insts .entry)) (now (operands .entry)) i from) i (instOperands (now (insts .entry)) i) count r ⌝ }
 {
     if inst_flags::handing(insts, i) {
-        let at = 9 * i;
-        let base = insts[at + 6];
-        let index = insts[at + 7];
+        let at = inst::WIDTH * i;
+        let base = insts[at + inst::BASE];
+        let index = insts[at + inst::INDEX];
         if def == 0 {
             stick(operands, from, n, v, base, index, work, lay.dead);
             return count;
@@ -215,11 +217,11 @@ fn one(
     lay: Lay,
     count: usize,
 ) -> usize
-    requires { ⌜ (i < length (now insts) / 9) × (from + field 9 (now insts) i 8 ≤ length (now operands) / 2) × (i < 65536) × (v ≤ 65535) ⌝ }
-    requires { ⌜ (lay .escapes + wordsOf v ≤ lay .dead) × (lay .dead + wordsOf v ≤ lay .defs) × (lay .defs + i < lay .edges) × (lay .edges + count + field 9 (now insts) i 8 ≤ length (now work)) ⌝ }
-    ensures { λ r. ⌜ Added (now (work .entry)) (now (work .exit)) lay v (rowOf (now (insts .entry)) (now (operands .entry)) i from) i (field 9 (now (insts .entry)) i 8) count r ⌝ }
+    requires { ⌜ (i < instCount (now insts)) × (from + instOperands (now insts) i ≤ operandCount (now operands)) × (i < 65536) × (v ≤ 65535) ⌝ }
+    requires { ⌜ (lay .escapes + wordsOf v ≤ lay .dead) × (lay .dead + wordsOf v ≤ lay .defs) × (lay .defs + i < lay .edges) × (lay .edges + count + instOperands (now insts) i ≤ length (now work)) ⌝ }
+    ensures { λ r. ⌜ Added (now (work .entry)) (now (work .exit)) lay v (rowOf (now (insts .entry)) (now (operands .entry)) i from) i (instOperands (now (insts .entry)) i) count r ⌝ }
 {
-    let n = wide(insts[9 * i + 8]);
+    let n = wide(insts[inst::WIDTH * i + inst::OPERANDS]);
     let def = operands::def(operands, from, n, v);
     let defs = lay.defs;
     work[defs + i] = def as u64;
@@ -229,18 +231,18 @@ fn one(
 
 // The pass over all instructions; how many edges there are.
 pub fn scan(insts: &[u32], operands: &[u32], v: u32, work: &mut [u64], lay: Lay) -> usize
-    requires { ⌜ AddsUp (now insts) (now operands) × (length (now insts) / 9 ≤ 65536) × (v ≤ 65535) × Blank v lay (now work) ⌝ }
-    requires { ⌜ (lay .escapes + wordsOf v ≤ lay .dead) × (lay .dead + wordsOf v ≤ lay .defs) × (lay .defs + length (now insts) / 9 ≤ lay .edges)
-        × (lay .edges + length (now operands) / 2 ≤ lay .heads) × (lay .heads ≤ length (now work)) ⌝ }
-    ensures { λ r. ⌜ Scanning v (instsOf (now (insts .entry)) (now (operands .entry))) (now (insts .entry)) lay (now (work .entry)) (now (work .exit)) (length (now (insts .entry)) / 9) r ⌝ }
+    requires { ⌜ AddsUp (now insts) (now operands) × (instCount (now insts) ≤ 65536) × (v ≤ 65535) × Blank v lay (now work) ⌝ }
+    requires { ⌜ (lay .escapes + wordsOf v ≤ lay .dead) × (lay .dead + wordsOf v ≤ lay .defs) × (lay .defs + instCount (now insts) ≤ lay .edges)
+        × (lay .edges + operandCount (now operands) ≤ lay .heads) × (lay .heads ≤ length (now work)) ⌝ }
+    ensures { λ r. ⌜ Scanning v (instsOf (now (insts .entry)) (now (operands .entry))) (now (insts .entry)) lay (now (work .entry)) (now (work .exit)) (instCount (now (insts .entry))) r ⌝ }
 {
-    let m = insts.len() / 9;
+    let m = insts.len() / inst::WIDTH;
     let mut count = 0;
     let mut from = 0;
     let mut i = 0;
     while i < m {
         count = one(insts, operands, i, from, v, work, lay, count);
-        from += wide(insts[9 * i + 8]);
+        from += wide(insts[inst::WIDTH * i + inst::OPERANDS]);
         i += 1;
     }
     count

@@ -5,8 +5,8 @@ use mathlib.Core.Path.{_≡_, refl, sym, ap, subst, _∙_}
 use mathlib.Core.Option.{some, none}
 use mathlib.Core.List.{List, [], _∷_, _++_}
 use lib.ListN.{length}
-use Rattle.words.specs.Rows.{rowCount}
 use Rattle.words.specs.Regions.{part, Kept}
+use Rattle.words.specs.Widths.{blockCount, pieceCount, moveCount}
 use Rattle.words.proofs.RegionLaws.{length-part, kept-part-list}
 use Rattle.ranges.specs.declared.Range.{Range}
 use Rattle.ranges.specs.Merged.{merged, Permuted}
@@ -44,7 +44,7 @@ some-moves ps [] h = absurd (omega arith)
 some-moves ps (m ∷ ms) h = refl
 
 module _ {points : ℕ} {blocks insts moves : List ℕ} {slot to : ℕ} {w₀ w₁ : List ℕ} {c : ℕ} (F : Fetched points blocks insts moves slot to w₀ w₁ c)
-    (top : ℕ) (e : top ≡ to + rowCount 4 moves + rowCount 4 moves) (fits : top ≤ length w₀) where
+    (top : ℕ) (e : top ≡ to + moveCount moves + moveCount moves) (fits : top ≤ length w₀) where
   pub perm : Permuted (unpacked (part (top - c) c w₁)) (moved points (blocksOf blocks) (instsOf insts []) (movesOf moves) slot)
   perm =
       subst (λ (rs : List Range). Permuted rs (moved points (blocksOf blocks) (instsOf insts []) (movesOf moves) slot))
@@ -87,12 +87,12 @@ some-live : (l ms : List Range) → 0 < length l → liveArea l ms ≡ some (mer
 some-live [] ms h = absurd (omega arith)
 some-live (x ∷ l) ms h = refl
 
-module _ (points : ℕ) (blocks insts moves pieces : List ℕ) (slot : ℕ) {p : Places} {register : ℕ} {w₀ w₁ : List ℕ} {n : ℕ} (D : Laid p (rowCount 3 blocks) (rowCount 4 moves) w₀)
-    (top : ℕ) (e : top ≡ p .to + rowCount 4 moves + rowCount 4 moves) (fits : top + rowCount 3 pieces ≤ length w₀) (L : LiveFetched pieces register top w₀ w₁ n) where
+module _ (points : ℕ) (blocks insts moves pieces : List ℕ) (slot : ℕ) {p : Places} {register : ℕ} {w₀ w₁ : List ℕ} {n : ℕ} (D : Laid p (blockCount blocks) (moveCount moves) w₀)
+    (top : ℕ) (e : top ≡ p .to + moveCount moves + moveCount moves) (fits : top + pieceCount pieces ≤ length w₀) (L : LiveFetched pieces register top w₀ w₁ n) where
   pub held-table : Table (blocksOf blocks) (p .table) w₀ → Table (blocksOf blocks) (p .table) w₁
   held-table t = table-kept blocks (let a = D .table-fits in let b = D .heads-fit in let c = D .nexts-fit in omega arith) (L .kept) t
 
-  pub held-laid : Laid p (rowCount 3 blocks) (rowCount 4 moves) w₁
+  pub held-laid : Laid p (blockCount blocks) (moveCount moves) w₁
   held-laid = let k = L .kept .len in record { table-fits = D .table-fits; heads-fit = D .heads-fit; nexts-fit = D .nexts-fit; fits = let f = D .fits in omega arith }
 
   pub held-chains : Chains p moves w₀ → Chains p moves w₁
@@ -103,7 +103,7 @@ module _ (points : ℕ) (blocks insts moves pieces : List ℕ) (slot : ℕ) {p :
 
   pub held-none : n ≡ 0 → HeldIn points blocks insts moves pieces register slot (p .to) w₀ w₁ (record { at = top; plus = 0 })
   held-none z = record {
-    kept = within-wider (p .to) (p .to + rowCount 4 moves + rowCount 4 moves + rowCount 3 pieces) (omega arith) (let q = L .count in omega arith) (L .kept);
+    kept = within-wider (p .to) (p .to + moveCount moves + moveCount moves + pieceCount pieces) (omega arith) (let q = L .count in omega arith) (L .kept);
     low = omega arith;
     high = omega arith;
     stands = record { absent = λ _. no-live (livePieces (piecesOf pieces) register) (moved points (blocksOf blocks) (instsOf insts []) (movesOf moves) slot) (live-count ∙ z); present = λ k h. absurd (omega arith) };
@@ -124,8 +124,8 @@ module _ (points : ℕ) (blocks insts moves pieces : List ℕ) (slot : ℕ) {p :
       merged-permuted (Permuted.then (perm-append (perm F top e (omega arith)) (perm-refl (livePieces (piecesOf pieces) register)))
       (perm-turn (moved points (blocksOf blocks) (instsOf insts []) (movesOf moves) slot) (livePieces (piecesOf pieces) register))) in
       record {
-        kept = within-trans (within-wider (p .to) (p .to + rowCount 4 moves + rowCount 4 moves + rowCount 3 pieces) (omega arith) (omega arith) (L .kept))
-            (within-trans (within-wider (p .to) (p .to + rowCount 4 moves + rowCount 4 moves + rowCount 3 pieces) (omega arith) (omega arith) (F .kept))
+        kept = within-trans (within-wider (p .to) (p .to + moveCount moves + moveCount moves + pieceCount pieces) (omega arith) (omega arith) (L .kept))
+            (within-trans (within-wider (p .to) (p .to + moveCount moves + moveCount moves + pieceCount pieces) (omega arith) (omega arith) (F .kept))
             (record { len = l; below = λ i g. M .before i (omega arith); past = λ i g. M .after i (omega arith) }));
         low = omega arith;
         high = omega arith;

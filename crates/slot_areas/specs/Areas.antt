@@ -3,8 +3,8 @@ use Prim.Native.Nat.{ℕ, suc, _+_, _≤_}
 use mathlib.Core.Path.{_≡_}
 use mathlib.Core.Option.{Option, some, none}
 use mathlib.Core.List.{List, []}
-use Rattle.words.specs.Rows.{rowCount}
 use Rattle.words.specs.Regions.{part}
+use Rattle.words.specs.Widths.{pieceCount, moveCount}
 use Rattle.ranges.specs.declared.Range.{Range}
 use Rattle.ranges.specs.Forms.{unpacked}
 use Rattle.graph.specs.Line.{blocksOf}
@@ -21,14 +21,14 @@ pub record Stands (a : Option (List Range)) (w : List ℕ) (f : Found) : Type 0 
 
 -- the area of a slot that no register is assigned to, whatever the live pieces, in the room of two words a move; nothing else has changed
 pub record MovedIn (points : ℕ) (blocks insts moves : List ℕ) (slot to : ℕ) (w₀ w : List ℕ) (f : Found) : Type 0 where
-  pub kept : Within to (to + rowCount 4 moves + rowCount 4 moves) w₀ w
+  pub kept : Within to (to + moveCount moves + moveCount moves) w₀ w
   pub low : to ≤ f .at
-  pub high : f .at + f .plus ≤ to + rowCount 4 moves + rowCount 4 moves + 1
+  pub high : f .at + f .plus ≤ to + moveCount moves + moveCount moves + 1
   pub stands : (ps : List Piece) → Stands (slotArea ps none (moved points (blocksOf blocks) (instsOf insts []) (movesOf moves) slot)) w f
 
 -- the area of a slot that the register was assigned to last, in the same room and a word a live piece past it
 pub record HeldIn (points : ℕ) (blocks insts moves pieces : List ℕ) (register slot to : ℕ) (w₀ w : List ℕ) (f : Found) : Type 0 where
-  pub kept : Within to (to + rowCount 4 moves + rowCount 4 moves + rowCount 3 pieces) w₀ w
+  pub kept : Within to (to + moveCount moves + moveCount moves + pieceCount pieces) w₀ w
   pub low : to ≤ f .at
-  pub high : f .at + f .plus ≤ to + rowCount 4 moves + rowCount 4 moves + rowCount 3 pieces + 1
+  pub high : f .at + f .plus ≤ to + moveCount moves + moveCount moves + pieceCount pieces + 1
   pub stands : Stands (slotArea (piecesOf pieces) (some register) (moved points (blocksOf blocks) (instsOf insts []) (movesOf moves) slot)) w f

@@ -8,11 +8,12 @@ ghost use Rattle.graph.specs.Line.{blocksOf, Sound};
 ghost use Rattle.graph.specs.Work.{Table};
 ghost use Rattle.carrying.specs.Insts.{instsOf};
 ghost use Rattle.areas.specs.Slots.{movesOf, moveVerdict};
-ghost use Rattle.words.specs.Rows.{rowCount};
+ghost use Rattle.words.specs.Widths.{blockCount, pieceCount, moveCount};
 ghost use Rattle.live.specs.Live.{InOrder};
 ghost use Rattle.slot_spots.specs.Slots.{Laid, Chains};
 ghost use Rattle.slot_areas.specs.Areas.{MovedIn, HeldIn};
 use slot_spots::Places;
+use words::widths::moving;
 
 // Where an area stands, and one more than how many ranges it has, or 0 for none.
 pub struct Found {
@@ -30,11 +31,11 @@ pub fn of_moves(
     p: Places,
     slot: usize,
 ) -> Found
-    requires { ⌜ Sound (blocksOf (now blocks)) × Table (blocksOf (now blocks)) (p .table) (now work) × Laid p (length (now blocks) / 3) (length (now moves) / 4) (now work) ⌝ }
+    requires { ⌜ Sound (blocksOf (now blocks)) × Table (blocksOf (now blocks)) (p .table) (now work) × Laid p (blockCount (now blocks)) (moveCount (now moves)) (now work) ⌝ }
     requires { ⌜ (moveVerdict (blocksOf (now blocks)) (instsOf (now insts) []) (movesOf (now moves)) ≡ Fine) × Chains p (now moves) (now work) × (slot < p .slots) ⌝ }
     ensures { λ f. ⌜ MovedIn points (now (blocks .entry)) (now (insts .entry)) (now (moves .entry)) slot (p .to) (now (work .entry)) (now (work .exit)) f ⌝ }
 {
-    let m = moves.len() / 4;
+    let m = moves.len() / moving::WIDTH;
     let top = p.to + m + m;
     let c = slot_spots::fetch(points, blocks, insts, moves, work, p, slot);
     if c == 0 {
@@ -60,13 +61,13 @@ pub fn of_register(
     register: u32,
     slot: usize,
 ) -> Found
-    requires { ⌜ Sound (blocksOf (now blocks)) × Table (blocksOf (now blocks)) (p .table) (now work) × Laid p (length (now blocks) / 3) (length (now moves) / 4) (now work) ⌝ }
+    requires { ⌜ Sound (blocksOf (now blocks)) × Table (blocksOf (now blocks)) (p .table) (now work) × Laid p (blockCount (now blocks)) (moveCount (now moves)) (now work) ⌝ }
     requires { ⌜ (moveVerdict (blocksOf (now blocks)) (instsOf (now insts) []) (movesOf (now moves)) ≡ Fine) × Chains p (now moves) (now work) × (slot < p .slots) ⌝ }
-    requires { ⌜ InOrder (now pieces) keys (now work) × (keys + rowCount 3 (now pieces) ≤ p .to)
-        × (p .to + length (now moves) / 4 + length (now moves) / 4 + rowCount 3 (now pieces) ≤ length (now work)) × (rowCount 3 (now pieces) ≤ 65536) × (rowCount 4 (now moves) ≤ 65536) ⌝ }
+    requires { ⌜ InOrder (now pieces) keys (now work) × (keys + pieceCount (now pieces) ≤ p .to)
+        × (p .to + moveCount (now moves) + moveCount (now moves) + pieceCount (now pieces) ≤ length (now work)) × (pieceCount (now pieces) ≤ 65536) × (moveCount (now moves) ≤ 65536) ⌝ }
     ensures { λ f. ⌜ HeldIn points (now (blocks .entry)) (now (insts .entry)) (now (moves .entry)) (now (pieces .entry)) register slot (p .to) (now (work .entry)) (now (work .exit)) f ⌝ }
 {
-    let m = moves.len() / 4;
+    let m = moves.len() / moving::WIDTH;
     let top = p.to + m + m;
     let n = live::fetch(pieces, work, keys, register, top);
     if n == 0 {

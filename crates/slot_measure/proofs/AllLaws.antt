@@ -6,7 +6,7 @@ use mathlib.Core.Logic.{inl, inr}
 use mathlib.Core.Option.{Option}
 use mathlib.Core.List.{List}
 use lib.ListN.{getD}
-use Rattle.words.specs.Rows.{rowCount}
+use Rattle.words.specs.Widths.{pieceCount}
 use Rattle.words.proofs.RegionLaws.{row-before}
 use Rattle.ranges.specs.declared.Range.{Range}
 use Rattle.areas.specs.Job.{rangesIn}
@@ -57,7 +57,7 @@ module _ (points : ℕ) (blocks insts moves pieces : List ℕ) (p : Places) (key
 
   module _ (s total : ℕ) {w₀ w₁ : List ℕ} {f : Found} (R : Ready blocks insts moves pieces p keys held o first w₀) (h : s < p .slots) (few : total + mostFor moves pieces < 2 ^ 32)
       (I : SlotIn points blocks insts moves pieces held s (p .to) w₀ w₁ f) where
-    ahead : keys + rowCount 3 pieces ≤ p .to
+    ahead : keys + pieceCount pieces ≤ p .to
     ahead = omega (arith, R .keys-fit, R .held-fits, R .laid .table-fits, R .laid .heads-fit, R .laid .nexts-fit)
 
     pub placeable : Placeable o (first + s) f total w₁

@@ -6,8 +6,8 @@ use mathlib.Core.Logic.{_⊎_, inl, inr, ⊎-elim}
 use mathlib.Core.Option.{Option, some, none}
 use mathlib.Core.List.{List, []}
 use lib.ListN.{length, getD, set, length-set}
-use Rattle.words.specs.Rows.{rowCount}
 use Rattle.words.specs.Regions.{part}
+use Rattle.words.specs.Widths.{pieceCount, moveCount}
 use Rattle.words.proofs.Points.{cut, stored}
 use Rattle.words.proofs.RegionLaws.{kept-store, kept-part-list, length-part}
 use Rattle.ranges.specs.declared.Range.{Range}
@@ -38,7 +38,7 @@ module _ (points : ℕ) (blocks insts moves pieces : List ℕ) (held slot to : �
 
   pub by-moves : {w₀ w : List ℕ} {f : Found} → getD w₀ (held + slot) 0 ≡ 0 → MovedIn points blocks insts moves slot to w₀ w f → SlotIn points blocks insts moves pieces held slot to w₀ w f
   by-moves {w₀} {w} {f} z M = record {
-    kept = within-wider to (to + rowCount 4 moves + rowCount 4 moves + rowCount 3 pieces) (omega arith) (omega arith) (M .kept);
+    kept = within-wider to (to + moveCount moves + moveCount moves + pieceCount pieces) (omega arith) (omega arith) (M .kept);
     low = M .low;
     high = omega (arith, M .high);
     stands = λ a e. go a (sym z ∙ e);

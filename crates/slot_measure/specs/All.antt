@@ -5,7 +5,7 @@ use mathlib.Core.Option.{Option}
 use mathlib.Core.List.{List, []}
 use lib.ListN.{length, getD}
 use Rattle.refusals.specs.declared.Verdict.the-variants.{Fine}
-use Rattle.words.specs.Rows.{rowCount}
+use Rattle.words.specs.Widths.{blockCount, pieceCount, moveCount}
 use Rattle.ranges.specs.declared.Range.{Range}
 use Rattle.graph.specs.Line.{blocksOf, Sound}
 use Rattle.graph.specs.Work.{Table}
@@ -20,23 +20,23 @@ use Rattle.area_measure.specs.Locals.{wordOf, ListedBy}
 
 -- the words that one slot's area is made in, and one more
 abbrev pub mostFor : List ℕ → List ℕ → ℕ
-mostFor moves pieces = rowCount 4 moves + rowCount 4 moves + rowCount 3 pieces + 1
+mostFor moves pieces = moveCount moves + moveCount moves + pieceCount pieces + 1
 
 -- the slots' registers, moves and live pieces stand behind the items, of which the slots' begin at `first`
 pub record Ready (blocks insts moves pieces : List ℕ) (p : Places) (keys held : ℕ) (o : Listing) (first : ℕ) (w : List ℕ) : Type 0 where
   pub sound : Sound (blocksOf blocks)
   pub fine : moveVerdict (blocksOf blocks) (instsOf insts []) (movesOf moves) ≡ Fine
   pub table : Table (blocksOf blocks) (p .table) w
-  pub laid : Laid p (length blocks / 3) (length moves / 4) w
+  pub laid : Laid p (blockCount blocks) (moveCount moves) w
   pub chains : Chains p moves w
   pub order : InOrder pieces keys w
-  pub few-pieces : rowCount 3 pieces ≤ 65536
-  pub few-moves : rowCount 4 moves ≤ 65536
+  pub few-pieces : pieceCount pieces ≤ 65536
+  pub few-moves : moveCount moves ≤ 65536
   pub areas-fit : o .areas + o .room ≤ o .items
   pub items-fit : o .items + first + p .slots ≤ keys
-  pub keys-fit : keys + rowCount 3 pieces ≤ held
+  pub keys-fit : keys + pieceCount pieces ≤ held
   pub held-fits : held + p .slots ≤ p .table
-  pub fits : p .to + rowCount 4 moves + rowCount 4 moves + rowCount 3 pieces ≤ length w
+  pub fits : p .to + moveCount moves + moveCount moves + pieceCount pieces ≤ length w
   pub held-small : (s : ℕ) → s < p .slots → getD w (held + s) 0 ≤ 4294967296
 
 -- nothing has changed but the areas, the items, and the words that areas are made in
@@ -44,7 +44,7 @@ pub record Spared (moves pieces : List ℕ) (p : Places) (keys : ℕ) (o : Listi
   pub len : length w ≡ length w₀
   pub below : (i : ℕ) → i < o .areas → getD w i 0 ≡ getD w₀ i 0
   pub between : (i : ℕ) → keys ≤ i → i < p .to → getD w i 0 ≡ getD w₀ i 0
-  pub past : (i : ℕ) → p .to + rowCount 4 moves + rowCount 4 moves + rowCount 3 pieces ≤ i → getD w i 0 ≡ getD w₀ i 0
+  pub past : (i : ℕ) → p .to + moveCount moves + moveCount moves + pieceCount pieces ≤ i → getD w i 0 ≡ getD w₀ i 0
 
 -- slot s, the next: its area stands behind the `total` ranges so far, where it fits, and its word in the table
 pub record Next (points : ℕ) (blocks insts moves pieces : List ℕ) (p : Places) (keys held : ℕ) (o : Listing) (first s total : ℕ) (w₀ w : List ℕ) (r : ℕ) : Type 0 where

@@ -5,8 +5,8 @@ use mathlib.Core.Logic.{_⊎_}
 use mathlib.Core.Option.{Option}
 use mathlib.Core.List.{List, []}
 use lib.ListN.{length, getD}
-use Rattle.words.specs.Rows.{rowCount}
 use Rattle.words.specs.Regions.{part}
+use Rattle.words.specs.Widths.{pieceCount, moveCount}
 use Rattle.ranges.specs.declared.Range.{Range}
 use Rattle.ranges.specs.Forms.{unpacked}
 use Rattle.graph.specs.Line.{blocksOf}
@@ -23,9 +23,9 @@ use Rattle.area_measure.specs.Locals.{listed, wordOf}
 
 -- the area of a slot, whatever register its word stands for, in the room of two words a move and a word a live piece; nothing else has changed
 pub record SlotIn (points : ℕ) (blocks insts moves pieces : List ℕ) (held slot to : ℕ) (w₀ w : List ℕ) (f : Found) : Type 0 where
-  pub kept : Within to (to + rowCount 4 moves + rowCount 4 moves + rowCount 3 pieces) w₀ w
+  pub kept : Within to (to + moveCount moves + moveCount moves + pieceCount pieces) w₀ w
   pub low : to ≤ f .at
-  pub high : f .at + f .plus ≤ to + rowCount 4 moves + rowCount 4 moves + rowCount 3 pieces + 1
+  pub high : f .at + f .plus ≤ to + moveCount moves + moveCount moves + pieceCount pieces + 1
   pub stands : (a : Option ℕ) → getD w₀ (held + slot) 0 ≡ heldWord a
       → Stands (slotArea (piecesOf pieces) a (moved points (blocksOf blocks) (instsOf insts []) (movesOf moves) slot)) w f
 

@@ -4,7 +4,7 @@ ghost use mathlib.Core.List.{[]};
 ghost use Prim.Native.Nat.{_+_, _*_, _/_, _≤_, _<_};
 ghost use lib.ListN.{length, getD};
 ghost use Rattle.refusals.specs.declared.Verdict.the-variants.{Fine};
-ghost use Rattle.words.specs.Rows.{rowCount};
+ghost use Rattle.words.specs.Widths.{blockCount, pieceCount, moveCount};
 ghost use Rattle.graph.specs.Line.{blocksOf, Sound};
 ghost use Rattle.graph.specs.Work.{Table};
 ghost use Rattle.carrying.specs.Insts.{instsOf};
@@ -33,10 +33,10 @@ pub fn slot_area(
     held: usize,
     slot: usize,
 ) -> Found
-    requires { ⌜ Sound (blocksOf (now blocks)) × Table (blocksOf (now blocks)) (p .table) (now work) × Laid p (length (now blocks) / 3) (length (now moves) / 4) (now work) ⌝ }
+    requires { ⌜ Sound (blocksOf (now blocks)) × Table (blocksOf (now blocks)) (p .table) (now work) × Laid p (blockCount (now blocks)) (moveCount (now moves)) (now work) ⌝ }
     requires { ⌜ (moveVerdict (blocksOf (now blocks)) (instsOf (now insts) []) (movesOf (now moves)) ≡ Fine) × Chains p (now moves) (now work) × (slot < p .slots) ⌝ }
-    requires { ⌜ InOrder (now pieces) keys (now work) × (keys + rowCount 3 (now pieces) ≤ p .to)
-        × (p .to + length (now moves) / 4 + length (now moves) / 4 + rowCount 3 (now pieces) ≤ length (now work)) × (rowCount 3 (now pieces) ≤ 65536) × (rowCount 4 (now moves) ≤ 65536) ⌝ }
+    requires { ⌜ InOrder (now pieces) keys (now work) × (keys + pieceCount (now pieces) ≤ p .to)
+        × (p .to + moveCount (now moves) + moveCount (now moves) + pieceCount (now pieces) ≤ length (now work)) × (pieceCount (now pieces) ≤ 65536) × (moveCount (now moves) ≤ 65536) ⌝ }
     requires { ⌜ (held + slot < length (now work)) × (getD (now work) (held + slot) 0 ≤ 4294967296) ⌝ }
     ensures { λ f. ⌜ SlotIn points (now (blocks .entry)) (now (insts .entry)) (now (moves .entry)) (now (pieces .entry)) held slot (p .to) (now (work .entry)) (now (work .exit)) f ⌝ }
 {

@@ -8,8 +8,9 @@ use mathlib.Core.List.{List, [], _∷_, _++_, append-assoc}
 use lib.ListN.{getD, take, drop}
 use lib.Seq.{take-add, drop-drop}
 use lib.Dec.{eqb}
-use Rattle.words.specs.Rows.{tabulate, rowCount, field}
+use Rattle.words.specs.Rows.{tabulate}
 use Rattle.words.specs.Regions.{Region, part, Kept}
+use Rattle.words.specs.Widths.{blockCount, moveCount, moveTo, moveFrom}
 use Rattle.words.proofs.RegionLaws.{kept-part-list}
 use Rattle.ranges.specs.declared.Range.{Range}
 use Rattle.ranges.specs.Points.{range}
@@ -38,7 +39,7 @@ use Rattle.slot_spots.specs.Slots.{coverOf, movedTo, movedFrom, Laid, Ch
 
 -- both chains, where all of the heads and of what stands before has stayed
 pub chains-kept : {p : Places} {moves : List ℕ} {w w' : List ℕ} → p .heads + p .slots + p .slots ≤ p .nexts
-    → ((i : ℕ) → p .heads ≤ i → i < p .nexts + rowCount 4 moves + rowCount 4 moves → getD w' i 0 ≡ getD w i 0) → Chains p moves w → Chains p moves w'
+    → ((i : ℕ) → p .heads ≤ i → i < p .nexts + moveCount moves + moveCount moves → getD w' i 0 ≡ getD w i 0) → Chains p moves w → Chains p moves w'
 chains-kept h s C = record {
   to-chain = chain-kept (C .to-chain) (λ i a b. s i a (omega arith)) (λ i a b. s i (omega arith) (omega arith));
   from-chain = chain-kept (C .from-chain) (λ i a b. s i (omega arith) (omega arith)) (λ i a b. s i (omega arith) (omega arith));
@@ -48,12 +49,12 @@ module _ (p : Places) (moves : List ℕ) (q : p .heads + p .slots + p .slots ≤
   pub to-none : (l : ℕ) → l < p .slots → getD w₁ (p .heads + l) 0 ≡ 0
   to-none l h = Z .inside (p .heads + l) l refl (omega arith)
 
-  module _ {w₂ : List ℕ} (A : Linked (λ i. field 4 moves i 2) (rowCount 4 moves) (p .slots) (p .heads) (p .nexts) w₁ w₂) where
+  module _ {w₂ : List ℕ} (A : Linked (λ i. moveTo moves i) (moveCount moves) (p .slots) (p .heads) (p .nexts) w₁ w₂) where
     pub from-none : (l : ℕ) → l < p .slots → getD w₂ (p .heads + p .slots + l) 0 ≡ 0
     from-none l h =
         A .outside (p .heads + p .slots + l) (inr (omega arith)) (inl (omega arith)) ∙ Z .inside (p .heads + p .slots + l) (p .slots + l) (omega arith) (omega arith)
 
-    pub chained : {w₃ : List ℕ} → Linked (λ i. field 4 moves i 3) (rowCount 4 moves) (p .slots) (p .heads + p .slots) (p .nexts + rowCount 4 moves) w₂ w₃ → Chained p moves w₀ w₃
+    pub chained : {w₃ : List ℕ} → Linked (λ i. moveFrom moves i) (moveCount moves) (p .slots) (p .heads + p .slots) (p .nexts + moveCount moves) w₂ w₃ → Chained p moves w₀ w₃
     chained B = record {
       kept = record {
         len = B .len ∙ A .len ∙ Z .len;
@@ -69,7 +70,7 @@ module _ (p : Places) (moves : List ℕ) (q : p .heads + p .slots + p .slots ≤
 -- ---- one slot's moves
 
 -- the table, where nothing before `lo` has changed
-pub table-kept : (blocks : List ℕ) {at lo hi : ℕ} {w w' : List ℕ} → at + rowCount 3 blocks ≤ lo → Within lo hi w w' → Table (blocksOf blocks) at w → Table (blocksOf blocks) at w'
+pub table-kept : (blocks : List ℕ) {at lo hi : ℕ} {w w' : List ℕ} → at + blockCount blocks ≤ lo → Within lo hi w w' → Table (blocksOf blocks) at w → Table (blocksOf blocks) at w'
 table-kept blocks {at} h k t = record { place = λ n g. k .below (at + n) (let z = blocks-length blocks in omega arith) ∙ t .place n g }
 
 -- a move's cover, by the point that was found
@@ -113,8 +114,8 @@ pub moved-permuted : (points : ℕ) (bs : List Stretch) (is : List Inst) (ms : L
 moved-permuted points bs is ms s =
     gather-two (λ m. cond (eqb (m .to) s) (coverOf points bs is m ∷ []) []) (λ m. cond (eqb (m .from) s) (coverOf points bs is m ∷ []) []) ms
 
-module _ (blocks : List ℕ) {p : Places} {moves w₀ : List ℕ} {slot : ℕ} (L : Laid p (rowCount 3 blocks) (rowCount 4 moves) w₀) (C : Chains p moves w₀) (h : slot < p .slots) where
-  pub to-walkable : (top : ℕ) → top ≡ p .to + rowCount 4 moves + rowCount 4 moves → Walkable (λ i. field 4 moves i 2) (rowCount 4 moves) slot (p .heads) (p .nexts) top w₀
+module _ (blocks : List ℕ) {p : Places} {moves w₀ : List ℕ} {slot : ℕ} (L : Laid p (blockCount blocks) (moveCount moves) w₀) (C : Chains p moves w₀) (h : slot < p .slots) where
+  pub to-walkable : (top : ℕ) → top ≡ p .to + moveCount moves + moveCount moves → Walkable (λ i. moveTo moves i) (moveCount moves) slot (p .heads) (p .nexts) top w₀
   to-walkable top e =
       let a = L .heads-fit in let b = L .nexts-fit in let c = L .fits in
       record {
@@ -122,18 +123,18 @@ module _ (blocks : List ℕ) {p : Places} {moves w₀ : List ℕ} {slot : ℕ} (
         nexts-fit = omega arith;
         top-fits = omega arith;
         head = C .to-chain .head slot h;
-        next = λ i g q. C .to-chain .next i g (omega arith) ∙ ap (λ (m : ℕ). latest (λ j. field 4 moves j 2) m i) q;
+        next = λ i g q. C .to-chain .next i g (omega arith) ∙ ap (λ (m : ℕ). latest (λ j. moveTo moves j) m i) q;
       }
 
-  module _ {v : ℕ → ℕ} {w₁ : List ℕ} {top count : ℕ} (e : top ≡ p .to + rowCount 4 moves + rowCount 4 moves)
-      (A : Walked (λ i. field 4 moves i 2) v (rowCount 4 moves) slot top w₀ w₁ count) where
-    kept₁ : Within (p .to) (p .to + rowCount 4 moves + rowCount 4 moves) w₀ w₁
-    kept₁ = within-wider (p .to) (p .to + rowCount 4 moves + rowCount 4 moves) (omega arith) (omega arith) (A .kept)
+  module _ {v : ℕ → ℕ} {w₁ : List ℕ} {top count : ℕ} (e : top ≡ p .to + moveCount moves + moveCount moves)
+      (A : Walked (λ i. moveTo moves i) v (moveCount moves) slot top w₀ w₁ count) where
+    kept₁ : Within (p .to) (p .to + moveCount moves + moveCount moves) w₀ w₁
+    kept₁ = within-wider (p .to) (p .to + moveCount moves + moveCount moves) (omega arith) (omega arith) (A .kept)
 
     pub from-table : Table (blocksOf blocks) (p .table) w₀ → Table (blocksOf blocks) (p .table) w₁
     from-table t = let a = L .table-fits in let b = L .heads-fit in let c = L .nexts-fit in table-kept blocks (omega arith) kept₁ t
 
-    pub from-walkable : (last : ℕ) → last ≡ top - count → Walkable (λ i. field 4 moves i 3) (rowCount 4 moves) slot (p .heads + p .slots) (p .nexts + rowCount 4 moves) last w₁
+    pub from-walkable : (last : ℕ) → last ≡ top - count → Walkable (λ i. moveFrom moves i) (moveCount moves) slot (p .heads + p .slots) (p .nexts + moveCount moves) last w₁
     from-walkable last f =
         let a = L .heads-fit in let b = L .nexts-fit in let c = L .fits in let k = kept₁ .len in let n = A .few in
         let D : Chains p moves w₁ = chains-kept (L .heads-fit) (λ i x y. kept₁ .below i (omega arith)) C in
@@ -142,36 +143,36 @@ module _ (blocks : List ℕ) {p : Places} {moves w₀ : List ℕ} {slot : ℕ} (
           nexts-fit = omega arith;
           top-fits = omega arith;
           head = D .from-chain .head slot h;
-          next = λ i g q. D .from-chain .next i g (omega arith) ∙ ap (λ (m : ℕ). latest (λ j. field 4 moves j 3) m i) q;
+          next = λ i g q. D .from-chain .next i g (omega arith) ∙ ap (λ (m : ℕ). latest (λ j. moveFrom moves j) m i) q;
         }
 
     module _ {w₂ : List ℕ} {last more : ℕ} (f : last ≡ top - count) (points : ℕ) (insts : List ℕ)
         (v-is : v ≡ (λ i. pack (coverOf points (blocksOf blocks) (instsOf insts []) (moveRow moves i))))
-        (B : Walked (λ i. field 4 moves i 3) v (rowCount 4 moves) slot last w₁ w₂ more) where
+        (B : Walked (λ i. moveFrom moves i) v (moveCount moves) slot last w₁ w₂ more) where
       pub fetched : points < 2 ^ 32 → (r : ℕ) → r ≡ count + more → Fetched points blocks insts moves slot (p .to) w₀ w₂ r
       fetched small r e₂ = record { kept = all; few = let a = A .few in let b = B .few in omega arith; is = whole }
         where
-          all : Within (p .to) (p .to + rowCount 4 moves + rowCount 4 moves) w₀ w₂
-          all = let a = A .few in within-trans kept₁ (within-wider (p .to) (p .to + rowCount 4 moves + rowCount 4 moves) (omega arith) (omega arith) (B .kept))
+          all : Within (p .to) (p .to + moveCount moves + moveCount moves) w₀ w₂
+          all = let a = A .few in within-trans kept₁ (within-wider (p .to) (p .to + moveCount moves + moveCount moves) (omega arith) (omega arith) (B .kept))
 
           to-words : unpacked (part (top - count) count w₂) ≡ movedTo points (blocksOf blocks) (instsOf insts []) (movesOf moves) slot
           to-words =
               let a = A .few in let c = L .fits in let k = kept₁ .len in
               let K : Kept w₁ w₂ (top - count) count = record { same = λ i x y. B .kept .past i (omega arith) } in
-              ap unpacked (kept-part-list K (omega arith) (B .kept .len) ∙ A .words ∙ ap (λ (u : ℕ → ℕ). wordsOf (λ i. field 4 moves i 2) u slot (rowCount 4 moves)) v-is
-              ∙ words-are slot (λ (m : Move). cond (eqb (m .to) slot) (pack (coverOf points (blocksOf blocks) (instsOf insts []) m) ∷ []) []) (moveRow moves) (λ i. field 4 moves i 2) (λ i. pack (coverOf points (blocksOf blocks) (instsOf insts []) (moveRow moves i))) (rowCount 4 moves) (λ i. refl))
-              ∙ unpacked-words points (blocksOf blocks) (instsOf insts []) (λ m. m .to) slot (rowCount 4 moves) (moveRow moves) small
+              ap unpacked (kept-part-list K (omega arith) (B .kept .len) ∙ A .words ∙ ap (λ (u : ℕ → ℕ). wordsOf (λ i. moveTo moves i) u slot (moveCount moves)) v-is
+              ∙ words-are slot (λ (m : Move). cond (eqb (m .to) slot) (pack (coverOf points (blocksOf blocks) (instsOf insts []) m) ∷ []) []) (moveRow moves) (λ i. moveTo moves i) (λ i. pack (coverOf points (blocksOf blocks) (instsOf insts []) (moveRow moves i))) (moveCount moves) (λ i. refl))
+              ∙ unpacked-words points (blocksOf blocks) (instsOf insts []) (λ m. m .to) slot (moveCount moves) (moveRow moves) small
 
           from-words : unpacked (part (last - more) more w₂) ≡ movedFrom points (blocksOf blocks) (instsOf insts []) (movesOf moves) slot
           from-words =
-              ap unpacked (B .words ∙ ap (λ (u : ℕ → ℕ). wordsOf (λ i. field 4 moves i 3) u slot (rowCount 4 moves)) v-is
-              ∙ words-are slot (λ (m : Move). cond (eqb (m .from) slot) (pack (coverOf points (blocksOf blocks) (instsOf insts []) m) ∷ []) []) (moveRow moves) (λ i. field 4 moves i 3) (λ i. pack (coverOf points (blocksOf blocks) (instsOf insts []) (moveRow moves i))) (rowCount 4 moves) (λ i. refl))
-              ∙ unpacked-words points (blocksOf blocks) (instsOf insts []) (λ m. m .from) slot (rowCount 4 moves) (moveRow moves) small
+              ap unpacked (B .words ∙ ap (λ (u : ℕ → ℕ). wordsOf (λ i. moveFrom moves i) u slot (moveCount moves)) v-is
+              ∙ words-are slot (λ (m : Move). cond (eqb (m .from) slot) (pack (coverOf points (blocksOf blocks) (instsOf insts []) m) ∷ []) []) (moveRow moves) (λ i. moveFrom moves i) (λ i. pack (coverOf points (blocksOf blocks) (instsOf insts []) (moveRow moves i))) (moveCount moves) (λ i. refl))
+              ∙ unpacked-words points (blocksOf blocks) (instsOf insts []) (λ m. m .from) slot (moveCount moves) (moveRow moves) small
 
-          whole : unpacked (part (p .to + rowCount 4 moves + rowCount 4 moves - r) r w₂) ≡ movedFrom points (blocksOf blocks) (instsOf insts []) (movesOf moves) slot ++ movedTo points (blocksOf blocks) (instsOf insts []) (movesOf moves) slot
+          whole : unpacked (part (p .to + moveCount moves + moveCount moves - r) r w₂) ≡ movedFrom points (blocksOf blocks) (instsOf insts []) (movesOf moves) slot ++ movedTo points (blocksOf blocks) (instsOf insts []) (movesOf moves) slot
           whole =
               let a = A .few in let b = B .few in let c = L .fits in let k = all .len in
-              let x : p .to + rowCount 4 moves + rowCount 4 moves - r ≡ last - more = omega arith in
+              let x : p .to + moveCount moves + moveCount moves - r ≡ last - more = omega arith in
               let y : r ≡ more + count = omega arith in
               let z : last - more + more ≡ top - count = omega arith in
               ap (λ (j : ℕ). unpacked (part j r w₂)) x

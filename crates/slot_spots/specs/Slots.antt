@@ -5,8 +5,8 @@ use mathlib.Core.Bool.{cond}
 use mathlib.Core.List.{List, [], _∷_, _++_}
 use lib.ListN.{length}
 use lib.Dec.{eqb}
-use Rattle.words.specs.Rows.{rowCount, field}
 use Rattle.words.specs.Regions.{part}
+use Rattle.words.specs.Widths.{moveCount, moveTo, moveFrom}
 use Rattle.ranges.specs.declared.Range.{Range}
 use Rattle.ranges.specs.Forms.{unpacked}
 use Rattle.graph.specs.Line.{Stretch, blocksOf}
@@ -38,16 +38,16 @@ pub record Laid (p : Places) (b m : ℕ) (w : List ℕ) : Type 0 where
 
 -- the chains of the moves by the slot that they go to, and behind them by the one that they come from
 pub record Chains (p : Places) (moves w : List ℕ) : Type 0 where
-  pub to-chain : Chain (λ i. field 4 moves i 2) (rowCount 4 moves) (p .slots) (p .heads) (p .nexts) w
-  pub from-chain : Chain (λ i. field 4 moves i 3) (rowCount 4 moves) (p .slots) (p .heads + p .slots) (p .nexts + rowCount 4 moves) w
+  pub to-chain : Chain (λ i. moveTo moves i) (moveCount moves) (p .slots) (p .heads) (p .nexts) w
+  pub from-chain : Chain (λ i. moveFrom moves i) (moveCount moves) (p .slots) (p .heads + p .slots) (p .nexts + moveCount moves) w
 
 pub record Chained (p : Places) (moves w₀ w : List ℕ) : Type 0 where
-  pub kept : Within (p .heads) (p .nexts + rowCount 4 moves + rowCount 4 moves) w₀ w
+  pub kept : Within (p .heads) (p .nexts + moveCount moves + moveCount moves) w₀ w
   pub chains : Chains p moves w
 
 -- what the slot's moves cover stands last in the room of two words a move, and nothing else has changed
 pub record Fetched (points : ℕ) (blocks insts moves : List ℕ) (slot to : ℕ) (w₀ w : List ℕ) (r : ℕ) : Type 0 where
-  pub kept : Within to (to + rowCount 4 moves + rowCount 4 moves) w₀ w
-  pub few : r ≤ rowCount 4 moves + rowCount 4 moves
-  pub is : unpacked (part (to + rowCount 4 moves + rowCount 4 moves - r) r w)
+  pub kept : Within to (to + moveCount moves + moveCount moves) w₀ w
+  pub few : r ≤ moveCount moves + moveCount moves
+  pub is : unpacked (part (to + moveCount moves + moveCount moves - r) r w)
       ≡ movedFrom points (blocksOf blocks) (instsOf insts []) (movesOf moves) slot ++ movedTo points (blocksOf blocks) (instsOf insts []) (movesOf moves) slot

@@ -4,8 +4,9 @@ ghost use mathlib.Core.List.{[]};
 ghost use Prim.Native.Nat.{_+_, _*_, _/_, _≤_, _<_};
 ghost use lib.ListN.{length};
 ghost use Rattle.refusals.specs.declared.Verdict.the-variants.{Fine};
-ghost use Rattle.words.specs.Rows.{rowCount, field};
+ghost use Rattle.words.specs.Rows.{field};
 ghost use Rattle.words.specs.Regions.{Region};
+ghost use Rattle.words.specs.Widths.{blockCount, moveWidth, moveCount};
 ghost use Rattle.ranges.specs.Forms.{pack};
 ghost use Rattle.graph.specs.Line.{blocksOf, Sound};
 ghost use Rattle.graph.specs.Work.{Table};
@@ -15,6 +16,7 @@ ghost use Rattle.move_points.specs.Moves.{moveRow};
 ghost use Rattle.chains.specs.Chains.{Walkable, Walked};
 ghost use Rattle.slot_spots.specs.Slots.{heldWord, coverOf, Laid, Chains, Chained, Fetched};
 use move_points::Spot;
+use words::widths::moving;
 
 // Where the moves of `slots` slots are kept, each region past the one before: from `table` on the place of each block, by its number; from `heads` on each
 // slot's last move to it, then each slot's last move from it; from `nexts` on for each move the one before it to the same slot, then the one before it from the
@@ -45,14 +47,32 @@ pub fn held(assigned: &[u32], work: &mut [u64], at: usize, slots: usize)
 
 // The moves of each slot as chains, by the slot that they go to and by the one that they come from.
 pub fn chains(moves: &[u32], work: &mut [u64], p: Places)
-    requires { ⌜ (p .heads + p .slots + p .slots ≤ p .nexts) × (p .nexts + length (now moves) / 4 + length (now moves) / 4 ≤ length (now work)) ⌝ }
+    requires { ⌜ (p .heads + p .slots + p .slots ≤ p .nexts) × (p .nexts + moveCount (now moves) + moveCount (now moves) ≤ length (now work)) ⌝ }
     ensures { λ _. ⌜ Chained p (now (moves .entry)) (now (work .entry)) (now (work .exit)) ⌝ }
 {
-    let m = moves.len() / 4;
+    let m = moves.len() / moving::WIDTH;
     let past = p.heads + p.slots;
     words::fill(work, p.heads, p.slots + p.slots, 0);
-    chains::chain(moves, 4, 2, m, p.slots, work, p.heads, p.nexts);
-    chains::chain(moves, 4, 3, m, p.slots, work, past, p.nexts + m);
+    chains::chain(
+        moves,
+        moving::WIDTH,
+        moving::TO,
+        m,
+        p.slots,
+        work,
+        p.heads,
+        p.nexts,
+    );
+    chains::chain(
+        moves,
+        moving::WIDTH,
+        moving::FROM,
+        m,
+        p.slots,
+        work,
+        past,
+        p.nexts + m,
+    );
 }
 
 // What move i covers, as one word.
@@ -65,11 +85,18 @@ fn cover(
     table: usize,
     i: usize,
 ) -> u64
-    requires { ⌜ Sound (blocksOf (now blocks)) × Table (blocksOf (now blocks)) table (now work) × (table + length (now blocks) / 3 ≤ length (now work)) ⌝ }
-    requires { ⌜ (i < length (now moves) / 4) × (moveVerdict (blocksOf (now blocks)) (instsOf (now insts) []) (movesOf (now moves)) ≡ Fine) ⌝ }
+    requires { ⌜ Sound (blocksOf (now blocks)) × Table (blocksOf (now blocks)) table (now work) × (table + blockCount (now blocks) ≤ length (now work)) ⌝ }
+    requires { ⌜ (i < moveCount (now moves)) × (moveVerdict (blocksOf (now blocks)) (instsOf (now insts) []) (movesOf (now moves)) ≡ Fine) ⌝ }
     ensures { λ r. ⌜ r ≡ pack (coverOf points (blocksOf (now (blocks .entry))) (instsOf (now (insts .entry)) []) (moveRow (now (moves .entry)) i)) ⌝ }
 {
-    let at = move_points::position(blocks, insts, work, table, moves[4 * i], moves[4 * i + 1]);
+    let at = move_points::position(
+        blocks,
+        insts,
+        work,
+        table,
+        moves[moving::WIDTH * i],
+        moves[moving::WIDTH * i + moving::NUMBER],
+    );
     let Spot::At(p) = at else {
         return 0;
     };
@@ -90,11 +117,11 @@ fn walk(
     k: Links,
     top: usize,
 ) -> usize
-    requires { ⌜ Sound (blocksOf (now blocks)) × Table (blocksOf (now blocks)) table (now work) × (table + length (now blocks) / 3 ≤ k .nexts) ⌝ }
+    requires { ⌜ Sound (blocksOf (now blocks)) × Table (blocksOf (now blocks)) table (now work) × (table + blockCount (now blocks) ≤ k .nexts) ⌝ }
     requires { ⌜ moveVerdict (blocksOf (now blocks)) (instsOf (now insts) []) (movesOf (now moves)) ≡ Fine ⌝ }
-    requires { ⌜ Walkable (λ i. field 4 (now moves) i (k .column)) (rowCount 4 (now moves)) slot (k .heads) (k .nexts) top (now work) ⌝ }
-    ensures { λ r. ⌜ Walked (λ i. field 4 (now (moves .entry)) i (k .column))
-        (λ i. pack (coverOf points (blocksOf (now (blocks .entry))) (instsOf (now (insts .entry)) []) (moveRow (now (moves .entry)) i))) (rowCount 4 (now (moves .entry))) slot top
+    requires { ⌜ Walkable (λ i. field moveWidth (now moves) i (k .column)) (moveCount (now moves)) slot (k .heads) (k .nexts) top (now work) ⌝ }
+    ensures { λ r. ⌜ Walked (λ i. field moveWidth (now (moves .entry)) i (k .column))
+        (λ i. pack (coverOf points (blocksOf (now (blocks .entry))) (instsOf (now (insts .entry)) []) (moveRow (now (moves .entry)) i))) (moveCount (now (moves .entry))) slot top
         (now (work .entry)) (now (work .exit)) r ⌝ }
 {
     let mut next = work[k.heads + slot];
@@ -119,11 +146,11 @@ pub fn fetch(
     p: Places,
     slot: usize,
 ) -> usize
-    requires { ⌜ Sound (blocksOf (now blocks)) × Table (blocksOf (now blocks)) (p .table) (now work) × Laid p (length (now blocks) / 3) (length (now moves) / 4) (now work) ⌝ }
+    requires { ⌜ Sound (blocksOf (now blocks)) × Table (blocksOf (now blocks)) (p .table) (now work) × Laid p (blockCount (now blocks)) (moveCount (now moves)) (now work) ⌝ }
     requires { ⌜ (moveVerdict (blocksOf (now blocks)) (instsOf (now insts) []) (movesOf (now moves)) ≡ Fine) × Chains p (now moves) (now work) × (slot < p .slots) ⌝ }
     ensures { λ r. ⌜ Fetched points (now (blocks .entry)) (now (insts .entry)) (now (moves .entry)) slot (p .to) (now (work .entry)) (now (work .exit)) r ⌝ }
 {
-    let m = moves.len() / 4;
+    let m = moves.len() / moving::WIDTH;
     let top = p.to + m + m;
     let past = p.heads + p.slots;
     let to = Links {

@@ -8,7 +8,8 @@ use mathlib.Core.Option.{Option, some, none}
 use mathlib.Core.List.{List, [], _∷_, _++_}
 use lib.Dec.{eqb}
 use borrow.Author.Tests.{eq-eqb, ne-eqb}
-use Rattle.words.specs.Rows.{tabulate, field}
+use Rattle.words.specs.Rows.{tabulate}
+use Rattle.words.specs.Widths.{assignedRegister, assignedSlot}
 use Rattle.words.proofs.RowLaws.{tabulate-suc}
 use Rattle.areas.specs.Slots.{Assigned, orElse, spilled}
 
@@ -29,7 +30,7 @@ spilled-last (b ∷ l) a s =
 
 -- assignment i of the rows
 abbrev pub assignedAt : List ℕ → ℕ → Assigned
-assignedAt s i = record { register = field 2 s i 0; slot = field 2 s i 1 }
+assignedAt s i = record { register = assignedRegister s i; slot = assignedSlot s i }
 
 module _ (g : ℕ → Assigned) where
   next : (i s : ℕ) → spilled (tabulate (i + 1) g) s ≡ orElse (cond (eqb (g i .slot) s) (some (g i .register)) none) (spilled (tabulate i g) s)

@@ -10,7 +10,7 @@ use lib.Dec.{leb}
 use borrow.Author.Tests.{lt-ltb, le-ltb}
 use Rattle.refusals.specs.declared.Refusal.the-variants.{Piece as PieceWord}
 use Rattle.refusals.specs.Verdicts.{scan}
-use Rattle.words.specs.Rows.{rowCount, field}
+use Rattle.words.specs.Widths.{blockCount, blockEnd, pieceWidth, pieceCount, assignedWidth, assignedCount, assignedRegister, moveWidth, moveCount, moveKind, moveNumber, moveTo, moveFrom}
 use Rattle.words.proofs.RowLaws.{length-records, getD-records}
 use Rattle.graph.specs.Line.{Stretch, blocksOf, blockAt}
 use Rattle.graph.proofs.Line.{blocks-length, start-is, end-is}
@@ -44,34 +44,34 @@ module _ (bs : List Stretch) (is : List Inst) (number : ℕ) where
   kind-over (suc (suc (suc (suc k)))) h = refl
 
 module _ (s : List ℕ) where
-  pub moves-length : length (movesOf s) ≡ rowCount 4 s
-  moves-length = length-records {A = Move} 4 (λ f. record { kind = f 0; number = f 1; to = f 2; from = f 3 }) s
+  pub moves-length : length (movesOf s) ≡ moveCount s
+  moves-length = length-records {A = Move} moveWidth (λ f. record { kind = f 0; number = f 1; to = f 2; from = f 3 }) s
 
-  pub move-at : (i : ℕ) → i < rowCount 4 s → moveAt (movesOf s) i ≡ record { kind = field 4 s i 0; number = field 4 s i 1; to = field 4 s i 2; from = field 4 s i 3 }
-  move-at i h = getD-records 4 (λ f. record { kind = f 0; number = f 1; to = f 2; from = f 3 }) s i _ h
+  pub move-at : (i : ℕ) → i < moveCount s → moveAt (movesOf s) i ≡ record { kind = moveKind s i; number = moveNumber s i; to = moveTo s i; from = moveFrom s i }
+  move-at i h = getD-records moveWidth (λ f. record { kind = f 0; number = f 1; to = f 2; from = f 3 }) s i _ h
 
-  pub move-is : (bs : List Stretch) (is : List Inst) (i : ℕ) (r : Bool) → i < rowCount 4 s → r ≡ badMove bs is (getD s (4 * i) 0) (getD s (4 * i + 1) 0)
+  pub move-is : (bs : List Stretch) (is : List Inst) (i : ℕ) (r : Bool) → i < moveCount s → r ≡ badMove bs is (getD s (moveWidth * i) 0) (moveNumber s i)
       → badMove bs is (moveAt (movesOf s) i .kind) (moveAt (movesOf s) i .number) ≡ r
   move-is bs is i r h e =
       ap (λ (m : Move). badMove bs is (m .kind) (m .number)) (move-at i h)
-      ∙ ap (λ (k : ℕ). badMove bs is (getD s k 0) (getD s (4 * i + 1) 0)) (add-zero (4 * i)) ∙ sym e
+      ∙ ap (λ (k : ℕ). badMove bs is (getD s k 0) (moveNumber s i)) (add-zero (moveWidth * i)) ∙ sym e
 
 -- ---- live pieces
 
 module _ (s : List ℕ) where
-  pub pieces-length : length (piecesOf s) ≡ rowCount 3 s
-  pieces-length = length-records {A = Piece} 3 (λ f. record { register = f 0; start = f 1; end = f 2 }) s
+  pub pieces-length : length (piecesOf s) ≡ pieceCount s
+  pieces-length = length-records {A = Piece} pieceWidth (λ f. record { register = f 0; start = f 1; end = f 2 }) s
 
-  pub piece-at : (i : ℕ) → i < rowCount 3 s → getD (piecesOf s) i (record { register = 0; start = 0; end = 0 }) ≡ pieceAt s i
-  piece-at i h = getD-records 3 (λ f. record { register = f 0; start = f 1; end = f 2 }) s i _ h
+  pub piece-at : (i : ℕ) → i < pieceCount s → getD (piecesOf s) i (record { register = 0; start = 0; end = 0 }) ≡ pieceAt s i
+  piece-at i h = getD-records pieceWidth (λ f. record { register = f 0; start = f 1; end = f 2 }) s i _ h
 
 -- the line's first and last point
-module _ (blocks : List ℕ) (some : 1 ≤ length blocks / 3) where
+module _ (blocks : List ℕ) (some : 1 ≤ blockCount blocks) where
   pub line-start : blockAt (blocksOf blocks) 0 .start ≡ getD blocks 1 0
   line-start = start-is blocks 0 (omega arith)
 
-  pub line-end : blockAt (blocksOf blocks) (length (blocksOf blocks) - 1) .end ≡ getD blocks (3 * (length blocks / 3 - 1) + 2) 0
-  line-end = ap (λ (n : ℕ). blockAt (blocksOf blocks) (n - 1) .end) (blocks-length blocks) ∙ end-is blocks (length blocks / 3 - 1) (omega arith)
+  pub line-end : blockAt (blocksOf blocks) (length (blocksOf blocks) - 1) .end ≡ blockEnd blocks (blockCount blocks - 1)
+  line-end = ap (λ (n : ℕ). blockAt (blocksOf blocks) (n - 1) .end) (blocks-length blocks) ∙ end-is blocks (blockCount blocks - 1) (omega arith)
 
 module _ (bs : List Stretch) (v : ℕ) (p : Piece) where
   pub piece-1 : p .end < p .start → true ≡ badPiece bs v p
@@ -92,10 +92,10 @@ module _ (bs : List Stretch) (v : ℕ) (p : Piece) where
 
 -- ---- assignments
 
-pub assigned-is : (v : ℕ) (s : List ℕ) → scan PieceWord (λ n. leb v (field 2 s n 0)) (rowCount 2 s) ≡ assignedVerdict v (assignedOf s)
+pub assigned-is : (v : ℕ) (s : List ℕ) → scan PieceWord (λ n. leb v (assignedRegister s n)) (assignedCount s) ≡ assignedVerdict v (assignedOf s)
 assigned-is v s =
-    let e : length (assignedOf s) ≡ rowCount 2 s = length-records {A = Assigned} 2 (λ f. record { register = f 0; slot = f 1 }) s in
-    ap (scan PieceWord (λ n. leb v (field 2 s n 0))) (sym e)
+    let e : length (assignedOf s) ≡ assignedCount s = length-records {A = Assigned} assignedWidth (λ f. record { register = f 0; slot = f 1 }) s in
+    ap (scan PieceWord (λ n. leb v (assignedRegister s n))) (sym e)
     ∙ scan-same PieceWord _ _ (length (assignedOf s)) (λ i h.
-    let l : i < rowCount 2 s = rw e at h in
-    ap (λ (a : Assigned). leb v (a .register)) (sym (getD-records 2 (λ f. record { register = f 0; slot = f 1 }) s i (record { register = 0; slot = 0 }) l)))
+    let l : i < assignedCount s = rw e at h in
+    ap (λ (a : Assigned). leb v (a .register)) (sym (getD-records assignedWidth (λ f. record { register = f 0; slot = f 1 }) s i (record { register = 0; slot = 0 }) l)))

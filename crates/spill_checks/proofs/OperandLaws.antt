@@ -7,7 +7,7 @@ use mathlib.Core.List.{List, [], _∷_, _++_}
 use lib.ListN.{length, List·getD-eq-default}
 use lib.Dec.{eqb}
 use Rattle.refusals.specs.declared.Refusal.the-variants.{Stray}
-use Rattle.words.specs.Rows.{rowCount}
+use Rattle.words.specs.Widths.{instCount}
 use Rattle.words.proofs.Points.{cut}
 use Rattle.ranges.specs.declared.Range.{Range}
 use Rattle.graph.specs.Line.{Stretch}
@@ -28,18 +28,18 @@ module _ (bs : List Stretch) (insts operands : List ℕ) where
   pub moves-whatever : (s : List ℕ) → moveVerdict bs (instsOf insts []) (movesOf s) ≡ moveVerdict bs (instsOf insts operands) (movesOf s)
   moves-whatever s = scan-same Stray _ _ (length (movesOf s)) (λ i h. bad-same (moveAt (movesOf s) i .kind) (moveAt (movesOf s) i .number))
 
-  past : (os : List ℕ) (n : ℕ) → rowCount 9 insts ≤ n → instAt (instsOf insts os) n ≡ noInst
+  past : (os : List ℕ) (n : ℕ) → instCount insts ≤ n → instAt (instsOf insts os) n ≡ noInst
   past os n h = List·getD-eq-default (instsOf insts os) noInst (let q = insts-length insts os in omega arith)
 
   early-same : (n : ℕ) → instAt (instsOf insts []) n .early ≡ instAt (instsOf insts operands) n .early
   early-same n =
-      cut (rowCount 9 insts) n
+      cut (instCount insts) n
       (λ h. ap (λ (i : Inst). i .early) (past [] n h ∙ sym (past operands n h)))
       (λ h. early-is insts [] n h ∙ sym (early-is insts operands n h))
 
   late-same : (n : ℕ) → instAt (instsOf insts []) n .late ≡ instAt (instsOf insts operands) n .late
   late-same n =
-      cut (rowCount 9 insts) n
+      cut (instCount insts) n
       (λ h. ap (λ (i : Inst). i .late) (past [] n h ∙ sym (past operands n h)))
       (λ h. late-is insts [] n h ∙ sym (late-is insts operands n h))
 

@@ -5,7 +5,7 @@ ghost use mathlib.Core.List.{[]};
 ghost use Prim.Native.Nat.{_+_, _*_, _/_, _≤_, _<_};
 ghost use lib.ListN.{length};
 ghost use lib.Dec.{leb};
-ghost use Rattle.words.specs.Rows.{field};
+ghost use Rattle.words.specs.Widths.{blockCount, instCount, instPlaced, pieceCount};
 ghost use Rattle.graph.specs.Line.{blocksOf};
 ghost use Rattle.carrying.specs.Insts.{instsOf, isSet};
 ghost use Rattle.carrying.specs.Carried.{piecesOf};
@@ -16,6 +16,10 @@ ghost use Rattle.spill_checks.specs.declared.Position.the-variants.{Stra
 use graph::Block;
 use refusals::Refusal;
 use refusals::Verdict;
+use words::widths::assigned;
+use words::widths::block;
+use words::widths::moving;
+use words::widths::piece;
 
 // How many answers were given, or the refusal.
 pub enum Answer {
@@ -40,7 +44,7 @@ fn wide(x: u32) -> usize
 
 // `p`, which is at this instruction; stray where it is absent or unplaced.
 fn at_inst(insts: &[u32], number: u32, p: Position) -> Position
-    ensures { λ r. ⌜ r ≡ cond (leb (length (now (insts .entry)) / 9) number || not (isSet (field 9 (now (insts .entry)) number 0))) Stray p ⌝ }
+    ensures { λ r. ⌜ r ≡ cond (leb (instCount (now (insts .entry))) number || not (isSet (instPlaced (now (insts .entry)) number))) Stray p ⌝ }
 {
     if insts::checks::unplaced(insts, number) {
         return Position::Stray;
@@ -50,9 +54,9 @@ fn at_inst(insts: &[u32], number: u32, p: Position) -> Position
 
 // `p`, which is at this block; stray where it is absent.
 fn at_block(blocks: &[u32], number: u32, p: Position) -> Position
-    ensures { λ r. ⌜ r ≡ cond (leb (length (now (blocks .entry)) / 3) number) Stray p ⌝ }
+    ensures { λ r. ⌜ r ≡ cond (leb (blockCount (now (blocks .entry))) number) Stray p ⌝ }
 {
-    if blocks.len() / 3 <= number as usize {
+    if blocks.len() / block::WIDTH <= number as usize {
         return Position::Stray;
     }
     p
@@ -89,10 +93,15 @@ fn bad_move(blocks: &[u32], insts: &[u32], kind: u32, number: u32) -> bool
 pub fn moves(blocks: &[u32], insts: &[u32], moves: &[u32]) -> Verdict
     ensures { λ r. ⌜ r ≡ moveVerdict (blocksOf (now (blocks .entry))) (instsOf (now (insts .entry)) []) (movesOf (now (moves .entry))) ⌝ }
 {
-    let n = moves.len() / 4;
+    let n = moves.len() / moving::WIDTH;
     let mut i = 0;
     while i < n {
-        if bad_move(blocks, insts, moves[4 * i], moves[4 * i + 1]) {
+        if bad_move(
+            blocks,
+            insts,
+            moves[moving::WIDTH * i],
+            moves[moving::WIDTH * i + moving::NUMBER],
+        ) {
             return Verdict::Bad(Refusal::Stray, i);
         }
         i += 1;
@@ -102,30 +111,30 @@ pub fn moves(blocks: &[u32], insts: &[u32], moves: &[u32]) -> Verdict
 
 // Whether live piece `i` is reversed, not wholly in the blocks, or of a register that is not numbered.
 fn bad_piece(blocks: &[u32], v: u32, pieces: &[u32], i: usize) -> bool
-    requires { ⌜ (1 ≤ length (now blocks) / 3) × (i < length (now pieces) / 3) ⌝ }
+    requires { ⌜ (1 ≤ blockCount (now blocks)) × (i < pieceCount (now pieces)) ⌝ }
     ensures { λ r. ⌜ r ≡ badPiece (blocksOf (now (blocks .entry))) v (pieceAt (now (pieces .entry)) i) ⌝ }
 {
-    let start = pieces[3 * i + 1];
-    let end = pieces[3 * i + 2];
+    let start = pieces[piece::WIDTH * i + piece::START];
+    let end = pieces[piece::WIDTH * i + piece::END];
     if end < start {
         return true;
     }
     if start < blocks[1] {
         return true;
     }
-    let last = blocks.len() / 3 - 1;
-    if blocks[3 * last + 2] < end {
+    let last = blocks.len() / block::WIDTH - 1;
+    if blocks[block::WIDTH * last + block::END] < end {
         return true;
     }
-    v <= pieces[3 * i]
+    v <= pieces[piece::WIDTH * i]
 }
 
 // Refusal 6: the first live piece that is refused.
 pub fn pieces(blocks: &[u32], v: u32, pieces: &[u32]) -> Verdict
-    requires { ⌜ 1 ≤ length (now blocks) / 3 ⌝ }
+    requires { ⌜ 1 ≤ blockCount (now blocks) ⌝ }
     ensures { λ r. ⌜ r ≡ pieceVerdict (blocksOf (now (blocks .entry))) v (piecesOf (now (pieces .entry))) ⌝ }
 {
-    let n = pieces.len() / 3;
+    let n = pieces.len() / piece::WIDTH;
     let mut i = 0;
     while i < n {
         if bad_piece(blocks, v, pieces, i) {
@@ -140,5 +149,5 @@ pub fn pieces(blocks: &[u32], v: u32, pieces: &[u32]) -> Verdict
 pub fn assigned(v: u32, assigned: &[u32]) -> Verdict
     ensures { λ r. ⌜ r ≡ assignedVerdict v (assignedOf (now (assigned .entry))) ⌝ }
 {
-    insts::checks::below(assigned, 2, 0, wide(v), Refusal::Piece)
+    insts::checks::below(assigned, assigned::WIDTH, 0, wide(v), Refusal::Piece)
 }

@@ -11,12 +11,13 @@ use Rattle.refusals.specs.Orders.{Gives, Ordered}
 use Rattle.refusals.proofs.Orders.{check-gives, first-gives, scan-gives}
 use Rattle.insts.specs.Counts.{badRows, rowsVerdict, mostVerdict}
 use Rattle.spilled_registers.specs.Spilled.{spilledCounts, spilledSpace, spilledChecks}
+use Rattle.words.specs.Widths.{assignedWidth}
 
 counts-give : (v slots : ℕ) (assigned : List ℕ) → Gives Count (spilledCounts v slots assigned)
 unfolding spilledCounts
 counts-give v slots assigned =
-    first-gives Count (mostVerdict 65535 v) (first (mostVerdict 2048 slots) (rowsVerdict 2 65536 (length assigned))) (check-gives Count (ltb 65535 v))
-    (first-gives Count (mostVerdict 2048 slots) (rowsVerdict 2 65536 (length assigned)) (check-gives Count (ltb 2048 slots)) (check-gives Count (badRows 2 65536 (length assigned))))
+    first-gives Count (mostVerdict 65535 v) (first (mostVerdict 2048 slots) (rowsVerdict assignedWidth 65536 (length assigned))) (check-gives Count (ltb 65535 v))
+    (first-gives Count (mostVerdict 2048 slots) (rowsVerdict assignedWidth 65536 (length assigned)) (check-gives Count (ltb 2048 slots)) (check-gives Count (badRows assignedWidth 65536 (length assigned))))
 
 pub spilled-ordered : (v slots : ℕ) (assigned : List ℕ) (lent work : ℕ) → Ordered numberOf (Count ∷ Piece ∷ Space ∷ []) (spilledChecks v slots assigned lent work)
 spilled-ordered v slots assigned lent work = record {

@@ -11,8 +11,9 @@ use Rattle.refusals.specs.declared.Refusal.{Refusal}
 use Rattle.refusals.specs.Verdicts.{first, inOrder}
 use Rattle.refusals.specs.Outcomes.{after}
 use Rattle.refusals.proofs.Laws.{first-fine, first-bad, first-left, first-right, bad-fine, check-last}
-use Rattle.words.specs.Rows.{tabulate, rowCount}
+use Rattle.words.specs.Rows.{tabulate}
 use Rattle.words.specs.Regions.{Region, cleared}
+use Rattle.words.specs.Widths.{assignedWidth, assignedCount}
 use Rattle.words.proofs.RowLaws.{length-tabulate}
 use Rattle.words.proofs.Points.{cut, same}
 use Rattle.words.proofs.RegionLaws.{region-front}
@@ -63,15 +64,15 @@ module _ (g : ℕ → Assigned) where
 
 -- ---- the checks
 
-pub counts-chain : (v slots : ℕ) (assigned : List ℕ) {a b c d r : Verdict} → a ≡ mostVerdict 65535 v → b ≡ mostVerdict 2048 slots → c ≡ rowsVerdict 2 65536 (length assigned)
+pub counts-chain : (v slots : ℕ) (assigned : List ℕ) {a b c d r : Verdict} → a ≡ mostVerdict 65535 v → b ≡ mostVerdict 2048 slots → c ≡ rowsVerdict assignedWidth 65536 (length assigned)
     → d ≡ first b c → r ≡ first a d → r ≡ spilledCounts v slots assigned
 unfolding spilledCounts
 counts-chain v slots assigned ea eb ec ed er = cc
 
-pub few-assigned : (v slots : ℕ) (assigned : List ℕ) → spilledCounts v slots assigned ≡ Fine → rowCount 2 assigned ≤ 65536
+pub few-assigned : (v slots : ℕ) (assigned : List ℕ) → spilledCounts v slots assigned ≡ Fine → assignedCount assigned ≤ 65536
 unfolding spilledCounts
 few-assigned v slots assigned e =
-    rows-few 2 65536 (length assigned) (first-right (mostVerdict 2048 slots) _ (first-right (mostVerdict 65535 v) _ e))
+    rows-few assignedWidth 65536 (length assigned) (first-right (mostVerdict 2048 slots) _ (first-right (mostVerdict 65535 v) _ e))
 
 -- the checks in the order in which the code joins them
 joined : (c p r : Verdict) → inOrder (c ∷ p ∷ r ∷ []) ≡ first c (first p r)
@@ -94,7 +95,7 @@ module _ (v slots : ℕ) (assigned : List ℕ) (lent work : ℕ) where
 
   -- what no refusal says
   pub record Fit : Type 0 where
-    pub few : rowCount 2 assigned ≤ 65536
+    pub few : assignedCount assigned ≤ 65536
     pub answer : slots ≤ lent
     pub space : spilledSpace v assigned ≤ work
 

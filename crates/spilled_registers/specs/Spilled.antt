@@ -10,7 +10,8 @@ use Rattle.refusals.specs.declared.Verdict.{Verdict}
 use Rattle.refusals.specs.declared.Refusal.the-variants.{Space}
 use Rattle.refusals.specs.Verdicts.{first, inOrder, check}
 use Rattle.refusals.specs.Outcomes.{unless, after}
-use Rattle.words.specs.Rows.{tabulate, rowCount}
+use Rattle.words.specs.Rows.{tabulate}
+use Rattle.words.specs.Widths.{assignedWidth, assignedCount}
 use Rattle.job_space.specs.Space.{rowWords}
 use Rattle.insts.specs.Counts.{rowsVerdict, mostVerdict}
 use Rattle.areas.specs.Slots.{assignedOf, spilled, assignedVerdict}
@@ -19,14 +20,14 @@ use Rattle.spill_checks.specs.Answer.{answered}
 
 -- number 1: "V 65,535; slots 2,048; assignments 65,536"
 unfoldable pub spilledCounts : ℕ → ℕ → List ℕ → Verdict
-spilledCounts v slots assigned = first (mostVerdict 65535 v) (first (mostVerdict 2048 slots) (rowsVerdict 2 65536 (length assigned)))
+spilledCounts v slots assigned = first (mostVerdict 65535 v) (first (mostVerdict 2048 slots) (rowsVerdict assignedWidth 65536 (length assigned)))
 
 -- W = 8 × (assignments + ⌈V/64⌉): "other entries count what they are lent"; the slots are a number, no record
 abbrev pub spilledWords : ℕ → ℕ → ℕ
 spilledWords v assigned = 8 * (assigned + rowWords v)
 
 abbrev pub spilledSpace : ℕ → List ℕ → ℕ
-spilledSpace v assigned = spilledWords v (rowCount 2 assigned)
+spilledSpace v assigned = spilledWords v (assignedCount assigned)
 
 -- number 7: an answer list shorter than its answer, or work space under W
 abbrev pub spilledRoom : ℕ → ℕ → ℕ → ℕ → Verdict

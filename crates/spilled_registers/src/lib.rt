@@ -3,10 +3,12 @@ ghost use mathlib.Core.Path.{_≡_};
 ghost use Prim.Native.Nat.{_/_, _≤_};
 ghost use lib.ListN.{length, getD};
 ghost use Rattle.words.specs.Regions.{Region};
+ghost use Rattle.words.specs.Widths.{assignedCount};
 ghost use Rattle.areas.specs.Slots.{assignedOf, spilled};
 ghost use Rattle.spilled_registers.specs.Spilled.{registerOr, spilledCounts, spilledWords, spilledSpace, spilledVerdict, SpilledTo};
 use refusals::Verdict;
 use spill_checks::Answer;
+use words::widths::assigned;
 
 // Refusal 1 of `spilled`.
 fn counts(v: u32, slots: usize, assigned: &[u32]) -> Verdict
@@ -14,7 +16,7 @@ fn counts(v: u32, slots: usize, assigned: &[u32]) -> Verdict
 {
     let a = insts::counts::most(v as usize, 65535);
     let b = insts::counts::most(slots, 2048);
-    let c = insts::counts::rows(assigned.len(), 2, 65536);
+    let c = insts::counts::rows(assigned.len(), assigned::WIDTH, 65536);
     let c = refusals::earlier(b, c);
     refusals::earlier(a, c)
 }
@@ -28,10 +30,10 @@ pub fn words(v: u32, assigned: u32) -> u64
 
 // The work space that `spilled` needs.
 fn needed(v: u32, assigned: &[u32]) -> usize
-    requires { ⌜ length (now assigned) / 2 ≤ 65536 ⌝ }
+    requires { ⌜ assignedCount (now assigned) ≤ 65536 ⌝ }
     ensures { λ r. ⌜ r ≡ spilledSpace v (now (assigned .entry)) ⌝ }
 {
-    let n = (assigned.len() / 2) as u32;
+    let n = (assigned.len() / assigned::WIDTH) as u32;
     words(v, n) as usize
 }
 
@@ -66,12 +68,12 @@ fn assign(assigned: &[u32], answer: &mut [u32], n: usize)
     requires { ⌜ n ≤ length (now answer) ⌝ }
     ensures { λ _. ⌜ Region (now (answer .entry)) (now (answer .exit)) 0 n (λ s. registerOr (getD (now (answer .entry)) s 0) (spilled (assignedOf (now (assigned .entry))) s)) ⌝ }
 {
-    let m = assigned.len() / 2;
+    let m = assigned.len() / assigned::WIDTH;
     let mut i = 0;
     while i < m {
-        let slot = assigned[2 * i + 1] as usize;
+        let slot = assigned[assigned::WIDTH * i + assigned::SLOT] as usize;
         if slot < n {
-            answer[slot] = assigned[2 * i];
+            answer[slot] = assigned[assigned::WIDTH * i];
             i += 1;
         } else {
             i += 1;

@@ -9,9 +9,9 @@ use lib.ListN.{length, getD}
 use lib.Dec.{leb, ltb}
 use borrow.Author.Tests.{ltb-true, ltb-false}
 use Rattle.words.specs.Sort.{Rising}
-use Rattle.words.specs.Rows.{field}
 use Rattle.words.specs.Search.{Splits}
 use Rattle.words.specs.Regions.{part}
+use Rattle.words.specs.Widths.{blockCount, blockStart, blockEnd}
 use Rattle.words.proofs.SortLaws.{rising-le}
 use Rattle.words.proofs.Points.{cut}
 use Rattle.words.proofs.RegionLaws.{length-part, getD-part}
@@ -47,16 +47,16 @@ holding-split G (suc n) x r s = cut r n
     (λ h. rw (s .fails n h (omega arith)) (holding-split G n x r (record { within = h; holds = s .holds; fails = λ i a b. s .fails i a (omega arith) })))
     (λ h. let w = s .within in rw (s .holds n h) (omega arith))
 
-pub held : (blocks : List ℕ) (point r q : ℕ) → Sound (blocksOf blocks) → Splits (λ i. leb (field 3 blocks i 1) point) (length blocks / 3) r → q ≡ r - 1 → Held blocks point q
+pub held : (blocks : List ℕ) (point r q : ℕ) → Sound (blocksOf blocks) → Splits (λ i. leb (blockStart blocks i) point) (blockCount blocks) r → q ≡ r - 1 → Held blocks point q
 held blocks point r q S s e = record {
   below = let b = block-below (lineOf blocks []) S point in let i = is [] in let l = blocks-length blocks in omega arith;
   is = is;
 }
   where
-    same : (i : ℕ) → i < length blocks / 3 → leb (blockAt (blocksOf blocks) i .start) point ≡ leb (field 3 blocks i 1) point
+    same : (i : ℕ) → i < blockCount blocks → leb (blockAt (blocksOf blocks) i .start) point ≡ leb (blockStart blocks i) point
     same i h = ap (λ (t : ℕ). leb t point) (start-is blocks i h)
 
-    split : Splits (λ i. leb (blockAt (blocksOf blocks) i .start) point) (length blocks / 3) r
+    split : Splits (λ i. leb (blockAt (blocksOf blocks) i .start) point) (blockCount blocks) r
     split = record {
       within = s .within;
       holds = λ i h. same i (let w = s .within in omega arith) ∙ s .holds i h;
@@ -64,7 +64,7 @@ held blocks point r q S s e = record {
     }
 
     is : (es : List Edge) → q ≡ blockOf (lineOf blocks es) point
-    is es = e ∙ sym (holding-split (lineOf blocks es) (length blocks / 3) point r split) ∙ ap (λ (n : ℕ). holding (lineOf blocks es) n point) (sym (blocks-length blocks))
+    is es = e ∙ sym (holding-split (lineOf blocks es) (blockCount blocks) point r split) ∙ ap (λ (n : ℕ). holding (lineOf blocks es) n point) (sym (blocks-length blocks))
 
 -- ---- the first end
 
@@ -121,8 +121,8 @@ module _ (w : List ℕ) (ends stops : ℕ) (fits : ends + stops ≤ length w) wh
 
 -- ---- touches
 
-pub clip-is : (blocks : List ℕ) (k start end first last : ℕ) (es : List Edge) → k < length blocks / 3
-    → last ≡ min end (getD blocks (3 * k + 2) 0) → first ≡ max start (getD blocks (3 * k + 1) 0)
+pub clip-is : (blocks : List ℕ) (k start end first last : ℕ) (es : List Edge) → k < blockCount blocks
+    → last ≡ min end (blockEnd blocks k) → first ≡ max start (blockStart blocks k)
     → ltb last first ≡ reversed (clip (lineOf blocks es) k (range start end))
 clip-is blocks k start end first last es h e f =
     ap (λ (x : ℕ). ltb x first) (e ∙ ap (λ (b : ℕ). min end b) (sym (end-is blocks k h)))

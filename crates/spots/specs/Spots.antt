@@ -5,6 +5,7 @@ use mathlib.Core.List.{List}
 use lib.ListN.{length, getD}
 use Rattle.words.specs.Sort.{Rising}
 use Rattle.words.specs.Regions.{part}
+use Rattle.words.specs.Widths.{blockCount}
 use Rattle.ranges.specs.declared.Range.{Range}
 use Rattle.ranges.specs.Forms.{unpacked}
 use Rattle.graph.specs.Paths.{Edge}
@@ -31,5 +32,5 @@ pub record Stand (s : Spots) (w : List ℕ) : Type 0 where
 
 -- r is the place of the block that holds the point
 pub record Held (blocks : List ℕ) (point r : ℕ) : Type 0 where
-  pub below : r < length blocks / 3
+  pub below : r < blockCount blocks
   pub is : (es : List Edge) → r ≡ blockOf (lineOf blocks es) point

@@ -5,6 +5,7 @@ ghost use Prim.Native.Nat.{_+_, _*_, _/_, _≤_, _<_, min, max};
 ghost use lib.ListN.{length, getD};
 ghost use Rattle.words.specs.Sort.{Rising};
 ghost use Rattle.words.specs.Regions.{part};
+ghost use Rattle.words.specs.Widths.{blockCount};
 ghost use Rattle.ranges.specs.Points.{range};
 ghost use Rattle.ranges.specs.Forms.{unpacked};
 ghost use Rattle.graph.specs.Paths.{Edge};
@@ -13,6 +14,7 @@ ghost use Rattle.carrying.specs.Lists.{any};
 ghost use Rattle.areas.specs.Blocks.{clip, reversed, inverted, until};
 ghost use Rattle.spots.specs.Spots.{lineOf, Held};
 use graph::Place;
+use words::widths::block;
 
 // The touches are the packed ranges `work[at .. at + count]`, the ends the points `work[ends .. ends + stops]`, rising.
 pub struct Spots {
@@ -27,8 +29,8 @@ pub fn holding(blocks: &[u32], point: u32) -> Place
     requires { ⌜ Sound (blocksOf (now blocks)) ⌝ }
     ensures { λ r. ⌜ Held (now (blocks .entry)) point (r .0) ⌝ }
 {
-    let n = blocks.len() / 3;
-    let r = words::at_most_in_rows(blocks, 3, 1, n, point);
+    let n = blocks.len() / block::WIDTH;
+    let r = words::at_most_in_rows(blocks, block::WIDTH, block::START, n, point);
     if r == 0 {
         return Place(0);
     }
@@ -71,11 +73,11 @@ pub fn smaller(x: u32, y: u32) -> u32
 
 // Whether a touch, clipped to the block at place k, ends before it starts.
 fn clip_reversed(blocks: &[u32], k: usize, start: u32, end: u32) -> bool
-    requires { ⌜ k < length (now blocks) / 3 ⌝ }
+    requires { ⌜ k < blockCount (now blocks) ⌝ }
     ensures { λ r. ⌜ ((es : List Edge) → r ≡ reversed (clip (lineOf (now (blocks .entry)) es) k (range start end))) ⌝ }
 {
-    let top = blocks[3 * k + 1];
-    let bottom = blocks[3 * k + 2];
+    let top = blocks[block::WIDTH * k + block::START];
+    let bottom = blocks[block::WIDTH * k + block::END];
     smaller(end, bottom) < larger(start, top)
 }
 

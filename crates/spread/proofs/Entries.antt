@@ -17,8 +17,8 @@ use Rattle.refusals.specs.Verdicts.{numberOf, first, inOrder}
 use Rattle.refusals.specs.Orders.{Ordered}
 use Rattle.refusals.proofs.Laws.{first-fine, first-bad, first-left, first-right, bad-fine}
 use Rattle.refusals.proofs.Orders.{check-gives}
-use Rattle.words.specs.Rows.{rowCount}
 use Rattle.words.specs.Regions.{Region, cleared}
+use Rattle.words.specs.Widths.{blockCount, edgeCount}
 use Rattle.words.proofs.Bools.{both-ways}
 use Rattle.words.proofs.RegionLaws.{row-before}
 use Rattle.bits.specs.Bits.{bit, bitOf}
@@ -101,15 +101,15 @@ both a b n e f = omega arith
 
 -- ---- the rows, and the order
 
-module _ (blocks edges : List ℕ) (w₀ w₁ : List ℕ) (some : 1 ≤ length blocks / 3) (fits : 8 * (length blocks / 3 + length edges / 2) ≤ length w₀)
-    (N : Neighbours (edgesIn blocks edges) (length blocks / 3) (length edges / 2) 0 w₀ w₁) where
-  rows₁ : EdgeRows (edgesIn blocks edges) (length blocks / 3) (length edges / 2 + length edges / 2) w₁
-  rows₁ = subst (λ (y : ℕ). EdgeRows (edgesIn blocks edges) (length blocks / 3) y w₁) (omega arith) (N .rows)
+module _ (blocks edges : List ℕ) (w₀ w₁ : List ℕ) (some : 1 ≤ blockCount blocks) (fits : 8 * (blockCount blocks + edgeCount edges) ≤ length w₀)
+    (N : Neighbours (edgesIn blocks edges) (blockCount blocks) (edgeCount edges) 0 w₀ w₁) where
+  rows₁ : EdgeRows (edgesIn blocks edges) (blockCount blocks) (edgeCount edges + edgeCount edges) w₁
+  rows₁ = subst (λ (y : ℕ). EdgeRows (edgesIn blocks edges) (blockCount blocks) y w₁) (omega arith) (N .rows)
 
-  pub walkable : Walkable (length blocks / 3) (length edges / 2 + length edges / 2) (baseOf blocks edges) w₁
+  pub walkable : Walkable (blockCount blocks) (edgeCount edges + edgeCount edges) (baseOf blocks edges) w₁
   walkable = record { edges = edgesIn blocks edges; between = N .between; rows = rows₁; below = omega (arith, N .count); room = omega (arith, N .kept .len) }
 
-  pub prepared : {w₂ : List ℕ} → InOrder (length blocks / 3) (length edges / 2 + length edges / 2) (baseOf blocks edges) w₁ w₂ → Prepared blocks edges (baseOf blocks edges) w₀ w₂
+  pub prepared : {w₂ : List ℕ} → InOrder (blockCount blocks) (edgeCount edges + edgeCount edges) (baseOf blocks edges) w₁ w₂ → Prepared blocks edges (baseOf blocks edges) w₀ w₂
   prepared {w₂} P = record {
     at-is = refl;
     kept = within-trans (within-wider 0 _ (omega arith) (omega arith) (N .kept)) (within-wider 0 _ (omega arith) (omega arith) (P .kept));
@@ -126,7 +126,7 @@ pub order-refused : (blocks edges : List ℕ) (points : ℕ) (order work : List 
     → Settled blocks edges points order work (Refused r i) order work
 order-refused blocks edges points order work r i e = record { answered = λ f. bad-fine (sym e ∙ f); turned-back = λ k j f. same-bad r i order work k j (sym e ∙ f) }
 
-pub small : {blocks edges : List ℕ} {at : ℕ} {w₀ w : List ℕ} → Prepared blocks edges at w₀ w → length blocks / 3 ≤ 4096 → (i : ℕ) → i < length blocks / 3 → getD w (at + i) 0 < 4294967296
+pub small : {blocks edges : List ℕ} {at : ℕ} {w₀ w : List ℕ} → Prepared blocks edges at w₀ w → blockCount blocks ≤ 4096 → (i : ℕ) → i < blockCount blocks → getD w (at + i) 0 < 4294967296
 small P few i h = omega (arith, P .settling .listed i h)
 
 settling-as : {es : List Edge} {n : ℕ} {o o' : ℕ → ℕ} → ((i : ℕ) → i < n → o' i ≡ o i) → Settling es n o → Settling es n o'
@@ -138,24 +138,24 @@ settling-as is X = record {
 }
 
 pub order-given : (blocks edges : List ℕ) (points : ℕ) (order₀ order work₀ work₁ work₂ : List ℕ) → orderVerdict blocks edges points (length order₀) (length work₀) ≡ Fine
-    → 1 ≤ length blocks / 3 → {at : ℕ} → Prepared blocks edges at work₀ work₁
-    → Region order₀ order 0 (length blocks / 3) (λ i. getD work₁ (at + i) 0) → work₂ ≡ cleared (8 * (length blocks / 3 + length edges / 2)) work₁
+    → 1 ≤ blockCount blocks → {at : ℕ} → Prepared blocks edges at work₀ work₁
+    → Region order₀ order 0 (blockCount blocks) (λ i. getD work₁ (at + i) 0) → work₂ ≡ cleared (8 * (blockCount blocks + edgeCount edges)) work₁
     → Settled blocks edges points order₀ work₀ Given order work₂
 order-given blocks edges points order₀ order work₀ work₁ work₂ e some P R C =
-    let eight : 8 * (length blocks / 3 + length edges / 2) ≡ 8 * (length blocks / 3 + length edges / 2 + 0) = omega arith in
+    let eight : 8 * (blockCount blocks + edgeCount edges) ≡ 8 * (blockCount blocks + edgeCount edges + 0) = omega arith in
     record {
       answered = λ _. record {
         outcome = refl;
         settling = settling-as (λ i h. R .inside i i (omega arith) h) (P .settling);
         length-kept = R .len;
         past = λ i h. R .after i (omega arith);
-        work-cleared = C ∙ ap (λ (y : ℕ). cleared y work₁) eight ∙ cleared-same (spaceOf (rowCount 3 blocks) (rowCount 2 edges) 0) work₀ work₁ (within-wider 0 _ (omega arith) (omega arith) (P .kept));
+        work-cleared = C ∙ ap (λ (y : ℕ). cleared y work₁) eight ∙ cleared-same (spaceOf (blockCount blocks) (edgeCount edges) 0) work₀ work₁ (within-wider 0 _ (omega arith) (omega arith) (P .kept));
       };
       turned-back = λ k i f. bad-fine (sym f ∙ e);
     }
 
-pub order-inside : {blocks edges : List ℕ} {at : ℕ} {w₀ w : List ℕ} → Prepared blocks edges at w₀ w → 8 * (length blocks / 3 + length edges / 2) ≤ length w₀ → 1 ≤ length blocks / 3
-    → at + length blocks / 3 ≤ length w
+pub order-inside : {blocks edges : List ℕ} {at : ℕ} {w₀ w : List ℕ} → Prepared blocks edges at w₀ w → 8 * (blockCount blocks + edgeCount edges) ≤ length w₀ → 1 ≤ blockCount blocks
+    → at + blockCount blocks ≤ length w
 order-inside P h s = omega (arith, P .at-is, P .kept .len)
 
 -- ---- spread: the refusals
@@ -163,29 +163,29 @@ order-inside P h s = omega (arith, P .at-is, P .kept .len)
 module _ (blocks edges : List ℕ) (points leaving passing words answer work : ℕ) where
   -- "lowest number wins": 1, 2, 3, then 7
   pub spread-ordered : Ordered numberOf (Count ∷ Count ∷ Count ∷ Line ∷ EdgeWord ∷ Space ∷ []) (spreadChecks blocks edges points leaving passing words answer work)
-  spread-ordered = record { gives = (check-gives Count (not (eqb passing (rowCount 3 blocks * words))), flowed-ordered blocks edges points leaving words answer work .gives); rises = refl }
+  spread-ordered = record { gives = (check-gives Count (not (eqb passing (blockCount blocks * words))), flowed-ordered blocks edges points leaving words answer work .gives); rises = refl }
 
   -- the other rows' check, then those of `flowed`
-  verdict-as : verdictOf blocks edges points leaving passing words answer work ≡ first (rowsVerdict passing (rowCount 3 blocks) words) (rowVerdict blocks edges points leaving words answer work)
+  verdict-as : verdictOf blocks edges points leaving passing words answer work ≡ first (rowsVerdict passing (blockCount blocks) words) (rowVerdict blocks edges points leaving words answer work)
   unfolding verdictOf rowVerdict inOrder
   verdict-as = refl
 
-  pub passing-refused : (r : Refusal) (i : ℕ) → rowsVerdict passing (rowCount 3 blocks) words ≡ Bad r i → Bad r i ≡ verdictOf blocks edges points leaving passing words answer work
+  pub passing-refused : (r : Refusal) (i : ℕ) → rowsVerdict passing (blockCount blocks) words ≡ Bad r i → Bad r i ≡ verdictOf blocks edges points leaving passing words answer work
   passing-refused r i e = sym (verdict-as ∙ first-bad _ _ r i e)
 
-  pub rest-last : (v : Verdict) → rowsVerdict passing (rowCount 3 blocks) words ≡ Fine → v ≡ rowVerdict blocks edges points leaving words answer work → v ≡ verdictOf blocks edges points leaving passing words answer work
+  pub rest-last : (v : Verdict) → rowsVerdict passing (blockCount blocks) words ≡ Fine → v ≡ rowVerdict blocks edges points leaving words answer work → v ≡ verdictOf blocks edges points leaving passing words answer work
   rest-last v f e = e ∙ sym (verdict-as ∙ first-fine _ _ f)
 
   pub record Known : Type 0 where
-    pub passing-rows : passing ≡ rowCount 3 blocks * words
+    pub passing-rows : passing ≡ blockCount blocks * words
     pub rest : RowsKnown blocks edges points leaving words answer work
 
   pub known : verdictOf blocks edges points leaving passing words answer work ≡ Fine → Known
   known e =
       let f = sym verdict-as ∙ e in
       record {
-        passing-rows = rows-told passing (rowCount 3 blocks) words (first-left (rowsVerdict passing (rowCount 3 blocks) words) _ f);
-        rest = rows-known blocks edges points leaving words answer work (first-right (rowsVerdict passing (rowCount 3 blocks) words) _ f);
+        passing-rows = rows-told passing (blockCount blocks) words (first-left (rowsVerdict passing (blockCount blocks) words) _ f);
+        rest = rows-known blocks edges points leaving words answer work (first-right (rowsVerdict passing (blockCount blocks) words) _ f);
       }
 
 pub rows-refused : (blocks edges : List ℕ) (points : ℕ) (leaves passes : List ℕ) (words : ℕ) (out work : List ℕ) (r : Refusal) (i : ℕ)
@@ -202,24 +202,24 @@ bit-copied {at = at} rows n words R e k b h l =
     let z : 0 + (k * words + b / 64) ≡ k * words + b / 64 = omega arith in
     ap (λ (y : ℕ). bitOf y (b % 64)) (R .inside (at + k * words + b / 64) (k * words + b / 64) p (omega arith) ∙ ap (λ (y : ℕ). getD rows y 0) z)
 
-module _ (blocks edges leaves passes : List ℕ) (words : ℕ) (w₀ w₁ : List ℕ) (few : length blocks / 3 ≤ 4096) (some : 1 ≤ length blocks / 3)
-    (leaving : length leaves ≡ length blocks / 3 * words) (passing : length passes ≡ length blocks / 3 * words)
-    (fits : 8 * (length blocks / 3 + length edges / 2 + length leaves) ≤ length w₀) {base : ℕ} (P : Prepared blocks edges base w₀ w₁) where
+module _ (blocks edges leaves passes : List ℕ) (words : ℕ) (w₀ w₁ : List ℕ) (few : blockCount blocks ≤ 4096) (some : 1 ≤ blockCount blocks)
+    (leaving : length leaves ≡ blockCount blocks * words) (passing : length passes ≡ blockCount blocks * words)
+    (fits : 8 * (blockCount blocks + edgeCount edges + length leaves) ≤ length w₀) {base : ℕ} (P : Prepared blocks edges base w₀ w₁) where
   abbrev lentAt : ℕ
-  lentAt = base + length blocks / 3 + length blocks / 3
+  lentAt = base + blockCount blocks + blockCount blocks
 
   abbrev answerAt : ℕ
-  answerAt = lentAt + length leaves + length leaves + (length blocks / 3 / 64 + 1)
+  answerAt = lentAt + length leaves + length leaves + (blockCount blocks / 64 + 1)
 
   at-base : base ≡ baseOf blocks edges
   at-base = P .at-is
 
   abbrev s : Layout
   s = record {
-    n = length blocks / 3;
-    at = length edges / 2 + length edges / 2;
+    n = blockCount blocks;
+    at = edgeCount edges + edgeCount edges;
     order = base;
-    rank = base + length blocks / 3;
+    rank = base + blockCount blocks;
     words = words;
     leaves = lentAt;
     passes = lentAt + length leaves;
@@ -240,23 +240,23 @@ module _ (blocks edges leaves passes : List ℕ) (words : ℕ) (w₀ w₁ : List
     below : (i : ℕ) → i < lentAt → getD w₃ i 0 ≡ getD w₁ i 0
     below i h = B .before i (omega arith) ∙ A .before i h
 
-    rows₃ : EdgeRows (edgesIn blocks edges) (length blocks / 3) (length edges / 2 + length edges / 2) w₃
+    rows₃ : EdgeRows (edgesIn blocks edges) (blockCount blocks) (edgeCount edges + edgeCount edges) w₃
     rows₃ = rows-moved (P .between) (omega (arith, at-base, P .count)) below (P .rows)
 
-    order-is : (i : ℕ) → i < length blocks / 3 → getD w₃ (base + i) 0 ≡ getD w₁ (base + i) 0
+    order-is : (i : ℕ) → i < blockCount blocks → getD w₃ (base + i) 0 ≡ getD w₁ (base + i) 0
     order-is i h = below (base + i) (omega arith)
 
-    rank-at : (i : ℕ) → i < length blocks / 3 → getD w₃ (base + length blocks / 3 + getD w₃ (base + i) 0) 0 ≡ i
+    rank-at : (i : ℕ) → i < blockCount blocks → getD w₃ (base + blockCount blocks + getD w₃ (base + i) 0) 0 ≡ i
     rank-at i h =
-        ap (λ (y : ℕ). getD w₃ (base + length blocks / 3 + y) 0) (order-is i h)
+        ap (λ (y : ℕ). getD w₃ (base + blockCount blocks + y) 0) (order-is i h)
         ∙ below _ (omega (arith, P .settling .listed i h)) ∙ P .ranks i h
 
     -- the place of a rank, and the rank of a place
-    ranked-at : (v : ℕ) → v < length blocks / 3 → (i : ℕ) × (i < length blocks / 3) × (getD w₃ (base + i) 0 ≡ v) × (getD w₃ (base + length blocks / 3 + v) 0 ≡ i)
+    ranked-at : (v : ℕ) → v < blockCount blocks → (i : ℕ) × (i < blockCount blocks) × (getD w₃ (base + i) 0 ≡ v) × (getD w₃ (base + blockCount blocks + v) 0 ≡ i)
     ranked-at v h =
         let r = P .settling .every v h in
         let e = order-is (r .0) (r .1) ∙ r .2 in
-        (r .0, r .1, e, ap (λ (y : ℕ). getD w₃ (base + length blocks / 3 + y) 0) (sym e) ∙ rank-at (r .0) (r .1))
+        (r .0, r .1, e, ap (λ (y : ℕ). getD w₃ (base + blockCount blocks + y) 0) (sym e) ∙ rank-at (r .0) (r .1))
 
     pub laid : Laid s w₃
     laid = record {
@@ -276,13 +276,13 @@ module _ (blocks edges leaves passes : List ℕ) (words : ℕ) (w₀ w₁ : List
       order-of = λ v h. let r = ranked-at v h in ap (λ (y : ℕ). getD w₃ (base + y) 0) (r .3) ∙ r .2;
     }
 
-    leave-is : (k b : ℕ) → k < length blocks / 3 → b < words * 64 → leaveBit s w₃ k b ≡ rowBit leaves words k b
+    leave-is : (k b : ℕ) → k < blockCount blocks → b < words * 64 → leaveBit s w₃ k b ≡ rowBit leaves words k b
     leave-is k b h l =
-        let r = row-before k (length blocks / 3) words h in
-        ap (λ (y : ℕ). bitOf y (b % 64)) (B .before (lentAt + k * words + b / 64) (omega arith)) ∙ bit-copied leaves (length blocks / 3) words A leaving k b h l
+        let r = row-before k (blockCount blocks) words h in
+        ap (λ (y : ℕ). bitOf y (b % 64)) (B .before (lentAt + k * words + b / 64) (omega arith)) ∙ bit-copied leaves (blockCount blocks) words A leaving k b h l
 
-    pass-is : (k b : ℕ) → k < length blocks / 3 → b < words * 64 → passBit s w₃ k b ≡ rowBit passes words k b
-    pass-is k b h l = bit-copied passes (length blocks / 3) words B leaving k b h l
+    pass-is : (k b : ℕ) → k < blockCount blocks → b < words * 64 → passBit s w₃ k b ≡ rowBit passes words k b
+    pass-is k b h l = bit-copied passes (blockCount blocks) words B leaving k b h l
 
     pub solved : {w₄ : List ℕ} → Arrived s w₃ w₄ → Solved blocks edges leaves passes words answerAt w₀ w₄
     solved {w₄} X = record {
@@ -299,14 +299,14 @@ module _ (blocks edges leaves passes : List ℕ) (words : ℕ) (w₀ w₁ : List
 
 pub rows-given : (blocks edges : List ℕ) (points : ℕ) (leaves passes : List ℕ) (words : ℕ) (out₀ out work₀ work₁ work₂ : List ℕ)
     → verdictOf blocks edges points (length leaves) (length passes) words (length out₀) (length work₀) ≡ Fine → {at : ℕ} → Solved blocks edges leaves passes words at work₀ work₁
-    → ((i : ℕ) → getD out i 0 < 2 ^ 64) → Region out₀ out 0 (length leaves) (λ i. getD work₁ (at + i) 0) → work₂ ≡ cleared (8 * (length blocks / 3 + length edges / 2 + length leaves)) work₁
+    → ((i : ℕ) → getD out i 0 < 2 ^ 64) → Region out₀ out 0 (length leaves) (λ i. getD work₁ (at + i) 0) → work₂ ≡ cleared (8 * (blockCount blocks + edgeCount edges + length leaves)) work₁
     → Answered blocks edges points leaves passes words out₀ work₀ Given out work₂
 rows-given blocks edges points leaves passes words out₀ out work₀ work₁ work₂ e {at} S fits R C = record {
   answered = λ _. record {
     outcome = refl;
-    in-out = rows-by-bits (length blocks / 3) words _ out₀ out (R .len) (omega (arith, K .rows, K .answer-fits)) fits rounds (λ i h. R .after i (omega (arith, K .rows)));
+    in-out = rows-by-bits (blockCount blocks) words _ out₀ out (R .len) (omega (arith, K .rows, K .answer-fits)) fits rounds (λ i h. R .after i (omega (arith, K .rows)));
     bits = paths;
-    work-cleared = C ∙ cleared-same (8 * (length blocks / 3 + length edges / 2 + length leaves)) work₀ work₁ (S .kept) ∙ ap (λ (y : ℕ). cleared (8 * (length blocks / 3 + length edges / 2 + y)) work₀) (K .rows);
+    work-cleared = C ∙ cleared-same (8 * (blockCount blocks + edgeCount edges + length leaves)) work₀ work₁ (S .kept) ∙ ap (λ (y : ℕ). cleared (8 * (blockCount blocks + edgeCount edges + y)) work₀) (K .rows);
   };
   turned-back = λ k i f. bad-fine (sym f ∙ e);
 }
@@ -314,21 +314,21 @@ rows-given blocks edges points leaves passes words out₀ out work₀ work₁ wo
     K : RowsKnown blocks edges points (length leaves) words (length out₀) (length work₀)
     K = known blocks edges points (length leaves) (length passes) words (length out₀) (length work₀) e .rest
 
-    out-is : (v b : ℕ) → v < length blocks / 3 → b < words * 64 → rowBit out words v b ≡ bit work₁ (at + v * words) b
+    out-is : (v b : ℕ) → v < blockCount blocks → b < words * 64 → rowBit out words v b ≡ bit work₁ (at + v * words) b
     out-is v b h l =
-        let r = row-before v (length blocks / 3) words h in
+        let r = row-before v (blockCount blocks) words h in
         let z : at + (v * words + b / 64) ≡ at + v * words + b / 64 = omega arith in
         ap (λ (y : ℕ). bitOf y (b % 64)) (R .inside (v * words + b / 64) (v * words + b / 64) (omega arith) (omega (arith, K .rows)) ∙ ap (λ (y : ℕ). getD work₁ y 0) z)
 
-    between : Between (length blocks / 3) (edgesIn blocks edges)
+    between : Between (blockCount blocks) (edgesIn blocks edges)
     between = subst (λ (y : ℕ). Between y (edgesIn blocks edges)) (blocks-length blocks) (edges-between (blocksOf blocks) (jumpsOf edges) (K .graph .sound) (K .graph .edges-fine))
 
-    paths : (v b : ℕ) → v < length blocks / 3 → b < words * 64 → (rowBit out words v b ≡ true) ↔ Arrives (edgesIn blocks edges) (λ k. rowBit leaves words k b) (λ k. rowBit passes words k b) v
+    paths : (v b : ℕ) → v < blockCount blocks → b < words * 64 → (rowBit out words v b ≡ true) ↔ Arrives (edgesIn blocks edges) (λ k. rowBit leaves words k b) (λ k. rowBit passes words k b) v
     paths v b h l = let r = S .bits v b h l in ((λ o. r .0 (sym (out-is v b h l) ∙ o)), (λ o. out-is v b h l ∙ r .1 o))
 
-    rounds : (v b : ℕ) → v < length blocks / 3 → b < words * 64
-        → rowBit out words v b ≡ arrivingRow (length blocks / 3) (edgesIn blocks edges) (λ k. rowBit leaves words k b) (λ k. rowBit passes words k b) v
+    rounds : (v b : ℕ) → v < blockCount blocks → b < words * 64
+        → rowBit out words v b ≡ arrivingRow (blockCount blocks) (edgesIn blocks edges) (λ k. rowBit leaves words k b) (λ k. rowBit passes words k b) v
     rounds v b h l =
         let p = paths v b h l in
-        let r = arriving (edgesIn blocks edges) (length blocks / 3) between (λ k. rowBit leaves words k b) (λ k. rowBit passes words k b) v in
+        let r = arriving (edgesIn blocks edges) (blockCount blocks) between (λ k. rowBit leaves words k b) (λ k. rowBit passes words k b) v in
         both-ways (rowBit out words v b) _ (λ o. r .1 (p .0 o)) (λ o. p .1 (r .0 o))

@@ -10,8 +10,8 @@ use Rattle.refusals.specs.declared.Verdict.{Verdict}
 use Rattle.refusals.specs.declared.Verdict.the-variants.{Fine, Bad}
 use Rattle.refusals.specs.Verdicts.{numberOf, inOrder}
 use Rattle.refusals.specs.Outcomes.{Outcome, given, refused, after}
-use Rattle.words.specs.Rows.{rowCount}
 use Rattle.words.specs.Regions.{cleared}
+use Rattle.words.specs.Widths.{blockCount, edgeCount}
 use Rattle.bits.specs.Bits.{bit}
 use Rattle.bits.specs.Words.{rowsOf}
 use Rattle.graph.specs.Paths.{Between}
@@ -40,10 +40,10 @@ pub record Turned (k : Refusal) (i : ℕ) (list₀ work₀ : List ℕ) (r : Answ
 
 pub record Ordered (blocks edges order₀ work₀ : List ℕ) (r : Answer) (order work : List ℕ) : Type 0 where
   pub outcome : outcomeOf r ≡ given tt
-  pub settling : Settling (edgesIn blocks edges) (rowCount 3 blocks) (λ i. getD order i 0)
+  pub settling : Settling (edgesIn blocks edges) (blockCount blocks) (λ i. getD order i 0)
   pub length-kept : length order ≡ length order₀
-  pub past : (i : ℕ) → rowCount 3 blocks ≤ i → getD order i 0 ≡ getD order₀ i 0
-  pub work-cleared : work ≡ cleared (spaceOf (rowCount 3 blocks) (rowCount 2 edges) 0) work₀
+  pub past : (i : ℕ) → blockCount blocks ≤ i → getD order i 0 ≡ getD order₀ i 0
+  pub work-cleared : work ≡ cleared (spaceOf (blockCount blocks) (edgeCount edges) 0) work₀
 
 pub record Settled (blocks edges : List ℕ) (points : ℕ) (order₀ work₀ : List ℕ) (r : Answer) (order work : List ℕ) : Type 0 where
   pub answered : orderVerdict blocks edges points (length order₀) (length work₀) ≡ Fine → Ordered blocks edges order₀ work₀ r order work
@@ -53,7 +53,7 @@ pub record Settled (blocks edges : List ℕ) (points : ℕ) (order₀ work₀ : 
 
 -- the checks of `spread`: those of `flowed`, and before them number 1 of the other rows; both kinds have one row to a block
 abbrev pub spreadChecks : List ℕ → List ℕ → ℕ → ℕ → ℕ → ℕ → ℕ → ℕ → List Verdict
-spreadChecks blocks edges points leaving passing words answer work = rowsVerdict passing (rowCount 3 blocks) words ∷ flowedChecks blocks edges points leaving words answer work
+spreadChecks blocks edges points leaving passing words answer work = rowsVerdict passing (blockCount blocks) words ∷ flowedChecks blocks edges points leaving words answer work
 
 unfoldable pub verdictOf : List ℕ → List ℕ → ℕ → ℕ → ℕ → ℕ → ℕ → ℕ → Verdict
 verdictOf blocks edges points leaving passing words answer work = inOrder (spreadChecks blocks edges points leaving passing words answer work)
@@ -61,15 +61,15 @@ verdictOf blocks edges points leaving passing words answer work = inOrder (sprea
 -- the answer: a row to a block, whose bits are by rounds
 abbrev pub spreadRows : List ℕ → List ℕ → List ℕ → List ℕ → ℕ → List ℕ
 spreadRows blocks edges leaves passes words =
-    rowsOf (rowCount 3 blocks) words (λ v b. arrivingRow (rowCount 3 blocks) (edgesIn blocks edges) (λ k. rowBit leaves words k b) (λ k. rowBit passes words k b) v)
+    rowsOf (blockCount blocks) words (λ v b. arrivingRow (blockCount blocks) (edgesIn blocks edges) (λ k. rowBit leaves words k b) (λ k. rowBit passes words k b) v)
 
 -- the whole answer list by the definition, and its bits by paths
 pub record Filled (blocks edges leaves passes : List ℕ) (words : ℕ) (out₀ work₀ : List ℕ) (r : Answer) (out work : List ℕ) : Type 0 where
   pub outcome : outcomeOf r ≡ given tt
   pub in-out : out ≡ after (outcomeOf r) (λ _. spreadRows blocks edges leaves passes words) out₀
-  pub bits : (v b : ℕ) → v < rowCount 3 blocks → b < words * 64
+  pub bits : (v b : ℕ) → v < blockCount blocks → b < words * 64
       → (rowBit out words v b ≡ true) ↔ Arrives (edgesIn blocks edges) (λ k. rowBit leaves words k b) (λ k. rowBit passes words k b) v
-  pub work-cleared : work ≡ cleared (spaceOf (rowCount 3 blocks) (rowCount 2 edges) (rowCount 3 blocks * words)) work₀
+  pub work-cleared : work ≡ cleared (spaceOf (blockCount blocks) (edgeCount edges) (blockCount blocks * words)) work₀
 
 pub record Answered (blocks edges : List ℕ) (points : ℕ) (leaves passes : List ℕ) (words : ℕ) (out₀ work₀ : List ℕ) (r : Answer) (out work : List ℕ) : Type 0 where
   pub answered : verdictOf blocks edges points (length leaves) (length passes) words (length out₀) (length work₀) ≡ Fine → Filled blocks edges leaves passes words out₀ work₀ r out work
@@ -80,16 +80,16 @@ pub record Answered (blocks edges : List ℕ) (points : ℕ) (leaves passes : Li
 -- the successors' rows, and behind them the order, from `at` on, and the ranks
 pub record Prepared (blocks edges : List ℕ) (at : ℕ) (w₀ w : List ℕ) : Type 0 where
   pub at-is : at ≡ baseOf blocks edges
-  pub kept : Within 0 (baseOf blocks edges + length blocks / 3 + length blocks / 3 + length blocks / 3 + length blocks / 3) w₀ w
-  pub count : length (edgesIn blocks edges) ≡ length edges / 2
-  pub between : Between (length blocks / 3) (edgesIn blocks edges)
-  pub rows : EdgeRows (edgesIn blocks edges) (length blocks / 3) (length edges / 2 + length edges / 2) w
-  pub settling : Settling (edgesIn blocks edges) (length blocks / 3) (λ i. getD w (at + i) 0)
-  pub ranks : (i : ℕ) → i < length blocks / 3 → getD w (at + length blocks / 3 + getD w (at + i) 0) 0 ≡ i
+  pub kept : Within 0 (baseOf blocks edges + blockCount blocks + blockCount blocks + blockCount blocks + blockCount blocks) w₀ w
+  pub count : length (edgesIn blocks edges) ≡ edgeCount edges
+  pub between : Between (blockCount blocks) (edgesIn blocks edges)
+  pub rows : EdgeRows (edgesIn blocks edges) (blockCount blocks) (edgeCount edges + edgeCount edges) w
+  pub settling : Settling (edgesIn blocks edges) (blockCount blocks) (λ i. getD w (at + i) 0)
+  pub ranks : (i : ℕ) → i < blockCount blocks → getD w (at + blockCount blocks + getD w (at + i) 0) 0 ≡ i
 
 -- what `solve` leaves: the answer's rows from `at` on, within W
 pub record Solved (blocks edges leaves passes : List ℕ) (words at : ℕ) (w₀ w : List ℕ) : Type 0 where
-  pub kept : Within 0 (spaceOf (rowCount 3 blocks) (rowCount 2 edges) (length leaves)) w₀ w
-  pub inside : at + length leaves ≤ spaceOf (rowCount 3 blocks) (rowCount 2 edges) (length leaves)
-  pub bits : (v b : ℕ) → v < rowCount 3 blocks → b < words * 64
+  pub kept : Within 0 (spaceOf (blockCount blocks) (edgeCount edges) (length leaves)) w₀ w
+  pub inside : at + length leaves ≤ spaceOf (blockCount blocks) (edgeCount edges) (length leaves)
+  pub bits : (v b : ℕ) → v < blockCount blocks → b < words * 64
       → (bit w (at + v * words) b ≡ true) ↔ Arrives (edgesIn blocks edges) (λ k. rowBit leaves words k b) (λ k. rowBit passes words k b) v

@@ -5,9 +5,12 @@ ghost use lib.ListN.{length};
 ghost use Rattle.refusals.specs.declared.Verdict.the-variants.{Fine};
 ghost use Rattle.graph.specs.Line.{blocksOf, jumpsOf, edgeVerdict, Sound};
 ghost use Rattle.spread.specs.Entry.{verdictOf, Settled, Answered, Prepared, Solved};
+ghost use Rattle.words.specs.Widths.{blockCount, edgeCount};
 use refusals::Refusal;
 use refusals::Verdict;
 use spread_rows::Layout;
+use words::widths::block;
+use words::widths::edge;
 
 // The answer is in the answer list, or a refusal with the index of the first offending record.
 pub enum Answer {
@@ -18,11 +21,11 @@ pub enum Answer {
 // The successors' rows of a graph that was checked, and behind them the order of the places and their ranks. Where the order begins.
 fn prepare(blocks: &[u32], edges: &[u32], work: &mut [u64]) -> usize
     requires { ⌜ Sound (blocksOf (now blocks)) × (edgeVerdict (blocksOf (now blocks)) (jumpsOf (now edges)) ≡ Fine) ⌝ }
-    requires { ⌜ 8 * (length (now blocks) / 3 + length (now edges) / 2) ≤ length (now work) ⌝ }
+    requires { ⌜ 8 * (blockCount (now blocks) + edgeCount (now edges)) ≤ length (now work) ⌝ }
     ensures { λ r. ⌜ Prepared (now (blocks .entry)) (now (edges .entry)) r (now (work .entry)) (now (work .exit)) ⌝ }
 {
-    let n = blocks.len() / 3;
-    let e = edges.len() / 2;
+    let n = blocks.len() / block::WIDTH;
+    let e = edges.len() / edge::WIDTH;
     let at = e + e;
     let base = at + (n + 1 + e);
     edge_rows::successors(blocks, edges, work, 0);
@@ -46,8 +49,11 @@ pub fn settling(
         return Answer::Refused(r, i);
     }
     let at = prepare(blocks, edges, work);
-    words::narrow(order, 0, work, at, blocks.len() / 3);
-    words::clear(work, 8 * (blocks.len() / 3 + edges.len() / 2));
+    words::narrow(order, 0, work, at, blocks.len() / block::WIDTH);
+    words::clear(
+        work,
+        8 * (blocks.len() / block::WIDTH + edges.len() / edge::WIDTH),
+    );
     Answer::Given
 }
 
@@ -63,7 +69,7 @@ fn refusal(
 ) -> Verdict
     ensures { λ r. ⌜ r ≡ verdictOf (now (blocks .entry)) (now (edges .entry)) points leaving passing words answer work ⌝ }
 {
-    let v = line_checks::rows(passing, blocks.len() / 3, words);
+    let v = line_checks::rows(passing, blocks.len() / block::WIDTH, words);
     if let Verdict::Bad(r, i) = v {
         return Verdict::Bad(r, i);
     }
@@ -79,13 +85,13 @@ fn solve(
     words: usize,
     work: &mut [u64],
 ) -> usize
-    requires { ⌜ Sound (blocksOf (now blocks)) × (edgeVerdict (blocksOf (now blocks)) (jumpsOf (now edges)) ≡ Fine) × (length (now blocks) / 3 ≤ 4096) ⌝ }
-    requires { ⌜ (length (now leaves) ≡ length (now blocks) / 3 * words) × (length (now passes) ≡ length (now blocks) / 3 * words) ⌝ }
-    requires { ⌜ 8 * (length (now blocks) / 3 + length (now edges) / 2 + length (now leaves)) ≤ length (now work) ⌝ }
+    requires { ⌜ Sound (blocksOf (now blocks)) × (edgeVerdict (blocksOf (now blocks)) (jumpsOf (now edges)) ≡ Fine) × (blockCount (now blocks) ≤ 4096) ⌝ }
+    requires { ⌜ (length (now leaves) ≡ blockCount (now blocks) * words) × (length (now passes) ≡ blockCount (now blocks) * words) ⌝ }
+    requires { ⌜ 8 * (blockCount (now blocks) + edgeCount (now edges) + length (now leaves)) ≤ length (now work) ⌝ }
     ensures { λ r. ⌜ Solved (now (blocks .entry)) (now (edges .entry)) (now (leaves .entry)) (now (passes .entry)) words r (now (work .entry)) (now (work .exit)) ⌝ }
 {
-    let n = blocks.len() / 3;
-    let e = edges.len() / 2;
+    let n = blocks.len() / block::WIDTH;
+    let e = edges.len() / edge::WIDTH;
     let order = prepare(blocks, edges, work);
     let rank = order + n;
     let lent = rank + n;
@@ -142,7 +148,7 @@ pub fn spread(
     words::copy_from(out, 0, work, at, leaves.len());
     words::clear(
         work,
-        8 * (blocks.len() / 3 + edges.len() / 2 + leaves.len()),
+        8 * (blocks.len() / block::WIDTH + edges.len() / edge::WIDTH + leaves.len()),
     );
     Answer::Given
 }

@@ -19,7 +19,8 @@ use Rattle.refusals.specs.Orders.{Gives, Ordered}
 use Rattle.refusals.specs.Outcomes.{Outcome, given, refused, unless}
 use Rattle.refusals.proofs.Laws.{bad-fine, first-fine, check-last}
 use Rattle.refusals.proofs.Orders.{check-gives, scan-gives, order-append, lowest-wins}
-use Rattle.words.specs.Rows.{rowCount, wholeRows}
+use Rattle.words.specs.Rows.{wholeRows}
+use Rattle.words.specs.Widths.{cellCount, itemRowCount, rangeWidth, rangeCount}
 use Rattle.words.proofs.Bools.{or-right, or-neither}
 use Rattle.queries.specs.Shares.{Stretch, shareOf, sharedPart, sharedOf}
 use Rattle.query_checks.specs.Checks.{badCount, badAreas, badItem, partsVerdict, surplus, sharedVerdict}
@@ -34,22 +35,22 @@ use Rattle.text_plan.proofs.LineLaws.{line-length, rows-length}
 -- ---- a plan that is not refused
 
 pub record Whole (cells items areas : List ℕ) (locals : ℕ) : Type 0 where
-  pub locals-in : locals ≤ rowCount 4 items
-  pub few : rowCount 4 items ≤ 4096
-  pub enough : rowCount 2 cells ≤ rowCount 4 items
-  pub ranges : rowCount 2 areas ≤ 65536
+  pub locals-in : locals ≤ itemRowCount items
+  pub few : itemRowCount items ≤ 4096
+  pub enough : cellCount cells ≤ itemRowCount items
+  pub ranges : rangeCount areas ≤ 65536
 
 pub whole-of : (cells items areas : List ℕ) (locals : ℕ) → sharedVerdict cells items areas locals ≡ Fine → Whole cells items areas locals
 whole-of cells items areas locals e =
     let s = shared-sound cells items areas locals e in
     record { locals-in = s .whole .0; few = s .whole .1; enough = s .enough; ranges = go (badAreas areas) refl }
   where
-    go : (t : Bool) → badAreas areas ≡ t → rowCount 2 areas ≤ 65536
+    go : (t : Bool) → badAreas areas ≡ t → rangeCount areas ≤ 65536
     go true q = bad-fine (parts-count cells items areas locals (or-right (badCount cells items locals) (badAreas areas) q) ∙ e)
-    go false q = ltb-false 65536 (rowCount 2 areas) (or-neither (not (wholeRows 2 areas)) _ q .1)
+    go false q = ltb-false 65536 (rangeCount areas) (or-neither (not (wholeRows rangeWidth areas)) _ q .1)
 
-pub cells-length : (cells : List ℕ) → length (cellLines cells) ≤ 128 * rowCount 2 cells
-cells-length cells = rows-length (cellLine cells) 128 (λ i. line-length 67 _ (lit≤ tt)) (rowCount 2 cells)
+pub cells-length : (cells : List ℕ) → length (cellLines cells) ≤ 128 * cellCount cells
+cells-length cells = rows-length (cellLine cells) 128 (λ i. line-length 67 _ (lit≤ tt)) (cellCount cells)
 
 pub items-length : (letter : ℕ) (items : List ℕ) (base n : ℕ) → length (itemLines letter items base n) ≤ 128 * n
 items-length letter items base n = rows-length (itemLine letter items base) 128 (λ i. line-length letter _ (lit≤ tt)) n
@@ -121,7 +122,7 @@ module _ (cells items areas : List ℕ) (locals probes depth room : ℕ) where
   print-checks : printVerdict cells items areas locals probes depth room ≡ first (sharedVerdict cells items areas locals) (inOrder (roomChecks (printed cells items areas locals probes depth) room))
   unfolding printVerdict sharedVerdict
   print-checks =
-      order-append (check Count (badCount cells items locals || badAreas areas) ∷ partsVerdict cells items (rowCount 2 areas) ∷ surplus cells items ∷ []) (roomChecks (printed cells items areas locals probes depth) room)
+      order-append (check Count (badCount cells items locals || badAreas areas) ∷ partsVerdict cells items (rangeCount areas) ∷ surplus cells items ∷ []) (roomChecks (printed cells items areas locals probes depth) room)
 
   -- a plan that is not refused is refused only for the list
   pub plan-in-room : sharedVerdict cells items areas locals ≡ Fine → planText cells items areas locals probes depth room ≡ inRoom (printed cells items areas locals probes depth) room
@@ -132,8 +133,8 @@ module _ (cells items areas : List ℕ) (locals probes depth room : ℕ) where
     gives = (
       check-gives Count (badCount cells items locals || badAreas areas),
       (
-        scan-gives WantRefused (badItem cells items (rowCount 2 areas)) (rowCount 4 items),
-        (surplus-gives (ltb (rowCount 4 items) (rowCount 2 cells)) (rowCount 4 items), (check-gives Space (ltb room (length (printed cells items areas locals probes depth))), tt)),
+        scan-gives WantRefused (badItem cells items (rangeCount areas)) (itemRowCount items),
+        (surplus-gives (ltb (itemRowCount items) (cellCount cells)) (itemRowCount items), (check-gives Space (ltb room (length (printed cells items areas locals probes depth))), tt)),
       ),
     );
     rises = refl;

@@ -8,7 +8,8 @@ use Rattle.refusals.specs.declared.Verdict.{Verdict}
 use Rattle.refusals.specs.declared.Verdict.the-variants.{Fine}
 use Rattle.refusals.specs.declared.Refusal.{Refusal}
 use Rattle.refusals.specs.Outcomes.{Outcome, given, unless}
-use Rattle.words.specs.Rows.{tabulate, rowCount, field, flat}
+use Rattle.words.specs.Rows.{tabulate, flat}
+use Rattle.words.specs.Widths.{rangeCount, rangeStart, rangeEnd}
 use Rattle.words.proofs.RowLaws.{take-tabulate, drop-tabulate, map-tabulate}
 use Rattle.ranges.specs.declared.Range.{Range}
 use Rattle.ranges.specs.Points.{range}
@@ -22,12 +23,12 @@ use Rattle.queries.specs.declared.Share.the-variants.{Part, Absent, Refused}
 use Rattle.text_plan.specs.Printed.{rangeLine, rowLine, areaLines}
 
 -- a part of the area list, row by row
-part-lines : (areas : List ℕ) (i start n : ℕ) → start + n ≤ rowCount 2 areas → flat (map (rangeLine i) (take n (drop start (areasOf areas)))) ≡ flat (tabulate n (λ j. rowLine areas i (start + j)))
+part-lines : (areas : List ℕ) (i start n : ℕ) → start + n ≤ rangeCount areas → flat (map (rangeLine i) (take n (drop start (areasOf areas)))) ≡ flat (tabulate n (λ j. rowLine areas i (start + j)))
 part-lines areas i start n h =
     ap flat
-    (ap (λ (l : List Range). map (rangeLine i) (take n l)) (drop-tabulate start (rowCount 2 areas) (λ k. range (field 2 areas k 0) (field 2 areas k 1)) (omega arith))
-    ∙ ap (map (rangeLine i)) (take-tabulate n (rowCount 2 areas - start) (λ k. range (field 2 areas (start + k) 0) (field 2 areas (start + k) 1)) (omega arith))
-    ∙ map-tabulate (rangeLine i) n (λ k. range (field 2 areas (start + k) 0) (field 2 areas (start + k) 1)))
+    (ap (λ (l : List Range). map (rangeLine i) (take n l)) (drop-tabulate start (rangeCount areas) (λ k. range (rangeStart areas k) (rangeEnd areas k)) (omega arith))
+    ∙ ap (map (rangeLine i)) (take-tabulate n (rangeCount areas - start) (λ k. range (rangeStart areas (start + k)) (rangeEnd areas (start + k))) (omega arith))
+    ∙ map-tabulate (rangeLine i) n (λ k. range (rangeStart areas (start + k)) (rangeEnd areas (start + k))))
 
 given-is : {A : Type 0} {a b : A} → _≡_ {A = Outcome A} (given a) (given b) → a ≡ b
 given-is e = cc
@@ -40,7 +41,7 @@ module _ (cells items areas : List ℕ) (locals i : ℕ) (fine : sharedVerdict c
   part-is s x a e = ap shareOf (sym e) ∙ a ∙ ap (λ (v : Verdict). unless v (sharedPart cells items locals i)) fine
 
   module _ {s : Share} (a : shareOf s ≡ sharedOf cells items areas locals i) where
-    pub share-inside : (start n : ℕ) → s ≡ Part start n → start + n ≤ rowCount 2 areas
+    pub share-inside : (start n : ℕ) → s ≡ Part start n → start + n ≤ rangeCount areas
     share-inside start n e = shared-inside cells items areas locals i fine (record { first = start; count = n }) (sym (given-is (part-is s (Part start n) a e)))
 
     pub share-part : (start n : ℕ) → s ≡ Part start n → flat (tabulate n (λ j. rowLine areas i (start + j))) ≡ areaLines i (shared (slotsOf locals cells items areas) i)

@@ -11,7 +11,8 @@ use Rattle.refusals.specs.Outcomes.{Outcome, given, refused, unless, after}
 use Rattle.refusals.specs.declared.Verdict.{Verdict}
 use Rattle.refusals.specs.declared.Refusal.{Refusal}
 use Rattle.refusals.specs.declared.Refusal.the-variants.{Count, Line, Edge, Inst, Stray, Piece, Space, Inverted, List as ListFull, Want, Text}
-use Rattle.words.specs.Rows.{tabulate, rowCount, field, flat}
+use Rattle.words.specs.Rows.{tabulate, flat}
+use Rattle.words.specs.Widths.{cellCount, cellSize, cellAlign, itemRowCount, itemCell, rangeCount, rangeStart, rangeEnd}
 use Rattle.ranges.specs.declared.Range.{Range}
 use Rattle.fitting.specs.Queries.{slotsOf, shared}
 use Rattle.query_checks.specs.Checks.{badCount, badAreas, partsVerdict, surplus}
@@ -21,14 +22,14 @@ use Rattle.text_plan.specs.declared.plan_text.Written.the-variants.{Byte
 
 -- `C`: cell, size, align
 abbrev pub cellLine : List ℕ → ℕ → List ℕ
-cellLine cells i = lineText 67 (i ∷ field 2 cells i 0 ∷ field 2 cells i 1 ∷ [])
+cellLine cells i = lineText 67 (i ∷ cellSize cells i ∷ cellAlign cells i ∷ [])
 
 abbrev pub cellLines : List ℕ → List ℕ
-cellLines cells = flat (tabulate (rowCount 2 cells) (cellLine cells))
+cellLines cells = flat (tabulate (cellCount cells) (cellLine cells))
 
 -- `L` and `S`: local or slot, cell; the items from `base` on
 abbrev pub itemLine : ℕ → List ℕ → ℕ → ℕ → List ℕ
-itemLine letter items base i = lineText letter (i ∷ field 4 items (base + i) 0 ∷ [])
+itemLine letter items base i = lineText letter (i ∷ itemCell items (base + i) ∷ [])
 
 abbrev pub itemLines : ℕ → List ℕ → ℕ → ℕ → List ℕ
 itemLines letter items base n = flat (tabulate n (itemLine letter items base))
@@ -39,7 +40,7 @@ rangeLine i r = lineText 71 (i ∷ r .start ∷ r .end ∷ [])
 
 -- the line of a row of the area list
 abbrev pub rowLine : List ℕ → ℕ → ℕ → List ℕ
-rowLine areas i j = lineText 71 (i ∷ field 2 areas j 0 ∷ field 2 areas j 1 ∷ [])
+rowLine areas i j = lineText 71 (i ∷ rangeStart areas j ∷ rangeEnd areas j ∷ [])
 
 abbrev pub areaLines : ℕ → Option (List Range) → List ℕ
 areaLines i none = []
@@ -50,12 +51,12 @@ sharedLines cells items areas locals = flat (tabulate locals (λ i. areaLines i 
 
 -- `T`: cells, items less cells, probes, depth
 abbrev pub totalLine : List ℕ → List ℕ → ℕ → ℕ → List ℕ
-totalLine cells items probes depth = lineText 84 (rowCount 2 cells ∷ (rowCount 4 items - rowCount 2 cells) ∷ probes ∷ depth ∷ [])
+totalLine cells items probes depth = lineText 84 (cellCount cells ∷ (itemRowCount items - cellCount cells) ∷ probes ∷ depth ∷ [])
 
 -- the text of a plan
 abbrev pub printed : List ℕ → List ℕ → List ℕ → ℕ → ℕ → ℕ → List ℕ
 printed cells items areas locals probes depth =
-    cellLines cells ++ (itemLines 76 items 0 locals ++ (itemLines 83 items locals (rowCount 4 items - locals) ++ (sharedLines cells items areas locals ++ totalLine cells items probes depth)))
+    cellLines cells ++ (itemLines 76 items 0 locals ++ (itemLines 83 items locals (itemRowCount items - locals) ++ (sharedLines cells items areas locals ++ totalLine cells items probes depth)))
 
 -- "a refusal prints only `N,number,index`"
 abbrev pub refusalText : ℕ → ℕ → List ℕ
@@ -73,7 +74,7 @@ inRoom text room = unless (inOrder (roomChecks text room)) text
 -- `print_plan`: the plan is checked as `shared` checks it (1 and 10), then the list (7)
 abbrev pub planChecks : List ℕ → List ℕ → List ℕ → ℕ → ℕ → ℕ → ℕ → List Verdict
 planChecks cells items areas locals probes depth room =
-    check Count (badCount cells items locals || badAreas areas) ∷ partsVerdict cells items (rowCount 2 areas) ∷ surplus cells items
+    check Count (badCount cells items locals || badAreas areas) ∷ partsVerdict cells items (rangeCount areas) ∷ surplus cells items
     ∷ roomChecks (printed cells items areas locals probes depth) room
 
 unfoldable pub printVerdict : List ℕ → List ℕ → List ℕ → ℕ → ℕ → ℕ → ℕ → Verdict

@@ -3,7 +3,8 @@ ghost use mathlib.Core.Path.{_≡_};
 ghost use Prim.Native.Nat.{_+_, _-_, _≤_, _<_};
 ghost use lib.ListN.{length};
 ghost use Rattle.refusals.specs.declared.Verdict.the-variants.{Fine};
-ghost use Rattle.words.specs.Rows.{rowCount, tabulate, flat};
+ghost use Rattle.words.specs.Rows.{tabulate, flat};
+ghost use Rattle.words.specs.Widths.{cellCount, itemRowCount, rangeCount};
 ghost use Rattle.query_checks.specs.Checks.{sharedVerdict};
 ghost use Rattle.text_plan.specs.Puts.{Puts};
 ghost use Rattle.text_plan.specs.Printed.{cellLines, itemLines, rowLine, sharedLines, printed, Alike, PrintedTo, planText, noText};
@@ -12,6 +13,9 @@ use queries::Share;
 use queries::shared;
 use refusals::Refusal;
 use refusals::Verdict;
+use words::widths::cell;
+use words::widths::item;
+use words::widths::range;
 
 // How many bytes the text has, or a refusal.
 pub enum Written {
@@ -20,14 +24,18 @@ pub enum Written {
 }
 
 fn put_cells(cells: &[u32], out: &mut [u8], at: usize) -> usize
-    requires { ⌜ (at < 1152921504606846976) × (rowCount 2 (now cells) ≤ 4096) ⌝ }
+    requires { ⌜ (at < 1152921504606846976) × (cellCount (now cells) ≤ 4096) ⌝ }
     ensures { λ r. ⌜ Puts (cellLines (now (cells .entry))) (now (out .entry)) at (now (out .exit)) r ⌝ }
 {
-    let n = cells.len() / 2;
+    let n = cells.len() / cell::WIDTH;
     let mut next = at;
     let mut i = 0;
     while i < n {
-        let ns = [i as u64, cells[2 * i] as u64, cells[2 * i + 1] as u64];
+        let ns = [
+            i as u64,
+            cells[cell::WIDTH * i] as u64,
+            cells[cell::WIDTH * i + cell::ALIGN] as u64,
+        ];
         next = put_line(out, next, b'C', &ns);
         i += 1;
     }
@@ -36,13 +44,13 @@ fn put_cells(cells: &[u32], out: &mut [u8], at: usize) -> usize
 
 // The items from `base` on, by their place among them.
 fn put_items(letter: u8, items: &[u32], base: usize, n: usize, out: &mut [u8], at: usize) -> usize
-    requires { ⌜ (at < 1152921504606846976) × (n ≤ 4096) × (base ≤ 4096) × (base + n ≤ rowCount 4 (now items)) ⌝ }
+    requires { ⌜ (at < 1152921504606846976) × (n ≤ 4096) × (base ≤ 4096) × (base + n ≤ itemRowCount (now items)) ⌝ }
     ensures { λ r. ⌜ Puts (itemLines letter (now (items .entry)) base n) (now (out .entry)) at (now (out .exit)) r ⌝ }
 {
     let mut next = at;
     let mut i = 0;
     while i < n {
-        let ns = [i as u64, items[4 * (base + i)] as u64];
+        let ns = [i as u64, items[item::WIDTH * (base + i)] as u64];
         next = put_line(out, next, letter, &ns);
         i += 1;
     }
@@ -51,14 +59,14 @@ fn put_items(letter: u8, items: &[u32], base: usize, n: usize, out: &mut [u8], a
 
 // A part of the area list, as a shared local's.
 fn put_area(areas: &[u32], local: u32, start: usize, n: usize, out: &mut [u8], at: usize) -> usize
-    requires { ⌜ (at < 1152921504606846976) × (rowCount 2 (now areas) ≤ 65536) × (start + n ≤ rowCount 2 (now areas)) ⌝ }
+    requires { ⌜ (at < 1152921504606846976) × (rangeCount (now areas) ≤ 65536) × (start + n ≤ rangeCount (now areas)) ⌝ }
     ensures { λ r. ⌜ Puts (flat (tabulate n (λ j. rowLine (now (areas .entry)) local (start + j)))) (now (out .entry)) at (now (out .exit)) r ⌝ }
 {
     let mut next = at;
     let mut j = 0;
     while j < n {
-        let k = 2 * (start + j);
-        let ns = [local as u64, areas[k] as u64, areas[k + 1] as u64];
+        let k = range::WIDTH * (start + j);
+        let ns = [local as u64, areas[k] as u64, areas[k + range::END] as u64];
         next = put_line(out, next, b'G', &ns);
         j += 1;
     }
@@ -74,7 +82,7 @@ fn put_shared(
     out: &mut [u8],
     at: usize,
 ) -> usize
-    requires { ⌜ (at < 1099511627776) × (locals ≤ 4096) × (rowCount 2 (now areas) ≤ 65536) × (sharedVerdict (now cells) (now items) (now areas) locals ≡ Fine) ⌝ }
+    requires { ⌜ (at < 1099511627776) × (locals ≤ 4096) × (rangeCount (now areas) ≤ 65536) × (sharedVerdict (now cells) (now items) (now areas) locals ≡ Fine) ⌝ }
     ensures { λ r. ⌜ Puts (sharedLines (now (cells .entry)) (now (items .entry)) (now (areas .entry)) locals) (now (out .entry)) at (now (out .exit)) r × (r ≤ at + 34359738368) ⌝ }
 {
     let mut next = at;
@@ -110,8 +118,8 @@ fn put_plan(
     requires { ⌜ sharedVerdict (now cells) (now items) (now areas) locals ≡ Fine ⌝ }
     ensures { λ r. ⌜ Puts (printed (now (cells .entry)) (now (items .entry)) (now (areas .entry)) locals probes depth) (now (out .entry)) 0 (now (out .exit)) r ⌝ }
 {
-    let n = items.len() / 4;
-    let m = cells.len() / 2;
+    let n = items.len() / item::WIDTH;
+    let m = cells.len() / cell::WIDTH;
     let l = locals as usize;
     let a = put_cells(cells, out, 0);
     let b = put_items(b'L', items, 0, l, out, a);

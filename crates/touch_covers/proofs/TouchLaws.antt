@@ -12,6 +12,7 @@ use Rattle.ranges.proofs.FormLaws.{unpack-pack}
 use Rattle.graph.proofs.Line.{start-is, end-is}
 use Rattle.areas.specs.Blocks.{until, cover}
 use Rattle.spots.specs.Spots.{lineOf}
+use Rattle.words.specs.Widths.{blockCount, blockStart, blockEnd}
 
 pub until-le : (es : List ℕ) (z b : ℕ) → until es z b ≤ b
 unfolding until
@@ -22,10 +23,10 @@ until-le (e ∷ es) z b = go (leb z e) (until-le es z b)
     go true h = omega arith
     go false h = h
 
-module _ (blocks es : List ℕ) (k y : ℕ) (h : k < length blocks / 3) (small : getD blocks (3 * k + 2) 0 < 2 ^ 32) where
-  pub cover-is : (x a b start point end : ℕ) → a ≡ x / 2 ^ 32 → b ≡ x % 2 ^ 32 → start ≡ max a (getD blocks (3 * k + 1) 0) → point ≡ min b (getD blocks (3 * k + 2) 0)
-      → end ≡ until es point (getD blocks (3 * k + 2) 0) → y ≡ pack (range start end) → unpack y ≡ cover (lineOf blocks []) es k (unpack x)
+module _ (blocks es : List ℕ) (k y : ℕ) (h : k < blockCount blocks) (small : blockEnd blocks k < 2 ^ 32) where
+  pub cover-is : (x a b start point end : ℕ) → a ≡ x / 2 ^ 32 → b ≡ x % 2 ^ 32 → start ≡ max a (blockStart blocks k) → point ≡ min b (blockEnd blocks k)
+      → end ≡ until es point (blockEnd blocks k) → y ≡ pack (range start end) → unpack y ≡ cover (lineOf blocks []) es k (unpack x)
   cover-is x a b start point end ea eb es′ ep ee e =
-      let l : end ≤ getD blocks (3 * k + 2) 0 = rw ee (until-le es point (getD blocks (3 * k + 2) 0)) in
+      let l : end ≤ blockEnd blocks k = rw ee (until-le es point (blockEnd blocks k)) in
       ap unpack e ∙ unpack-pack start end (omega arith)
       ∙ rw (start-is blocks k h, end-is blocks k h, ee, es′, ep, ea, eb)

@@ -8,8 +8,8 @@ use native.Mathlib.Omega.{arith}
 use lib.ListN.{getD, set}
 use lib.Dec.{eqb}
 use borrow.Author.Tests.{eq-eqb, ne-eqb}
-use Rattle.words.specs.Rows.{rowCount, field}
 use Rattle.words.specs.Regions.{part}
+use Rattle.words.specs.Widths.{instWidth, instCount, instPlaced, instEarly, mentionWidth, mentionCount}
 use Rattle.graph.specs.Work.{Within}
 use Rattle.graph.proofs.Within.{within-refl, within-wider, within-set}
 use Rattle.reach.specs.Prepared.{latest}
@@ -45,33 +45,33 @@ module _ (insts rows : List ℕ) (g : ℕ → List ℕ) (l : ℕ) where
 
   pub record Walking (heads nexts to : ℕ) (w₀ w : List ℕ) (m next : ℕ) : Type 0 where
     pub linked : Linked insts rows heads nexts l to w₀
-    pub from : (n : ℕ) × (n ≤ rowCount 2 rows) × (next ≡ latest f l n)
-    pub few : m + next ≤ rowCount 2 rows
+    pub from : (n : ℕ) × (n ≤ mentionCount rows) × (next ≡ latest f l n)
+    pub few : m + next ≤ mentionCount rows
     pub kept : Within to (to + m) w₀ w
-    pub is : part to m w ++ down next ≡ down (rowCount 2 rows)
+    pub is : part to m w ++ down next ≡ down (mentionCount rows)
 
   pub walk-start : (heads nexts to : ℕ) (w : List ℕ) (next : ℕ) → Linked insts rows heads nexts l to w → next ≡ getD w (heads + l) 0 → Walking heads nexts to w w 0 next
   walk-start heads nexts to w next L e = record {
     linked = L;
-    from = (rowCount 2 rows, omega arith, e ∙ L .head);
-    few = omega (arith, e, L .head, latest-le f l (rowCount 2 rows));
+    from = (mentionCount rows, omega arith, e ∙ L .head);
+    few = omega (arith, e, L .head, latest-le f l (mentionCount rows));
     kept = within-refl to (to + 0) w;
-    is = ap down (e ∙ L .head) ∙ sym (down-latest (rowCount 2 rows));
+    is = ap down (e ∙ L .head) ∙ sym (down-latest (mentionCount rows));
   }
 
   module _ {heads nexts to : ℕ} {w₀ w : List ℕ} {m next : ℕ} (W : Walking heads nexts to w₀ w m next) where
     -- the row that comes next is one of the local's
     pub record Turn (a : ℕ) : Type 0 where
-      pub low : a < rowCount 2 rows
+      pub low : a < mentionCount rows
       pub mine : f a ≡ l
-      pub inst : getD rows (2 * a) 0 < rowCount 9 insts
+      pub inst : getD rows (mentionWidth * a) 0 < instCount insts
       pub link : getD w (nexts + a) 0 ≡ latest f l a
       pub after : next ≡ suc a
 
     pub turn : (a : ℕ) → next ≢ 0 → a ≡ next - 1 → Turn a
     turn a d e =
         let s : next ≡ suc a = omega (arith, e, some next d) in
-        let h : a < rowCount 2 rows = omega (arith, s, W .few) in
+        let h : a < mentionCount rows = omega (arith, s, W .few) in
         let i = latest-is f l (W .from .0) a (sym (W .from .2) ∙ s) in
         record {
           low = h;
@@ -111,7 +111,7 @@ module _ (insts rows : List ℕ) (g : ℕ → List ℕ) (l : ℕ) where
         from = (a, omega (arith, T .low), d ∙ T .link);
         few = omega (arith, W .few, walk-less z d);
         kept = within-set (within-wider to (to + (m + 1)) (omega arith) (omega arith) (W .kept)) x v (omega arith) (omega arith);
-        is = subst (λ (t : ℕ). part to (m + 1) (set w t v) ++ down z ≡ down (rowCount 2 rows)) (sym dx)
+        is = subst (λ (t : ℕ). part to (m + 1) (set w t v) ++ down z ≡ down (mentionCount rows)) (sym dx)
             (ap (λ (r : List ℕ). r ++ down z) (part-push w to m v (omega (arith, W .kept .len, W .linked .room, W .few, T .after)) ∙ ap (λ (r : List ℕ). part to m w ++ r) (sym e))
             ∙ append-assoc (part to m w) (g a) (down z)
             ∙ ap (λ (r : List ℕ). part to m w ++ r) (rest z d)
@@ -126,14 +126,14 @@ module _ (insts rows : List ℕ) (g : ℕ → List ℕ) (l : ℕ) where
     }
 
 -- what an end gives, by the flag that is read
-module _ (insts ends : List ℕ) (k x : ℕ) (e : x ≡ 9 * getD ends (2 * k) 0) where
-  flag : field 9 insts (getD ends (2 * k) 0) 0 ≡ getD insts x 0
+module _ (insts ends : List ℕ) (k x : ℕ) (e : x ≡ instWidth * getD ends (mentionWidth * k) 0) where
+  flag : instPlaced insts (getD ends (mentionWidth * k) 0) ≡ getD insts x 0
   flag = ap (λ (z : ℕ). getD insts z 0) (omega arith)
 
   pub end-given : getD insts x 0 ≡ 1 → endAt insts ends k ≡ getD insts (x + 2) 0 ∷ []
   end-given h =
-      ap (λ (t : Bool). cond t (field 9 insts (getD ends (2 * k) 0) 2 ∷ []) []) (eq-eqb (field 9 insts (getD ends (2 * k) 0) 0) 1 (flag ∙ h))
+      ap (λ (t : Bool). cond t (instEarly insts (getD ends (mentionWidth * k) 0) ∷ []) []) (eq-eqb (instPlaced insts (getD ends (mentionWidth * k) 0)) 1 (flag ∙ h))
       ∙ ap (λ (z : ℕ). getD insts z 0 ∷ []) (omega arith)
 
   pub end-none : getD insts x 0 ≢ 1 → endAt insts ends k ≡ []
-  end-none h = ap (λ (t : Bool). cond t (field 9 insts (getD ends (2 * k) 0) 2 ∷ []) []) (ne-eqb (field 9 insts (getD ends (2 * k) 0) 0) 1 (λ q. h (sym flag ∙ q)))
+  end-none h = ap (λ (t : Bool). cond t (instEarly insts (getD ends (mentionWidth * k) 0) ∷ []) []) (ne-eqb (instPlaced insts (getD ends (mentionWidth * k) 0)) 1 (λ q. h (sym flag ∙ q)))

@@ -10,9 +10,9 @@ use lib.ListN.{length, getD, take, length-append, List·getD-append}
 use lib.Seq.{take-all, take-suc, getD-append-add}
 use lib.Dec.{eqb}
 use borrow.Author.Tests.{eqb-true}
-use Rattle.words.specs.Rows.{rowCount}
 use Rattle.words.specs.Sort.{Distinct}
 use Rattle.words.specs.Regions.{part}
+use Rattle.words.specs.Widths.{pieceWidth, pieceCount}
 use Rattle.words.proofs.RegionLaws.{length-part, getD-part, part-is}
 use Rattle.words.proofs.Points.{cut}
 use Rattle.words.proofs.RowLaws.{length-records}
@@ -134,19 +134,19 @@ part-two w at m r h = part-is at (m + r) w (part at m w ++ part (at + m) r w) h
 
 pub record Gathering (pieces : List ℕ) (keys from count to : ℕ) (w₀ w : List ℕ) (m k : ℕ) : Type 0 where
   pub order : InOrder pieces keys w₀
-  pub few : rowCount 3 pieces ≤ 65536
-  pub keys-fit : keys + rowCount 3 pieces ≤ to
+  pub few : pieceCount pieces ≤ 65536
+  pub keys-fit : keys + pieceCount pieces ≤ to
   pub from-fits : from + count ≤ to
-  pub room : to + (rowCount 3 pieces + rowCount 3 pieces) ≤ length w₀
+  pub room : to + (pieceCount pieces + pieceCount pieces) ≤ length w₀
   pub once : Distinct (part from count w₀)
   pub small : (j : ℕ) → j < count → getD w₀ (from + j) 0 < 2 ^ 32
   pub k-le : k ≤ count
-  pub m-le : m ≤ rowCount 3 pieces
+  pub m-le : m ≤ pieceCount pieces
   pub kept : Within to (to + m) w₀ w
   pub is : unpacked (part to m w) ≡ gather (livePieces (piecesOf pieces)) (take k (part from count w₀))
 
-pub gather-start : (pieces : List ℕ) (keys from count to : ℕ) (w : List ℕ) → InOrder pieces keys w → rowCount 3 pieces ≤ 65536 → keys + rowCount 3 pieces ≤ to → from + count ≤ to
-    → to + (rowCount 3 pieces + rowCount 3 pieces) ≤ length w → Distinct (part from count w) → ((j : ℕ) → j < count → getD w (from + j) 0 < 2 ^ 32) → Gathering pieces keys from count to w w 0 0
+pub gather-start : (pieces : List ℕ) (keys from count to : ℕ) (w : List ℕ) → InOrder pieces keys w → pieceCount pieces ≤ 65536 → keys + pieceCount pieces ≤ to → from + count ≤ to
+    → to + (pieceCount pieces + pieceCount pieces) ≤ length w → Distinct (part from count w) → ((j : ℕ) → j < count → getD w (from + j) 0 < 2 ^ 32) → Gathering pieces keys from count to w w 0 0
 gather-start pieces keys from count to w o f kf ff r d s = record {
   order = o;
   few = f;
@@ -209,11 +209,11 @@ module _ {pieces : List ℕ} {keys from count to : ℕ} {w₀ w : List ℕ} {m k
           ∙ ap (λ (l : List Range). gather live (take k regs) ++ l) (F .is ∙ sym (gather-one live q))
           ∙ sym (ap (gather live) next ∙ gather-append live (take k regs) (q ∷ []))
 
-      bound : m + r ≤ rowCount 3 pieces
+      bound : m + r ≤ pieceCount pieces
       bound =
           let a : length (unpacked (part to (m + r) w′)) ≡ m + r = unpacked-length (part to (m + r) w′) ∙ length-part to (m + r) w′ fits in
           let b = total-le (piecesOf pieces) (take (k + 1) regs) (distinct-take (k + 1) regs (G .once)) in
-          omega (arith, a, ap length all, b, length-records {A = Piece} 3 (λ f. record { register = f 0; start = f 1; end = f 2 }) pieces)
+          omega (arith, a, ap length all, b, length-records {A = Piece} pieceWidth (λ f. record { register = f 0; start = f 1; end = f 2 }) pieces)
 
   pub gather-done : count ≤ k → Gathered pieces from count to w₀ w m
   gather-done h = record {

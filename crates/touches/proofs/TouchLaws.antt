@@ -7,8 +7,9 @@ use mathlib.Core.List.{List, [], _∷_, _++_, map, append-nil, List·Memᴰ, Lis
 use native.Mathlib.Omega.{arith}
 use lib.ListN.{getD}
 use lib.Dec.{eqb}
-use Rattle.words.specs.Rows.{rowCount, field, tabulate}
+use Rattle.words.specs.Rows.{tabulate}
 use Rattle.words.specs.Sort.{sortOf, Distinct}
+use Rattle.words.specs.Widths.{instWidth, instCount, instPlaced, instEarly, mentionWidth, addressCount, endCount, mentionInst, mentionLocal}
 use Rattle.words.proofs.RowLaws.{tabulate-suc}
 use Rattle.words.proofs.SortLaws.{sort-append-comm, sort-append-left}
 use Rattle.ranges.specs.declared.Range.{Range}
@@ -145,7 +146,7 @@ module _ (v : ℕ) (insts operands crossings addresses ends : List ℕ) (l : ℕ
   code = codeOf v insts operands crossings addresses ends
 
   abbrev row : ℕ → Mention
-  row a = record { inst = field 2 addresses a 0; local = field 2 addresses a 1 }
+  row a = record { inst = mentionInst addresses a; local = mentionLocal addresses a }
 
   abbrev points : Mention → Range
   points m = range (mentioned code m .early) (mentioned code m .late)
@@ -163,16 +164,16 @@ module _ (v : ℕ) (insts operands crossings addresses ends : List ℕ) (l : ℕ
       ∙ map-append points (keep named (tabulate n row)) (keep named (row n ∷ []))
       ∙ ap (λ (k : List Mention). up n ++ map points k) (keep-one named (row n))
 
-  module _ (found : (a : ℕ) → a < rowCount 2 addresses → getD addresses (2 * a) 0 < rowCount 9 insts) where
-    at-points : (a : ℕ) → a < rowCount 2 addresses → listedAt insts addresses a ≡ points (row a)
+  module _ (found : (a : ℕ) → a < addressCount addresses → getD addresses (mentionWidth * a) 0 < instCount insts) where
+    at-points : (a : ℕ) → a < addressCount addresses → listedAt insts addresses a ≡ points (row a)
     at-points a h =
-        let e : 2 * a + 0 ≡ 2 * a = omega arith in
-        let k : field 2 addresses a 0 ≡ getD addresses (2 * a) 0 = ap (λ z. getD addresses z 0) e in
-        rw k (sym (ap (λ z. range z (mentioned code (record { inst = getD addresses (2 * a) 0; local = field 2 addresses a 1 }) .late)) (early-is insts operands (getD addresses (2 * a) 0) (found a h))
-        ∙ ap (λ z. range (field 9 insts (getD addresses (2 * a) 0) 2) z) (late-is insts operands (getD addresses (2 * a) 0) (found a h))))
+        let e : mentionWidth * a + 0 ≡ mentionWidth * a = omega arith in
+        let k : mentionInst addresses a ≡ getD addresses (mentionWidth * a) 0 = ap (λ z. getD addresses z 0) e in
+        rw k (sym (ap (λ z. range z (mentioned code (record { inst = getD addresses (mentionWidth * a) 0; local = mentionLocal addresses a }) .late)) (early-is insts operands (getD addresses (mentionWidth * a) 0) (found a h))
+        ∙ ap (λ z. range (instEarly insts (getD addresses (mentionWidth * a) 0)) z) (late-is insts operands (getD addresses (mentionWidth * a) 0) (found a h))))
 
     module _ (small : (y : ℕ) → getD insts y 0 < 2 ^ 32) where
-      listed-permuted : (n : ℕ) → n ≤ rowCount 2 addresses → Permuted (unpacked (downBy (rowLocal addresses) l (entryAt insts addresses) n)) (up n)
+      listed-permuted : (n : ℕ) → n ≤ addressCount addresses → Permuted (unpacked (downBy (rowLocal addresses) l (entryAt insts addresses) n)) (up n)
       unfolding downBy tabulate keep
       listed-permuted zero h = Permuted.none
       listed-permuted (suc n) h =
@@ -184,23 +185,23 @@ module _ (v : ℕ) (insts operands crossings addresses ends : List ℕ) (l : ℕ
           one : (t : Bool) → unpacked (cond t (entryAt insts addresses n) []) ≡ map points (cond t (row n ∷ []) [])
           one true =
               ap (λ (r : Range). r ∷ [])
-              (unpack-pack (listedAt insts addresses n .start) (listedAt insts addresses n .end) (small (9 * getD addresses (2 * n) 0 + 3)) ∙ at-points n (omega arith))
+              (unpack-pack (listedAt insts addresses n .start) (listedAt insts addresses n .end) (small (instWidth * getD addresses (mentionWidth * n) 0 + 3)) ∙ at-points n (omega arith))
           one false = refl
 
       -- ---- both together
 
       pub touches-permuted : (pieces registers : List ℕ) → Distinct registers → ((r : ℕ) → List·Memᴰ r registers → Carries code l r) → ((r : ℕ) → Carries code l r → List·Memᴰ r registers)
-          → Permuted (gather (livePieces (piecesOf pieces)) registers ++ unpacked (downBy (rowLocal addresses) l (entryAt insts addresses) (rowCount 2 addresses))) (touchesOf code (piecesOf pieces) l)
+          → Permuted (gather (livePieces (piecesOf pieces)) registers ++ unpacked (downBy (rowLocal addresses) l (entryAt insts addresses) (addressCount addresses))) (touchesOf code (piecesOf pieces) l)
       unfolding touchesOf carried
       touches-permuted pieces registers d only all =
           perm-append
           (gather-same (livePieces (piecesOf pieces)) registers (below v (carries code l)) d (distinct-below v (carries code l)) (λ r m. carried-least code l r .1 (only r m)) (λ r m. all r (carried-least code l r .0 m)))
-          (listed-permuted (rowCount 2 addresses) (omega arith))
+          (listed-permuted (addressCount addresses) (omega arith))
 
   -- ---- the ends
 
   abbrev endRow : ℕ → Mention
-  endRow k = record { inst = field 2 ends k 0; local = field 2 ends k 1 }
+  endRow k = record { inst = mentionInst ends k; local = mentionLocal ends k }
 
   abbrev placed : Mention → Bool
   placed m = isSet (mentioned code m .placed)
@@ -218,21 +219,21 @@ module _ (v : ℕ) (insts operands crossings addresses ends : List ℕ) (l : ℕ
       ∙ ap (map early) (keep-append placed (keep named (tabulate n endRow)) (cond (named (endRow n)) (endRow n ∷ []) []))
       ∙ map-append early (keep placed (keep named (tabulate n endRow))) (keep placed (cond (named (endRow n)) (endRow n ∷ []) []))
 
-  module _ (found : (k : ℕ) → k < rowCount 2 ends → getD ends (2 * k) 0 < rowCount 9 insts) where
-    end-is : (k : ℕ) → k < rowCount 2 ends → endAt insts ends k ≡ map early (keep placed (endRow k ∷ []))
+  module _ (found : (k : ℕ) → k < endCount ends → getD ends (mentionWidth * k) 0 < instCount insts) where
+    end-is : (k : ℕ) → k < endCount ends → endAt insts ends k ≡ map early (keep placed (endRow k ∷ []))
     end-is k h =
-        let e : 2 * k + 0 ≡ 2 * k = omega arith in
-        let i : field 2 ends k 0 ≡ getD ends (2 * k) 0 = ap (λ z. getD ends z 0) e in
+        let e : mentionWidth * k + 0 ≡ mentionWidth * k = omega arith in
+        let i : mentionInst ends k ≡ getD ends (mentionWidth * k) 0 = ap (λ z. getD ends z 0) e in
         sym (ap (map early) (keep-one placed (endRow k))
-        ∙ ap (λ z. map (λ (m : Mention). instAt (instsOf insts operands) (m .inst) .early) (cond (isSet (instAt (instsOf insts operands) z .placed)) (record { inst = z; local = field 2 ends k 1 } ∷ []) [])) i
-        ∙ ap (λ z. map (λ (m : Mention). instAt (instsOf insts operands) (m .inst) .early) (cond (isSet z) (record { inst = getD ends (2 * k) 0; local = field 2 ends k 1 } ∷ []) [])) (placed-is insts operands (getD ends (2 * k) 0) (found k h))
-        ∙ given (isSet (field 9 insts (getD ends (2 * k) 0) 0)))
+        ∙ ap (λ z. map (λ (m : Mention). instAt (instsOf insts operands) (m .inst) .early) (cond (isSet (instAt (instsOf insts operands) z .placed)) (record { inst = z; local = mentionLocal ends k } ∷ []) [])) i
+        ∙ ap (λ z. map (λ (m : Mention). instAt (instsOf insts operands) (m .inst) .early) (cond (isSet z) (record { inst = getD ends (mentionWidth * k) 0; local = mentionLocal ends k } ∷ []) [])) (placed-is insts operands (getD ends (mentionWidth * k) 0) (found k h))
+        ∙ given (isSet (instPlaced insts (getD ends (mentionWidth * k) 0))))
       where
-        given : (t : Bool) → map (λ (m : Mention). instAt (instsOf insts operands) (m .inst) .early) (cond t (record { inst = getD ends (2 * k) 0; local = field 2 ends k 1 } ∷ []) []) ≡ cond t (field 9 insts (getD ends (2 * k) 0) 2 ∷ []) []
-        given true = ap (λ z. z ∷ []) (early-is insts operands (getD ends (2 * k) 0) (found k h))
+        given : (t : Bool) → map (λ (m : Mention). instAt (instsOf insts operands) (m .inst) .early) (cond t (record { inst = getD ends (mentionWidth * k) 0; local = mentionLocal ends k } ∷ []) []) ≡ cond t (instEarly insts (getD ends (mentionWidth * k) 0) ∷ []) []
+        given true = ap (λ z. z ∷ []) (early-is insts operands (getD ends (mentionWidth * k) 0) (found k h))
         given false = refl
 
-    sorted-to : (n : ℕ) → n ≤ rowCount 2 ends → sortOf (downBy (rowLocal ends) l (endAt insts ends) n) ≡ sortOf (endsTo n)
+    sorted-to : (n : ℕ) → n ≤ endCount ends → sortOf (downBy (rowLocal ends) l (endAt insts ends) n) ≡ sortOf (endsTo n)
     unfolding downBy tabulate keep
     sorted-to zero h = refl
     sorted-to (suc n) h =
@@ -246,5 +247,5 @@ module _ (v : ℕ) (insts operands crossings addresses ends : List ℕ) (l : ℕ
         one false = refl
 
     -- a local's ends, sorted
-    pub ends-sorted : sortOf (downBy (rowLocal ends) l (endAt insts ends) (rowCount 2 ends)) ≡ sortOf (endsOf code l)
-    ends-sorted = sorted-to (rowCount 2 ends) (omega arith)
+    pub ends-sorted : sortOf (downBy (rowLocal ends) l (endAt insts ends) (endCount ends)) ≡ sortOf (endsOf code l)
+    ends-sorted = sorted-to (endCount ends) (omega arith)

@@ -5,8 +5,8 @@ use mathlib.Core.Bool.{cond}
 use mathlib.Core.List.{List, [], _∷_, _++_}
 use lib.ListN.{length, getD}
 use lib.Dec.{eqb}
-use Rattle.words.specs.Rows.{rowCount, field}
 use Rattle.words.specs.Regions.{part}
+use Rattle.words.specs.Widths.{instCount, instPlaced, instEarly, instLate, mentionWidth, mentionCount, pieceCount}
 use Rattle.ranges.specs.declared.Range.{Range}
 use Rattle.ranges.specs.Points.{range}
 use Rattle.ranges.specs.Forms.{pack, unpacked}
@@ -20,12 +20,12 @@ use Rattle.reach.specs.Steps.{rowLocal}
 -- the live pieces of the registers, one register's behind another's, stand from `to` on
 pub record Gathered (pieces : List ℕ) (from count to : ℕ) (w₀ w : List ℕ) (r : ℕ) : Type 0 where
   pub kept : Within to (to + r) w₀ w
-  pub count-le : r ≤ rowCount 3 pieces
+  pub count-le : r ≤ pieceCount pieces
   pub is : unpacked (part to r w) ≡ gather (livePieces (piecesOf pieces)) (part from count w₀)
 
 -- early to late of the instruction of entry a
 abbrev pub listedAt : List ℕ → List ℕ → ℕ → Range
-listedAt insts addresses a = range (field 9 insts (getD addresses (2 * a) 0) 2) (field 9 insts (getD addresses (2 * a) 0) 3)
+listedAt insts addresses a = range (instEarly insts (getD addresses (mentionWidth * a) 0)) (instLate insts (getD addresses (mentionWidth * a) 0))
 
 -- of the first n rows those of local l, the last first: what each of them gives
 unfoldable pub downBy : (ℕ → ℕ) → ℕ → (ℕ → List ℕ) → ℕ → List ℕ
@@ -39,19 +39,19 @@ entryAt insts addresses a = pack (listedAt insts addresses a) ∷ []
 -- an end gives its instruction's early point; "an end at an unplaced instruction is no end of its local"
 abbrev pub endAt : List ℕ → List ℕ → ℕ → List ℕ
 endAt insts ends k =
-    cond (isSet (field 9 insts (getD ends (2 * k) 0) 0)) (field 9 insts (getD ends (2 * k) 0) 2 ∷ []) []
+    cond (isSet (instPlaced insts (getD ends (mentionWidth * k) 0))) (instEarly insts (getD ends (mentionWidth * k) 0) ∷ []) []
 
 -- the local's rows, each of an instruction and a local, are a chain, the last first, and there is room for a word a row
 pub record Linked (insts rows : List ℕ) (heads nexts l to : ℕ) (w : List ℕ) : Type 0 where
-  pub found : (a : ℕ) → a < rowCount 2 rows → getD rows (2 * a) 0 < rowCount 9 insts
+  pub found : (a : ℕ) → a < mentionCount rows → getD rows (mentionWidth * a) 0 < instCount insts
   pub head-fits : heads + l < to
-  pub nexts-fit : nexts + rowCount 2 rows ≤ to
-  pub room : to + rowCount 2 rows ≤ length w
-  pub head : getD w (heads + l) 0 ≡ latest (rowLocal rows) l (rowCount 2 rows)
-  pub next : (a : ℕ) → a < rowCount 2 rows → rowLocal rows a ≡ l → getD w (nexts + a) 0 ≡ latest (rowLocal rows) l a
+  pub nexts-fit : nexts + mentionCount rows ≤ to
+  pub room : to + mentionCount rows ≤ length w
+  pub head : getD w (heads + l) 0 ≡ latest (rowLocal rows) l (mentionCount rows)
+  pub next : (a : ℕ) → a < mentionCount rows → rowLocal rows a ≡ l → getD w (nexts + a) 0 ≡ latest (rowLocal rows) l a
 
 -- what the local's rows give stands from `to` on
 pub record Listed (rows : List ℕ) (g : ℕ → List ℕ) (l to : ℕ) (w₀ w : List ℕ) (r : ℕ) : Type 0 where
   pub kept : Within to (to + r) w₀ w
-  pub count-le : r ≤ rowCount 2 rows
-  pub is : part to r w ≡ downBy (rowLocal rows) l g (rowCount 2 rows)
+  pub count-le : r ≤ mentionCount rows
+  pub is : part to r w ≡ downBy (rowLocal rows) l g (mentionCount rows)

@@ -2,10 +2,12 @@
 ghost use Prim.Native.Nat.{ℕ, _+_, _^_, _≤_, _<_};
 ghost use lib.ListN.{length, getD};
 ghost use Rattle.words.specs.Sort.{Distinct};
-ghost use Rattle.words.specs.Rows.{rowCount};
 ghost use Rattle.words.specs.Regions.{part};
+ghost use Rattle.words.specs.Widths.{pieceCount};
 ghost use Rattle.live.specs.Live.{InOrder};
 ghost use Rattle.touches.specs.Touches.{Gathered, entryAt, endAt, Linked, Listed};
+use words::widths::inst;
+use words::widths::mention;
 
 // The live pieces of the `count` registers from `from` on, each of them once, as words from `to` on; how many there are. The pieces stand in order from `keys` on.
 pub fn of_registers(
@@ -16,8 +18,8 @@ pub fn of_registers(
     count: usize,
     to: usize,
 ) -> usize
-    requires { ⌜ InOrder (now pieces) keys (now work) × (rowCount 3 (now pieces) ≤ 65536) × (keys + rowCount 3 (now pieces) ≤ to) × (from + count ≤ to)
-        × (to + (rowCount 3 (now pieces) + rowCount 3 (now pieces)) ≤ length (now work)) ⌝ }
+    requires { ⌜ InOrder (now pieces) keys (now work) × (pieceCount (now pieces) ≤ 65536) × (keys + pieceCount (now pieces) ≤ to) × (from + count ≤ to)
+        × (to + (pieceCount (now pieces) + pieceCount (now pieces)) ≤ length (now work)) ⌝ }
     requires { ⌜ Distinct (part from count (now work)) × ((k : ℕ) → k < count → getD (now work) (from + k) 0 < 2 ^ 32) ⌝ }
     ensures { λ r. ⌜ Gathered (now (pieces .entry)) from count to (now (work .entry)) (now (work .exit)) r ⌝ }
 {
@@ -48,8 +50,8 @@ pub fn of_entries(
     let mut next = work[heads + local];
     while next != 0 {
         let a = next as usize - 1;
-        let i = 9 * addresses[2 * a] as usize;
-        work[to + m] = packed::pack(insts[i + 2], insts[i + 3]);
+        let i = inst::WIDTH * addresses[mention::WIDTH * a] as usize;
+        work[to + m] = packed::pack(insts[i + inst::EARLY], insts[i + inst::LATE]);
         m += 1;
         next = work[nexts + a];
     }
@@ -73,10 +75,10 @@ pub fn of_ends(
     let mut next = work[heads + local];
     while next != 0 {
         let a = next as usize - 1;
-        let i = 9 * ends[2 * a] as usize;
+        let i = inst::WIDTH * ends[mention::WIDTH * a] as usize;
         next = work[nexts + a];
         if insts[i] == 1 {
-            work[to + m] = insts[i + 2] as u64;
+            work[to + m] = insts[i + inst::EARLY] as u64;
             m += 1;
         }
     }

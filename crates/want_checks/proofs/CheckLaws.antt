@@ -13,19 +13,20 @@ use Rattle.refusals.specs.declared.Refusal.{Refusal}
 use Rattle.refusals.specs.declared.Refusal.the-variants.{Count, Space, Want as WantRefused}
 use Rattle.refusals.specs.Verdicts.{inOrder, check}
 use Rattle.refusals.proofs.Laws.{three-first, three-second, three-third, scan-fine}
-use Rattle.words.specs.Rows.{rowCount, wholeRows}
+use Rattle.words.specs.Rows.{wholeRows}
+use Rattle.words.specs.Widths.{cellWidth, itemWidth, rangeWidth, rangeCount, wantWidth, wantCount}
 use Rattle.words.proofs.Bools.{or-neither}
 use Rattle.ranges.specs.Lent.{faulty}
 use Rattle.fitting.specs.Queries.{areasOf}
 use Rattle.want_checks.specs.Checks.{badPart, badWant, wantsVerdict, overLimit, badCount, badSpace, spaceOf, verdict, Granted}
 use Rattle.want_checks.proofs.PartLaws.{part-present, areas-length}
 
-pub part-outside : (s : List ℕ) (present first count : ℕ) → (present ≡ 0 → ⊥) → rowCount 2 s < first + count → true ≡ badPart (areasOf s) present first count
+pub part-outside : (s : List ℕ) (present first count : ℕ) → (present ≡ 0 → ⊥) → rangeCount s < first + count → true ≡ badPart (areasOf s) present first count
 part-outside s present first count d h =
     part-present (areasOf s) present first count true d
     (sym (ap (λ (t : Bool). t || faulty (take count (drop first (areasOf s)))) (lt-ltb (length (areasOf s)) (first + count) (rw (areas-length s) h))))
 
-pub part-inside : (s : List ℕ) (present first count : ℕ) (r : Bool) → (present ≡ 0 → ⊥) → first + count ≤ rowCount 2 s → r ≡ faulty (take count (drop first (areasOf s)))
+pub part-inside : (s : List ℕ) (present first count : ℕ) (r : Bool) → (present ≡ 0 → ⊥) → first + count ≤ rangeCount s → r ≡ faulty (take count (drop first (areasOf s)))
     → r ≡ badPart (areasOf s) present first count
 part-inside s present first count r d h e =
     part-present (areasOf s) present first count r d
@@ -40,13 +41,13 @@ limits wants ranges locals budget e =
     let (h, k) = or-neither (ltb 65536 ranges) _ g in
     (omega (arith, ltb-false wants locals a, ltb-false 2048 locals c, ltb-false 2048 (wants - locals) f), ltb-false 65536 ranges h)
 
-pub count-fine : (wants areas : List ℕ) (locals budget cells items : ℕ) → badCount wants areas locals budget cells items ≡ false → (rowCount 5 wants ≤ 4096) × (rowCount 2 areas ≤ 65536)
+pub count-fine : (wants areas : List ℕ) (locals budget cells items : ℕ) → badCount wants areas locals budget cells items ≡ false → (wantCount wants ≤ 4096) × (rangeCount areas ≤ 65536)
 count-fine wants areas locals budget cells items e =
-    let (a, b) = or-neither (not (wholeRows 5 wants)) _ e in
-    let (c, d) = or-neither (not (wholeRows 2 areas)) _ b in
-    let (f, g) = or-neither (not (eqb (cells % 2) 0)) _ d in
-    let (h, k) = or-neither (not (eqb (items % 4) 0)) _ g in
-    limits (rowCount 5 wants) (rowCount 2 areas) locals budget k
+    let (a, b) = or-neither (not (wholeRows wantWidth wants)) _ e in
+    let (c, d) = or-neither (not (wholeRows rangeWidth areas)) _ b in
+    let (f, g) = or-neither (not (eqb (cells % cellWidth) 0)) _ d in
+    let (h, k) = or-neither (not (eqb (items % itemWidth) 0)) _ g in
+    limits (wantCount wants) (rangeCount areas) locals budget k
 
 three-fine : (r q : Refusal) (b t : Bool) (v : Verdict) → inOrder (check r b ∷ check q t ∷ v ∷ []) ≡ Fine → (b ≡ false) × (t ≡ false) × (v ≡ Fine)
 three-fine r q true t v e = let f = three-first r q true t v refl in let z : _≡_ {A = ℕ} 0 1 = cc in absurd (omega arith)
@@ -73,37 +74,37 @@ module _ (wants areas : List ℕ) (locals budget cells items work : ℕ) where
       let (a, b, c) = three-fine Count Space (badCount wants areas locals budget cells items) (badSpace wants areas cells items work) (wantsVerdict areas wants) e in
       let (few′, short′) = count-fine wants areas locals budget cells items a in
       let (f, g) = or-neither (ltb work (spaceOf wants areas)) _ b in
-      let (h, k) = or-neither (ltb (cells / 2) (rowCount 5 wants)) _ g in
+      let (h, k) = or-neither (ltb (cells / cellWidth) (wantCount wants)) _ g in
       record {
         few = few′;
         short = short′;
         space = ltb-false work (spaceOf wants areas) f;
-        in-cells = omega (arith, ltb-false (cells / 2) (rowCount 5 wants) h);
-        in-items = omega (arith, ltb-false (items / 4) (rowCount 5 wants) k);
-        fine = scan-fine WantRefused (badWant (areasOf areas) wants) (rowCount 5 wants) c;
+        in-cells = omega (arith, ltb-false (cells / cellWidth) (wantCount wants) h);
+        in-items = omega (arith, ltb-false (items / itemWidth) (wantCount wants) k);
+        fine = scan-fine WantRefused (badWant (areasOf areas) wants) (wantCount wants) c;
       }
 
   -- the counts that a query of the plan asks for
   pub record Counts : Type 0 where
-    pub locals-in : locals ≤ rowCount 5 wants
+    pub locals-in : locals ≤ wantCount wants
     pub few-locals : locals ≤ 2048
-    pub few-slots : rowCount 5 wants - locals ≤ 2048
-    pub whole-areas : length areas % 2 ≡ 0
+    pub few-slots : wantCount wants - locals ≤ 2048
+    pub whole-areas : length areas % rangeWidth ≡ 0
 
   pub counts-fine : verdict wants areas locals budget cells items work ≡ Fine → Counts
   unfolding verdict
   counts-fine e =
       let (a, _, _) = three-fine Count Space (badCount wants areas locals budget cells items) (badSpace wants areas cells items work) (wantsVerdict areas wants) e in
-      let (f, b) = or-neither (not (wholeRows 5 wants)) _ a in
-      let (w, d) = or-neither (not (wholeRows 2 areas)) _ b in
-      let (g, h) = or-neither (not (eqb (cells % 2) 0)) _ d in
-      let (k, l) = or-neither (not (eqb (items % 4) 0)) _ h in
-      let (m, n) = or-neither (ltb (rowCount 5 wants) locals) _ l in
+      let (f, b) = or-neither (not (wholeRows wantWidth wants)) _ a in
+      let (w, d) = or-neither (not (wholeRows rangeWidth areas)) _ b in
+      let (g, h) = or-neither (not (eqb (cells % cellWidth) 0)) _ d in
+      let (k, l) = or-neither (not (eqb (items % itemWidth) 0)) _ h in
+      let (m, n) = or-neither (ltb (wantCount wants) locals) _ l in
       let (o, p) = or-neither (ltb 2048 locals) _ n in
-      let (q, r) = or-neither (ltb 2048 (rowCount 5 wants - locals)) _ p in
+      let (q, r) = or-neither (ltb 2048 (wantCount wants - locals)) _ p in
       record {
-        locals-in = ltb-false (rowCount 5 wants) locals m;
+        locals-in = ltb-false (wantCount wants) locals m;
         few-locals = ltb-false 2048 locals o;
-        few-slots = ltb-false 2048 (rowCount 5 wants - locals) q;
-        whole-areas = eqb-true (length areas % 2) 0 (not-false (wholeRows 2 areas) w);
+        few-slots = ltb-false 2048 (wantCount wants - locals) q;
+        whole-areas = eqb-true (length areas % rangeWidth) 0 (not-false (wholeRows rangeWidth areas) w);
       }

@@ -9,7 +9,7 @@ use lib.ListN.{length, getD, take, drop, length-drop}
 use lib.Seq.{getD-take, getD-drop, length-take-le}
 use lib.Dec.{ltb}
 use borrow.Author.Tests.{ltb-false, lt-ltb, le-ltb, le-leb, lt-leb, eq-eqb, ne-eqb}
-use Rattle.words.specs.Rows.{rowCount}
+use Rattle.words.specs.Widths.{rangeWidth, rangeCount, rangeEnd}
 use Rattle.words.proofs.RowLaws.{length-records, getD-records}
 use Rattle.words.proofs.Points.{same}
 use Rattle.words.proofs.Bools.{or-right, or-neither}
@@ -35,55 +35,55 @@ faulty-fine rs f g = faulty-none rs right
     right zero h = rw (le-ltb (rangeAt rs 0 .end) (rangeAt rs 0 .start) (f 0 h))
     right (suc i) h = rw (le-ltb (rangeAt rs (suc i) .end) (rangeAt rs (suc i) .start) (f (suc i) h), lt-leb (rangeAt rs (suc i) .start) (rangeAt rs i .end) (g i h))
 
-module _ (s : List ℕ) (first count : ℕ) (room : first + count ≤ rowCount 2 s) where
+module _ (s : List ℕ) (first count : ℕ) (room : first + count ≤ rangeCount s) where
   abbrev part : List Range
   part = take count (drop first (areasOf s))
 
   pub part-length : length (take count (drop first (areasOf s))) ≡ count
   part-length =
-      length-take-le count (drop first (areasOf s)) (rw (length-drop first (areasOf s), length-records 2 (λ f. range (f 0) (f 1)) s) (omega arith))
+      length-take-le count (drop first (areasOf s)) (rw (length-drop first (areasOf s), length-records rangeWidth (λ f. range (f 0) (f 1)) s) (omega arith))
 
-  pub part-at : (i : ℕ) → i < count → rangeAt (take count (drop first (areasOf s))) i ≡ range (getD s (2 * (first + i)) 0) (getD s (2 * (first + i) + 1) 0)
+  pub part-at : (i : ℕ) → i < count → rangeAt (take count (drop first (areasOf s))) i ≡ range (getD s (rangeWidth * (first + i)) 0) (rangeEnd s (first + i))
   part-at i h =
       getD-take count (drop first (areasOf s)) i (range 0 0) h ∙ getD-drop first (areasOf s) i (range 0 0)
-      ∙ getD-records 2 (λ f. range (f 0) (f 1)) s (first + i) (range 0 0) (omega arith)
-      ∙ ap (λ (k : ℕ). range (getD s k 0) (getD s (2 * (first + i) + 1) 0)) (add-zero (2 * (first + i)))
+      ∙ getD-records rangeWidth (λ f. range (f 0) (f 1)) s (first + i) (range 0 0) (omega arith)
+      ∙ ap (λ (k : ℕ). range (getD s k 0) (rangeEnd s (first + i))) (add-zero (rangeWidth * (first + i)))
 
-  start-at : (i : ℕ) → i < count → rangeAt (take count (drop first (areasOf s))) i .start ≡ getD s (2 * (first + i)) 0
+  start-at : (i : ℕ) → i < count → rangeAt (take count (drop first (areasOf s))) i .start ≡ getD s (rangeWidth * (first + i)) 0
   start-at i h = ap (λ (r : Range). r .start) (part-at i h)
 
-  end-at : (i : ℕ) → i < count → rangeAt (take count (drop first (areasOf s))) i .end ≡ getD s (2 * (first + i) + 1) 0
+  end-at : (i : ℕ) → i < count → rangeAt (take count (drop first (areasOf s))) i .end ≡ rangeEnd s (first + i)
   end-at i h = ap (λ (r : Range). r .end) (part-at i h)
 
-  pub fault-reversed : (i : ℕ) → i < count → getD s (2 * (first + i) + 1) 0 < getD s (2 * (first + i)) 0 → true ≡ faulty (take count (drop first (areasOf s)))
+  pub fault-reversed : (i : ℕ) → i < count → rangeEnd s (first + i) < getD s (rangeWidth * (first + i)) 0 → true ≡ faulty (take count (drop first (areasOf s)))
   fault-reversed i h k = sym (faulty-reversed (take count (drop first (areasOf s))) i (rw part-length h) (rw (start-at i h, end-at i h) k))
 
-  pub fault-close : (i : ℕ) → 0 < i → i < count → getD s (2 * (first + i)) 0 ≤ getD s (2 * (first + i) - 1) 0 → true ≡ faulty (take count (drop first (areasOf s)))
+  pub fault-close : (i : ℕ) → 0 < i → i < count → getD s (rangeWidth * (first + i)) 0 ≤ getD s (rangeWidth * (first + i) - 1) 0 → true ≡ faulty (take count (drop first (areasOf s)))
   fault-close zero l h k = absurd (omega arith)
   fault-close (suc i) l h k =
-      let e : 2 * (first + suc i) - 1 ≡ 2 * (first + i) + 1 = omega arith in
+      let e : rangeWidth * (first + suc i) - 1 ≡ rangeWidth * (first + i) + 1 = omega arith in
       sym (faulty-close (take count (drop first (areasOf s))) i (rw part-length h) (rw (start-at (suc i) h, end-at i (omega arith)) (rw e at k)))
 
 -- no fault among the first i
 pub record Checked (s : List ℕ) (first count i : ℕ) : Type 0 where
   pub i-le : i ≤ count
-  pub upright : (j : ℕ) → j < i → getD s (2 * (first + j)) 0 ≤ getD s (2 * (first + j) + 1) 0
-  pub apart : (j : ℕ) → suc j < i → getD s (2 * (first + j) + 1) 0 < getD s (2 * (first + suc j)) 0
+  pub upright : (j : ℕ) → j < i → getD s (rangeWidth * (first + j)) 0 ≤ rangeEnd s (first + j)
+  pub apart : (j : ℕ) → suc j < i → rangeEnd s (first + j) < getD s (rangeWidth * (first + suc j)) 0
 
 pub checked-start : (s : List ℕ) (first count : ℕ) → Checked s first count 0
 checked-start s first count = record { i-le = omega arith; upright = λ j h. absurd (omega arith); apart = λ j h. absurd (omega arith) }
 
-pub checked-more : {s : List ℕ} {first count i : ℕ} → Checked s first count i → i < count → getD s (2 * (first + i)) 0 ≤ getD s (2 * (first + i) + 1) 0
-    → (0 < i → getD s (2 * (first + i) - 1) 0 < getD s (2 * (first + i)) 0) → Checked s first count (i + 1)
+pub checked-more : {s : List ℕ} {first count i : ℕ} → Checked s first count i → i < count → getD s (rangeWidth * (first + i)) 0 ≤ rangeEnd s (first + i)
+    → (0 < i → getD s (rangeWidth * (first + i) - 1) 0 < getD s (rangeWidth * (first + i)) 0) → Checked s first count (i + 1)
 checked-more {s} {first} {count} {i} c h u a = record {
   i-le = omega arith;
   upright = λ j l. same j i (λ e. rw e u) (λ d. c .upright j (omega arith));
   apart = λ j l. same (suc j) i
-      (λ e. let q : 2 * (first + i) - 1 ≡ 2 * (first + j) + 1 = omega arith in rw (e, ← q) (a (omega arith)))
+      (λ e. let q : rangeWidth * (first + i) - 1 ≡ rangeWidth * (first + j) + 1 = omega arith in rw (e, ← q) (a (omega arith)))
       (λ d. c .apart j (omega arith));
 }
 
-pub checked-done : {s : List ℕ} {first count i : ℕ} → Checked s first count i → first + count ≤ rowCount 2 s → count ≤ i → false ≡ faulty (take count (drop first (areasOf s)))
+pub checked-done : {s : List ℕ} {first count i : ℕ} → Checked s first count i → first + count ≤ rangeCount s → count ≤ i → false ≡ faulty (take count (drop first (areasOf s)))
 checked-done {s} {first} {count} {i} c room h =
     sym (faulty-fine (take count (drop first (areasOf s)))
     (λ j l. let q : j < count = rw (part-length s first count room) at l in rw (start-at s first count room j q, end-at s first count room j q) (c .upright j (omega arith)))
@@ -98,8 +98,8 @@ part-absent areas present first count e = sym (ap (λ (t : Bool). cond t false (
 pub part-present : (areas : List Range) (present first count : ℕ) (r : Bool) → (present ≡ 0 → ⊥) → r ≡ ltb (length areas) (first + count) || faulty (take count (drop first areas)) → r ≡ badPart areas present first count
 part-present areas present first count r d e = e ∙ sym (ap (λ (t : Bool). cond t false (ltb (length areas) (first + count) || faulty (take count (drop first areas)))) (ne-eqb present 0 d))
 
-pub areas-length : (s : List ℕ) → length (areasOf s) ≡ rowCount 2 s
-areas-length s = length-records 2 (λ f. range (f 0) (f 1)) s
+pub areas-length : (s : List ℕ) → length (areasOf s) ≡ rangeCount s
+areas-length s = length-records rangeWidth (λ f. range (f 0) (f 1)) s
 
 -- what a want that is not bad has
 pub part-fine : (areas : List Range) (present first count : ℕ) → badPart areas present first count ≡ false → (present ≡ 0 → ⊥)

@@ -8,7 +8,8 @@ use lib.Dec.{ltb, eqb}
 use Rattle.refusals.specs.declared.Verdict.{Verdict}
 use Rattle.refusals.specs.declared.Refusal.the-variants.{Count, Space, Want as WantRefused}
 use Rattle.refusals.specs.Verdicts.{inOrder, scan, check}
-use Rattle.words.specs.Rows.{rowCount, wholeRows, field}
+use Rattle.words.specs.Rows.{wholeRows}
+use Rattle.words.specs.Widths.{cellWidth, itemWidth, rangeWidth, rangeCount, wantWidth, wantCount, wantPresent, wantFirst, wantRanges}
 use Rattle.ranges.specs.declared.Range.{Range}
 use Rattle.ranges.specs.Lent.{faulty}
 use Rattle.fitting.specs.Queries.{areasOf}
@@ -18,11 +19,11 @@ abbrev pub badPart : List Range → ℕ → ℕ → ℕ → Bool
 badPart areas present first count = cond (eqb present 0) false (ltb (length areas) (first + count) || faulty (take count (drop first areas)))
 
 abbrev pub badWant : List Range → List ℕ → ℕ → Bool
-badWant areas s i = badPart areas (field 5 s i 2) (field 5 s i 3) (field 5 s i 4)
+badWant areas s i = badPart areas (wantPresent s i) (wantFirst s i) (wantRanges s i)
 
 -- the first want whose part is bad
 abbrev pub wantsVerdict : List ℕ → List ℕ → Verdict
-wantsVerdict areas s = scan WantRefused (badWant (areasOf areas) s) (rowCount 5 s)
+wantsVerdict areas s = scan WantRefused (badWant (areasOf areas) s) (wantCount s)
 
 -- number 1: locals over the wants, or a count over its limit
 abbrev pub overLimit : ℕ → ℕ → ℕ → ℕ → Bool
@@ -31,15 +32,16 @@ overLimit wants ranges locals budget = ltb wants locals || (ltb 2048 locals || (
 -- number 1: a list that is no whole rows, or a count over its limit
 abbrev pub badCount : List ℕ → List ℕ → ℕ → ℕ → ℕ → ℕ → Bool
 badCount wants areas locals budget cells items =
-    not (wholeRows 5 wants) || (not (wholeRows 2 areas) || (not (eqb (cells % 2) 0) || (not (eqb (items % 4) 0) || overLimit (rowCount 5 wants) (rowCount 2 areas) locals budget)))
+    not (wholeRows wantWidth wants) || (not (wholeRows rangeWidth areas) || (not (eqb (cells % cellWidth) 0) || (not (eqb (items % itemWidth) 0)
+    || overLimit (wantCount wants) (rangeCount areas) locals budget)))
 
 -- W = 8 × (wants + length of the area list)
 abbrev pub spaceOf : List ℕ → List ℕ → ℕ
-spaceOf wants areas = 8 * (rowCount 5 wants + rowCount 2 areas)
+spaceOf wants areas = 8 * (wantCount wants + rangeCount areas)
 
 -- number 7: an answer list under the wants, a work space under W
 abbrev pub badSpace : List ℕ → List ℕ → ℕ → ℕ → ℕ → Bool
-badSpace wants areas cells items work = ltb work (spaceOf wants areas) || (ltb (cells / 2) (rowCount 5 wants) || ltb (items / 4) (rowCount 5 wants))
+badSpace wants areas cells items work = ltb work (spaceOf wants areas) || (ltb (cells / cellWidth) (wantCount wants) || ltb (items / itemWidth) (wantCount wants))
 
 -- "fitting alone checks 1, 7, 10"
 abbrev pub fitChecks : List ℕ → List ℕ → ℕ → ℕ → ℕ → ℕ → ℕ → List Verdict
@@ -51,9 +53,9 @@ verdict wants areas locals budget cells items work = inOrder (fitChecks wants ar
 
 -- what holds where nothing is refused: the counts within their limits, room in the answer lists and the work space, each want's part proper
 pub record Granted (wants areas : List ℕ) (cells items work : ℕ) : Type 0 where
-  pub few : rowCount 5 wants ≤ 4096
-  pub short : rowCount 2 areas ≤ 65536
-  pub space : 8 * (rowCount 5 wants + rowCount 2 areas) ≤ work
-  pub in-cells : 2 * rowCount 5 wants ≤ cells
-  pub in-items : 4 * rowCount 5 wants ≤ items
-  pub fine : (i : ℕ) → i < rowCount 5 wants → badWant (areasOf areas) wants i ≡ false
+  pub few : wantCount wants ≤ 4096
+  pub short : rangeCount areas ≤ 65536
+  pub space : 8 * (wantCount wants + rangeCount areas) ≤ work
+  pub in-cells : cellWidth * wantCount wants ≤ cells
+  pub in-items : itemWidth * wantCount wants ≤ items
+  pub fine : (i : ℕ) → i < wantCount wants → badWant (areasOf areas) wants i ≡ false

@@ -2,12 +2,16 @@
 ghost use mathlib.Core.Path.{_≡_};
 ghost use Prim.Native.Nat.{_+_, _*_, _/_, _≤_, _<_};
 ghost use lib.ListN.{take, drop};
-ghost use Rattle.words.specs.Rows.{rowCount};
+ghost use Rattle.words.specs.Widths.{rangeCount, wantCount};
 ghost use Rattle.ranges.specs.Lent.{faulty};
 ghost use Rattle.fitting.specs.Queries.{areasOf};
 ghost use Rattle.want_checks.specs.Checks.{badPart, wantsVerdict, overLimit, badCount, badSpace, verdict};
 use refusals::Refusal;
 use refusals::Verdict;
+use words::widths::cell;
+use words::widths::item;
+use words::widths::range;
+use words::widths::want;
 
 // The most wants of locals and of slots, ranges, and probes.
 const WANTS: usize = 2048;
@@ -18,13 +22,13 @@ const BUDGET: u32 = 1048576;
 
 // Whether the `count` ranges from `first` on are reversed, unsorted or overlapping: the only place that looks at an area's form.
 fn part_faulty(areas: &[u32], first: usize, count: usize) -> bool
-    requires { ⌜ first + count ≤ rowCount 2 (now areas) ⌝ }
+    requires { ⌜ first + count ≤ rangeCount (now areas) ⌝ }
     ensures { λ r. ⌜ r ≡ faulty (take count (drop first (areasOf (now (areas .entry))))) ⌝ }
 {
     let mut i = 0;
     while i < count {
-        let at = 2 * (first + i);
-        if areas[at + 1] < areas[at] {
+        let at = range::WIDTH * (first + i);
+        if areas[at + range::END] < areas[at] {
             return true;
         }
         if 0 < i {
@@ -46,7 +50,7 @@ fn bad_part(areas: &[u32], present: u32, first: u32, count: u32) -> bool
     }
     let f = first as usize;
     let c = count as usize;
-    if areas.len() / 2 < f + c {
+    if areas.len() / range::WIDTH < f + c {
         return true;
     }
     part_faulty(areas, f, c)
@@ -56,11 +60,16 @@ fn bad_part(areas: &[u32], present: u32, first: u32, count: u32) -> bool
 fn bad_wants(wants: &[u32], areas: &[u32]) -> Verdict
     ensures { λ r. ⌜ r ≡ wantsVerdict (now (areas .entry)) (now (wants .entry)) ⌝ }
 {
-    let n = wants.len() / 5;
+    let n = wants.len() / want::WIDTH;
     let mut i = 0;
     while i < n {
-        let at = 5 * i;
-        if bad_part(areas, wants[at + 2], wants[at + 3], wants[at + 4]) {
+        let at = want::WIDTH * i;
+        if bad_part(
+            areas,
+            wants[at + want::PRESENT],
+            wants[at + want::FIRST],
+            wants[at + want::RANGES],
+        ) {
             return Verdict::Bad(Refusal::Want, i);
         }
         i += 1;
@@ -79,19 +88,24 @@ pub fn bad_count(
 ) -> bool
     ensures { λ r. ⌜ r ≡ badCount (now (wants .entry)) (now (areas .entry)) locals budget cells items ⌝ }
 {
-    if wants.len() % 5 != 0 {
+    if wants.len() % want::WIDTH != 0 {
         return true;
     }
-    if areas.len() % 2 != 0 {
+    if areas.len() % range::WIDTH != 0 {
         return true;
     }
-    if cells % 2 != 0 {
+    if cells % cell::WIDTH != 0 {
         return true;
     }
-    if items % 4 != 0 {
+    if items % item::WIDTH != 0 {
         return true;
     }
-    over_limit(wants.len() / 5, areas.len() / 2, locals as usize, budget)
+    over_limit(
+        wants.len() / want::WIDTH,
+        areas.len() / range::WIDTH,
+        locals as usize,
+        budget,
+    )
 }
 
 fn over_limit(wants: usize, ranges: usize, locals: usize, budget: u32) -> bool
@@ -114,17 +128,17 @@ fn over_limit(wants: usize, ranges: usize, locals: usize, budget: u32) -> bool
 
 // Whether the work space or an answer list is too short.
 fn bad_space(wants: &[u32], areas: &[u32], cells: usize, items: usize, work: usize) -> bool
-    requires { ⌜ (rowCount 5 (now wants) ≤ 4096) × (rowCount 2 (now areas) ≤ 65536) ⌝ }
+    requires { ⌜ (wantCount (now wants) ≤ 4096) × (rangeCount (now areas) ≤ 65536) ⌝ }
     ensures { λ r. ⌜ r ≡ badSpace (now (wants .entry)) (now (areas .entry)) cells items work ⌝ }
 {
-    let n = wants.len() / 5;
-    if work < 8 * (n + areas.len() / 2) {
+    let n = wants.len() / want::WIDTH;
+    if work < 8 * (n + areas.len() / range::WIDTH) {
         return true;
     }
-    if cells / 2 < n {
+    if cells / cell::WIDTH < n {
         return true;
     }
-    items / 4 < n
+    items / item::WIDTH < n
 }
 
 // Of the entry, by the lent lists and the lengths of the answer lists and the work space.

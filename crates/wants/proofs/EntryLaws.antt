@@ -10,8 +10,9 @@ use Rattle.refusals.specs.declared.Verdict.{Verdict}
 use Rattle.refusals.specs.declared.Verdict.the-variants.{Fine, Bad}
 use Rattle.refusals.specs.declared.Refusal.{Refusal}
 use Rattle.refusals.specs.Outcomes.{given, unless}
-use Rattle.words.specs.Rows.{rowCount, field, tabulate, flat}
+use Rattle.words.specs.Rows.{tabulate, flat}
 use Rattle.words.specs.Regions.{cleared}
+use Rattle.words.specs.Widths.{cellWidth, itemWidth, rangeCount, wantCount, wantPresent, wantFirst, wantRanges}
 use Rattle.words.proofs.RowLaws.{length-tabulate, tabulate-getD, map-tabulate, tabulate-eq}
 use Rattle.fitting.specs.Wants.{Want, orderOf}
 use Rattle.fitting.specs.Plan.{Cell, cellAt, Plan, planOf, depthOf}
@@ -51,12 +52,12 @@ cell-small {w₁} {w₂} {t} {budget} {r} F few i h =
     omega (arith, F .shown .cell i h, F .cells, F .few, k)
 
 module _ (wants areas cells items work w₁ w₂ cells′ items′ work′ : List ℕ) (r : Counts) (budget : ℕ)
-    (L : Loaded work w₁ wants areas (rowCount 5 wants) (rowCount 2 areas))
+    (L : Loaded work w₁ wants areas (wantCount wants) (rangeCount areas))
     (same : wantsIn w₁ (tablesFor wants areas) ≡ wantsOf (areasOf areas) wants)
     (F : Fitted w₁ w₂ (tablesFor wants areas) budget r)
-    (C : cells′ ≡ cellRowsIn w₂ (cellTable (tablesFor wants areas)) (r .cells) ++ drop (2 * r .cells) cells)
-    (I : items′ ≡ itemRowsIn w₂ wants (homeTable (tablesFor wants areas)) (rowCount 5 wants) ++ drop (4 * rowCount 5 wants) items)
-    (Z : work′ ≡ cleared (8 * (rowCount 5 wants + rowCount 2 areas)) w₂) where
+    (C : cells′ ≡ cellRowsIn w₂ (cellTable (tablesFor wants areas)) (r .cells) ++ drop (cellWidth * r .cells) cells)
+    (I : items′ ≡ itemRowsIn w₂ wants (homeTable (tablesFor wants areas)) (wantCount wants) ++ drop (itemWidth * wantCount wants) items)
+    (Z : work′ ≡ cleared (8 * (wantCount wants + rangeCount areas)) w₂) where
   plan-is : planIn w₁ (tablesFor wants areas) budget ≡ planFor wants areas budget
   plan-is = ap (λ (ws : List Want). planOf ws budget (orderOf ws)) same
 
@@ -75,27 +76,27 @@ module _ (wants areas cells items work w₁ w₂ cells′ items′ work′ : Lis
           let b = S .align i (rw (F′ .0) at h) in
           cc
 
-  cells-long : length (cellRows (planFor wants areas budget)) ≡ 2 * r .cells
-  cells-long = ap length (rows-cells (planFor wants areas budget .cells)) ∙ flat-length 2 (length (planFor wants areas budget .cells)) (λ i. cellRow (cellAt (planFor wants areas budget .cells) i)) (λ i h. refl) ∙ ap (λ (k : ℕ). 2 * k) (sym (F′ .0))
+  cells-long : length (cellRows (planFor wants areas budget)) ≡ cellWidth * r .cells
+  cells-long = ap length (rows-cells (planFor wants areas budget .cells)) ∙ flat-length 2 (length (planFor wants areas budget .cells)) (λ i. cellRow (cellAt (planFor wants areas budget .cells) i)) (λ i h. refl) ∙ ap (λ (k : ℕ). cellWidth * k) (sym (F′ .0))
 
-  items-are : itemRowsIn w₂ wants (homeTable (tablesFor wants areas)) (rowCount 5 wants) ≡ itemRows wants (planFor wants areas budget)
+  items-are : itemRowsIn w₂ wants (homeTable (tablesFor wants areas)) (wantCount wants) ≡ itemRows wants (planFor wants areas budget)
   items-are =
       let S = subst (λ (p : Plan). Shown w₂ (tablesFor wants areas) p) plan-is (F .shown) in
-      ap flat (tabulate-eq (rowCount 5 wants) _ _ (λ i h. ap (λ (c : ℕ). itemRow c (field 5 wants i 2) (field 5 wants i 3) (field 5 wants i 4)) (S .cell i h)))
+      ap flat (tabulate-eq (wantCount wants) _ _ (λ i h. ap (λ (c : ℕ). itemRow c (wantPresent wants i) (wantFirst wants i) (wantRanges wants i)) (S .cell i h)))
 
-  items-long : length (itemRows wants (planFor wants areas budget)) ≡ 4 * rowCount 5 wants
-  items-long = flat-length 4 (rowCount 5 wants) _ (λ i h. item-wide (planFor wants areas budget .cell i) (field 5 wants i 2) (field 5 wants i 3) (field 5 wants i 4))
+  items-long : length (itemRows wants (planFor wants areas budget)) ≡ itemWidth * wantCount wants
+  items-long = flat-length 4 (wantCount wants) _ (λ i h. item-wide (planFor wants areas budget .cell i) (wantPresent wants i) (wantFirst wants i) (wantRanges wants i))
 
-  work-is : cleared (8 * (rowCount 5 wants + rowCount 2 areas)) w₂ ≡ cleared (8 * (rowCount 5 wants + rowCount 2 areas)) work
+  work-is : cleared (8 * (wantCount wants + rangeCount areas)) w₂ ≡ cleared (8 * (wantCount wants + rangeCount areas)) work
   work-is =
-      ap (λ (l : List ℕ). replicate (8 * (rowCount 5 wants + rowCount 2 areas)) 0 ++ l)
-      (drop-same (8 * (rowCount 5 wants + rowCount 2 areas)) work w₂ (F .len ∙ L .len) (λ x h. F .rest x (inr (omega arith)) ∙ L .rest x (omega arith)))
+      ap (λ (l : List ℕ). replicate (8 * (wantCount wants + rangeCount areas)) 0 ++ l)
+      (drop-same (8 * (wantCount wants + rangeCount areas)) work w₂ (F .len ∙ L .len) (λ x h. F .rest x (inr (omega arith)) ∙ L .rest x (omega arith)))
 
   pub answered : Answered wants areas (planFor wants areas budget) cells items work r cells′ items′ work′
   answered = record {
     counts = told;
-    in-cells = C ∙ ap (λ (l : List ℕ). l ++ drop (2 * r .cells) cells) cells-are ∙ ap (λ (k : ℕ). cellRows (planFor wants areas budget) ++ drop k cells) (sym cells-long);
-    in-items = I ∙ ap (λ (l : List ℕ). l ++ drop (4 * rowCount 5 wants) items) items-are ∙ ap (λ (k : ℕ). itemRows wants (planFor wants areas budget) ++ drop k items) (sym items-long);
+    in-cells = C ∙ ap (λ (l : List ℕ). l ++ drop (cellWidth * r .cells) cells) cells-are ∙ ap (λ (k : ℕ). cellRows (planFor wants areas budget) ++ drop k cells) (sym cells-long);
+    in-items = I ∙ ap (λ (l : List ℕ). l ++ drop (itemWidth * wantCount wants) items) items-are ∙ ap (λ (k : ℕ). itemRows wants (planFor wants areas budget) ++ drop k items) (sym items-long);
     in-work = Z ∙ work-is;
   }
     where

@@ -11,8 +11,8 @@ use mathlib.Core.List.{List}
 use lib.ListN.{length, getD, take, drop}
 use lib.Seq.{ext-getD}
 use borrow.Author.Tests.{eq-eqb, ne-eqb}
-use Rattle.words.specs.Rows.{rowCount, field}
 use Rattle.words.specs.Regions.{part}
+use Rattle.words.specs.Widths.{cellWidth, rangeWidth, rangeCount, rangeEnd, wantWidth, wantCount, wantSize, wantAlign, wantPresent, wantFirst, wantRanges}
 use Rattle.words.proofs.RegionLaws.{length-part, getD-part}
 use Rattle.words.proofs.RowLaws.{tabulate-eq}
 use Rattle.ranges.specs.Points.{range, rangeAt, Apart}
@@ -30,23 +30,23 @@ use Rattle.fit_tables.proofs.WantLaws.{word-none, word-some, area-word}
 use Rattle.want_checks.proofs.PartLaws.{part-length, part-at, part-fine, areas-length}
 
 -- a part that is in the area list begins no later than its end
-pub first-small : (wants areas : List ℕ) → rowCount 2 areas ≤ 65536 → ((i : ℕ) → i < rowCount 5 wants → badWant (areasOf areas) wants i ≡ false)
-    → (i : ℕ) → i < rowCount 5 wants → 0 < field 5 wants i 2 → field 5 wants i 3 ≤ 65536
+pub first-small : (wants areas : List ℕ) → rangeCount areas ≤ 65536 → ((i : ℕ) → i < wantCount wants → badWant (areasOf areas) wants i ≡ false)
+    → (i : ℕ) → i < wantCount wants → 0 < wantPresent wants i → wantFirst wants i ≤ 65536
 first-small wants areas short fine i h q =
-    let a = part-fine (areasOf areas) (field 5 wants i 2) (field 5 wants i 3) (field 5 wants i 4) (fine i h) (λ e. omega arith) in
+    let a = part-fine (areasOf areas) (wantPresent wants i) (wantFirst wants i) (wantRanges wants i) (fine i h) (λ e. omega arith) in
     omega (arith, a .0, areas-length areas)
 
 -- ---- what they hold
 
-module _ {w₀ w wants areas : List ℕ} (L : Loaded w₀ w wants areas (rowCount 5 wants) (rowCount 2 areas))
+module _ {w₀ w wants areas : List ℕ} (L : Loaded w₀ w wants areas (wantCount wants) (rangeCount areas))
     (small : (x : ℕ) → getD areas x 0 < 2 ^ 32) (narrow : (x : ℕ) → getD wants x 0 < 2 ^ 32)
-    (few : rowCount 5 wants ≤ 4096) (short : rowCount 2 areas ≤ 65536) (room : rowCount 2 areas + 7 * rowCount 5 wants ≤ length w₀)
-    (fine : (i : ℕ) → i < rowCount 5 wants → badWant (areasOf areas) wants i ≡ false) where
-  range-is : (i : ℕ) → i < rowCount 2 areas → unpack (getD w i 0) ≡ range (getD areas (2 * i) 0) (getD areas (2 * i + 1) 0)
+    (few : wantCount wants ≤ 4096) (short : rangeCount areas ≤ 65536) (room : rangeCount areas + 7 * wantCount wants ≤ length w₀)
+    (fine : (i : ℕ) → i < wantCount wants → badWant (areasOf areas) wants i ≡ false) where
+  range-is : (i : ℕ) → i < rangeCount areas → unpack (getD w i 0) ≡ range (getD areas (rangeWidth * i) 0) (rangeEnd areas i)
   range-is i h =
-      ap unpack (L .area i h ∙ sym (area-word areas i)) ∙ unpack-pack (getD areas (2 * i) 0) (getD areas (2 * i + 1) 0) (small (2 * i + 1))
+      ap unpack (L .area i h ∙ sym (area-word areas i)) ∙ unpack-pack (getD areas (rangeWidth * i) 0) (rangeEnd areas i) (small (rangeWidth * i + 1))
 
-  ranges-are : (first count : ℕ) → first + count ≤ rowCount 2 areas → unpacked (part first count w) ≡ take count (drop first (areasOf areas))
+  ranges-are : (first count : ℕ) → first + count ≤ rangeCount areas → unpacked (part first count w) ≡ take count (drop first (areasOf areas))
   ranges-are first count h =
       ext-getD (range 0 0) (unpacked (part first count w)) (take count (drop first (areasOf areas))) (len ∙ sym (part-length areas first count h)) at
     where
@@ -58,55 +58,55 @@ module _ {w₀ w wants areas : List ℕ} (L : Loaded w₀ w wants areas (rowCoun
           let l : i < count = rw len at q in
           unpacked-at (part first count w) i ∙ ap unpack (getD-part first count w i l) ∙ range-is (first + i) (omega arith) ∙ sym (part-at areas first count h i l)
 
-  module _ (i : ℕ) (h : i < rowCount 5 wants) where
-    present-part : (field 5 wants i 2 ≡ 0 → ⊥) → (field 5 wants i 3 + field 5 wants i 4 ≤ rowCount 2 areas) × Apart (take (field 5 wants i 4) (drop (field 5 wants i 3) (areasOf areas)))
+  module _ (i : ℕ) (h : i < wantCount wants) where
+    present-part : (wantPresent wants i ≡ 0 → ⊥) → (wantFirst wants i + wantRanges wants i ≤ rangeCount areas) × Apart (take (wantRanges wants i) (drop (wantFirst wants i) (areasOf areas)))
     present-part d =
-        let (a, b) = part-fine (areasOf areas) (field 5 wants i 2) (field 5 wants i 3) (field 5 wants i 4) (fine i h) d in
+        let (a, b) = part-fine (areasOf areas) (wantPresent wants i) (wantFirst wants i) (wantRanges wants i) (fine i h) d in
         (rw (areas-length areas) at a, b)
 
-    first-is : (field 5 wants i 2 ≡ 0 → ⊥) → firstOf (itemWordAt wants i) ≡ field 5 wants i 3
+    first-is : (wantPresent wants i ≡ 0 → ⊥) → firstOf (itemWordAt wants i) ≡ wantFirst wants i
     first-is d =
-        let e = word-some (field 5 wants i 2) (field 5 wants i 3) (field 5 wants i 4) d in
-        let k = narrow (5 * i + 4) in
+        let e = word-some (wantPresent wants i) (wantFirst wants i) (wantRanges wants i) d in
+        let k = narrow (wantWidth * i + 4) in
         ap firstOf e ∙ omega arith
 
-    count-is : (field 5 wants i 2 ≡ 0 → ⊥) → countOf (itemWordAt wants i) ≡ field 5 wants i 4
+    count-is : (wantPresent wants i ≡ 0 → ⊥) → countOf (itemWordAt wants i) ≡ wantRanges wants i
     count-is d =
-        let e = word-some (field 5 wants i 2) (field 5 wants i 3) (field 5 wants i 4) d in
-        let k = narrow (5 * i + 4) in
+        let e = word-some (wantPresent wants i) (wantFirst wants i) (wantRanges wants i) d in
+        let k = narrow (wantWidth * i + 4) in
         ap countOf e ∙ omega arith
 
-    ranges-is : (field 5 wants i 2 ≡ 0 → ⊥) → rangesAt w 0 (itemWordAt wants i) ≡ take (field 5 wants i 4) (drop (field 5 wants i 3) (areasOf areas))
+    ranges-is : (wantPresent wants i ≡ 0 → ⊥) → rangesAt w 0 (itemWordAt wants i) ≡ take (wantRanges wants i) (drop (wantFirst wants i) (areasOf areas))
     ranges-is d =
-        let z : 0 + firstOf (itemWordAt wants i) ≡ field 5 wants i 3 = omega (arith, first-is d) in
-        ap (λ (k : ℕ). unpacked (part k (countOf (itemWordAt wants i)) w)) z ∙ ap (λ (k : ℕ). unpacked (part (field 5 wants i 3) k w)) (count-is d)
-        ∙ ranges-are (field 5 wants i 3) (field 5 wants i 4) (present-part d .0)
+        let z : 0 + firstOf (itemWordAt wants i) ≡ wantFirst wants i = omega (arith, first-is d) in
+        ap (λ (k : ℕ). unpacked (part k (countOf (itemWordAt wants i)) w)) z ∙ ap (λ (k : ℕ). unpacked (part (wantFirst wants i) k w)) (count-is d)
+        ∙ ranges-are (wantFirst wants i) (wantRanges wants i) (present-part d .0)
 
-    area-is : areaIn w 0 (getD w (rowCount 2 areas + i) 0) ≡ partOf (areasOf areas) (field 5 wants i 2) (field 5 wants i 3) (field 5 wants i 4)
-    area-is = ap (areaIn w 0) (L .item i h) ∙ go (ℕ-discrete (field 5 wants i 2) 0)
+    area-is : areaIn w 0 (getD w (rangeCount areas + i) 0) ≡ partOf (areasOf areas) (wantPresent wants i) (wantFirst wants i) (wantRanges wants i)
+    area-is = ap (areaIn w 0) (L .item i h) ∙ go (ℕ-discrete (wantPresent wants i) 0)
       where
-        go : Dec (field 5 wants i 2 ≡ 0) → areaIn w 0 (itemWordAt wants i) ≡ partOf (areasOf areas) (field 5 wants i 2) (field 5 wants i 3) (field 5 wants i 4)
+        go : Dec (wantPresent wants i ≡ 0) → areaIn w 0 (itemWordAt wants i) ≡ partOf (areasOf areas) (wantPresent wants i) (wantFirst wants i) (wantRanges wants i)
         go (yes e) =
-            area-none w 0 (itemWordAt wants i) (word-none (field 5 wants i 2) (field 5 wants i 3) (field 5 wants i 4) e)
-            ∙ sym (ap (λ (t : Bool). cond t none (some (take (field 5 wants i 4) (drop (field 5 wants i 3) (areasOf areas))))) (eq-eqb (field 5 wants i 2) 0 e))
+            area-none w 0 (itemWordAt wants i) (word-none (wantPresent wants i) (wantFirst wants i) (wantRanges wants i) e)
+            ∙ sym (ap (λ (t : Bool). cond t none (some (take (wantRanges wants i) (drop (wantFirst wants i) (areasOf areas))))) (eq-eqb (wantPresent wants i) 0 e))
         go (no d) =
-            area-some w 0 (itemWordAt wants i) (omega (arith, word-some (field 5 wants i 2) (field 5 wants i 3) (field 5 wants i 4) d)) ∙ ap some (ranges-is d)
-            ∙ sym (ap (λ (t : Bool). cond t none (some (take (field 5 wants i 4) (drop (field 5 wants i 3) (areasOf areas))))) (ne-eqb (field 5 wants i 2) 0 d))
+            area-some w 0 (itemWordAt wants i) (omega (arith, word-some (wantPresent wants i) (wantFirst wants i) (wantRanges wants i) d)) ∙ ap some (ranges-is d)
+            ∙ sym (ap (λ (t : Bool). cond t none (some (take (wantRanges wants i) (drop (wantFirst wants i) (areasOf areas))))) (ne-eqb (wantPresent wants i) 0 d))
 
-    proper-is : 0 < itemWordAt wants i → Proper w 0 (rowCount 2 areas) (itemWordAt wants i)
-    proper-is q = go (ℕ-discrete (field 5 wants i 2) 0)
+    proper-is : 0 < itemWordAt wants i → Proper w 0 (rangeCount areas) (itemWordAt wants i)
+    proper-is q = go (ℕ-discrete (wantPresent wants i) 0)
       where
-        go : Dec (field 5 wants i 2 ≡ 0) → Proper w 0 (rowCount 2 areas) (itemWordAt wants i)
-        go (yes e) = absurd (omega (arith, word-none (field 5 wants i 2) (field 5 wants i 3) (field 5 wants i 4) e))
+        go : Dec (wantPresent wants i ≡ 0) → Proper w 0 (rangeCount areas) (itemWordAt wants i)
+        go (yes e) = absurd (omega (arith, word-none (wantPresent wants i) (wantFirst wants i) (wantRanges wants i) e))
         go (no d) = record { inside = omega (arith, first-is d, count-is d, present-part d .0); neat = rw (ranges-is d) (present-part d .1) }
 
-    size-is : sizeOf (getD w (rowCount 2 areas + rowCount 5 wants + i) 0) ≡ field 5 wants i 0
-    size-is = ap sizeOf (L .want i h) ∙ omega (arith, narrow (5 * i + 1))
+    size-is : sizeOf (getD w (rangeCount areas + wantCount wants + i) 0) ≡ wantSize wants i
+    size-is = ap sizeOf (L .want i h) ∙ omega (arith, narrow (wantWidth * i + 1))
 
-    align-is : alignOf (getD w (rowCount 2 areas + rowCount 5 wants + i) 0) ≡ field 5 wants i 1
-    align-is = ap alignOf (L .want i h) ∙ omega (arith, narrow (5 * i + 1))
+    align-is : alignOf (getD w (rangeCount areas + wantCount wants + i) 0) ≡ wantAlign wants i
+    align-is = ap alignOf (L .want i h) ∙ omega (arith, narrow (wantWidth * i + 1))
 
-    want-same : wantIn w (tablesFor wants areas) i ≡ record { size = field 5 wants i 0; align = field 5 wants i 1; area = partOf (areasOf areas) (field 5 wants i 2) (field 5 wants i 3) (field 5 wants i 4) }
+    want-same : wantIn w (tablesFor wants areas) i ≡ record { size = wantSize wants i; align = wantAlign wants i; area = partOf (areasOf areas) (wantPresent wants i) (wantFirst wants i) (wantRanges wants i) }
     want-same =
         let a = size-is in
         let b = align-is in
@@ -121,8 +121,8 @@ module _ {w₀ w wants areas : List ℕ} (L : Loaded w₀ w wants areas (rowCoun
   }
 
   pub wants-are : wantsIn w (tablesFor wants areas) ≡ wantsOf (areasOf areas) wants
-  wants-are = tabulate-eq (rowCount 5 wants) (wantIn w (tablesFor wants areas))
-      (λ i. record { size = field 5 wants i 0; align = field 5 wants i 1; area = partOf (areasOf areas) (field 5 wants i 2) (field 5 wants i 3) (field 5 wants i 4) }) want-same
+  wants-are = tabulate-eq (wantCount wants) (wantIn w (tablesFor wants areas))
+      (λ i. record { size = wantSize wants i; align = wantAlign wants i; area = partOf (areasOf areas) (wantPresent wants i) (wantFirst wants i) (wantRanges wants i) }) want-same
 
 -- ---- what the entry computes fits, each bound as the code asks for it
 pub record Regions (n ranges : ℕ) : Type 0 where
@@ -136,7 +136,7 @@ pub record Regions (n ranges : ℕ) : Type 0 where
 pub regions : (n ranges : ℕ) → n ≤ 4096 → ranges ≤ 65536 → Regions n ranges
 regions n ranges h k = record { five = omega arith; cells = omega arith; six = omega arith; items = omega arith; all = omega arith; end = omega arith }
 
-pub in-cells : (k n m : ℕ) → k ≤ n → 2 * n ≤ m → 2 * k ≤ m
+pub in-cells : (k n m : ℕ) → k ≤ n → cellWidth * n ≤ m → cellWidth * k ≤ m
 in-cells k n m h r = omega arith
 
 pub in-tables : (k n ranges m₀ m₁ m₂ : ℕ) → k ≤ n → 8 * (n + ranges) ≤ m₀ → m₁ ≡ m₀ → m₂ ≡ m₁ → ranges + 5 * n + k ≤ m₂

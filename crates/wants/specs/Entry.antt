@@ -5,8 +5,9 @@ use mathlib.Core.List.{List, [], _∷_, map}
 use lib.ListN.{length}
 use Rattle.refusals.specs.Verdicts.{numberOf}
 use Rattle.refusals.specs.Outcomes.{Outcome, given, refused, unless, after}
-use Rattle.words.specs.Rows.{rowCount, field, records, tabulate, flat}
+use Rattle.words.specs.Rows.{records, tabulate, flat}
 use Rattle.words.specs.Regions.{cleared}
+use Rattle.words.specs.Widths.{wantWidth, wantCount, wantPresent, wantFirst, wantRanges}
 use Rattle.ranges.specs.declared.Range.{Range}
 use Rattle.fitting.specs.Wants.{Want, orderOf}
 use Rattle.fitting.specs.Plan.{Cell, Plan, planOf, depthOf}
@@ -18,7 +19,7 @@ use Rattle.wants.specs.declared.Fitted.the-variants.{Plan as Planned, Re
 
 -- wants 5 numbers: size, align, present, first, count
 abbrev pub wantsOf : List Range → List ℕ → List Want
-wantsOf areas s = records 5 (λ f. record { size = f 0; align = f 1; area = partOf areas (f 2) (f 3) (f 4) }) s
+wantsOf areas s = records wantWidth (λ f. record { size = f 0; align = f 1; area = partOf areas (f 2) (f 3) (f 4) }) s
 
 -- the plan of the wants
 abbrev pub planFor : List ℕ → List ℕ → ℕ → Plan
@@ -56,7 +57,7 @@ cellRows p = flat (map cellRow (p .cells))
 
 -- a row of each item
 abbrev pub itemRows : List ℕ → Plan → List ℕ
-itemRows wants p = flat (tabulate (rowCount 5 wants) (λ i. itemRow (p .cell i) (field 5 wants i 2) (field 5 wants i 3) (field 5 wants i 4)))
+itemRows wants p = flat (tabulate (wantCount wants) (λ i. itemRow (p .cell i) (wantPresent wants i) (wantFirst wants i) (wantRanges wants i)))
 
 -- the work space: unchanged after a refusal, its first W words zero after an answer
 abbrev pub zeroed : Outcome Plan → ℕ → List ℕ → List ℕ

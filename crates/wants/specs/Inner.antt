@@ -4,7 +4,7 @@ use mathlib.Core.Path.{_≡_}
 use mathlib.Core.List.{List}
 use Rattle.refusals.specs.Outcomes.{given, after}
 use Rattle.fitting.specs.Plan.{Plan}
-use Rattle.words.specs.Rows.{rowCount}
+use Rattle.words.specs.Widths.{rangeCount, wantCount}
 use Rattle.fit_tables.specs.declared.Counts.{Counts}
 use Rattle.fit_tables.specs.declared.Tables.{Tables}
 use Rattle.wants.specs.Entry.{tallied, cellRows, itemRows, zeroed}
@@ -12,7 +12,7 @@ use Rattle.want_checks.specs.Checks.{spaceOf}
 
 -- where the tables stand: the areas from 0 on, the tables behind them, and all of W is theirs
 abbrev pub tablesFor : List ℕ → List ℕ → Tables
-tablesFor wants areas = record { at = 0; items = rowCount 2 areas; n = rowCount 5 wants; end = 8 * (rowCount 5 wants + rowCount 2 areas) }
+tablesFor wants areas = record { at = 0; items = rangeCount areas; n = wantCount wants; end = 8 * (wantCount wants + rangeCount areas) }
 
 -- the answer where nothing is refused
 pub record Answered (wants areas : List ℕ) (p : Plan) (cells items work : List ℕ) (r : Counts) (cells′ items′ work′ : List ℕ) : Type 0 where

@@ -10,6 +10,8 @@ use fit_tables::Tables;
 use job_space::Terms;
 use refusals::Refusal;
 use refusals::Verdict;
+use words::widths::range;
+use words::widths::want;
 
 // A plan's cells, the probes spent and its depth, or a refusal.
 pub enum Fitted {
@@ -64,8 +66,8 @@ fn answer(
     ensures { λ r. ⌜ Answered (now (wants .entry)) (now (areas .entry)) (planFor (now (wants .entry)) (now (areas .entry)) (terms .budget))
         (now (cells .entry)) (now (items .entry)) (now (work .entry)) r (now (cells .exit)) (now (items .exit)) (now (work .exit)) ⌝ }
 {
-    let n = wants.len() / 5;
-    let ranges = areas.len() / 2;
+    let n = wants.len() / want::WIDTH;
+    let ranges = areas.len() / range::WIDTH;
     fit_tables::want_tables::load(work, wants, areas, n, ranges);
     let end = 8 * (n + ranges);
     let t = Tables {

@@ -1,4 +1,5 @@
 pub mod Rows
+pub mod Widths
 pub mod Sort
 pub mod Regions
 pub mod Search

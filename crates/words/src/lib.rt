@@ -1,6 +1,7 @@
 // Lent numbers: regions of one list, searching.
 mod regions; // regions.rt: fill, clear and copy
 mod search; // search.rt: binary search
+pub mod widths; // widths.rt: rows by name
 
 pub use regions::clear;
 pub use regions::copy;

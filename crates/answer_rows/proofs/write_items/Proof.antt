@@ -13,9 +13,10 @@ use Rattle.answer_rows.specs.Tables.{rowOf, rowsOf}
 use Rattle.answer_rows.proofs.RowLaws.{three-more}
 use Rattle.answer_rows.proofs.write_items.Statement.{statement}
 use Rattle.answer_rows.proofs.write_items.Tie as tie
+use Rattle.words.specs.Widths.{partWidth}
 
 abbrev Inv-loop : tie.InvT-loop
-Inv-loop out₀ w from n i₀ out i = (i ≤ n) × Filling out₀ 0 (rowsOf w from n) (3 * n) out (3 * i)
+Inv-loop out₀ w from n i₀ out i = (i ≤ n) × Filling out₀ 0 (rowsOf w from n) (partWidth * n) out (partWidth * i)
 
 abbrev μ-loop : tie.MeasureT-loop
 μ-loop out₀ w from n i₀ out i = n - i

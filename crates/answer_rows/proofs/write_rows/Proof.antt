@@ -9,9 +9,10 @@ use Rattle.words.proofs.FlatLaws.{flat-start, flat-done, two-more}
 use Rattle.answer_rows.specs.Rows.{halves, rowsIn}
 use Rattle.answer_rows.proofs.write_rows.Statement.{statement}
 use Rattle.answer_rows.proofs.write_rows.Tie as tie
+use Rattle.words.specs.Widths.{rangeWidth}
 
 abbrev Inv-loop : tie.InvT-loop
-Inv-loop out₀ w from n less i₀ out i = (i ≤ n) × Filling out₀ 0 (rowsIn w from n less) (2 * n) out (2 * i)
+Inv-loop out₀ w from n less i₀ out i = (i ≤ n) × Filling out₀ 0 (rowsIn w from n less) (rangeWidth * n) out (rangeWidth * i)
 
 abbrev μ-loop : tie.MeasureT-loop
 μ-loop out₀ w from n less i₀ out i = n - i

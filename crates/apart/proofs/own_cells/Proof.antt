@@ -3,7 +3,7 @@ use Rattle.apart.proofs.ApartLaws.{cell-wide, own-local, own-slot}
 use denote.Ref.{now}
 use native.Mathlib.Nat.{add-zero}
 use mathlib.Core.List.{List}
-use Rattle.words.specs.Rows.{rowCount}
+use Rattle.words.specs.Widths.{localCount, slotCount}
 use Rattle.words.proofs.PasteLaws.{Filling}
 use Rattle.words.proofs.FlatLaws.{flat-start, flat-done, two-more}
 use Rattle.apart.specs.Apart.{ownCell, ownCells}
@@ -15,7 +15,7 @@ use Rattle.apart.proofs.own_cells.Statement.{statement}
 use Rattle.apart.proofs.own_cells.Tie as tie
 
 abbrev Inv-loop : tie.InvT-loop
-Inv-loop cells₀ locals slots l n i₀ cells i = (i ≤ n) × Filling cells₀ 0 (ownCells locals slots) (2 * (rowCount 2 locals + length slots)) cells (2 * i)
+Inv-loop cells₀ locals slots l n i₀ cells i = (i ≤ n) × Filling cells₀ 0 (ownCells locals slots) (2 * (localCount locals + slotCount slots)) cells (2 * i)
 
 abbrev μ-loop : tie.MeasureT-loop
 μ-loop cells₀ locals slots l n i₀ cells i = n - i
@@ -24,7 +24,7 @@ add-n : tie.Need-add-n Inv-loop μ-loop
 add-n c = omega arith
 
 loop-holds : tie.Need-loop-holds Inv-loop μ-loop
-loop-holds c = let a = (c .args) in (omega arith, flat-start 2 (rowCount 2 (now (a .locals)) + length (now (a .slots))) (ownCell (now (a .locals)) (now (a .slots))) (now (a .cells)) (cell-wide (now (a .locals)) (now (a .slots))) (omega arith))
+loop-holds c = let a = (c .args) in (omega arith, flat-start 2 (localCount (now (a .locals)) + slotCount (now (a .slots))) (ownCell (now (a .locals)) (now (a .slots))) (now (a .cells)) (cell-wide (now (a .locals)) (now (a .slots))) (omega arith))
 
 mul-cells : tie.Need-mul-cells Inv-loop μ-loop
 mul-cells c = omega arith
@@ -75,7 +75,7 @@ loop-less : tie.Need-loop-less Inv-loop μ-loop
 loop-less c = omega arith
 
 loop-again : tie.Need-loop-again Inv-loop μ-loop
-loop-again c = let a = (c .before .before .before .before .before .args) in (omega arith, two-more (rowCount 2 (now (a .locals)) + length (now (a .slots))) (ownCell (now (a .locals)) (now (a .slots))) _ _ ((c .before .before .before .before .loop) .i) (omega arith) (cell-wide (now (a .locals)) (now (a .slots))) ((c .before .before .before .before .loop) .inv .1) _ _ (ap (λ (k : ℕ). getD (now (a .locals)) k 0) (sym (add-zero (2 * (c .before .before .before .before .loop) .i))) ∙ sym (ap (λ (l : List ℕ). getD l 0 0) (own-local (now (a .locals)) (now (a .slots)) ((c .before .before .before .before .loop) .i) (omega arith)))) (sym (ap (λ (l : List ℕ). getD l 1 0) (own-local (now (a .locals)) (now (a .slots)) ((c .before .before .before .before .loop) .i) (omega arith)))))
+loop-again c = let a = (c .before .before .before .before .before .args) in (omega arith, two-more (localCount (now (a .locals)) + slotCount (now (a .slots))) (ownCell (now (a .locals)) (now (a .slots))) _ _ ((c .before .before .before .before .loop) .i) (omega arith) (cell-wide (now (a .locals)) (now (a .slots))) ((c .before .before .before .before .loop) .inv .1) _ _ (ap (λ (k : ℕ). getD (now (a .locals)) k 0) (sym (add-zero (2 * (c .before .before .before .before .loop) .i))) ∙ sym (ap (λ (l : List ℕ). getD l 0 0) (own-local (now (a .locals)) (now (a .slots)) ((c .before .before .before .before .loop) .i) (omega arith)))) (sym (ap (λ (l : List ℕ). getD l 1 0) (own-local (now (a .locals)) (now (a .slots)) ((c .before .before .before .before .loop) .i) (omega arith)))))
 
 mul-width : tie.Need-mul-width Inv-loop μ-loop
 mul-width c = omega arith
@@ -111,13 +111,13 @@ loop-less-2 : tie.Need-loop-less-2 Inv-loop μ-loop
 loop-less-2 c = omega arith
 
 loop-again-2 : tie.Need-loop-again-2 Inv-loop μ-loop
-loop-again-2 c = let a = (c .before .before .before .before .args) in (omega arith, two-more (rowCount 2 (now (a .locals)) + length (now (a .slots))) (ownCell (now (a .locals)) (now (a .slots))) _ _ ((c .before .before .before .loop) .i) (omega arith) (cell-wide (now (a .locals)) (now (a .slots))) ((c .before .before .before .loop) .inv .1) _ _ (sym (ap (λ (l : List ℕ). getD l 0 0) (own-slot (now (a .locals)) (now (a .slots)) ((c .before .before .before .loop) .i) (omega arith)))) (sym (ap (λ (l : List ℕ). getD l 1 0) (own-slot (now (a .locals)) (now (a .slots)) ((c .before .before .before .loop) .i) (omega arith)))))
+loop-again-2 c = let a = (c .before .before .before .before .args) in (omega arith, two-more (localCount (now (a .locals)) + slotCount (now (a .slots))) (ownCell (now (a .locals)) (now (a .slots))) _ _ ((c .before .before .before .loop) .i) (omega arith) (cell-wide (now (a .locals)) (now (a .slots))) ((c .before .before .before .loop) .inv .1) _ _ (sym (ap (λ (l : List ℕ). getD l 0 0) (own-slot (now (a .locals)) (now (a .slots)) ((c .before .before .before .loop) .i) (omega arith)))) (sym (ap (λ (l : List ℕ). getD l 1 0) (own-slot (now (a .locals)) (now (a .slots)) ((c .before .before .before .loop) .i) (omega arith)))))
 
 same-length : tie.Need-same-length Inv-loop μ-loop
 same-length c = (c .before .loop) .inv .1 .len
 
 returns : tie.Need-returns Inv-loop μ-loop
-returns c = let a = (c .before .before .args) in flat-done 2 (rowCount 2 (now (a .locals)) + length (now (a .slots))) (ownCell (now (a .locals)) (now (a .slots))) _ _ _ (cell-wide (now (a .locals)) (now (a .slots))) ((c .before .loop) .inv .1) (omega arith)
+returns c = let a = (c .before .before .args) in flat-done 2 (localCount (now (a .locals)) + slotCount (now (a .slots))) (ownCell (now (a .locals)) (now (a .slots))) _ _ _ (cell-wide (now (a .locals)) (now (a .slots))) ((c .before .loop) .inv .1) (omega arith)
 
 pub own-cells-spec : {M : Type 1} → statement M
 own-cells-spec =

@@ -10,9 +10,10 @@ use mathlib.Core.Path.{refl}
 use lib.ListN.{length-set}
 use Rattle.apart.proofs.own_items.Statement.{statement}
 use Rattle.apart.proofs.own_items.Tie as tie
+use Rattle.words.specs.Widths.{itemWidth}
 
 abbrev Inv-loop : tie.InvT-loop
-Inv-loop items₀ n i₀ items i = (i ≤ n) × Filling items₀ 0 (ownItems n) (4 * n) items (4 * i)
+Inv-loop items₀ n i₀ items i = (i ≤ n) × Filling items₀ 0 (ownItems n) (itemWidth * n) items (itemWidth * i)
 
 abbrev μ-loop : tie.MeasureT-loop
 μ-loop items₀ n i₀ items i = n - i

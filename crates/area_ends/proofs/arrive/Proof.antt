@@ -8,9 +8,10 @@ use Rattle.area_pieces.proofs.SweepLaws.{sweep-in}
 use Rattle.area_ends.proofs.ArriveLaws.{Marching, march-begin, march-stand, march-next, march-more, march-done}
 use Rattle.area_ends.proofs.arrive.Statement.{statement}
 use Rattle.area_ends.proofs.arrive.Tie as tie
+use Rattle.words.specs.Widths.{blockCount}
 
 abbrev Inv-loop : tie.InvT-loop
-Inv-loop blocks work₀ t s from end n₀ k₀ work n k = (end ≡ s .wide * 64) × Marching blocks t s (length blocks / 3) from work₀ work k n
+Inv-loop blocks work₀ t s from end n₀ k₀ work n k = (end ≡ s .wide * 64) × Marching blocks t s (blockCount blocks) from work₀ work k n
 
 abbrev μ-loop : tie.MeasureT-loop
 μ-loop blocks work₀ t s from end n₀ k₀ work n k = end - k

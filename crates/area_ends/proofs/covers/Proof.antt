@@ -13,9 +13,10 @@ use Rattle.area_pieces.proofs.SpanLaws.{touch-upright}
 use Rattle.area_ends.proofs.CoverLaws.{Covering, cover-begin, cover-fits, cover-stand, cover-room, cover-word, cover-more, cover-done}
 use Rattle.area_ends.proofs.covers.Statement.{statement}
 use Rattle.area_ends.proofs.covers.Tie as tie
+use Rattle.words.specs.Widths.{blockCount}
 
 abbrev Inv-loop : tie.InvT-loop
-Inv-loop blocks work₀ t s m₀ i₀ work m i = Upright blocks (touchesAt t work₀) × ((es : List Edge) → Covering (lineOf blocks es) t s (length blocks / 3) work₀ work i m)
+Inv-loop blocks work₀ t s m₀ i₀ work m i = Upright blocks (touchesAt t work₀) × ((es : List Edge) → Covering (lineOf blocks es) t s (blockCount blocks) work₀ work i m)
 
 abbrev μ-loop : tie.MeasureT-loop
 μ-loop blocks work₀ t s m₀ i₀ work m i = t .count - i

@@ -6,6 +6,7 @@ use borrow.Author.Needs.{needs}
 use Rattle.area_entries.proofs.EntryLaws.{held-list, tell-inverted, tell-ranges}
 use Rattle.area_entries.proofs.tell.Statement.{statement}
 use Rattle.area_entries.proofs.tell.Tie as tie
+use Rattle.words.specs.Widths.{rangeCount}
 
 enum-told : tie.Need-enum-told
 enum-told c = search needs
@@ -14,10 +15,10 @@ enum-known-f : tie.Need-enum-known-f
 enum-known-f c = search needs
 
 list-requires : tie.Need-list-requires
-list-requires c κs = (held-list ((c .before .before .before .before .before .before .before .before .args) .locals) (length (now ((c .before .before .before .before .before .before .before .before .args) .areas)) / 2) (now ((c .before .before .before .before .before .before .before .before .args) .areas)) (now ((c .before .before .before .before .before .before .before .before .args) .items)) (now ((c .before .before .before .before .before .before .before .before .args) .work)) ((c .before .before .before .before .before .before .before .before .args) .f) ((c .before .before .before .f) .given .1) ((c .before .before .before .before .before .before .before .before .pre) .0), (c .before .before .before .before .before .before .before .before .pre) .1, (c .before .before .before .before .before .before .before .before .pre) .2, (c .before .before .before .before .before .before .before .before .pre) .3)
+list-requires c κs = (held-list ((c .before .before .before .before .before .before .before .before .args) .locals) (rangeCount (now ((c .before .before .before .before .before .before .before .before .args) .areas))) (now ((c .before .before .before .before .before .before .before .before .args) .areas)) (now ((c .before .before .before .before .before .before .before .before .args) .items)) (now ((c .before .before .before .before .before .before .before .before .args) .work)) ((c .before .before .before .before .before .before .before .before .args) .f) ((c .before .before .before .f) .given .1) ((c .before .before .before .before .before .before .before .before .pre) .0), (c .before .before .before .before .before .before .before .before .pre) .1, (c .before .before .before .before .before .before .before .before .pre) .2, (c .before .before .before .before .before .before .before .before .pre) .3)
 
 returns : tie.Need-returns
-returns c = tell-inverted ((c .before .before .before .before .before .args) .locals) (length (now ((c .before .before .before .before .before .args) .areas)) / 2) (now ((c .before .before .before .before .before .args) .areas)) (now ((c .before .before .before .before .before .args) .items)) (now ((c .before .before .before .before .before .args) .work)) ((c .before .before .before .before .before .args) .f) ((c .enum-told) .given .1)
+returns c = tell-inverted ((c .before .before .before .before .before .args) .locals) (rangeCount (now ((c .before .before .before .before .before .args) .areas))) (now ((c .before .before .before .before .before .args) .areas)) (now ((c .before .before .before .before .before .args) .items)) (now ((c .before .before .before .before .before .args) .work)) ((c .before .before .before .before .before .args) .f) ((c .enum-told) .given .1)
 
 same-length : tie.Need-same-length
 same-length c = search needs
@@ -26,7 +27,7 @@ same-length-2 : tie.Need-same-length-2
 same-length-2 c = search needs
 
 returns-2 : tie.Need-returns-2
-returns-2 c = tell-ranges ((c .before .before .before .before .before .before .before .before .before .before .before .before .before .args) .locals) (length (now ((c .before .before .before .before .before .before .before .before .before .before .before .before .before .args) .areas)) / 2) (now ((c .before .before .before .before .before .before .before .before .before .before .before .before .before .args) .areas)) (now ((c .before .before .before .before .before .before .before .before .before .before .before .before .before .args) .items)) (now ((c .before .before .before .before .before .before .before .before .before .before .before .before .before .args) .work)) ((c .before .before .before .before .before .before .before .before .before .before .before .before .before .args) .f) ((c .before .before .before .before .before .before .before .before .f) .given .1) ((c .before .before .before .before .list) .ensures)
+returns-2 c = tell-ranges ((c .before .before .before .before .before .before .before .before .before .before .before .before .before .args) .locals) (rangeCount (now ((c .before .before .before .before .before .before .before .before .before .before .before .before .before .args) .areas))) (now ((c .before .before .before .before .before .before .before .before .before .before .before .before .before .args) .areas)) (now ((c .before .before .before .before .before .before .before .before .before .before .before .before .before .args) .items)) (now ((c .before .before .before .before .before .before .before .before .before .before .before .before .before .args) .work)) ((c .before .before .before .before .before .before .before .before .before .before .before .before .before .args) .f) ((c .before .before .before .before .before .before .before .before .f) .given .1) ((c .before .before .before .before .list) .ensures)
 
 pub tell-spec : {M : Type 1} → statement M
 tell-spec = tie.close (tie.spec enum-told enum-known-f list-requires returns same-length same-length-2 returns-2)

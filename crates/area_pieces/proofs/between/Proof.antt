@@ -6,6 +6,7 @@ use Rattle.area_pieces.proofs.SpanLaws.{between-is}
 use Rattle.area_pieces.proofs.PlaceLaws.{one-lt, field, inside}
 use Rattle.area_pieces.proofs.between.Statement.{statement}
 use Rattle.area_pieces.proofs.between.Tie as tie
+use Rattle.words.specs.Widths.{blockWidth}
 
 add-pack : tie.Need-add-pack
 add-pack c = inside _ _ _ ((c .before .pre) .0) ((c .before .pre) .1) ((c .before) .good .0 .1) .more
@@ -41,7 +42,7 @@ pack-requires : tie.Need-pack-requires
 pack-requires c κs = tt
 
 returns : tie.Need-returns
-returns c = between-is (now ((c .before .before .before .before .args) .blocks)) ((c .before .before .before .before .args) .first) ((c .before .before .before .before .args) .last) _ (omega arith) (omega arith) (omega (arith, (c .before .before .shared-slice-known2) .given (3 * ((c .before .before .before .before .args) .last - 1) + 2))) ((c .pack) .ensures)
+returns c = between-is (now ((c .before .before .before .before .args) .blocks)) ((c .before .before .before .before .args) .first) ((c .before .before .before .before .args) .last) _ (omega arith) (omega arith) (omega (arith, (c .before .before .shared-slice-known2) .given (blockWidth * ((c .before .before .before .before .args) .last - 1) + 2))) ((c .pack) .ensures)
 
 pub between-spec : {M : Type 1} → statement M
 between-spec =

@@ -7,6 +7,7 @@ use Rattle.area_pieces.proofs.LineLaws.{piece-whole, piece-part}
 use Rattle.area_pieces.proofs.PlaceLaws.{one-lt, two-lt, field, at-block}
 use Rattle.area_pieces.proofs.piece.Statement.{statement}
 use Rattle.area_pieces.proofs.piece.Tie as tie
+use Rattle.words.specs.Widths.{blockWidth}
 
 mul-top : tie.Need-mul-top
 mul-top c = field ((c .before .before) .args .k) 1 _ ((c .before .before .pre) .0 .0) one-lt ((c .before .before) .good .0 .1) .row
@@ -39,7 +40,7 @@ pack-requires : tie.Need-pack-requires
 pack-requires c κs = tt
 
 returns : tie.Need-returns
-returns c = piece-whole (now ((c .before .before .before .before .before .before .before .args) .blocks)) ((c .before .before .before .before .before .before .before .args) .s) (now ((c .before .before .before .before .before .before .before .args) .work)) ((c .before .before .before .before .before .before .before .args) .k) _ ((c .before .before .before .before .before .before .before .pre) .0 .0) (omega (arith, (c .before .before .before .before .shared-slice-known3) .given (3 * (c .before .before .before .before .before .before .before .args) .k + 2))) (sym ((c .before .before .test) .ensures) ∙ (c .before .if1) .taken) ((c .pack) .ensures)
+returns c = piece-whole (now ((c .before .before .before .before .before .before .before .args) .blocks)) ((c .before .before .before .before .before .before .before .args) .s) (now ((c .before .before .before .before .before .before .before .args) .work)) ((c .before .before .before .before .before .before .before .args) .k) _ ((c .before .before .before .before .before .before .before .pre) .0 .0) (omega (arith, (c .before .before .before .before .shared-slice-known3) .given (blockWidth * (c .before .before .before .before .before .before .before .args) .k + 2))) (sym ((c .before .before .test) .ensures) ∙ (c .before .if1) .taken) ((c .pack) .ensures)
 
 add-x : tie.Need-add-x
 add-x c = at-block _ _ _ ((c .before .before .before .before .before .before .before .pre) .0 .0) ((c .before .before .before .before .before .before .before .pre) .0 .1) ((c .before .before .before .before .before .before .before .pre) .0 .2) ((c .before .before .before .before .before .before .before .pre) .0 .3) ((c .before .before .before .before .before .before .before .pre) .1 .0) ((c .before .before .before .before .before .before .before .pre) .1 .1) ((c .before .before .before .before .before .before .before) .good .1 .0 .1) .span .fits
@@ -72,7 +73,7 @@ lengthened-requires : tie.Need-lengthened-requires
 lengthened-requires c κs = tt
 
 returns-2 : tie.Need-returns-2
-returns-2 c = piece-part (now ((c .before .before .before .before .before .before .before .before .before .before .before .before .before .before .before .args) .blocks)) ((c .before .before .before .before .before .before .before .before .before .before .before .before .before .before .before .args) .s) (now ((c .before .before .before .before .before .before .before .before .before .before .before .before .before .before .before .args) .work)) ((c .before .before .before .before .before .before .before .before .before .before .before .before .before .before .before .args) .k) _ ((c .before .before .before .before .before .before .before .before .before .before .before .before .before .before .before .pre) .0 .0) (omega (arith, ((c .before .before .before .before .before .before .before .before .before .before .before .before .shared-slice-known3)) .given (3 * (c .before .before .before .before .before .before .before .before .before .before .before .before .before .before .before .args) .k + 2))) (sym ((c .before .before .before .before .before .before .before .before .before .before .test) .ensures) ∙ (c .before .before .before .before .before .before .before .before .before .if1) .left) _ _ ((c .before .before .before .before .test2) .ensures) ((c .before .test3) .ensures) (c .lengthened .ensures)
+returns-2 c = piece-part (now ((c .before .before .before .before .before .before .before .before .before .before .before .before .before .before .before .args) .blocks)) ((c .before .before .before .before .before .before .before .before .before .before .before .before .before .before .before .args) .s) (now ((c .before .before .before .before .before .before .before .before .before .before .before .before .before .before .before .args) .work)) ((c .before .before .before .before .before .before .before .before .before .before .before .before .before .before .before .args) .k) _ ((c .before .before .before .before .before .before .before .before .before .before .before .before .before .before .before .pre) .0 .0) (omega (arith, ((c .before .before .before .before .before .before .before .before .before .before .before .before .shared-slice-known3)) .given (blockWidth * (c .before .before .before .before .before .before .before .before .before .before .before .before .before .before .before .args) .k + 2))) (sym ((c .before .before .before .before .before .before .before .before .before .before .test) .ensures) ∙ (c .before .before .before .before .before .before .before .before .before .if1) .left) _ _ ((c .before .before .before .before .test2) .ensures) ((c .before .test3) .ensures) (c .lengthened .ensures)
 
 pub piece-spec : {M : Type 1} → statement M
 piece-spec =

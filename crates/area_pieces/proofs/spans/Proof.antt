@@ -12,9 +12,10 @@ use Prim.Native.Nat.{_/_}
 use Rattle.area_pieces.proofs.SpanLaws.{Spanning, span-start, span-word, span-free, span-more, span-done, touch-upright}
 use Rattle.area_pieces.proofs.spans.Statement.{statement}
 use Rattle.area_pieces.proofs.spans.Tie as tie
+use Rattle.words.specs.Widths.{blockCount}
 
 abbrev Inv-loop : tie.InvT-loop
-Inv-loop blocks work₀ t s m₀ i₀ work m i = Upright blocks (touchesAt t work₀) × ((es : List Edge) → Spanning (lineOf blocks es) t s (length blocks / 3) work₀ work i m)
+Inv-loop blocks work₀ t s m₀ i₀ work m i = Upright blocks (touchesAt t work₀) × ((es : List Edge) → Spanning (lineOf blocks es) t s (blockCount blocks) work₀ work i m)
 
 abbrev μ-loop : tie.MeasureT-loop
 μ-loop blocks work₀ t s m₀ i₀ work m i = t .count - i

@@ -11,6 +11,7 @@ use Rattle.area_pieces.proofs.stretch.Reads as reads
 use Rattle.area_pieces.proofs.stretch.Lts as lts
 use Rattle.area_pieces.proofs.piece.Reads as piece-reads
 use Rattle.packed.proofs.pack.Reads as pack-reads
+use Rattle.words.specs.Widths.{blockWidth}
 
 add-if1 : tie.Need-add-if1
 add-if1 c = blocks _ _ _ ((c .before .before .pre) .0 .0) ((c .before .before .pre) .0 .1) ((c .before .before) .good .0 .1) .more
@@ -52,7 +53,7 @@ pack-requires : tie.Need-pack-requires
 pack-requires c κs = tt
 
 returns-2 : tie.Need-returns-2
-returns-2 c = record { one = λ q. absurd ((c .before .before .before .if1) .left q); more = λ q. run-is (now ((c .before .before .before .before .before .before .args) .blocks)) ((c .before .before .before .before .before .before .args) .k) ((c .before .before .before .before .before .before .args) .e) _ (omega arith) (omega arith) (omega (arith, (c .before .before .shared-slice-known3) .given (3 * ((c .before .before .before .before .before .before .args) .e - 1) + 2))) ((c .pack) .ensures) }
+returns-2 c = record { one = λ q. absurd ((c .before .before .before .if1) .left q); more = λ q. run-is (now ((c .before .before .before .before .before .before .args) .blocks)) ((c .before .before .before .before .before .before .args) .k) ((c .before .before .before .before .before .before .args) .e) _ (omega arith) (omega arith) (omega (arith, (c .before .before .shared-slice-known3) .given (blockWidth * ((c .before .before .before .before .before .before .args) .e - 1) + 2))) ((c .pack) .ensures) }
 
 pub stretch-spec : {M : Type 1} → statement M
 stretch-spec =

@@ -9,9 +9,10 @@ use Rattle.words.proofs.FitLaws.{within}
 use Rattle.area_pieces.proofs.LineLaws.{nearer, Lining, line-begin, run-asks, stretch-asks, join-asks, unmark-asks, first-asks, line-next, line-more, line-done}
 use Rattle.area_pieces.proofs.visit.Statement.{statement}
 use Rattle.area_pieces.proofs.visit.Tie as tie
+use Rattle.words.specs.Widths.{blockCount}
 
 abbrev Inv-loop : tie.InvT-loop
-Inv-loop blocks work₀ s from end n₀ k₀ work n k = (end ≡ s .wide * 64) × Lining blocks s (length blocks / 3) from work₀ work k n
+Inv-loop blocks work₀ s from end n₀ k₀ work n k = (end ≡ s .wide * 64) × Lining blocks s (blockCount blocks) from work₀ work k n
 
 abbrev μ-loop : tie.MeasureT-loop
 μ-loop blocks work₀ s from end n₀ k₀ work n k = end - k

@@ -10,9 +10,10 @@ use mathlib.Core.Path.{refl, ap, _∙_}
 use lib.ListN.{length-set}
 use Rattle.capping.proofs.lower.Statement.{statement}
 use Rattle.capping.proofs.lower.Tie as tie
+use Rattle.words.specs.Widths.{cellWidth}
 
 abbrev Inv-loop : tie.InvT-loop
-Inv-loop cells₀ count most i₀ cells i = (i ≤ count) × Filling cells₀ 0 (capRows cells₀ count most) (2 * count) cells (2 * i)
+Inv-loop cells₀ count most i₀ cells i = (i ≤ count) × Filling cells₀ 0 (capRows cells₀ count most) (cellWidth * count) cells (cellWidth * i)
 
 abbrev μ-loop : tie.MeasureT-loop
 μ-loop cells₀ count most i₀ cells i = count - i

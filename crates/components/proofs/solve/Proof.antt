@@ -9,8 +9,9 @@ use denote.Ref.{now}
 use Rattle.components.proofs.Entries.{walkable, solved}
 use Rattle.graph.proofs.Line.{blocks-length}
 use Rattle.components.proofs.solve.Tie as tie
+use Rattle.words.specs.Widths.{blockCount}
 
-some : (c : tie.Start) → 1 ≤ length (now (c .args .blocks)) / 3
+some : (c : tie.Start) → 1 ≤ blockCount (now (c .args .blocks))
 some c = omega (arith, c .pre .0 .0 .some-block, blocks-length (now (c .args .blocks)))
 
 successors-requires : tie.Need-successors-requires

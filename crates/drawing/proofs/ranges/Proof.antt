@@ -1,6 +1,6 @@
 use Rattle.drawing.proofs.AxisLaws.{ranges-none, ranges-more}
 use Rattle.drawing.specs.Axis.{rangesIn}
-use Rattle.words.specs.Rows.{rowCount}
+use Rattle.words.specs.Widths.{itemWidth, itemRowCount}
 use denote.Ref.{now}
 use Prim.Native.Nat.{min}
 use native.Mathlib.Omega.{arith}
@@ -39,7 +39,7 @@ shared-slice-read-more c = omega arith
 
 -- src/lib.rt:85:20
 cast-more : tie.Need-cast-more Inv-loop μ-loop
-cast-more c = omega (arith, (c .shared-slice-known) .given (4 * (c .before .before .loop) .i + 3))
+cast-more c = omega (arith, (c .shared-slice-known) .given (itemWidth * (c .before .before .loop) .i + 3))
 
 -- src/lib.rt:86:12
 sub-if1 : tie.Need-sub-if1 Inv-loop μ-loop
@@ -75,7 +75,7 @@ loop-again-2 c = (omega arith, let e = ranges-more (now ((c .before .before .bef
 
 -- src/lib.rt:78:1
 returns : tie.Need-returns Inv-loop μ-loop
-returns c = let e : (c .before .loop) .i ≡ rowCount 4 (now ((c .before .before .args) .items)) = omega arith in (c .before .loop) .inv .1 ∙ ap (λ (j : ℕ). min ((c .before .before .args) .room) (rangesIn (now ((c .before .before .args) .items)) j)) e
+returns c = let e : (c .before .loop) .i ≡ itemRowCount (now ((c .before .before .args) .items)) = omega arith in (c .before .loop) .inv .1 ∙ ap (λ (j : ℕ). min ((c .before .before .args) .room) (rangesIn (now ((c .before .before .args) .items)) j)) e
 
 pub ranges-spec : {M : Type 1} → statement M
 ranges-spec =

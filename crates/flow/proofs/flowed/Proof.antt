@@ -8,9 +8,10 @@ use Rattle.flow.proofs.flowed.Statement.{statement}
 use denote.Ref.{now}
 use Rattle.flow.proofs.Entries.{Sums, sums, Known, known, copied, cleared-length, inside, as-wide, refused-is, given-is}
 use Rattle.flow.proofs.flowed.Tie as tie
+use Rattle.words.specs.Widths.{blockCount, edgeCount}
 
 fit : (c : tie.Start) → Known (now (c .args .blocks)) (now (c .args .edges)) (c .args .points) (length (now (c .args .touched))) (c .args .words) (length (now (c .args .out))) (length (now (c .args .work)))
-    → Sums (length (now (c .args .blocks)) / 3) (length (now (c .args .edges)) / 2) (length (now (c .args .touched)))
+    → Sums (blockCount (now (c .args .blocks))) (edgeCount (now (c .args .edges))) (length (now (c .args .touched)))
 fit c k = sums _ _ _ (length (now (c .args .work))) (k .graph .counts .some) (k .work-fits) (omega (arith, c .good))
 
 refusal-requires : tie.Need-refusal-requires

@@ -8,11 +8,12 @@ use denote.Ref.{now}
 use Rattle.flow.proofs.Entries.{Sums, sums, walkable, copy-fits, ordered, laid, solved}
 use Rattle.graph.proofs.Line.{blocks-length}
 use Rattle.flow.proofs.solve.Tie as tie
+use Rattle.words.specs.Widths.{blockCount, edgeCount}
 
-some : (c : tie.Start) → 1 ≤ length (now (c .args .blocks)) / 3
+some : (c : tie.Start) → 1 ≤ blockCount (now (c .args .blocks))
 some c = omega (arith, c .pre .0 .0 .some-block, blocks-length (now (c .args .blocks)))
 
-fit : (c : tie.Start) → Sums (length (now (c .args .blocks)) / 3) (length (now (c .args .edges)) / 2) (length (now (c .args .touched)))
+fit : (c : tie.Start) → Sums (blockCount (now (c .args .blocks))) (edgeCount (now (c .args .edges))) (length (now (c .args .touched)))
 fit c = sums _ _ _ (length (now (c .args .work))) (some c) (c .pre .1) (omega (arith, c .good))
 
 add-base : tie.Need-add-base

@@ -7,9 +7,10 @@ use borrow.Author.Needs.{needs}
 use Rattle.item_lists.proofs.TableLaws.{refused-list, given-list}
 use Rattle.item_lists.proofs.list.Statement.{statement}
 use Rattle.item_lists.proofs.list.Tie as tie
+use Rattle.words.specs.Widths.{rangeCount}
 
 returns : tie.Need-returns
-returns c = let a = (c .before .before .before .before .args) in λ A D. refused-list A (a .count) (length (now (a .areas)) / 2) (a .n) (now (a .work)) D (omega arith) _ _
+returns c = let a = (c .before .before .before .before .args) in λ A D. refused-list A (a .count) (rangeCount (now (a .areas))) (a .n) (now (a .work)) D (omega arith) _ _
 
 write-rows-requires : tie.Need-write-rows-requires
 write-rows-requires c κs = (omega arith, omega (arith, (c .before .before .before .before .before .pre) .3), λ i h. omega arith)
@@ -24,7 +25,7 @@ same-length-2 : tie.Need-same-length-2
 same-length-2 c = search needs
 
 returns-2 : tie.Need-returns-2
-returns-2 c = let a = (c .before .before .before .before .before .before .before .before .before .before .before .before .args) in λ A D. given-list A (a .count) (length (now (a .areas)) / 2) (a .n) (now (a .work)) D (omega arith) ((c .before .before .before .before .before .before .before .before .before .before .before .before .pre) .2) ((c .before .before .before .before .before .before .before .before .before .before .before .before .pre) .3) _ _ _ _ ((c .before .before .before .before .before .before .write-rows) .ensures) ((c .before .before .write-items) .ensures)
+returns-2 c = let a = (c .before .before .before .before .before .before .before .before .before .before .before .before .args) in λ A D. given-list A (a .count) (rangeCount (now (a .areas))) (a .n) (now (a .work)) D (omega arith) ((c .before .before .before .before .before .before .before .before .before .before .before .before .pre) .2) ((c .before .before .before .before .before .before .before .before .before .before .before .before .pre) .3) _ _ _ _ ((c .before .before .before .before .before .before .write-rows) .ensures) ((c .before .before .write-items) .ensures)
 
 pub list-spec : {M : Type 1} → statement M
 list-spec = tie.close (tie.spec returns write-rows-requires write-items-requires same-length same-length-2 returns-2)

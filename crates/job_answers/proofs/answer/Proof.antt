@@ -9,9 +9,10 @@ use Rattle.job_fit.specs.Wants.{countOf, planFor}
 use Rattle.job_answers.proofs.TableLaws.{refused-list, ready, listable, answered-list}
 use Rattle.job_answers.proofs.answer.Statement.{statement}
 use Rattle.job_answers.proofs.answer.Tie as tie
+use Rattle.words.specs.Widths.{rangeCount}
 
 returns : tie.Need-returns
-returns c = let a = (c .before .before .before .before .before .before .before .args) in (record { len = refl; below = λ i h. refl; past = λ i h. refl }, λ A D. refused-list A (planFor (now (a .locals)) (now (a .slots)) A (a .terms .budget)) (countOf (now (a .locals)) (now (a .slots))) (length (now (a .areas)) / 2) (a .total) (now (a .work)) D (omega arith) _ _ _)
+returns c = let a = (c .before .before .before .before .before .before .before .args) in (record { len = refl; below = λ i h. refl; past = λ i h. refl }, λ A D. refused-list A (planFor (now (a .locals)) (now (a .slots)) A (a .terms .budget)) (countOf (now (a .locals)) (now (a .slots))) (rangeCount (now (a .areas))) (a .total) (now (a .work)) D (omega arith) _ _ _)
 
 fitted-requires : tie.Need-fitted-requires
 fitted-requires c κs = ready (c .before .before .before .before .before .before .before .before .pre) (omega arith)

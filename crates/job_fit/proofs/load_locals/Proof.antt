@@ -8,6 +8,7 @@ use Rattle.job_fit.specs.Wants.{localWord}
 use Rattle.job_fit.proofs.FitLaws.{local-word}
 use Rattle.job_fit.proofs.load_locals.Statement.{statement}
 use Rattle.job_fit.proofs.load_locals.Tie as tie
+use Rattle.words.specs.Widths.{localWidth}
 
 abbrev Inv-loop : tie.InvT-loop
 Inv-loop w₀ at locals n i₀ w i = Done w₀ w at n (localWord locals) i
@@ -28,10 +29,10 @@ shared-slice-read-w : tie.Need-shared-slice-read-w Inv-loop μ-loop
 shared-slice-read-w c = omega arith
 
 cast-w : tie.Need-cast-w Inv-loop μ-loop
-cast-w c = omega (arith, (c .shared-slice-known) .given (2 * (c .before .before .loop) .i))
+cast-w c = omega (arith, (c .shared-slice-known) .given (localWidth * (c .before .before .loop) .i))
 
 mul-w-3 : tie.Need-mul-w-3 Inv-loop μ-loop
-mul-w-3 c = omega (arith, (c .shared-slice-known) .given (2 * (c .before .before .loop) .i))
+mul-w-3 c = omega (arith, (c .shared-slice-known) .given (localWidth * (c .before .before .loop) .i))
 
 mul-w-4 : tie.Need-mul-w-4 Inv-loop μ-loop
 mul-w-4 c = omega arith
@@ -46,10 +47,10 @@ shared-slice-read-w-2 : tie.Need-shared-slice-read-w-2 Inv-loop μ-loop
 shared-slice-read-w-2 c = omega arith
 
 cast-w-2 : tie.Need-cast-w-2 Inv-loop μ-loop
-cast-w-2 c = omega (arith, (c .shared-slice-known2) .given (2 * (c .before .before .before .loop) .i + 1), (c .before .shared-slice-known) .given (2 * (c .before .before .before .loop) .i))
+cast-w-2 c = omega (arith, (c .shared-slice-known2) .given (localWidth * (c .before .before .before .loop) .i + 1), (c .before .shared-slice-known) .given (localWidth * (c .before .before .before .loop) .i))
 
 add-w-2 : tie.Need-add-w-2 Inv-loop μ-loop
-add-w-2 c = omega (arith, (c .shared-slice-known2) .given (2 * (c .before .before .before .loop) .i + 1), (c .before .shared-slice-known) .given (2 * (c .before .before .before .loop) .i))
+add-w-2 c = omega (arith, (c .shared-slice-known2) .given (localWidth * (c .before .before .before .loop) .i + 1), (c .before .shared-slice-known) .given (localWidth * (c .before .before .before .loop) .i))
 
 add-w-3 : tie.Need-add-w-3 Inv-loop μ-loop
 add-w-3 c = omega arith

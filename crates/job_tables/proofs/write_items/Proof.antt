@@ -9,9 +9,10 @@ use Rattle.words.proofs.FlatLaws.{flat-start, flat-done, four-more}
 use Rattle.job_tables.specs.Tables.{rowOf, rowsOf}
 use Rattle.job_tables.proofs.write_items.Statement.{statement}
 use Rattle.job_tables.proofs.write_items.Tie as tie
+use Rattle.words.specs.Widths.{itemWidth}
 
 abbrev Inv-loop : tie.InvT-loop
-Inv-loop out₀ w from cells n i₀ out i = (i ≤ n) × Filling out₀ 0 (rowsOf w from cells n) (4 * n) out (4 * i)
+Inv-loop out₀ w from cells n i₀ out i = (i ≤ n) × Filling out₀ 0 (rowsOf w from cells n) (itemWidth * n) out (itemWidth * i)
 
 abbrev μ-loop : tie.MeasureT-loop
 μ-loop out₀ w from cells n i₀ out i = n - i

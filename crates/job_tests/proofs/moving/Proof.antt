@@ -4,12 +4,13 @@ use Prim.Native.Nat.{_+_, _-_, _*_, _/_, _≤_}
 use lib.ListN.{length}
 use Rattle.job_tests.proofs.moving.Statement.{statement}
 use Rattle.job_tests.proofs.moving.Tie as tie
+use Rattle.words.specs.Widths.{moveWidth, moveCount}
 
 abbrev Inv-loop : tie.InvT-loop
-Inv-loop moves slots i₀ i = i ≤ length moves / 4
+Inv-loop moves slots i₀ i = i ≤ moveCount moves
 
 abbrev μ-loop : tie.MeasureT-loop
-μ-loop moves slots i₀ i = length moves / 4 - i
+μ-loop moves slots i₀ i = moveCount moves - i
 
 loop-holds : tie.Need-loop-holds Inv-loop μ-loop
 loop-holds c = omega arith
@@ -27,7 +28,7 @@ shared-slice-read-if1 : tie.Need-shared-slice-read-if1 Inv-loop μ-loop
 shared-slice-read-if1 c = omega arith
 
 cast-if1 : tie.Need-cast-if1 Inv-loop μ-loop
-cast-if1 c = omega (arith, (c .shared-slice-known) .given (4 * (c .before .before .loop) .i + 2))
+cast-if1 c = omega (arith, (c .shared-slice-known) .given (moveWidth * (c .before .before .loop) .i + 2))
 
 returns : tie.Need-returns Inv-loop μ-loop
 returns c = tt
@@ -45,7 +46,7 @@ shared-slice-read-if2 : tie.Need-shared-slice-read-if2 Inv-loop μ-loop
 shared-slice-read-if2 c = omega arith
 
 cast-if2 : tie.Need-cast-if2 Inv-loop μ-loop
-cast-if2 c = omega (arith, (c .shared-slice-known2) .given (4 * (c .before .before .before .before .loop) .i + 3))
+cast-if2 c = omega (arith, (c .shared-slice-known2) .given (moveWidth * (c .before .before .before .before .loop) .i + 3))
 
 returns-2 : tie.Need-returns-2 Inv-loop μ-loop
 returns-2 c = tt

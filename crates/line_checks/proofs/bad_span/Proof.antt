@@ -13,6 +13,7 @@ use Rattle.graph.specs.Line.{blocksOf, blockAt, gapAt}
 use mathlib.Core.Bool.{false}
 use mathlib.Core.Logic.{⊎-elim}
 use Rattle.line_checks.proofs.bad_span.Tie as tie
+use Rattle.words.specs.Widths.{blockWidth, blockStart, blockEnd}
 
 mul-start : tie.Need-mul-start
 mul-start c = search needs
@@ -38,14 +39,14 @@ mul-end-2 c = search needs
 shared-slice-read-end : tie.Need-shared-slice-read-end
 shared-slice-read-end c = search needs
 
-known : (c : tie.After-shared-slice-known3) → (blockAt (blocksOf (now (c .before .before .before .args .blocks))) (c .before .before .before .args .i) .start ≡ getD (now (c .before .before .before .args .blocks)) (3 * c .before .before .before .args .i + 1) 0) × (blockAt (blocksOf (now (c .before .before .before .args .blocks))) (c .before .before .before .args .i) .end ≡ getD (now (c .before .before .before .args .blocks)) (3 * c .before .before .before .args .i + 2) 0)
+known : (c : tie.After-shared-slice-known3) → (blockAt (blocksOf (now (c .before .before .before .args .blocks))) (c .before .before .before .args .i) .start ≡ blockStart (now (c .before .before .before .args .blocks)) (c .before .before .before .args .i)) × (blockAt (blocksOf (now (c .before .before .before .args .blocks))) (c .before .before .before .args .i) .end ≡ blockEnd (now (c .before .before .before .args .blocks)) (c .before .before .before .args .i))
 known c = (start-is (now (c .before .before .before .args .blocks)) (c .before .before .before .args .i) (omega arith), end-is (now (c .before .before .before .args .blocks)) (c .before .before .before .args .i) (omega arith))
 
-before-is : (c : tie.After-shared-slice-known3) → 0 < c .before .before .before .args .i → eqb (getD (now (c .before .before .before .args .blocks)) (3 * c .before .before .before .args .i + 1) 0) (getD (now (c .before .before .before .args .blocks)) (3 * c .before .before .before .args .i - 1) 0 + 1) ≡ eqb (blockAt (blocksOf (now (c .before .before .before .args .blocks))) (c .before .before .before .args .i) .start) (blockAt (blocksOf (now (c .before .before .before .args .blocks))) (c .before .before .before .args .i - 1) .end + 1)
+before-is : (c : tie.After-shared-slice-known3) → 0 < c .before .before .before .args .i → eqb (blockStart (now (c .before .before .before .args .blocks)) (c .before .before .before .args .i)) (getD (now (c .before .before .before .args .blocks)) (blockWidth * c .before .before .before .args .i - 1) 0 + 1) ≡ eqb (blockAt (blocksOf (now (c .before .before .before .args .blocks))) (c .before .before .before .args .i) .start) (blockAt (blocksOf (now (c .before .before .before .args .blocks))) (c .before .before .before .args .i - 1) .end + 1)
 before-is c h =
-    let q : 3 * (c .before .before .before .args .i - 1) + 2 ≡ 3 * c .before .before .before .args .i - 1 = omega arith in
+    let q : blockWidth * (c .before .before .before .args .i - 1) + 2 ≡ blockWidth * c .before .before .before .args .i - 1 = omega arith in
     let e = end-is (now (c .before .before .before .args .blocks)) (c .before .before .before .args .i - 1) (omega arith) ∙ ap (λ (y : ℕ). getD (now (c .before .before .before .args .blocks)) y 0) q in
-    sym (ap (λ (y : ℕ). eqb y (blockAt (blocksOf (now (c .before .before .before .args .blocks))) (c .before .before .before .args .i - 1) .end + 1)) (known c .0) ∙ ap (λ (y : ℕ). eqb (getD (now (c .before .before .before .args .blocks)) (3 * c .before .before .before .args .i + 1) 0) (y + 1)) e)
+    sym (ap (λ (y : ℕ). eqb y (blockAt (blocksOf (now (c .before .before .before .args .blocks))) (c .before .before .before .args .i - 1) .end + 1)) (known c .0) ∙ ap (λ (y : ℕ). eqb (blockStart (now (c .before .before .before .args .blocks)) (c .before .before .before .args .i)) (y + 1)) e)
 
 returns : tie.Need-returns
 returns c = let b = known (c .before) in reversed (blocksOf (now (c .before .before .before .before .args .blocks))) (c .before .before .before .before .args .points) (c .before .before .before .before .args .i) (omega arith)

@@ -13,9 +13,10 @@ use Rattle.refusals.specs.declared.Verdict.the-variants.{Fine}
 use Rattle.refusals.specs.declared.Refusal.the-variants.{Edge as EdgeWord}
 use Rattle.refusals.proofs.Laws.{scan-none, scan-miss, scan-hit, scan-end}
 use Rattle.line_checks.proofs.edge.Tie as tie
+use Rattle.words.specs.Widths.{edgeCount}
 
 abbrev Inv-loop : tie.InvT-loop
-Inv-loop edges n m i₀ i = (m ≡ length edges / 2) × (i ≤ m) × (scan EdgeWord (badEdge n (jumpsOf edges)) i ≡ Fine)
+Inv-loop edges n m i₀ i = (m ≡ edgeCount edges) × (i ≤ m) × (scan EdgeWord (badEdge n (jumpsOf edges)) i ≡ Fine)
 
 abbrev μ-loop : tie.MeasureT-loop
 μ-loop edges n m i₀ i = m - i

@@ -14,9 +14,10 @@ use Rattle.refusals.specs.declared.Refusal.the-variants.{Line}
 use Rattle.refusals.proofs.Laws.{scan-none, scan-miss, scan-hit, scan-end}
 use Rattle.bits.specs.Bits.{bit}
 use Rattle.line_checks.proofs.line.Tie as tie
+use Rattle.words.specs.Widths.{blockCount}
 
 abbrev Inv-loop : tie.InvT-loop
-Inv-loop blocks points n used₀ i₀ used i = (n ≡ length blocks / 3) × (i ≤ n) × (scan Line (badBlock (blocksOf blocks) points) i ≡ Fine) × (length used ≡ 64) × ((x : ℕ) → x < 4096 → bit used 0 x ≡ usedBefore (blocksOf blocks) x i)
+Inv-loop blocks points n used₀ i₀ used i = (n ≡ blockCount blocks) × (i ≤ n) × (scan Line (badBlock (blocksOf blocks) points) i ≡ Fine) × (length used ≡ 64) × ((x : ℕ) → x < 4096 → bit used 0 x ≡ usedBefore (blocksOf blocks) x i)
 
 abbrev μ-loop : tie.MeasureT-loop
 μ-loop blocks points n used₀ i₀ used i = n - i

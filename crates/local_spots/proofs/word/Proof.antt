@@ -6,6 +6,7 @@ use mathlib.Core.Path.{_∙_}
 use borrow.Author.Needs.{needs}
 use Rattle.local_spots.proofs.word.Statement.{statement}
 use Rattle.local_spots.proofs.word.Tie as tie
+use Rattle.words.specs.Widths.{stopWidth}
 
 mul-pack : tie.Need-mul-pack
 mul-pack c = omega (arith, (c .before .before .pre) .0 ((c .if1) .taken))
@@ -50,7 +51,7 @@ shared-slice-read-result : tie.Need-shared-slice-read-result
 shared-slice-read-result c = let z = (c .before .before .before .pre) .1 ((c .before .if1) .left) .1 in omega arith
 
 cast-result : tie.Need-cast-result
-cast-result c = let h = (c .shared-slice-known4) .given (2 * (c .before .before .before .args) .i + 1) in omega arith
+cast-result c = let h = (c .shared-slice-known4) .given (stopWidth * (c .before .before .before .args) .i + 1) in omega arith
 
 returns-2 : tie.Need-returns-2
 returns-2 c = word-point ((c .before .before .before .args) .width) ((c .before .before .before .args) .i) ((c .before .before .before .args) .rows .now) ((c .before .before .before .pre) .1 ((c .before .if1) .left) .0)

@@ -1,7 +1,7 @@
 -- `count` meets its contract: the first i items are counted.
 use Rattle.members.proofs.MemberLaws.{Counting, counting-start, cell-known, count-small, counting-more}
 use denote.Ref.{now}
-use Rattle.words.specs.Rows.{rowCount}
+use Rattle.words.specs.Widths.{itemWidth, itemRowCount}
 use native.Mathlib.Omega.{arith}
 use Prim.Native.Nat.{_-_, _*_}
 use mathlib.Core.Path.{_≡_}
@@ -27,7 +27,7 @@ shared-slice-read-c : tie.Need-shared-slice-read-c Inv-loop μ-loop
 shared-slice-read-c c = omega arith
 
 cast-c : tie.Need-cast-c Inv-loop μ-loop
-cast-c c = omega (arith, (c .shared-slice-known) .given (4 * (c .before .before .loop) .i))
+cast-c c = omega (arith, (c .shared-slice-known) .given (itemWidth * (c .before .before .loop) .i))
 
 mul-counts : tie.Need-mul-counts Inv-loop μ-loop
 mul-counts c = omega (arith, cell-known ((c .before .before .loop) .inv) (omega arith))
@@ -57,7 +57,7 @@ same-length : tie.Need-same-length Inv-loop μ-loop
 same-length c = (c .before .loop) .inv .len
 
 returns : tie.Need-returns Inv-loop μ-loop
-returns c = let e : (c .before .loop) .i ≡ rowCount 4 (now ((c .before .before .args) .items)) = omega (arith, (c .before .loop) .inv .i-le) in rw e at ((c .before .loop) .inv .counted)
+returns c = let e : (c .before .loop) .i ≡ itemRowCount (now ((c .before .before .args) .items)) = omega (arith, (c .before .loop) .inv .i-le) in rw e at ((c .before .loop) .inv .counted)
 
 pub count-spec : {M : Type 1} → statement M
 count-spec =

@@ -2,7 +2,7 @@
 use Rattle.members.proofs.MemberLaws.{members-none, members-le, members-hit, members-miss}
 use denote.Ref.{now}
 use Rattle.members.specs.Members.{members}
-use Rattle.words.specs.Rows.{rowCount}
+use Rattle.words.specs.Widths.{itemRowCount}
 use native.Mathlib.Omega.{arith}
 use Prim.Native.Nat.{ℕ, _+_, _-_, _≤_}
 use mathlib.Core.Path.{_≡_, sym, ap, _∙_}
@@ -60,7 +60,7 @@ loop-again-2 c =
 returns : tie.Need-returns Inv-loop μ-loop
 returns c =
     let s = c .before .before in
-    let e : (c .before .loop) .i ≡ rowCount 4 (now (s .args .items)) = omega arith in (c .before .loop) .inv .1 ∙ ap (members (now (s .args .items)) (s .args .cell)) e
+    let e : (c .before .loop) .i ≡ itemRowCount (now (s .args .items)) = omega arith in (c .before .loop) .inv .1 ∙ ap (members (now (s .args .items)) (s .args .cell)) e
 
 pub members-spec : {M : Type 1} → statement M
 members-spec =

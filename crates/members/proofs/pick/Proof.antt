@@ -2,7 +2,7 @@
 use Rattle.members.proofs.MemberLaws.{Picking, picking-start, picking-hit, picking-miss, picking-done, slot-test, slot-known}
 use denote.Ref.{now}
 use borrow.Author.Tests.{lt-ltb, le-ltb}
-use Rattle.words.specs.Rows.{rowCount}
+use Rattle.words.specs.Widths.{itemWidth, itemRowCount}
 use Rattle.members.specs.Members.{crowdedSlot}
 use native.Mathlib.Omega.{arith}
 use Prim.Native.Nat.{_+_, _-_, _*_}
@@ -11,7 +11,7 @@ use Rattle.members.proofs.pick.Statement.{statement}
 use Rattle.members.proofs.pick.Tie as tie
 
 abbrev Inv-loop : tie.InvT-loop
-Inv-loop items locals counts out₀ n k₀ s₀ out k s = (n ≡ rowCount 4 items - locals) × Picking (crowdedSlot items locals) (rowCount 4 items - locals) out₀ out k s
+Inv-loop items locals counts out₀ n k₀ s₀ out k s = (n ≡ itemRowCount items - locals) × Picking (crowdedSlot items locals) (itemRowCount items - locals) out₀ out k s
 
 abbrev μ-loop : tie.MeasureT-loop
 μ-loop items locals counts out₀ n k₀ s₀ out k s = n - s
@@ -35,7 +35,7 @@ shared-slice-read-c : tie.Need-shared-slice-read-c Inv-loop μ-loop
 shared-slice-read-c c = omega arith
 
 cast-c : tie.Need-cast-c Inv-loop μ-loop
-cast-c c = omega (arith, (c .shared-slice-known) .given (4 * ((c .before .before .before .args) .locals + (c .before .before .loop) .s)))
+cast-c c = omega (arith, (c .shared-slice-known) .given (itemWidth * ((c .before .before .before .args) .locals + (c .before .before .loop) .s)))
 
 mul-if1 : tie.Need-mul-if1 Inv-loop μ-loop
 mul-if1 c =

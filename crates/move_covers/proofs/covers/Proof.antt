@@ -15,6 +15,7 @@ use Rattle.carrying.specs.Insts.{instsOf}
 use Rattle.move_points.specs.Moves.{positionAt, moveRow}
 use Rattle.move_covers.proofs.covers.Statement.{statement}
 use Rattle.move_covers.proofs.covers.Tie as tie
+use Rattle.words.specs.Widths.{moveWidth, moveNumber}
 
 mul-position : tie.Need-mul-position
 mul-position c = omega arith
@@ -47,7 +48,7 @@ enum-told : tie.Need-enum-told
 enum-told c = search needs
 
 returns : tie.Need-returns
-returns c = absurd (not-nowhere ((c .before .before .before .before .before .before .before .before .before .before .args) .points) (blocksOf (((c .before .before .before .before .before .before .before .before .before .before .args) .blocks .now))) (instsOf (((c .before .before .before .before .before .before .before .before .before .before .args) .insts .now)) []) ((c .before .before .before .before .before .before .before .before .before .before .args) .slot) (moveRow (((c .before .before .before .before .before .before .before .before .before .before .args) .moves .now)) ((c .before .before .before .before .before .before .before .before .before .before .args) .i)) (move-fine (blocksOf (((c .before .before .before .before .before .before .before .before .before .before .args) .blocks .now))) (instsOf (((c .before .before .before .before .before .before .before .before .before .before .args) .insts .now)) []) (((c .before .before .before .before .before .before .before .before .before .before .args) .moves .now)) ((c .before .before .before .before .before .before .before .before .before .before .args) .i) ((c .before .before .before .before .before .before .before .before .before .before .pre) .1 .1) ((c .before .before .before .before .before .before .before .before .before .before .pre) .1 .0)) (sym ((c .enum-told) .given .1) ∙ (c .before .before .position) .ensures ∙ ap (λ (x : ℕ). positionAt (blocksOf (((c .before .before .before .before .before .before .before .before .before .before .args) .blocks .now))) (instsOf (((c .before .before .before .before .before .before .before .before .before .before .args) .insts .now)) []) (getD (((c .before .before .before .before .before .before .before .before .before .before .args) .moves .now)) x 0) (getD (((c .before .before .before .before .before .before .before .before .before .before .args) .moves .now)) (4 * (c .before .before .before .before .before .before .before .before .before .before .args) .i + 1) 0)) (sym (add-zero (4 * (c .before .before .before .before .before .before .before .before .before .before .args) .i)))))
+returns c = absurd (not-nowhere ((c .before .before .before .before .before .before .before .before .before .before .args) .points) (blocksOf (((c .before .before .before .before .before .before .before .before .before .before .args) .blocks .now))) (instsOf (((c .before .before .before .before .before .before .before .before .before .before .args) .insts .now)) []) ((c .before .before .before .before .before .before .before .before .before .before .args) .slot) (moveRow (((c .before .before .before .before .before .before .before .before .before .before .args) .moves .now)) ((c .before .before .before .before .before .before .before .before .before .before .args) .i)) (move-fine (blocksOf (((c .before .before .before .before .before .before .before .before .before .before .args) .blocks .now))) (instsOf (((c .before .before .before .before .before .before .before .before .before .before .args) .insts .now)) []) (((c .before .before .before .before .before .before .before .before .before .before .args) .moves .now)) ((c .before .before .before .before .before .before .before .before .before .before .args) .i) ((c .before .before .before .before .before .before .before .before .before .before .pre) .1 .1) ((c .before .before .before .before .before .before .before .before .before .before .pre) .1 .0)) (sym ((c .enum-told) .given .1) ∙ (c .before .before .position) .ensures ∙ ap (λ (x : ℕ). positionAt (blocksOf (((c .before .before .before .before .before .before .before .before .before .before .args) .blocks .now))) (instsOf (((c .before .before .before .before .before .before .before .before .before .before .args) .insts .now)) []) (getD (((c .before .before .before .before .before .before .before .before .before .before .args) .moves .now)) x 0) (moveNumber (((c .before .before .before .before .before .before .before .before .before .before .args) .moves .now)) ((c .before .before .before .before .before .before .before .before .before .before .args) .i))) (sym (add-zero (moveWidth * (c .before .before .before .before .before .before .before .before .before .before .args) .i)))))
 
 mul-to : tie.Need-mul-to
 mul-to c = omega arith
@@ -83,13 +84,13 @@ same-length : tie.Need-same-length
 same-length c = (c .before .before .cover2) .ensures .len ∙ (c .before .before .before .before .before .before .before .cover) .ensures .len
 
 returns-2 : tie.Need-returns-2
-returns-2 c = wrote-as (wrote-then ((c .before .before .before .before .before .before .before .cover) .ensures) ((c .before .before .cover2) .ensures)) (ap (λ (r : Range). (r ∷ []) ++ (r ∷ [])) (point-is ((c .before .before .before .before .before .before .before .before .before .before .before .before .before .before .before .before .before .before .before .before .before .before .before .args) .points) (blocksOf (((c .before .before .before .before .before .before .before .before .before .before .before .before .before .before .before .before .before .before .before .before .before .before .before .args) .blocks .now))) (instsOf (((c .before .before .before .before .before .before .before .before .before .before .before .before .before .before .before .before .before .before .before .before .before .before .before .args) .insts .now)) []) ((c .before .before .before .before .before .before .before .before .before .before .before .before .before .before .before .before .before .before .before .before .before .before .before .args) .slot) (moveRow (((c .before .before .before .before .before .before .before .before .before .before .before .before .before .before .before .before .before .before .before .before .before .before .before .args) .moves .now)) ((c .before .before .before .before .before .before .before .before .before .before .before .before .before .before .before .before .before .before .before .before .before .before .before .args) .i)) _ (move-fine (blocksOf (((c .before .before .before .before .before .before .before .before .before .before .before .before .before .before .before .before .before .before .before .before .before .before .before .args) .blocks .now))) (instsOf (((c .before .before .before .before .before .before .before .before .before .before .before .before .before .before .before .before .before .before .before .before .before .before .before .args) .insts .now)) []) (((c .before .before .before .before .before .before .before .before .before .before .before .before .before .before .before .before .before .before .before .before .before .before .before .args) .moves .now)) ((c .before .before .before .before .before .before .before .before .before .before .before .before .before .before .before .before .before .before .before .before .before .before .before .args) .i) ((c .before .before .before .before .before .before .before .before .before .before .before .before .before .before .before .before .before .before .before .before .before .before .before .pre) .1 .1) ((c .before .before .before .before .before .before .before .before .before .before .before .before .before .before .before .before .before .before .before .before .before .before .before .pre) .1 .0)) (sym ((c .before .before .before .before .before .before .before .before .before .before .before .before .before .at) .given .1) ∙ (c .before .before .before .before .before .before .before .before .before .before .before .before .before .before .before .position) .ensures ∙ ap (λ (x : ℕ). positionAt (blocksOf (((c .before .before .before .before .before .before .before .before .before .before .before .before .before .before .before .before .before .before .before .before .before .before .before .args) .blocks .now))) (instsOf (((c .before .before .before .before .before .before .before .before .before .before .before .before .before .before .before .before .before .before .before .before .before .before .before .args) .insts .now)) []) (getD (((c .before .before .before .before .before .before .before .before .before .before .before .before .before .before .before .before .before .before .before .before .before .before .before .args) .moves .now)) x 0) (getD (((c .before .before .before .before .before .before .before .before .before .before .before .before .before .before .before .before .before .before .before .before .before .before .before .args) .moves .now)) (4 * (c .before .before .before .before .before .before .before .before .before .before .before .before .before .before .before .before .before .before .before .before .before .before .before .args) .i + 1) 0)) (sym (add-zero (4 * (c .before .before .before .before .before .before .before .before .before .before .before .before .before .before .before .before .before .before .before .before .before .before .before .args) .i))))) ∙ sym (covers-both ((c .before .before .before .before .before .before .before .before .before .before .before .before .before .before .before .before .before .before .before .before .before .before .before .args) .points) (blocksOf (((c .before .before .before .before .before .before .before .before .before .before .before .before .before .before .before .before .before .before .before .before .before .before .before .args) .blocks .now))) (instsOf (((c .before .before .before .before .before .before .before .before .before .before .before .before .before .before .before .before .before .before .before .before .before .before .before .args) .insts .now)) []) ((c .before .before .before .before .before .before .before .before .before .before .before .before .before .before .before .before .before .before .before .before .before .before .before .args) .slot) (moveRow (((c .before .before .before .before .before .before .before .before .before .before .before .before .before .before .before .before .before .before .before .before .before .before .before .args) .moves .now)) ((c .before .before .before .before .before .before .before .before .before .before .before .before .before .before .before .before .before .before .before .before .before .before .before .args) .i)) ((c .before .before .before .before .before .before .before .before .before .if1) .taken) ((c .before .before .before .before .if2) .taken)))
+returns-2 c = wrote-as (wrote-then ((c .before .before .before .before .before .before .before .cover) .ensures) ((c .before .before .cover2) .ensures)) (ap (λ (r : Range). (r ∷ []) ++ (r ∷ [])) (point-is ((c .before .before .before .before .before .before .before .before .before .before .before .before .before .before .before .before .before .before .before .before .before .before .before .args) .points) (blocksOf (((c .before .before .before .before .before .before .before .before .before .before .before .before .before .before .before .before .before .before .before .before .before .before .before .args) .blocks .now))) (instsOf (((c .before .before .before .before .before .before .before .before .before .before .before .before .before .before .before .before .before .before .before .before .before .before .before .args) .insts .now)) []) ((c .before .before .before .before .before .before .before .before .before .before .before .before .before .before .before .before .before .before .before .before .before .before .before .args) .slot) (moveRow (((c .before .before .before .before .before .before .before .before .before .before .before .before .before .before .before .before .before .before .before .before .before .before .before .args) .moves .now)) ((c .before .before .before .before .before .before .before .before .before .before .before .before .before .before .before .before .before .before .before .before .before .before .before .args) .i)) _ (move-fine (blocksOf (((c .before .before .before .before .before .before .before .before .before .before .before .before .before .before .before .before .before .before .before .before .before .before .before .args) .blocks .now))) (instsOf (((c .before .before .before .before .before .before .before .before .before .before .before .before .before .before .before .before .before .before .before .before .before .before .before .args) .insts .now)) []) (((c .before .before .before .before .before .before .before .before .before .before .before .before .before .before .before .before .before .before .before .before .before .before .before .args) .moves .now)) ((c .before .before .before .before .before .before .before .before .before .before .before .before .before .before .before .before .before .before .before .before .before .before .before .args) .i) ((c .before .before .before .before .before .before .before .before .before .before .before .before .before .before .before .before .before .before .before .before .before .before .before .pre) .1 .1) ((c .before .before .before .before .before .before .before .before .before .before .before .before .before .before .before .before .before .before .before .before .before .before .before .pre) .1 .0)) (sym ((c .before .before .before .before .before .before .before .before .before .before .before .before .before .at) .given .1) ∙ (c .before .before .before .before .before .before .before .before .before .before .before .before .before .before .before .position) .ensures ∙ ap (λ (x : ℕ). positionAt (blocksOf (((c .before .before .before .before .before .before .before .before .before .before .before .before .before .before .before .before .before .before .before .before .before .before .before .args) .blocks .now))) (instsOf (((c .before .before .before .before .before .before .before .before .before .before .before .before .before .before .before .before .before .before .before .before .before .before .before .args) .insts .now)) []) (getD (((c .before .before .before .before .before .before .before .before .before .before .before .before .before .before .before .before .before .before .before .before .before .before .before .args) .moves .now)) x 0) (moveNumber (((c .before .before .before .before .before .before .before .before .before .before .before .before .before .before .before .before .before .before .before .before .before .before .before .args) .moves .now)) ((c .before .before .before .before .before .before .before .before .before .before .before .before .before .before .before .before .before .before .before .before .before .before .before .args) .i))) (sym (add-zero (moveWidth * (c .before .before .before .before .before .before .before .before .before .before .before .before .before .before .before .before .before .before .before .before .before .before .before .args) .i))))) ∙ sym (covers-both ((c .before .before .before .before .before .before .before .before .before .before .before .before .before .before .before .before .before .before .before .before .before .before .before .args) .points) (blocksOf (((c .before .before .before .before .before .before .before .before .before .before .before .before .before .before .before .before .before .before .before .before .before .before .before .args) .blocks .now))) (instsOf (((c .before .before .before .before .before .before .before .before .before .before .before .before .before .before .before .before .before .before .before .before .before .before .before .args) .insts .now)) []) ((c .before .before .before .before .before .before .before .before .before .before .before .before .before .before .before .before .before .before .before .before .before .before .before .args) .slot) (moveRow (((c .before .before .before .before .before .before .before .before .before .before .before .before .before .before .before .before .before .before .before .before .before .before .before .args) .moves .now)) ((c .before .before .before .before .before .before .before .before .before .before .before .before .before .before .before .before .before .before .before .before .before .before .before .args) .i)) ((c .before .before .before .before .before .before .before .before .before .if1) .taken) ((c .before .before .before .before .if2) .taken)))
 
 same-length-2 : tie.Need-same-length-2
 same-length-2 c = (c .before .before .before .cover) .ensures .len
 
 returns-3 : tie.Need-returns-3
-returns-3 c = wrote-as ((c .before .before .before .cover) .ensures) (ap (λ (r : Range). r ∷ []) (point-is ((c .before .before .before .before .before .before .before .before .before .before .before .before .before .before .before .before .before .before .before .args) .points) (blocksOf (((c .before .before .before .before .before .before .before .before .before .before .before .before .before .before .before .before .before .before .before .args) .blocks .now))) (instsOf (((c .before .before .before .before .before .before .before .before .before .before .before .before .before .before .before .before .before .before .before .args) .insts .now)) []) ((c .before .before .before .before .before .before .before .before .before .before .before .before .before .before .before .before .before .before .before .args) .slot) (moveRow (((c .before .before .before .before .before .before .before .before .before .before .before .before .before .before .before .before .before .before .before .args) .moves .now)) ((c .before .before .before .before .before .before .before .before .before .before .before .before .before .before .before .before .before .before .before .args) .i)) _ (move-fine (blocksOf (((c .before .before .before .before .before .before .before .before .before .before .before .before .before .before .before .before .before .before .before .args) .blocks .now))) (instsOf (((c .before .before .before .before .before .before .before .before .before .before .before .before .before .before .before .before .before .before .before .args) .insts .now)) []) (((c .before .before .before .before .before .before .before .before .before .before .before .before .before .before .before .before .before .before .before .args) .moves .now)) ((c .before .before .before .before .before .before .before .before .before .before .before .before .before .before .before .before .before .before .before .args) .i) ((c .before .before .before .before .before .before .before .before .before .before .before .before .before .before .before .before .before .before .before .pre) .1 .1) ((c .before .before .before .before .before .before .before .before .before .before .before .before .before .before .before .before .before .before .before .pre) .1 .0)) (sym ((c .before .before .before .before .before .before .before .before .before .at) .given .1) ∙ (c .before .before .before .before .before .before .before .before .before .before .before .position) .ensures ∙ ap (λ (x : ℕ). positionAt (blocksOf (((c .before .before .before .before .before .before .before .before .before .before .before .before .before .before .before .before .before .before .before .args) .blocks .now))) (instsOf (((c .before .before .before .before .before .before .before .before .before .before .before .before .before .before .before .before .before .before .before .args) .insts .now)) []) (getD (((c .before .before .before .before .before .before .before .before .before .before .before .before .before .before .before .before .before .before .before .args) .moves .now)) x 0) (getD (((c .before .before .before .before .before .before .before .before .before .before .before .before .before .before .before .before .before .before .before .args) .moves .now)) (4 * (c .before .before .before .before .before .before .before .before .before .before .before .before .before .before .before .before .before .before .before .args) .i + 1) 0)) (sym (add-zero (4 * (c .before .before .before .before .before .before .before .before .before .before .before .before .before .before .before .before .before .before .before .args) .i))))) ∙ sym (covers-to ((c .before .before .before .before .before .before .before .before .before .before .before .before .before .before .before .before .before .before .before .args) .points) (blocksOf (((c .before .before .before .before .before .before .before .before .before .before .before .before .before .before .before .before .before .before .before .args) .blocks .now))) (instsOf (((c .before .before .before .before .before .before .before .before .before .before .before .before .before .before .before .before .before .before .before .args) .insts .now)) []) ((c .before .before .before .before .before .before .before .before .before .before .before .before .before .before .before .before .before .before .before .args) .slot) (moveRow (((c .before .before .before .before .before .before .before .before .before .before .before .before .before .before .before .before .before .before .before .args) .moves .now)) ((c .before .before .before .before .before .before .before .before .before .before .before .before .before .before .before .before .before .before .before .args) .i)) ((c .before .before .before .before .before .if1) .taken) ((c .if2) .left)))
+returns-3 c = wrote-as ((c .before .before .before .cover) .ensures) (ap (λ (r : Range). r ∷ []) (point-is ((c .before .before .before .before .before .before .before .before .before .before .before .before .before .before .before .before .before .before .before .args) .points) (blocksOf (((c .before .before .before .before .before .before .before .before .before .before .before .before .before .before .before .before .before .before .before .args) .blocks .now))) (instsOf (((c .before .before .before .before .before .before .before .before .before .before .before .before .before .before .before .before .before .before .before .args) .insts .now)) []) ((c .before .before .before .before .before .before .before .before .before .before .before .before .before .before .before .before .before .before .before .args) .slot) (moveRow (((c .before .before .before .before .before .before .before .before .before .before .before .before .before .before .before .before .before .before .before .args) .moves .now)) ((c .before .before .before .before .before .before .before .before .before .before .before .before .before .before .before .before .before .before .before .args) .i)) _ (move-fine (blocksOf (((c .before .before .before .before .before .before .before .before .before .before .before .before .before .before .before .before .before .before .before .args) .blocks .now))) (instsOf (((c .before .before .before .before .before .before .before .before .before .before .before .before .before .before .before .before .before .before .before .args) .insts .now)) []) (((c .before .before .before .before .before .before .before .before .before .before .before .before .before .before .before .before .before .before .before .args) .moves .now)) ((c .before .before .before .before .before .before .before .before .before .before .before .before .before .before .before .before .before .before .before .args) .i) ((c .before .before .before .before .before .before .before .before .before .before .before .before .before .before .before .before .before .before .before .pre) .1 .1) ((c .before .before .before .before .before .before .before .before .before .before .before .before .before .before .before .before .before .before .before .pre) .1 .0)) (sym ((c .before .before .before .before .before .before .before .before .before .at) .given .1) ∙ (c .before .before .before .before .before .before .before .before .before .before .before .position) .ensures ∙ ap (λ (x : ℕ). positionAt (blocksOf (((c .before .before .before .before .before .before .before .before .before .before .before .before .before .before .before .before .before .before .before .args) .blocks .now))) (instsOf (((c .before .before .before .before .before .before .before .before .before .before .before .before .before .before .before .before .before .before .before .args) .insts .now)) []) (getD (((c .before .before .before .before .before .before .before .before .before .before .before .before .before .before .before .before .before .before .before .args) .moves .now)) x 0) (moveNumber (((c .before .before .before .before .before .before .before .before .before .before .before .before .before .before .before .before .before .before .before .args) .moves .now)) ((c .before .before .before .before .before .before .before .before .before .before .before .before .before .before .before .before .before .before .before .args) .i))) (sym (add-zero (moveWidth * (c .before .before .before .before .before .before .before .before .before .before .before .before .before .before .before .before .before .before .before .args) .i))))) ∙ sym (covers-to ((c .before .before .before .before .before .before .before .before .before .before .before .before .before .before .before .before .before .before .before .args) .points) (blocksOf (((c .before .before .before .before .before .before .before .before .before .before .before .before .before .before .before .before .before .before .before .args) .blocks .now))) (instsOf (((c .before .before .before .before .before .before .before .before .before .before .before .before .before .before .before .before .before .before .before .args) .insts .now)) []) ((c .before .before .before .before .before .before .before .before .before .before .before .before .before .before .before .before .before .before .before .args) .slot) (moveRow (((c .before .before .before .before .before .before .before .before .before .before .before .before .before .before .before .before .before .before .before .args) .moves .now)) ((c .before .before .before .before .before .before .before .before .before .before .before .before .before .before .before .before .before .before .before .args) .i)) ((c .before .before .before .before .before .if1) .taken) ((c .if2) .left)))
 
 cover-requires-3 : tie.Need-cover-requires-3
 cover-requires-3 c κs = let q = (c .before .before .before .before .before .before .before .before .before .before .before .before .before .before .before .before .pre) .1 .2 in omega arith
@@ -98,7 +99,7 @@ same-length-3 : tie.Need-same-length-3
 same-length-3 c = (c .before .before .cover3) .ensures .len
 
 returns-4 : tie.Need-returns-4
-returns-4 c = wrote-as ((c .before .before .cover3) .ensures) (ap (λ (r : Range). r ∷ []) (point-is ((c .before .before .before .before .before .before .before .before .before .before .before .before .before .before .before .before .before .before .before .args) .points) (blocksOf (((c .before .before .before .before .before .before .before .before .before .before .before .before .before .before .before .before .before .before .before .args) .blocks .now))) (instsOf (((c .before .before .before .before .before .before .before .before .before .before .before .before .before .before .before .before .before .before .before .args) .insts .now)) []) ((c .before .before .before .before .before .before .before .before .before .before .before .before .before .before .before .before .before .before .before .args) .slot) (moveRow (((c .before .before .before .before .before .before .before .before .before .before .before .before .before .before .before .before .before .before .before .args) .moves .now)) ((c .before .before .before .before .before .before .before .before .before .before .before .before .before .before .before .before .before .before .before .args) .i)) _ (move-fine (blocksOf (((c .before .before .before .before .before .before .before .before .before .before .before .before .before .before .before .before .before .before .before .args) .blocks .now))) (instsOf (((c .before .before .before .before .before .before .before .before .before .before .before .before .before .before .before .before .before .before .before .args) .insts .now)) []) (((c .before .before .before .before .before .before .before .before .before .before .before .before .before .before .before .before .before .before .before .args) .moves .now)) ((c .before .before .before .before .before .before .before .before .before .before .before .before .before .before .before .before .before .before .before .args) .i) ((c .before .before .before .before .before .before .before .before .before .before .before .before .before .before .before .before .before .before .before .pre) .1 .1) ((c .before .before .before .before .before .before .before .before .before .before .before .before .before .before .before .before .before .before .before .pre) .1 .0)) (sym ((c .before .before .before .before .before .before .before .before .before .at) .given .1) ∙ (c .before .before .before .before .before .before .before .before .before .before .before .position) .ensures ∙ ap (λ (x : ℕ). positionAt (blocksOf (((c .before .before .before .before .before .before .before .before .before .before .before .before .before .before .before .before .before .before .before .args) .blocks .now))) (instsOf (((c .before .before .before .before .before .before .before .before .before .before .before .before .before .before .before .before .before .before .before .args) .insts .now)) []) (getD (((c .before .before .before .before .before .before .before .before .before .before .before .before .before .before .before .before .before .before .before .args) .moves .now)) x 0) (getD (((c .before .before .before .before .before .before .before .before .before .before .before .before .before .before .before .before .before .before .before .args) .moves .now)) (4 * (c .before .before .before .before .before .before .before .before .before .before .before .before .before .before .before .before .before .before .before .args) .i + 1) 0)) (sym (add-zero (4 * (c .before .before .before .before .before .before .before .before .before .before .before .before .before .before .before .before .before .before .before .args) .i))))) ∙ sym (covers-from ((c .before .before .before .before .before .before .before .before .before .before .before .before .before .before .before .before .before .before .before .args) .points) (blocksOf (((c .before .before .before .before .before .before .before .before .before .before .before .before .before .before .before .before .before .before .before .args) .blocks .now))) (instsOf (((c .before .before .before .before .before .before .before .before .before .before .before .before .before .before .before .before .before .before .before .args) .insts .now)) []) ((c .before .before .before .before .before .before .before .before .before .before .before .before .before .before .before .before .before .before .before .args) .slot) (moveRow (((c .before .before .before .before .before .before .before .before .before .before .before .before .before .before .before .before .before .before .before .args) .moves .now)) ((c .before .before .before .before .before .before .before .before .before .before .before .before .before .before .before .before .before .before .before .args) .i)) ((c .before .before .before .before .before .if1) .left) ((c .before .before .before .before .if3) .taken)))
+returns-4 c = wrote-as ((c .before .before .cover3) .ensures) (ap (λ (r : Range). r ∷ []) (point-is ((c .before .before .before .before .before .before .before .before .before .before .before .before .before .before .before .before .before .before .before .args) .points) (blocksOf (((c .before .before .before .before .before .before .before .before .before .before .before .before .before .before .before .before .before .before .before .args) .blocks .now))) (instsOf (((c .before .before .before .before .before .before .before .before .before .before .before .before .before .before .before .before .before .before .before .args) .insts .now)) []) ((c .before .before .before .before .before .before .before .before .before .before .before .before .before .before .before .before .before .before .before .args) .slot) (moveRow (((c .before .before .before .before .before .before .before .before .before .before .before .before .before .before .before .before .before .before .before .args) .moves .now)) ((c .before .before .before .before .before .before .before .before .before .before .before .before .before .before .before .before .before .before .before .args) .i)) _ (move-fine (blocksOf (((c .before .before .before .before .before .before .before .before .before .before .before .before .before .before .before .before .before .before .before .args) .blocks .now))) (instsOf (((c .before .before .before .before .before .before .before .before .before .before .before .before .before .before .before .before .before .before .before .args) .insts .now)) []) (((c .before .before .before .before .before .before .before .before .before .before .before .before .before .before .before .before .before .before .before .args) .moves .now)) ((c .before .before .before .before .before .before .before .before .before .before .before .before .before .before .before .before .before .before .before .args) .i) ((c .before .before .before .before .before .before .before .before .before .before .before .before .before .before .before .before .before .before .before .pre) .1 .1) ((c .before .before .before .before .before .before .before .before .before .before .before .before .before .before .before .before .before .before .before .pre) .1 .0)) (sym ((c .before .before .before .before .before .before .before .before .before .at) .given .1) ∙ (c .before .before .before .before .before .before .before .before .before .before .before .position) .ensures ∙ ap (λ (x : ℕ). positionAt (blocksOf (((c .before .before .before .before .before .before .before .before .before .before .before .before .before .before .before .before .before .before .before .args) .blocks .now))) (instsOf (((c .before .before .before .before .before .before .before .before .before .before .before .before .before .before .before .before .before .before .before .args) .insts .now)) []) (getD (((c .before .before .before .before .before .before .before .before .before .before .before .before .before .before .before .before .before .before .before .args) .moves .now)) x 0) (moveNumber (((c .before .before .before .before .before .before .before .before .before .before .before .before .before .before .before .before .before .before .before .args) .moves .now)) ((c .before .before .before .before .before .before .before .before .before .before .before .before .before .before .before .before .before .before .before .args) .i))) (sym (add-zero (moveWidth * (c .before .before .before .before .before .before .before .before .before .before .before .before .before .before .before .before .before .before .before .args) .i))))) ∙ sym (covers-from ((c .before .before .before .before .before .before .before .before .before .before .before .before .before .before .before .before .before .before .before .args) .points) (blocksOf (((c .before .before .before .before .before .before .before .before .before .before .before .before .before .before .before .before .before .before .before .args) .blocks .now))) (instsOf (((c .before .before .before .before .before .before .before .before .before .before .before .before .before .before .before .before .before .before .before .args) .insts .now)) []) ((c .before .before .before .before .before .before .before .before .before .before .before .before .before .before .before .before .before .before .before .args) .slot) (moveRow (((c .before .before .before .before .before .before .before .before .before .before .before .before .before .before .before .before .before .before .before .args) .moves .now)) ((c .before .before .before .before .before .before .before .before .before .before .before .before .before .before .before .before .before .before .before .args) .i)) ((c .before .before .before .before .before .if1) .left) ((c .before .before .before .before .if3) .taken)))
 
 returns-5 : tie.Need-returns-5
 returns-5 c = wrote-as (wrote-none _ _) (sym (covers-none ((c .before .before .before .before .before .before .before .before .before .before .before .before .before .before .before .args) .points) (blocksOf (((c .before .before .before .before .before .before .before .before .before .before .before .before .before .before .before .args) .blocks .now))) (instsOf (((c .before .before .before .before .before .before .before .before .before .before .before .before .before .before .before .args) .insts .now)) []) ((c .before .before .before .before .before .before .before .before .before .before .before .before .before .before .before .args) .slot) (moveRow (((c .before .before .before .before .before .before .before .before .before .before .before .before .before .before .before .args) .moves .now)) ((c .before .before .before .before .before .before .before .before .before .before .before .before .before .before .before .args) .i)) ((c .before .if1) .left) ((c .if3) .left)))

@@ -8,6 +8,7 @@ use Rattle.move_covers.proofs.MovedLaws.{wrote-none, wrote-then, gather-next, g
 use Rattle.move_points.proofs.MoveLaws.{covers-two}
 use mathlib.Core.List.{[]}
 use Rattle.words.specs.Rows.{tabulate}
+use Rattle.words.specs.Widths.{moveCount}
 use Rattle.carrying.specs.Lists.{gather}
 use Rattle.graph.specs.Line.{blocksOf}
 use Rattle.carrying.specs.Insts.{instsOf}
@@ -18,7 +19,7 @@ use Rattle.moved_ranges.proofs.all.Statement.{statement}
 use Rattle.moved_ranges.proofs.all.Tie as tie
 
 abbrev Inv-loop : tie.InvT-loop
-Inv-loop points blocks insts moves slot work out₀ m k₀ i₀ out k i = (m ≡ length moves / 4) × (i ≤ m) × (k ≤ 2 * i) × Wrote out₀ out 0 k (gather (covering points (blocksOf blocks) (instsOf insts []) slot) (tabulate i (moveRow moves)))
+Inv-loop points blocks insts moves slot work out₀ m k₀ i₀ out k i = (m ≡ moveCount moves) × (i ≤ m) × (k ≤ 2 * i) × Wrote out₀ out 0 k (gather (covering points (blocksOf blocks) (instsOf insts []) slot) (tabulate i (moveRow moves)))
 
 abbrev μ-loop : tie.MeasureT-loop
 μ-loop points blocks insts moves slot work out₀ m k₀ i₀ out k i = m - i
@@ -42,7 +43,7 @@ same-length : tie.Need-same-length Inv-loop μ-loop
 same-length c = (c .before .loop) .inv .3 .len
 
 returns : tie.Need-returns Inv-loop μ-loop
-returns c = let q : (c .before .loop) .i ≡ length (((c .before .before .before .before .before .before .before .args) .moves .now)) / 4 = omega arith in rw q at ((c .before .loop) .inv .3)
+returns c = let q : (c .before .loop) .i ≡ moveCount (((c .before .before .before .before .before .before .before .args) .moves .now)) = omega arith in rw q at ((c .before .loop) .inv .3)
 
 pub all-spec : {M : Type 1} → statement M
 all-spec =

@@ -9,6 +9,7 @@ use Rattle.moved_ranges.proofs.MovedEntry.{counted, by-counts, by-place
 use Rattle.moved_ranges.specs.Moved.{movedRoom}
 use Rattle.moved_ranges.proofs.refusal.Statement.{statement}
 use Rattle.moved_ranges.proofs.refusal.Tie as tie
+use Rattle.words.specs.Widths.{moveCount}
 
 counts-requires : tie.Need-counts-requires
 counts-requires c κs = search needs
@@ -50,7 +51,7 @@ earlier-requires : tie.Need-earlier-requires
 earlier-requires c κs = search needs
 
 returns-3 : tie.Need-returns-3
-returns-3 c = by-moves ((c .before .before .before .before .before .before .before .before .before .before .before .before .before .before .args) .points) ((c .before .before .before .before .before .before .before .before .before .before .before .before .before .before .args) .v) ((c .before .before .before .before .before .before .before .before .before .before .before .before .before .before .args) .blocks .now) ((c .before .before .before .before .before .before .before .before .before .before .before .before .before .before .args) .insts .now) ((c .before .before .before .before .before .before .before .before .before .before .before .before .before .before .args) .operands .now) ((c .before .before .before .before .before .before .before .before .before .before .before .before .before .before .args) .moves .now) ((c .before .before .before .before .before .before .before .before .before .before .before .before .before .before .args) .lent) ((c .before .before .before .before .before .before .before .before .before .before .before .before .before .before .args) .work) (sym ((c .before .before .before .before .before .before .before .before .before .counts) .ensures) ∙ (c .before .before .before .before .before .before .before .enum-told) .given .1) (sym ((c .before .before .before .before .before .before .located) .ensures) ∙ (c .before .before .before .before .enum-told2) .given .1) ((c .before .before .before .moves) .ensures) ((c .before .room) .ensures ∙ ap (movedRoom ((c .before .before .before .before .before .before .before .before .before .before .before .before .before .before .args) .lent) (length ((c .before .before .before .before .before .before .before .before .before .before .before .before .before .before .args) .moves .now) / 4) ((c .before .before .before .before .before .before .before .before .before .before .before .before .before .before .args) .work)) ((c .before .before .needed) .ensures)) ((c .earlier) .ensures)
+returns-3 c = by-moves ((c .before .before .before .before .before .before .before .before .before .before .before .before .before .before .args) .points) ((c .before .before .before .before .before .before .before .before .before .before .before .before .before .before .args) .v) ((c .before .before .before .before .before .before .before .before .before .before .before .before .before .before .args) .blocks .now) ((c .before .before .before .before .before .before .before .before .before .before .before .before .before .before .args) .insts .now) ((c .before .before .before .before .before .before .before .before .before .before .before .before .before .before .args) .operands .now) ((c .before .before .before .before .before .before .before .before .before .before .before .before .before .before .args) .moves .now) ((c .before .before .before .before .before .before .before .before .before .before .before .before .before .before .args) .lent) ((c .before .before .before .before .before .before .before .before .before .before .before .before .before .before .args) .work) (sym ((c .before .before .before .before .before .before .before .before .before .counts) .ensures) ∙ (c .before .before .before .before .before .before .before .enum-told) .given .1) (sym ((c .before .before .before .before .before .before .located) .ensures) ∙ (c .before .before .before .before .enum-told2) .given .1) ((c .before .before .before .moves) .ensures) ((c .before .room) .ensures ∙ ap (movedRoom ((c .before .before .before .before .before .before .before .before .before .before .before .before .before .before .args) .lent) (moveCount ((c .before .before .before .before .before .before .before .before .before .before .before .before .before .before .args) .moves .now)) ((c .before .before .before .before .before .before .before .before .before .before .before .before .before .before .args) .work)) ((c .before .before .needed) .ensures)) ((c .earlier) .ensures)
 
 pub refusal-spec : {M : Type 1} → statement M
 refusal-spec =

@@ -10,6 +10,7 @@ use mathlib.Core.List.{[], _∷_}
 use Rattle.insts.specs.Rows.{operandAt}
 use Rattle.operands.proofs.def.Statement.{statement}
 use Rattle.operands.proofs.def.Tie as tie
+use Rattle.words.specs.Widths.{operandWidth, operandDef}
 
 abbrev Inv-loop : tie.InvT-loop
 Inv-loop operands from n v count₀ register₀ p₀ count register p = (p ≤ n) × (count ≤ 1) × (count ≡ 0 → defs (λ q. operandAt operands (from + q)) p ≡ []) × (count ≡ 1 → defs (λ q. operandAt operands (from + q)) p ≡ register ∷ [])
@@ -33,7 +34,7 @@ shared-slice-read-if1 : tie.Need-shared-slice-read-if1 Inv-loop μ-loop
 shared-slice-read-if1 c = omega arith
 
 returns : tie.Need-returns Inv-loop μ-loop
-returns c = let z : getD (((c .before .before .before .before .before .args) .operands .now)) (2 * ((c .before .before .before .before .before .args) .from + (c .before .before .before .before .loop) .p) + 0) 0 ≡ getD (((c .before .before .before .before .before .args) .operands .now)) (2 * ((c .before .before .before .before .before .args) .from + (c .before .before .before .before .loop) .p)) 0 = ap (λ (k : ℕ). getD (((c .before .before .before .before .before .args) .operands .now)) k 0) (add-zero (2 * ((c .before .before .before .before .before .args) .from + (c .before .before .before .before .loop) .p))) in def-two (λ p. operandAt (((c .before .before .before .before .before .args) .operands .now)) ((c .before .before .before .before .before .args) .from + p)) ((c .before .before .before .before .before .args) .v) ((c .before .before .before .before .loop) .p) ((c .before .before .before .before .before .args) .n) ((c .before .before .before .before .loop) .register) (omega arith) (omega arith) ((c .before .before .before .before .loop) .inv .3 (omega arith))
+returns c = let z : operandDef (((c .before .before .before .before .before .args) .operands .now)) ((c .before .before .before .before .before .args) .from + (c .before .before .before .before .loop) .p) ≡ getD (((c .before .before .before .before .before .args) .operands .now)) (operandWidth * ((c .before .before .before .before .before .args) .from + (c .before .before .before .before .loop) .p)) 0 = ap (λ (k : ℕ). getD (((c .before .before .before .before .before .args) .operands .now)) k 0) (add-zero (operandWidth * ((c .before .before .before .before .before .args) .from + (c .before .before .before .before .loop) .p))) in def-two (λ p. operandAt (((c .before .before .before .before .before .args) .operands .now)) ((c .before .before .before .before .before .args) .from + p)) ((c .before .before .before .before .before .args) .v) ((c .before .before .before .before .loop) .p) ((c .before .before .before .before .before .args) .n) ((c .before .before .before .before .loop) .register) (omega arith) (omega arith) ((c .before .before .before .before .loop) .inv .3 (omega arith))
 
 mul-register : tie.Need-mul-register Inv-loop μ-loop
 mul-register c = omega arith
@@ -54,7 +55,7 @@ loop-less : tie.Need-loop-less Inv-loop μ-loop
 loop-less c = omega arith
 
 loop-again : tie.Need-loop-again Inv-loop μ-loop
-loop-again c = let z : getD (((c .before .before .before .before .before .before .args) .operands .now)) (2 * ((c .before .before .before .before .before .before .args) .from + (c .before .before .before .before .before .loop) .p) + 0) 0 ≡ getD (((c .before .before .before .before .before .before .args) .operands .now)) (2 * ((c .before .before .before .before .before .before .args) .from + (c .before .before .before .before .before .loop) .p)) 0 = ap (λ (k : ℕ). getD (((c .before .before .before .before .before .before .args) .operands .now)) k 0) (add-zero (2 * ((c .before .before .before .before .before .before .args) .from + (c .before .before .before .before .before .loop) .p))) in (omega arith, omega arith, (λ e. absurd (omega arith)), (λ e. found-def (λ p. operandAt (((c .before .before .before .before .before .before .args) .operands .now)) ((c .before .before .before .before .before .before .args) .from + p)) ((c .before .before .before .before .before .loop) .p) _ (omega arith) ((c .before .before .before .before .before .loop) .inv .2 (let b = (c .before .before .before .before .before .loop) .inv .1 in let f = (c .before .if2) .left in omega arith)) refl))
+loop-again c = let z : operandDef (((c .before .before .before .before .before .before .args) .operands .now)) ((c .before .before .before .before .before .before .args) .from + (c .before .before .before .before .before .loop) .p) ≡ getD (((c .before .before .before .before .before .before .args) .operands .now)) (operandWidth * ((c .before .before .before .before .before .before .args) .from + (c .before .before .before .before .before .loop) .p)) 0 = ap (λ (k : ℕ). getD (((c .before .before .before .before .before .before .args) .operands .now)) k 0) (add-zero (operandWidth * ((c .before .before .before .before .before .before .args) .from + (c .before .before .before .before .before .loop) .p))) in (omega arith, omega arith, (λ e. absurd (omega arith)), (λ e. found-def (λ p. operandAt (((c .before .before .before .before .before .before .args) .operands .now)) ((c .before .before .before .before .before .before .args) .from + p)) ((c .before .before .before .before .before .loop) .p) _ (omega arith) ((c .before .before .before .before .before .loop) .inv .2 (let b = (c .before .before .before .before .before .loop) .inv .1 in let f = (c .before .if2) .left in omega arith)) refl))
 
 add-p-2 : tie.Need-add-p-2 Inv-loop μ-loop
 add-p-2 c = omega arith
@@ -63,7 +64,7 @@ loop-less-2 : tie.Need-loop-less-2 Inv-loop μ-loop
 loop-less-2 c = omega arith
 
 loop-again-2 : tie.Need-loop-again-2 Inv-loop μ-loop
-loop-again-2 c = let z : getD (((c .before .before .before .before .args) .operands .now)) (2 * ((c .before .before .before .before .args) .from + (c .before .before .before .loop) .p) + 0) 0 ≡ getD (((c .before .before .before .before .args) .operands .now)) (2 * ((c .before .before .before .before .args) .from + (c .before .before .before .loop) .p)) 0 = ap (λ (k : ℕ). getD (((c .before .before .before .before .args) .operands .now)) k 0) (add-zero (2 * ((c .before .before .before .before .args) .from + (c .before .before .before .loop) .p))) in (omega arith, omega arith, (λ e. found-use (λ p. operandAt (((c .before .before .before .before .args) .operands .now)) ((c .before .before .before .before .args) .from + p)) ((c .before .before .before .loop) .p) _ (λ q. (c .if1) .left (sym z ∙ q)) ((c .before .before .before .loop) .inv .2 e)), (λ e. found-use (λ p. operandAt (((c .before .before .before .before .args) .operands .now)) ((c .before .before .before .before .args) .from + p)) ((c .before .before .before .loop) .p) _ (λ q. (c .if1) .left (sym z ∙ q)) ((c .before .before .before .loop) .inv .3 e)))
+loop-again-2 c = let z : operandDef (((c .before .before .before .before .args) .operands .now)) ((c .before .before .before .before .args) .from + (c .before .before .before .loop) .p) ≡ getD (((c .before .before .before .before .args) .operands .now)) (operandWidth * ((c .before .before .before .before .args) .from + (c .before .before .before .loop) .p)) 0 = ap (λ (k : ℕ). getD (((c .before .before .before .before .args) .operands .now)) k 0) (add-zero (operandWidth * ((c .before .before .before .before .args) .from + (c .before .before .before .loop) .p))) in (omega arith, omega arith, (λ e. found-use (λ p. operandAt (((c .before .before .before .before .args) .operands .now)) ((c .before .before .before .before .args) .from + p)) ((c .before .before .before .loop) .p) _ (λ q. (c .if1) .left (sym z ∙ q)) ((c .before .before .before .loop) .inv .2 e)), (λ e. found-use (λ p. operandAt (((c .before .before .before .before .args) .operands .now)) ((c .before .before .before .before .args) .from + p)) ((c .before .before .before .loop) .p) _ (λ q. (c .if1) .left (sym z ∙ q)) ((c .before .before .before .loop) .inv .3 e)))
 
 returns-2 : tie.Need-returns-2 Inv-loop μ-loop
 returns-2 c = let q : (c .before .before .loop) .p ≡ (c .before .before .before .args) .n = omega arith in def-none (λ p. operandAt (((c .before .before .before .args) .operands .now)) ((c .before .before .before .args) .from + p)) ((c .before .before .before .args) .v) ((c .before .before .before .args) .n) (rw q at ((c .before .before .loop) .inv .2 (omega arith)))

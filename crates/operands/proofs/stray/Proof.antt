@@ -12,6 +12,7 @@ use Rattle.insts.specs.Rows.{operandAt}
 use Rattle.operands.specs.Numbers.{addressing}
 use Rattle.operands.proofs.stray.Statement.{statement}
 use Rattle.operands.proofs.stray.Tie as tie
+use Rattle.words.specs.Widths.{operandWidth, operandDef}
 
 mul-if1 : tie.Need-mul-if1
 mul-if1 c = omega arith
@@ -38,13 +39,13 @@ shared-slice-read-if2 : tie.Need-shared-slice-read-if2
 shared-slice-read-if2 c = omega arith
 
 returns-2 : tie.Need-returns-2
-returns-2 c = let z : getD (((c .before .before .before .before .before .args) .operands .now)) (2 * (c .before .before .before .before .before .args) .i + 0) 0 ≡ getD (((c .before .before .before .before .before .args) .operands .now)) (2 * (c .before .before .before .before .before .args) .i) 0 = ap (λ (k : ℕ). getD (((c .before .before .before .before .before .args) .operands .now)) k 0) (add-zero (2 * (c .before .before .before .before .before .args) .i)) in stray-def ((c .before .before .before .before .before .args) .r) (operandAt (((c .before .before .before .before .before .args) .operands .now)) ((c .before .before .before .before .before .args) .i)) (not (addressPosition (addressing ((c .before .before .before .before .before .args) .base) ((c .before .before .before .before .before .args) .index)) ((c .before .before .before .before .before .args) .p))) ((c .before .before .if1) .left) (omega arith)
+returns-2 c = let z : operandDef (((c .before .before .before .before .before .args) .operands .now)) ((c .before .before .before .before .before .args) .i) ≡ getD (((c .before .before .before .before .before .args) .operands .now)) (operandWidth * (c .before .before .before .before .before .args) .i) 0 = ap (λ (k : ℕ). getD (((c .before .before .before .before .before .args) .operands .now)) k 0) (add-zero (operandWidth * (c .before .before .before .before .before .args) .i)) in stray-def ((c .before .before .before .before .before .args) .r) (operandAt (((c .before .before .before .before .before .args) .operands .now)) ((c .before .before .before .before .before .args) .i)) (not (addressPosition (addressing ((c .before .before .before .before .before .args) .base) ((c .before .before .before .before .before .args) .index)) ((c .before .before .before .before .before .args) .p))) ((c .before .before .if1) .left) (omega arith)
 
 part-requires : tie.Need-part-requires
 part-requires c κs = omega arith
 
 returns-3 : tie.Need-returns-3
-returns-3 c = let z : getD (((c .before .before .before .before .before .before .args) .operands .now)) (2 * (c .before .before .before .before .before .before .args) .i + 0) 0 ≡ getD (((c .before .before .before .before .before .before .args) .operands .now)) (2 * (c .before .before .before .before .before .before .args) .i) 0 = ap (λ (k : ℕ). getD (((c .before .before .before .before .before .before .args) .operands .now)) k 0) (add-zero (2 * (c .before .before .before .before .before .before .args) .i)) in ap not (c .part .ensures) ∙ stray-use ((c .before .before .before .before .before .before .args) .r) (operandAt (((c .before .before .before .before .before .before .args) .operands .now)) ((c .before .before .before .before .before .before .args) .i)) (not (addressPosition (addressing ((c .before .before .before .before .before .before .args) .base) ((c .before .before .before .before .before .before .args) .index)) ((c .before .before .before .before .before .before .args) .p))) ((c .before .before .before .if1) .left) (λ q. (c .before .if2) .left (sym z ∙ q))
+returns-3 c = let z : operandDef (((c .before .before .before .before .before .before .args) .operands .now)) ((c .before .before .before .before .before .before .args) .i) ≡ getD (((c .before .before .before .before .before .before .args) .operands .now)) (operandWidth * (c .before .before .before .before .before .before .args) .i) 0 = ap (λ (k : ℕ). getD (((c .before .before .before .before .before .before .args) .operands .now)) k 0) (add-zero (operandWidth * (c .before .before .before .before .before .before .args) .i)) in ap not (c .part .ensures) ∙ stray-use ((c .before .before .before .before .before .before .args) .r) (operandAt (((c .before .before .before .before .before .before .args) .operands .now)) ((c .before .before .before .before .before .before .args) .i)) (not (addressPosition (addressing ((c .before .before .before .before .before .before .args) .base) ((c .before .before .before .before .before .before .args) .index)) ((c .before .before .before .before .before .before .args) .p))) ((c .before .before .before .if1) .left) (λ q. (c .before .if2) .left (sym z ∙ q))
 
 pub stray-spec : {M : Type 1} → statement M
 stray-spec =

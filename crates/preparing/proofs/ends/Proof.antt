@@ -8,9 +8,10 @@ use Rattle.preparing.proofs.Bounds.{at-end, ended-at, past}
 use Rattle.preparing.proofs.StepLaws.{Ending, end-start, end-unplaced, end-past, end-put, end-done}
 use Rattle.preparing.proofs.ends.Statement.{statement}
 use Rattle.preparing.proofs.ends.Tie as tie
+use Rattle.words.specs.Widths.{mentionWidth, endCount}
 
 abbrev Inv-loop : tie.InvT-loop
-Inv-loop insts ends locals work₀ lay n k₀ work k = (n ≡ length ends / 2) × Ending (lay .ended) insts ends locals work₀ work k
+Inv-loop insts ends locals work₀ lay n k₀ work k = (n ≡ endCount ends) × Ending (lay .ended) insts ends locals work₀ work k
 
 abbrev μ-loop : tie.MeasureT-loop
 μ-loop insts ends locals work₀ lay n k₀ work k = n - k
@@ -49,7 +50,7 @@ shared-slice-read-l : tie.Need-shared-slice-read-l Inv-loop μ-loop
 shared-slice-read-l c = at-end _ _ _ _ _ (c .before .before .before .loop .inv .0) (c .before .before .loop-test .taken) (c .before .before .before .before .pre .0 .1 (c .before .before .before .loop .k) (within _ _ _ (c .before .before .before .loop .inv .0) (c .before .before .loop-test .taken))) (room (c .before .before .before .before)) .second-in
 
 cast-l : tie.Need-cast-l Inv-loop μ-loop
-cast-l c = omega (arith, c .shared-slice-known2 .given (2 * (c .before .before .before .loop) .k + 1))
+cast-l c = omega (arith, c .shared-slice-known2 .given (mentionWidth * (c .before .before .before .loop) .k + 1))
 
 mul-if1 : tie.Need-mul-if1 Inv-loop μ-loop
 mul-if1 c = at-end _ _ _ _ _ (c .before .before .before .loop .inv .0) (c .before .before .loop-test .taken) (c .before .before .before .before .pre .0 .1 (c .before .before .before .loop .k) (within _ _ _ (c .before .before .before .loop .inv .0) (c .before .before .loop-test .taken))) (room (c .before .before .before .before)) .row

@@ -11,6 +11,7 @@ use mathlib.Core.Path.{sym, _∙_}
 use borrow.Author.Needs.{needs}
 use Rattle.queries.proofs.local.Statement.{statement}
 use Rattle.queries.proofs.local.Tie as tie
+use Rattle.words.specs.Widths.{itemWidth}
 
 plan-requires : tie.Need-plan-requires
 plan-requires c κs = tt
@@ -34,7 +35,7 @@ shared-slice-read-t13 : tie.Need-shared-slice-read-t13
 shared-slice-read-t13 c = let a = (c .before .before .before .before .before .before .before .args) in omega (arith, (sound (now (a .cells)) (now (a .items)) (a .locals) (sym ((c .before .before .before .before .plan) .ensures) ∙ (c .before .before .enum-told) .given .1)) .whole)
 
 cast-t14 : tie.Need-cast-t14
-cast-t14 c = omega (arith, (c .shared-slice-known3) .given (4 * (c .before .before .before .before .before .before .before .args) .i))
+cast-t14 c = omega (arith, (c .shared-slice-known3) .given (itemWidth * (c .before .before .before .before .before .before .before .args) .i))
 
 returns-2 : tie.Need-returns-2
 returns-2 c = let a = (c .before .before .before .before .before .before .before .args) in place-told (planVerdict (now (a .cells)) (now (a .items)) (a .locals)) (local (slotsOf (a .locals) (now (a .cells)) (now (a .items)) []) (a .i)) _ (sym ((c .before .before .before .before .plan) .ensures) ∙ (c .before .before .enum-told) .given .1) (local-at [] (now (a .cells)) (now (a .items)) (a .locals) (sound (now (a .cells)) (now (a .items)) (a .locals) (sym ((c .before .before .before .before .plan) .ensures) ∙ (c .before .before .enum-told) .given .1)) (a .i) (omega arith))

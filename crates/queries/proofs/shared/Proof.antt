@@ -8,6 +8,7 @@ use mathlib.Core.Path.{sym, _∙_}
 use borrow.Author.Needs.{needs}
 use Rattle.queries.proofs.shared.Statement.{statement}
 use Rattle.queries.proofs.shared.Tie as tie
+use Rattle.words.specs.Widths.{itemWidth}
 
 parts-requires : tie.Need-parts-requires
 parts-requires c κs = tt
@@ -61,7 +62,7 @@ shared-slice-read-t14 : tie.Need-shared-slice-read-t14
 shared-slice-read-t14 c = let a = (c .before .before .before .before .before .before .before .before .before .before .before .before .before .args) in omega (arith, (shared-sound (now (a .cells)) (now (a .items)) (now (a .areas)) (a .locals) (sym ((c .before .before .before .before .before .before .before .before .before .parts) .ensures) ∙ (c .before .before .before .before .before .before .before .enum-told) .given .1)) .whole)
 
 cast-t17 : tie.Need-cast-t17
-cast-t17 c = omega (arith, (c .shared-slice-known6) .given (4 * (c .before .before .before .before .before .before .before .before .before .before .before .before .before .args) .i + 2), (c .shared-slice-known6) .given (4 * (c .before .before .before .before .before .before .before .before .before .before .before .before .before .args) .i + 3))
+cast-t17 c = omega (arith, (c .shared-slice-known6) .given (itemWidth * (c .before .before .before .before .before .before .before .before .before .before .before .before .before .args) .i + 2), (c .shared-slice-known6) .given (itemWidth * (c .before .before .before .before .before .before .before .before .before .before .before .before .before .args) .i + 3))
 
 add-t18 : tie.Need-add-t18
 add-t18 c = omega arith
@@ -73,7 +74,7 @@ shared-slice-read-t21 : tie.Need-shared-slice-read-t21
 shared-slice-read-t21 c = let a = (c .before .before .before .before .before .before .before .before .before .before .before .before .before .before .args) in omega (arith, (shared-sound (now (a .cells)) (now (a .items)) (now (a .areas)) (a .locals) (sym ((c .before .before .before .before .before .before .before .before .before .before .parts) .ensures) ∙ (c .before .before .before .before .before .before .before .before .enum-told) .given .1)) .whole)
 
 cast-t22 : tie.Need-cast-t22
-cast-t22 c = omega (arith, (c .shared-slice-known7) .given (4 * (c .before .before .before .before .before .before .before .before .before .before .before .before .before .before .args) .i + 3))
+cast-t22 c = omega (arith, (c .shared-slice-known7) .given (itemWidth * (c .before .before .before .before .before .before .before .before .before .before .before .before .before .before .args) .i + 3))
 
 returns-5 : tie.Need-returns-5
 returns-5 c = let a = (c .before .before .before .before .before .before .before .before .before .before .before .before .before .before .args) in share-some (now (a .cells)) (now (a .items)) (now (a .areas)) (a .locals) (a .i) (sym ((c .before .before .before .before .before .before .before .before .before .before .parts) .ensures) ∙ (c .before .before .before .before .before .before .before .before .enum-told) .given .1) _ _ (part-shared (now (a .cells)) (now (a .items)) (a .locals) (a .i) (omega arith) ((c .before .before .before .before .before .if2) .left) (omega (arith, (c .before .before .before .members) .ensures)))

@@ -11,6 +11,7 @@ use mathlib.Core.Path.{sym, _∙_}
 use borrow.Author.Needs.{needs}
 use Rattle.queries.proofs.slot.Statement.{statement}
 use Rattle.queries.proofs.slot.Tie as tie
+use Rattle.words.specs.Widths.{itemWidth}
 
 plan-requires : tie.Need-plan-requires
 plan-requires c κs = tt
@@ -37,7 +38,7 @@ shared-slice-read-t15 : tie.Need-shared-slice-read-t15
 shared-slice-read-t15 c = omega arith
 
 cast-t16 : tie.Need-cast-t16
-cast-t16 c = omega (arith, (c .shared-slice-known3) .given (4 * ((c .before .before .before .before .before .before .before .args) .locals + (c .before .before .before .before .before .before .before .args) .i)))
+cast-t16 c = omega (arith, (c .shared-slice-known3) .given (itemWidth * ((c .before .before .before .before .before .before .before .args) .locals + (c .before .before .before .before .before .before .before .args) .i)))
 
 returns-2 : tie.Need-returns-2
 returns-2 c = let a = (c .before .before .before .before .before .before .before .args) in place-told (planVerdict (now (a .cells)) (now (a .items)) (a .locals)) (slot (slotsOf (a .locals) (now (a .cells)) (now (a .items)) []) (a .i)) _ (sym ((c .before .before .before .before .plan) .ensures) ∙ (c .before .before .enum-told) .given .1) (slot-at [] (now (a .cells)) (now (a .items)) (a .locals) (sound (now (a .cells)) (now (a .items)) (a .locals) (sym ((c .before .before .before .before .plan) .ensures) ∙ (c .before .before .enum-told) .given .1)) (a .i) (omega arith))

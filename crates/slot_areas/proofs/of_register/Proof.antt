@@ -2,7 +2,7 @@
 use native.Mathlib.Omega.{arith}
 use Prim.Native.Nat.{_+_, _≤_}
 use mathlib.Core.Path.{refl}
-use Rattle.words.specs.Rows.{rowCount}
+use Rattle.words.specs.Widths.{pieceCount, moveCount}
 use borrow.Author.Needs.{needs}
 use Rattle.slot_areas.proofs.AreaLaws.{held-table, held-laid, held-chains, held-none, held-some}
 use Rattle.slot_areas.proofs.of_register.Statement.{statement}
@@ -39,7 +39,7 @@ sub-t16 : tie.Need-sub-t16
 sub-t16 c = search needs
 
 add-t24 : tie.Need-add-t24
-add-t24 c = let q : (c .before .before .before .before .before .before .fetch2) .result ≤ rowCount 4 ((c .before .before .before .before .before .before .before .before .before .before .before .before .before .before .before .before .before .before .before .args) .moves .now) + rowCount 4 ((c .before .before .before .before .before .before .before .before .before .before .before .before .before .before .before .before .before .before .before .args) .moves .now) = (c .before .before .before .before .before .before .fetch2) .ensures .few in let u : (c .before .before .before .before .before .before .before .before .before .before .before .fetch) .result ≤ rowCount 3 ((c .before .before .before .before .before .before .before .before .before .before .before .before .before .before .before .before .before .before .before .args) .pieces .now) = (c .before .before .before .before .before .before .before .before .before .before .before .fetch) .ensures .count in let a : rowCount 4 ((c .before .before .before .before .before .before .before .before .before .before .before .before .before .before .before .before .before .before .before .args) .moves .now) ≤ 65536 = (c .before .before .before .before .before .before .before .before .before .before .before .before .before .before .before .before .before .before .before .pre) .1 .1 .4 in let b : rowCount 3 ((c .before .before .before .before .before .before .before .before .before .before .before .before .before .before .before .before .before .before .before .args) .pieces .now) ≤ 65536 = (c .before .before .before .before .before .before .before .before .before .before .before .before .before .before .before .before .before .before .before .pre) .1 .1 .3 in omega (arith, (c .before .before .merge) .ensures .within)
+add-t24 c = let q : (c .before .before .before .before .before .before .fetch2) .result ≤ moveCount ((c .before .before .before .before .before .before .before .before .before .before .before .before .before .before .before .before .before .before .before .args) .moves .now) + moveCount ((c .before .before .before .before .before .before .before .before .before .before .before .before .before .before .before .before .before .before .before .args) .moves .now) = (c .before .before .before .before .before .before .fetch2) .ensures .few in let u : (c .before .before .before .before .before .before .before .before .before .before .before .fetch) .result ≤ pieceCount ((c .before .before .before .before .before .before .before .before .before .before .before .before .before .before .before .before .before .before .before .args) .pieces .now) = (c .before .before .before .before .before .before .before .before .before .before .before .fetch) .ensures .count in let a : moveCount ((c .before .before .before .before .before .before .before .before .before .before .before .before .before .before .before .before .before .before .before .args) .moves .now) ≤ 65536 = (c .before .before .before .before .before .before .before .before .before .before .before .before .before .before .before .before .before .before .before .pre) .1 .1 .4 in let b : pieceCount ((c .before .before .before .before .before .before .before .before .before .before .before .before .before .before .before .before .before .before .before .args) .pieces .now) ≤ 65536 = (c .before .before .before .before .before .before .before .before .before .before .before .before .before .before .before .before .before .before .before .pre) .1 .1 .3 in omega (arith, (c .before .before .merge) .ensures .within)
 
 same-length-2 : tie.Need-same-length-2
 same-length-2 c = search needs

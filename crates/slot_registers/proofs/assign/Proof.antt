@@ -8,9 +8,10 @@ use Rattle.spill_checks.proofs.AssignedLaws.{assignedAt}
 use Rattle.slot_registers.proofs.HeldLaws.{Holding, held-start, held-put, held-skip, held-done}
 use Rattle.slot_registers.proofs.assign.Statement.{statement}
 use Rattle.slot_registers.proofs.assign.Tie as tie
+use Rattle.words.specs.Widths.{assignedWidth, assignedCount}
 
 abbrev Inv-loop : tie.InvT-loop
-Inv-loop assigned work₀ at slots n i₀ work i = (n ≡ length assigned / 2) × (i ≤ n) × Holding (assignedAt assigned) at slots work₀ work i
+Inv-loop assigned work₀ at slots n i₀ work i = (n ≡ assignedCount assigned) × (i ≤ n) × Holding (assignedAt assigned) at slots work₀ work i
 
 abbrev μ-loop : tie.MeasureT-loop
 μ-loop assigned work₀ at slots n i₀ work i = n - i
@@ -31,7 +32,7 @@ shared-slice-read-s : tie.Need-shared-slice-read-s Inv-loop μ-loop
 shared-slice-read-s c = omega arith
 
 cast-s : tie.Need-cast-s Inv-loop μ-loop
-cast-s c = omega (arith, (c .shared-slice-known) .given (2 * (c .before .before .loop) .i + 1))
+cast-s c = omega (arith, (c .shared-slice-known) .given (assignedWidth * (c .before .before .loop) .i + 1))
 
 mul-work : tie.Need-mul-work Inv-loop μ-loop
 mul-work c = omega arith
@@ -43,10 +44,10 @@ shared-slice-read-work : tie.Need-shared-slice-read-work Inv-loop μ-loop
 shared-slice-read-work c = omega arith
 
 cast-work : tie.Need-cast-work Inv-loop μ-loop
-cast-work c = omega (arith, (c .shared-slice-known2) .given (2 * (c .before .before .before .before .loop) .i))
+cast-work c = omega (arith, (c .shared-slice-known2) .given (assignedWidth * (c .before .before .before .before .loop) .i))
 
 add-work : tie.Need-add-work Inv-loop μ-loop
-add-work c = omega (arith, (c .shared-slice-known2) .given (2 * (c .before .before .before .before .loop) .i))
+add-work c = omega (arith, (c .shared-slice-known2) .given (assignedWidth * (c .before .before .before .before .loop) .i))
 
 add-work-2 : tie.Need-add-work-2 Inv-loop μ-loop
 add-work-2 c = omega arith
@@ -64,7 +65,7 @@ loop-less : tie.Need-loop-less Inv-loop μ-loop
 loop-less c = omega arith
 
 loop-again : tie.Need-loop-again Inv-loop μ-loop
-loop-again c = (omega arith, omega arith, held-put (assignedAt ((c .before .before .before .before .before .args) .assigned .now)) ((c .before .before .before .before .before .args) .at) ((c .before .before .before .before .before .args) .slots) ((c .before .before .before .before .loop) .inv .2) _ _ _ refl (omega arith) refl (ap (λ (k : ℕ). getD ((c .before .before .before .before .before .args) .assigned .now) k 0 + 1) (sym (add-zero (2 * (c .before .before .before .before .loop) .i)))))
+loop-again c = (omega arith, omega arith, held-put (assignedAt ((c .before .before .before .before .before .args) .assigned .now)) ((c .before .before .before .before .before .args) .at) ((c .before .before .before .before .before .args) .slots) ((c .before .before .before .before .loop) .inv .2) _ _ _ refl (omega arith) refl (ap (λ (k : ℕ). getD ((c .before .before .before .before .before .args) .assigned .now) k 0 + 1) (sym (add-zero (assignedWidth * (c .before .before .before .before .loop) .i)))))
 
 add-i-2 : tie.Need-add-i-2 Inv-loop μ-loop
 add-i-2 c = omega arith
@@ -79,7 +80,7 @@ same-length : tie.Need-same-length Inv-loop μ-loop
 same-length c = (c .before .loop) .inv .2 .words .len
 
 returns : tie.Need-returns Inv-loop μ-loop
-returns c = held-done (assignedAt ((c .before .before .args) .assigned .now)) ((c .before .before .args) .at) ((c .before .before .args) .slots) ((c .before .loop) .inv .2) (length ((c .before .before .args) .assigned .now) / 2) (omega arith)
+returns c = held-done (assignedAt ((c .before .before .args) .assigned .now)) ((c .before .before .args) .at) ((c .before .before .args) .slots) ((c .before .loop) .inv .2) (assignedCount ((c .before .before .args) .assigned .now)) (omega arith)
 
 pub assign-spec : {M : Type 1} → statement M
 assign-spec =

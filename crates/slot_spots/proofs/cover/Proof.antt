@@ -12,6 +12,7 @@ use Rattle.move_points.proofs.MoveLaws.{move-fine, not-nowhere}
 use Rattle.slot_spots.proofs.MoveLaws.{cover-is}
 use Rattle.slot_spots.proofs.cover.Statement.{statement}
 use Rattle.slot_spots.proofs.cover.Tie as tie
+use Rattle.words.specs.Widths.{moveWidth, moveNumber}
 
 mul-position : tie.Need-mul-position
 mul-position c = search needs
@@ -44,7 +45,7 @@ enum-told : tie.Need-enum-told
 enum-told c = search needs
 
 returns : tie.Need-returns
-returns c = absurd (not-nowhere ((c .before .before .before .before .before .before .before .before .before .args) .points) (blocksOf ((c .before .before .before .before .before .before .before .before .before .args) .blocks .now)) (instsOf ((c .before .before .before .before .before .before .before .before .before .args) .insts .now) []) 0 (moveRow ((c .before .before .before .before .before .before .before .before .before .args) .moves .now) ((c .before .before .before .before .before .before .before .before .before .args) .i)) (move-fine (blocksOf ((c .before .before .before .before .before .before .before .before .before .args) .blocks .now)) (instsOf ((c .before .before .before .before .before .before .before .before .before .args) .insts .now) []) ((c .before .before .before .before .before .before .before .before .before .args) .moves .now) ((c .before .before .before .before .before .before .before .before .before .args) .i) ((c .before .before .before .before .before .before .before .before .before .pre) .1 .1) ((c .before .before .before .before .before .before .before .before .before .pre) .1 .0)) (sym ((c .enum-told) .given .1) ∙ (c .before .before .position) .ensures ∙ ap (λ (x : ℕ). positionAt (blocksOf ((c .before .before .before .before .before .before .before .before .before .args) .blocks .now)) (instsOf ((c .before .before .before .before .before .before .before .before .before .args) .insts .now) []) (getD ((c .before .before .before .before .before .before .before .before .before .args) .moves .now) x 0) (getD ((c .before .before .before .before .before .before .before .before .before .args) .moves .now) (4 * (c .before .before .before .before .before .before .before .before .before .args) .i + 1) 0)) (sym (add-zero (4 * (c .before .before .before .before .before .before .before .before .before .args) .i)))))
+returns c = absurd (not-nowhere ((c .before .before .before .before .before .before .before .before .before .args) .points) (blocksOf ((c .before .before .before .before .before .before .before .before .before .args) .blocks .now)) (instsOf ((c .before .before .before .before .before .before .before .before .before .args) .insts .now) []) 0 (moveRow ((c .before .before .before .before .before .before .before .before .before .args) .moves .now) ((c .before .before .before .before .before .before .before .before .before .args) .i)) (move-fine (blocksOf ((c .before .before .before .before .before .before .before .before .before .args) .blocks .now)) (instsOf ((c .before .before .before .before .before .before .before .before .before .args) .insts .now) []) ((c .before .before .before .before .before .before .before .before .before .args) .moves .now) ((c .before .before .before .before .before .before .before .before .before .args) .i) ((c .before .before .before .before .before .before .before .before .before .pre) .1 .1) ((c .before .before .before .before .before .before .before .before .before .pre) .1 .0)) (sym ((c .enum-told) .given .1) ∙ (c .before .before .position) .ensures ∙ ap (λ (x : ℕ). positionAt (blocksOf ((c .before .before .before .before .before .before .before .before .before .args) .blocks .now)) (instsOf ((c .before .before .before .before .before .before .before .before .before .args) .insts .now) []) (getD ((c .before .before .before .before .before .before .before .before .before .args) .moves .now) x 0) (moveNumber ((c .before .before .before .before .before .before .before .before .before .args) .moves .now) ((c .before .before .before .before .before .before .before .before .before .args) .i))) (sym (add-zero (moveWidth * (c .before .before .before .before .before .before .before .before .before .args) .i)))))
 
 preceding-requires : tie.Need-preceding-requires
 preceding-requires c κs = search needs
@@ -56,7 +57,7 @@ pack-requires : tie.Need-pack-requires
 pack-requires c κs = search needs
 
 returns-2 : tie.Need-returns-2
-returns-2 c = cover-is ((c .before .before .before .before .before .before .before .before .before .before .before .before .before .args) .points) (blocksOf ((c .before .before .before .before .before .before .before .before .before .before .before .before .before .args) .blocks .now)) (instsOf ((c .before .before .before .before .before .before .before .before .before .before .before .before .before .args) .insts .now) []) (moveRow ((c .before .before .before .before .before .before .before .before .before .before .before .before .before .args) .moves .now) ((c .before .before .before .before .before .before .before .before .before .before .before .before .before .args) .i)) _ _ _ _ (move-fine (blocksOf ((c .before .before .before .before .before .before .before .before .before .before .before .before .before .args) .blocks .now)) (instsOf ((c .before .before .before .before .before .before .before .before .before .before .before .before .before .args) .insts .now) []) ((c .before .before .before .before .before .before .before .before .before .before .before .before .before .args) .moves .now) ((c .before .before .before .before .before .before .before .before .before .before .before .before .before .args) .i) ((c .before .before .before .before .before .before .before .before .before .before .before .before .before .pre) .1 .1) ((c .before .before .before .before .before .before .before .before .before .before .before .before .before .pre) .1 .0)) (sym ((c .before .before .before .before .at) .given .1) ∙ (c .before .before .before .before .before .before .position) .ensures ∙ ap (λ (x : ℕ). positionAt (blocksOf ((c .before .before .before .before .before .before .before .before .before .before .before .before .before .args) .blocks .now)) (instsOf ((c .before .before .before .before .before .before .before .before .before .before .before .before .before .args) .insts .now) []) (getD ((c .before .before .before .before .before .before .before .before .before .before .before .before .before .args) .moves .now) x 0) (getD ((c .before .before .before .before .before .before .before .before .before .before .before .before .before .args) .moves .now) (4 * (c .before .before .before .before .before .before .before .before .before .before .before .before .before .args) .i + 1) 0)) (sym (add-zero (4 * (c .before .before .before .before .before .before .before .before .before .before .before .before .before .args) .i)))) ((c .before .before .preceding) .ensures) ((c .before .beyond) .ensures) ((c .pack) .ensures)
+returns-2 c = cover-is ((c .before .before .before .before .before .before .before .before .before .before .before .before .before .args) .points) (blocksOf ((c .before .before .before .before .before .before .before .before .before .before .before .before .before .args) .blocks .now)) (instsOf ((c .before .before .before .before .before .before .before .before .before .before .before .before .before .args) .insts .now) []) (moveRow ((c .before .before .before .before .before .before .before .before .before .before .before .before .before .args) .moves .now) ((c .before .before .before .before .before .before .before .before .before .before .before .before .before .args) .i)) _ _ _ _ (move-fine (blocksOf ((c .before .before .before .before .before .before .before .before .before .before .before .before .before .args) .blocks .now)) (instsOf ((c .before .before .before .before .before .before .before .before .before .before .before .before .before .args) .insts .now) []) ((c .before .before .before .before .before .before .before .before .before .before .before .before .before .args) .moves .now) ((c .before .before .before .before .before .before .before .before .before .before .before .before .before .args) .i) ((c .before .before .before .before .before .before .before .before .before .before .before .before .before .pre) .1 .1) ((c .before .before .before .before .before .before .before .before .before .before .before .before .before .pre) .1 .0)) (sym ((c .before .before .before .before .at) .given .1) ∙ (c .before .before .before .before .before .before .position) .ensures ∙ ap (λ (x : ℕ). positionAt (blocksOf ((c .before .before .before .before .before .before .before .before .before .before .before .before .before .args) .blocks .now)) (instsOf ((c .before .before .before .before .before .before .before .before .before .before .before .before .before .args) .insts .now) []) (getD ((c .before .before .before .before .before .before .before .before .before .before .before .before .before .args) .moves .now) x 0) (moveNumber ((c .before .before .before .before .before .before .before .before .before .before .before .before .before .args) .moves .now) ((c .before .before .before .before .before .before .before .before .before .before .before .before .before .args) .i))) (sym (add-zero (moveWidth * (c .before .before .before .before .before .before .before .before .before .before .before .before .before .args) .i)))) ((c .before .before .preceding) .ensures) ((c .before .beyond) .ensures) ((c .pack) .ensures)
 
 pub cover-spec : {M : Type 1} → statement M
 cover-spec =

@@ -4,7 +4,8 @@ use Prim.Native.Nat.{_-_}
 use mathlib.Core.Path.{refl}
 use mathlib.Core.List.{[]}
 use lib.ListN.{length-set}
-use Rattle.words.specs.Rows.{rowCount, field}
+use Rattle.words.specs.Rows.{field}
+use Rattle.words.specs.Widths.{moveWidth, moveCount}
 use Rattle.ranges.specs.Forms.{pack}
 use Rattle.graph.specs.Line.{blocksOf}
 use Rattle.carrying.specs.Insts.{instsOf}
@@ -16,7 +17,7 @@ use Rattle.slot_spots.proofs.walk.Statement.{statement}
 use Rattle.slot_spots.proofs.walk.Tie as tie
 
 abbrev Inv-loop : tie.InvT-loop
-Inv-loop points blocks insts moves work₀ table slot k top next₀ to₀ work next to = Walking (λ i. field 4 moves i (k .column)) (λ i. pack (coverOf points (blocksOf blocks) (instsOf insts []) (moveRow moves i))) (rowCount 4 moves) slot (k .nexts) top work₀ work next to
+Inv-loop points blocks insts moves work₀ table slot k top next₀ to₀ work next to = Walking (λ i. field moveWidth moves i (k .column)) (λ i. pack (coverOf points (blocksOf blocks) (instsOf insts []) (moveRow moves i))) (moveCount moves) slot (k .nexts) top work₀ work next to
 
 abbrev μ-loop : tie.MeasureT-loop
 μ-loop points blocks insts moves work₀ table slot k top next₀ to₀ work next to = next

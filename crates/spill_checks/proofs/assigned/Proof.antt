@@ -5,7 +5,7 @@ use mathlib.Core.Path.{ap, _∙_}
 use denote.Ref.{now}
 use Rattle.refusals.specs.Verdicts.{scan}
 use Rattle.refusals.specs.declared.Refusal.the-variants.{Piece as PieceWord}
-use Rattle.words.specs.Rows.{rowCount, field}
+use Rattle.words.specs.Widths.{assignedCount, assignedRegister}
 use Rattle.spill_checks.proofs.CheckLaws.{assigned-is}
 use lib.Dec.{leb}
 use Rattle.spill_checks.proofs.assigned.Statement.{statement}
@@ -18,7 +18,7 @@ below-requires : tie.Need-below-requires
 below-requires c κs = omega arith
 
 returns : tie.Need-returns
-returns c = c .below .ensures ∙ ap (λ (x : ℕ). scan PieceWord (λ n. leb x (field 2 (((c .before .before .before .args) .assigned .now)) n 0)) (rowCount 2 (((c .before .before .before .args) .assigned .now)))) ((c .before .wide) .ensures) ∙ assigned-is ((c .before .before .before .args) .v) (((c .before .before .before .args) .assigned .now))
+returns c = c .below .ensures ∙ ap (λ (x : ℕ). scan PieceWord (λ n. leb x (assignedRegister (((c .before .before .before .args) .assigned .now)) n)) (assignedCount (((c .before .before .before .args) .assigned .now)))) ((c .before .wide) .ensures) ∙ assigned-is ((c .before .before .before .args) .v) (((c .before .before .before .args) .assigned .now))
 
 pub assigned-spec : {M : Type 1} → statement M
 assigned-spec = tie.close (tie.spec wide-requires below-requires returns)

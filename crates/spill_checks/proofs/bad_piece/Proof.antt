@@ -11,6 +11,7 @@ use Rattle.graph.specs.Line.{blocksOf}
 use Rattle.spill_checks.specs.Rows.{pieceAt}
 use Rattle.spill_checks.proofs.bad_piece.Statement.{statement}
 use Rattle.spill_checks.proofs.bad_piece.Tie as tie
+use Rattle.words.specs.Widths.{pieceWidth}
 
 mul-start : tie.Need-mul-start
 mul-start c = omega arith
@@ -73,7 +74,7 @@ shared-slice-read-result : tie.Need-shared-slice-read-result
 shared-slice-read-result c = omega arith
 
 returns-4 : tie.Need-returns-4
-returns-4 c = let a = line-start (((c .before .before .before .before .before .before .before .before .args) .blocks .now)) ((c .before .before .before .before .before .before .before .before .pre) .0) in let b = line-end (((c .before .before .before .before .before .before .before .before .args) .blocks .now)) ((c .before .before .before .before .before .before .before .before .pre) .0) in ap (λ (k : ℕ). leb ((c .before .before .before .before .before .before .before .before .args) .v) (getD (((c .before .before .before .before .before .before .before .before .args) .pieces .now)) k 0)) (sym (add-zero (3 * (c .before .before .before .before .before .before .before .before .args) .i))) ∙ piece-4 (blocksOf (((c .before .before .before .before .before .before .before .before .args) .blocks .now))) ((c .before .before .before .before .before .before .before .before .args) .v) (pieceAt (((c .before .before .before .before .before .before .before .before .args) .pieces .now)) ((c .before .before .before .before .before .before .before .before .args) .i)) (omega arith) (omega arith) (omega arith)
+returns-4 c = let a = line-start (((c .before .before .before .before .before .before .before .before .args) .blocks .now)) ((c .before .before .before .before .before .before .before .before .pre) .0) in let b = line-end (((c .before .before .before .before .before .before .before .before .args) .blocks .now)) ((c .before .before .before .before .before .before .before .before .pre) .0) in ap (λ (k : ℕ). leb ((c .before .before .before .before .before .before .before .before .args) .v) (getD (((c .before .before .before .before .before .before .before .before .args) .pieces .now)) k 0)) (sym (add-zero (pieceWidth * (c .before .before .before .before .before .before .before .before .args) .i))) ∙ piece-4 (blocksOf (((c .before .before .before .before .before .before .before .before .args) .blocks .now))) ((c .before .before .before .before .before .before .before .before .args) .v) (pieceAt (((c .before .before .before .before .before .before .before .before .args) .pieces .now)) ((c .before .before .before .before .before .before .before .before .args) .i)) (omega arith) (omega arith) (omega arith)
 
 pub bad-piece-spec : {M : Type 1} → statement M
 bad-piece-spec =

@@ -15,9 +15,10 @@ use Rattle.carrying.specs.Insts.{instsOf}
 use Rattle.areas.specs.Slots.{badMove, moveAt, movesOf}
 use Rattle.spill_checks.proofs.moves.Statement.{statement}
 use Rattle.spill_checks.proofs.moves.Tie as tie
+use Rattle.words.specs.Widths.{moveCount}
 
 abbrev Inv-loop : tie.InvT-loop
-Inv-loop blocks insts moves n i₀ i = (n ≡ length moves / 4) × (i ≤ n) × (scan Stray (λ k. badMove (blocksOf blocks) (instsOf insts []) (moveAt (movesOf moves) k .kind) (moveAt (movesOf moves) k .number)) i ≡ Fine)
+Inv-loop blocks insts moves n i₀ i = (n ≡ moveCount moves) × (i ≤ n) × (scan Stray (λ k. badMove (blocksOf blocks) (instsOf insts []) (moveAt (movesOf moves) k .kind) (moveAt (movesOf moves) k .number)) i ≡ Fine)
 
 abbrev μ-loop : tie.MeasureT-loop
 μ-loop blocks insts moves n i₀ i = n - i

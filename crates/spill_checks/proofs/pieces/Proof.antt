@@ -14,9 +14,10 @@ use Rattle.carrying.specs.Carried.{piecesOf}
 use Rattle.areas.specs.Slots.{badPiece}
 use Rattle.spill_checks.proofs.pieces.Statement.{statement}
 use Rattle.spill_checks.proofs.pieces.Tie as tie
+use Rattle.words.specs.Widths.{pieceCount}
 
 abbrev Inv-loop : tie.InvT-loop
-Inv-loop blocks v pieces n i₀ i = (n ≡ length pieces / 3) × (i ≤ n) × (scan PieceWord (λ k. badPiece (blocksOf blocks) v (getD (piecesOf pieces) k (record { register = 0; start = 0; end = 0 }))) i ≡ Fine)
+Inv-loop blocks v pieces n i₀ i = (n ≡ pieceCount pieces) × (i ≤ n) × (scan PieceWord (λ k. badPiece (blocksOf blocks) v (getD (piecesOf pieces) k (record { register = 0; start = 0; end = 0 }))) i ≡ Fine)
 
 abbrev μ-loop : tie.MeasureT-loop
 μ-loop blocks v pieces n i₀ i = n - i

@@ -9,9 +9,10 @@ use Rattle.spill_checks.proofs.AssignedLaws.{assignedAt}
 use native.Mathlib.Nat.{add-zero}
 use Rattle.spilled_registers.proofs.assign.Statement.{statement}
 use Rattle.spilled_registers.proofs.assign.Tie as tie
+use Rattle.words.specs.Widths.{assignedWidth, assignedCount}
 
 abbrev Inv-loop : tie.InvT-loop
-Inv-loop assigned answer₀ n m i₀ answer i = (m ≡ length assigned / 2) × (i ≤ m) × Held (assignedAt assigned) answer₀ answer n i
+Inv-loop assigned answer₀ n m i₀ answer i = (m ≡ assignedCount assigned) × (i ≤ m) × Held (assignedAt assigned) answer₀ answer n i
 
 abbrev μ-loop : tie.MeasureT-loop
 μ-loop assigned answer₀ n m i₀ answer i = m - i
@@ -32,7 +33,7 @@ shared-slice-read-slot : tie.Need-shared-slice-read-slot Inv-loop μ-loop
 shared-slice-read-slot c = omega arith
 
 cast-slot : tie.Need-cast-slot Inv-loop μ-loop
-cast-slot c = omega (arith, (c .shared-slice-known) .given (2 * (c .before .before .loop) .i + 1))
+cast-slot c = omega (arith, (c .shared-slice-known) .given (assignedWidth * (c .before .before .loop) .i + 1))
 
 mul-answer : tie.Need-mul-answer Inv-loop μ-loop
 mul-answer c = omega arith
@@ -56,7 +57,7 @@ loop-less : tie.Need-loop-less Inv-loop μ-loop
 loop-less c = omega arith
 
 loop-again : tie.Need-loop-again Inv-loop μ-loop
-loop-again c = (omega arith, omega arith, held-store (assignedAt (((c .before .before .before .before .before .args) .assigned .now))) ((c .before .before .before .before .loop) .inv .2) _ _ (omega arith) (omega arith) refl (ap (λ (k : ℕ). getD (((c .before .before .before .before .before .args) .assigned .now)) k 0) (sym (add-zero (2 * (c .before .before .before .before .loop) .i)))))
+loop-again c = (omega arith, omega arith, held-store (assignedAt (((c .before .before .before .before .before .args) .assigned .now))) ((c .before .before .before .before .loop) .inv .2) _ _ (omega arith) (omega arith) refl (ap (λ (k : ℕ). getD (((c .before .before .before .before .before .args) .assigned .now)) k 0) (sym (add-zero (assignedWidth * (c .before .before .before .before .loop) .i)))))
 
 add-i-2 : tie.Need-add-i-2 Inv-loop μ-loop
 add-i-2 c = omega arith
@@ -71,7 +72,7 @@ same-length : tie.Need-same-length Inv-loop μ-loop
 same-length c = (c .before .loop) .inv .2 .len
 
 returns : tie.Need-returns Inv-loop μ-loop
-returns c = let q : (c .before .loop) .i ≡ length (((c .before .before .args) .assigned .now)) / 2 = omega arith in rw q at ((c .before .loop) .inv .2)
+returns c = let q : (c .before .loop) .i ≡ assignedCount (((c .before .before .args) .assigned .now)) = omega arith in rw q at ((c .before .loop) .inv .2)
 
 pub assign-spec : {M : Type 1} → statement M
 assign-spec =

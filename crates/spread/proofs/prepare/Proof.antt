@@ -8,11 +8,12 @@ use denote.Ref.{now}
 use Rattle.graph.proofs.Line.{blocks-length}
 use Rattle.spread.proofs.Entries.{RowSums, row-sums, walkable, prepared}
 use Rattle.spread.proofs.prepare.Tie as tie
+use Rattle.words.specs.Widths.{blockCount, edgeCount}
 
-some : (c : tie.Start) → 1 ≤ length (now (c .args .blocks)) / 3
+some : (c : tie.Start) → 1 ≤ blockCount (now (c .args .blocks))
 some c = omega (arith, c .pre .0 .0 .some-block, blocks-length (now (c .args .blocks)))
 
-fit : (c : tie.Start) → RowSums (length (now (c .args .blocks)) / 3) (length (now (c .args .edges)) / 2)
+fit : (c : tie.Start) → RowSums (blockCount (now (c .args .blocks))) (edgeCount (now (c .args .edges)))
 fit c = row-sums _ _ (length (now (c .args .work))) (some c) (c .pre .1) (omega (arith, c .good))
 
 add-at : tie.Need-add-at

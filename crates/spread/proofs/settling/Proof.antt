@@ -10,9 +10,10 @@ use Rattle.spread.proofs.Entries.{RowSums, row-sums, no-rows, as-wide, 
 use Rattle.flow.proofs.Entries.{copied, cleared-length}
 use Rattle.components.proofs.Entries.{Known, known}
 use Rattle.spread.proofs.settling.Tie as tie
+use Rattle.words.specs.Widths.{blockCount, edgeCount}
 
 fit : (c : tie.Start) → Known (now (c .args .blocks)) (now (c .args .edges)) (c .args .points) (length (now (c .args .order))) (length (now (c .args .work)))
-    → RowSums (length (now (c .args .blocks)) / 3) (length (now (c .args .edges)) / 2)
+    → RowSums (blockCount (now (c .args .blocks))) (edgeCount (now (c .args .edges)))
 fit c k = row-sums _ _ (length (now (c .args .work))) (k .graph .counts .some) (no-rows _ _ _ (k .work-fits)) (omega (arith, c .good))
 
 refusal-requires : tie.Need-refusal-requires

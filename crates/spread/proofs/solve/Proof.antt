@@ -10,11 +10,12 @@ use Rattle.spread.proofs.Entries.{RankSums, rank-sums, fewer-rows, both
 use Rattle.flow.specs.Entry.{baseOf}
 use Rattle.flow.proofs.Entries.{copied}
 use Rattle.spread.proofs.solve.Tie as tie
+use Rattle.words.specs.Widths.{blockCount, edgeCount}
 
-some : (c : tie.Start) → 1 ≤ length (now (c .args .blocks)) / 3
+some : (c : tie.Start) → 1 ≤ blockCount (now (c .args .blocks))
 some c = omega (arith, c .pre .0 .0 .some-block, blocks-length (now (c .args .blocks)))
 
-fit : (c : tie.Start) {at : ℕ} → at ≡ baseOf (now (c .args .blocks)) (now (c .args .edges)) → RankSums (length (now (c .args .blocks)) / 3) (length (now (c .args .edges)) / 2) (length (now (c .args .leaves))) at
+fit : (c : tie.Start) {at : ℕ} → at ≡ baseOf (now (c .args .blocks)) (now (c .args .edges)) → RankSums (blockCount (now (c .args .blocks))) (edgeCount (now (c .args .edges))) (length (now (c .args .leaves))) at
 fit c e = rank-sums _ _ _ _ (length (now (c .args .work))) (some c) e (c .pre .1 .1) (omega (arith, c .good))
 
 prepare-requires : tie.Need-prepare-requires

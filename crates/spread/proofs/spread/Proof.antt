@@ -9,9 +9,10 @@ use denote.Ref.{now}
 use Rattle.spread.proofs.Entries.{as-wide, rows-refused, known, rows-given}
 use Rattle.flow.proofs.Entries.{Sums, sums, Known, copied, cleared-length}
 use Rattle.spread.proofs.spread.Tie as tie
+use Rattle.words.specs.Widths.{blockCount, edgeCount}
 
 fit : (c : tie.Start) → Known (now (c .args .blocks)) (now (c .args .edges)) (c .args .points) (length (now (c .args .leaves))) (c .args .words) (length (now (c .args .out))) (length (now (c .args .work)))
-    → Sums (length (now (c .args .blocks)) / 3) (length (now (c .args .edges)) / 2) (length (now (c .args .leaves)))
+    → Sums (blockCount (now (c .args .blocks))) (edgeCount (now (c .args .edges))) (length (now (c .args .leaves)))
 fit c k = sums _ _ _ (length (now (c .args .work))) (k .graph .counts .some) (k .work-fits) (omega (arith, c .good))
 
 refusal-requires : tie.Need-refusal-requires

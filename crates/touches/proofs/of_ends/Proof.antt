@@ -9,6 +9,7 @@ use Rattle.touches.proofs.EntryLaws.{Walking, walk-start, turn, walk-sk
 use Rattle.touches.proofs.Bounds.{head-at, bounds}
 use Rattle.touches.proofs.of_ends.Statement.{statement}
 use Rattle.touches.proofs.of_ends.Tie as tie
+use Rattle.words.specs.Widths.{instWidth, mentionWidth}
 
 abbrev Inv-loop : tie.InvT-loop
 Inv-loop insts ends work₀ heads nexts local to m₀ next₀ work m next = Walking insts ends (endAt insts ends) local heads nexts to work₀ work m next
@@ -74,7 +75,7 @@ shared-slice-read-work : tie.Need-shared-slice-read-work Inv-loop μ-loop
 shared-slice-read-work c = bounds (c .before .before .before .before .before .before .loop .inv) (c .before .before .before .before .before .loop-test .taken) (room (c .before .before .before .before .before .before .before .before)) .early .inside
 
 cast-work : tie.Need-cast-work Inv-loop μ-loop
-cast-work c = omega (arith, c .shared-slice-known3 .given (9 * getD (c .before .before .before .before .before .before .before .before .args .ends .now) (2 * (c .before .before .before .before .before .before .loop .next - 1)) 0 + 2))
+cast-work c = omega (arith, c .shared-slice-known3 .given (instWidth * getD (c .before .before .before .before .before .before .before .before .args .ends .now) (mentionWidth * (c .before .before .before .before .before .before .loop .next - 1)) 0 + 2))
 
 add-work-2 : tie.Need-add-work-2 Inv-loop μ-loop
 add-work-2 c = bounds (c .before .before .before .before .before .before .loop .inv) (c .before .before .before .before .before .loop-test .taken) (room (c .before .before .before .before .before .before .before .before)) .put .fits

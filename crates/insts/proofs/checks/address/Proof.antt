@@ -16,9 +16,10 @@ use mathlib.Core.List.{[]}
 use Rattle.carrying.specs.Checks.{absent, mentionAt}
 use Rattle.insts.proofs.checks.address.Statement.{statement}
 use Rattle.insts.proofs.checks.address.Tie as tie
+use Rattle.words.specs.Widths.{addressCount}
 
 abbrev Inv-loop : tie.InvT-loop
-Inv-loop insts addresses n i₀ i = (n ≡ length addresses / 2) × (i ≤ n) × (scan Stray (λ k. absent (instsOf insts []) (mentionAt (mentionsOf addresses) k .inst) || not (isSet (instAt (instsOf insts []) (mentionAt (mentionsOf addresses) k .inst) .placed))) i ≡ Fine)
+Inv-loop insts addresses n i₀ i = (n ≡ addressCount addresses) × (i ≤ n) × (scan Stray (λ k. absent (instsOf insts []) (mentionAt (mentionsOf addresses) k .inst) || not (isSet (instAt (instsOf insts []) (mentionAt (mentionsOf addresses) k .inst) .placed))) i ≡ Fine)
 
 abbrev μ-loop : tie.MeasureT-loop
 μ-loop insts addresses n i₀ i = n - i

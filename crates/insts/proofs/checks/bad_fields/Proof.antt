@@ -5,7 +5,7 @@ use mathlib.Core.Path.{_≡_, ap}
 use lib.ListN.{getD}
 use denote.Ref.{now}
 use Rattle.insts.proofs.CheckLaws.{fields-1, fields-2, fields-3, fields-4, fields-5}
-use Rattle.words.specs.Rows.{field}
+use Rattle.words.specs.Widths.{instWidth, instPlaced, instLea, instMem, instBase, instIndex}
 use native.Mathlib.Nat.{add-zero}
 use Rattle.insts.proofs.checks.bad_fields.Statement.{statement}
 use Rattle.insts.proofs.checks.bad_fields.Tie as tie
@@ -20,7 +20,7 @@ shared-slice-read-if1 : tie.Need-shared-slice-read-if1
 shared-slice-read-if1 c = omega arith
 
 returns : tie.Need-returns
-returns c = (let z : getD (((c .before .before .args) .insts .now)) (9 * (c .before .before .args) .i + 0) 0 ≡ getD (((c .before .before .args) .insts .now)) (9 * (c .before .before .args) .i) 0 = ap (λ (k : ℕ). getD (((c .before .before .args) .insts .now)) k 0) (add-zero (9 * (c .before .before .args) .i)) in fields-1 (field 9 (((c .before .before .args) .insts .now)) ((c .before .before .args) .i) 0) (field 9 (((c .before .before .args) .insts .now)) ((c .before .before .args) .i) 4) (field 9 (((c .before .before .args) .insts .now)) ((c .before .before .args) .i) 5) (field 9 (((c .before .before .args) .insts .now)) ((c .before .before .args) .i) 6) (field 9 (((c .before .before .args) .insts .now)) ((c .before .before .args) .i) 7) (omega arith))
+returns c = (let z : instPlaced (((c .before .before .args) .insts .now)) ((c .before .before .args) .i) ≡ getD (((c .before .before .args) .insts .now)) (instWidth * (c .before .before .args) .i) 0 = ap (λ (k : ℕ). getD (((c .before .before .args) .insts .now)) k 0) (add-zero (instWidth * (c .before .before .args) .i)) in fields-1 (instPlaced (((c .before .before .args) .insts .now)) ((c .before .before .args) .i)) (instLea (((c .before .before .args) .insts .now)) ((c .before .before .args) .i)) (instMem (((c .before .before .args) .insts .now)) ((c .before .before .args) .i)) (instBase (((c .before .before .args) .insts .now)) ((c .before .before .args) .i)) (instIndex (((c .before .before .args) .insts .now)) ((c .before .before .args) .i)) (omega arith))
 
 add-if2 : tie.Need-add-if2
 add-if2 c = omega arith
@@ -32,7 +32,7 @@ shared-slice-read-if2 : tie.Need-shared-slice-read-if2
 shared-slice-read-if2 c = omega arith
 
 returns-2 : tie.Need-returns-2
-returns-2 c = (let z : getD (((c .before .before .before .before .args) .insts .now)) (9 * (c .before .before .before .before .args) .i + 0) 0 ≡ getD (((c .before .before .before .before .args) .insts .now)) (9 * (c .before .before .before .before .args) .i) 0 = ap (λ (k : ℕ). getD (((c .before .before .before .before .args) .insts .now)) k 0) (add-zero (9 * (c .before .before .before .before .args) .i)) in fields-2 (field 9 (((c .before .before .before .before .args) .insts .now)) ((c .before .before .before .before .args) .i) 0) (field 9 (((c .before .before .before .before .args) .insts .now)) ((c .before .before .before .before .args) .i) 4) (field 9 (((c .before .before .before .before .args) .insts .now)) ((c .before .before .before .before .args) .i) 5) (field 9 (((c .before .before .before .before .args) .insts .now)) ((c .before .before .before .before .args) .i) 6) (field 9 (((c .before .before .before .before .args) .insts .now)) ((c .before .before .before .before .args) .i) 7) (omega arith) (omega arith))
+returns-2 c = (let z : instPlaced (((c .before .before .before .before .args) .insts .now)) ((c .before .before .before .before .args) .i) ≡ getD (((c .before .before .before .before .args) .insts .now)) (instWidth * (c .before .before .before .before .args) .i) 0 = ap (λ (k : ℕ). getD (((c .before .before .before .before .args) .insts .now)) k 0) (add-zero (instWidth * (c .before .before .before .before .args) .i)) in fields-2 (instPlaced (((c .before .before .before .before .args) .insts .now)) ((c .before .before .before .before .args) .i)) (instLea (((c .before .before .before .before .args) .insts .now)) ((c .before .before .before .before .args) .i)) (instMem (((c .before .before .before .before .args) .insts .now)) ((c .before .before .before .before .args) .i)) (instBase (((c .before .before .before .before .args) .insts .now)) ((c .before .before .before .before .args) .i)) (instIndex (((c .before .before .before .before .args) .insts .now)) ((c .before .before .before .before .args) .i)) (omega arith) (omega arith))
 
 add-if3 : tie.Need-add-if3
 add-if3 c = omega arith
@@ -44,7 +44,7 @@ shared-slice-read-if3 : tie.Need-shared-slice-read-if3
 shared-slice-read-if3 c = omega arith
 
 returns-3 : tie.Need-returns-3
-returns-3 c = (let z : getD (((c .before .before .before .before .before .before .args) .insts .now)) (9 * (c .before .before .before .before .before .before .args) .i + 0) 0 ≡ getD (((c .before .before .before .before .before .before .args) .insts .now)) (9 * (c .before .before .before .before .before .before .args) .i) 0 = ap (λ (k : ℕ). getD (((c .before .before .before .before .before .before .args) .insts .now)) k 0) (add-zero (9 * (c .before .before .before .before .before .before .args) .i)) in fields-3 (field 9 (((c .before .before .before .before .before .before .args) .insts .now)) ((c .before .before .before .before .before .before .args) .i) 0) (field 9 (((c .before .before .before .before .before .before .args) .insts .now)) ((c .before .before .before .before .before .before .args) .i) 4) (field 9 (((c .before .before .before .before .before .before .args) .insts .now)) ((c .before .before .before .before .before .before .args) .i) 5) (field 9 (((c .before .before .before .before .before .before .args) .insts .now)) ((c .before .before .before .before .before .before .args) .i) 6) (field 9 (((c .before .before .before .before .before .before .args) .insts .now)) ((c .before .before .before .before .before .before .args) .i) 7) (omega arith) (omega arith) (omega arith))
+returns-3 c = (let z : instPlaced (((c .before .before .before .before .before .before .args) .insts .now)) ((c .before .before .before .before .before .before .args) .i) ≡ getD (((c .before .before .before .before .before .before .args) .insts .now)) (instWidth * (c .before .before .before .before .before .before .args) .i) 0 = ap (λ (k : ℕ). getD (((c .before .before .before .before .before .before .args) .insts .now)) k 0) (add-zero (instWidth * (c .before .before .before .before .before .before .args) .i)) in fields-3 (instPlaced (((c .before .before .before .before .before .before .args) .insts .now)) ((c .before .before .before .before .before .before .args) .i)) (instLea (((c .before .before .before .before .before .before .args) .insts .now)) ((c .before .before .before .before .before .before .args) .i)) (instMem (((c .before .before .before .before .before .before .args) .insts .now)) ((c .before .before .before .before .before .before .args) .i)) (instBase (((c .before .before .before .before .before .before .args) .insts .now)) ((c .before .before .before .before .before .before .args) .i)) (instIndex (((c .before .before .before .before .before .before .args) .insts .now)) ((c .before .before .before .before .before .before .args) .i)) (omega arith) (omega arith) (omega arith))
 
 add-if4 : tie.Need-add-if4
 add-if4 c = omega arith
@@ -56,7 +56,7 @@ shared-slice-read-if4 : tie.Need-shared-slice-read-if4
 shared-slice-read-if4 c = omega arith
 
 returns-4 : tie.Need-returns-4
-returns-4 c = (let z : getD (((c .before .before .before .before .before .before .before .before .args) .insts .now)) (9 * (c .before .before .before .before .before .before .before .before .args) .i + 0) 0 ≡ getD (((c .before .before .before .before .before .before .before .before .args) .insts .now)) (9 * (c .before .before .before .before .before .before .before .before .args) .i) 0 = ap (λ (k : ℕ). getD (((c .before .before .before .before .before .before .before .before .args) .insts .now)) k 0) (add-zero (9 * (c .before .before .before .before .before .before .before .before .args) .i)) in fields-4 (field 9 (((c .before .before .before .before .before .before .before .before .args) .insts .now)) ((c .before .before .before .before .before .before .before .before .args) .i) 0) (field 9 (((c .before .before .before .before .before .before .before .before .args) .insts .now)) ((c .before .before .before .before .before .before .before .before .args) .i) 4) (field 9 (((c .before .before .before .before .before .before .before .before .args) .insts .now)) ((c .before .before .before .before .before .before .before .before .args) .i) 5) (field 9 (((c .before .before .before .before .before .before .before .before .args) .insts .now)) ((c .before .before .before .before .before .before .before .before .args) .i) 6) (field 9 (((c .before .before .before .before .before .before .before .before .args) .insts .now)) ((c .before .before .before .before .before .before .before .before .args) .i) 7) (omega arith) (omega arith) (omega arith) (omega arith))
+returns-4 c = (let z : instPlaced (((c .before .before .before .before .before .before .before .before .args) .insts .now)) ((c .before .before .before .before .before .before .before .before .args) .i) ≡ getD (((c .before .before .before .before .before .before .before .before .args) .insts .now)) (instWidth * (c .before .before .before .before .before .before .before .before .args) .i) 0 = ap (λ (k : ℕ). getD (((c .before .before .before .before .before .before .before .before .args) .insts .now)) k 0) (add-zero (instWidth * (c .before .before .before .before .before .before .before .before .args) .i)) in fields-4 (instPlaced (((c .before .before .before .before .before .before .before .before .args) .insts .now)) ((c .before .before .before .before .before .before .before .before .args) .i)) (instLea (((c .before .before .before .before .before .before .before .before .args) .insts .now)) ((c .before .before .before .before .before .before .before .before .args) .i)) (instMem (((c .before .before .before .before .before .before .before .before .args) .insts .now)) ((c .before .before .before .before .before .before .before .before .args) .i)) (instBase (((c .before .before .before .before .before .before .before .before .args) .insts .now)) ((c .before .before .before .before .before .before .before .before .args) .i)) (instIndex (((c .before .before .before .before .before .before .before .before .args) .insts .now)) ((c .before .before .before .before .before .before .before .before .args) .i)) (omega arith) (omega arith) (omega arith) (omega arith))
 
 add-result : tie.Need-add-result
 add-result c = omega arith
@@ -68,7 +68,7 @@ shared-slice-read-result : tie.Need-shared-slice-read-result
 shared-slice-read-result c = omega arith
 
 returns-5 : tie.Need-returns-5
-returns-5 c = (let z : getD (((c .before .before .before .before .before .before .before .before .before .args) .insts .now)) (9 * (c .before .before .before .before .before .before .before .before .before .args) .i + 0) 0 ≡ getD (((c .before .before .before .before .before .before .before .before .before .args) .insts .now)) (9 * (c .before .before .before .before .before .before .before .before .before .args) .i) 0 = ap (λ (k : ℕ). getD (((c .before .before .before .before .before .before .before .before .before .args) .insts .now)) k 0) (add-zero (9 * (c .before .before .before .before .before .before .before .before .before .args) .i)) in fields-5 (field 9 (((c .before .before .before .before .before .before .before .before .before .args) .insts .now)) ((c .before .before .before .before .before .before .before .before .before .args) .i) 0) (field 9 (((c .before .before .before .before .before .before .before .before .before .args) .insts .now)) ((c .before .before .before .before .before .before .before .before .before .args) .i) 4) (field 9 (((c .before .before .before .before .before .before .before .before .before .args) .insts .now)) ((c .before .before .before .before .before .before .before .before .before .args) .i) 5) (field 9 (((c .before .before .before .before .before .before .before .before .before .args) .insts .now)) ((c .before .before .before .before .before .before .before .before .before .args) .i) 6) (field 9 (((c .before .before .before .before .before .before .before .before .before .args) .insts .now)) ((c .before .before .before .before .before .before .before .before .before .args) .i) 7) (omega arith) (omega arith) (omega arith) (omega arith))
+returns-5 c = (let z : instPlaced (((c .before .before .before .before .before .before .before .before .before .args) .insts .now)) ((c .before .before .before .before .before .before .before .before .before .args) .i) ≡ getD (((c .before .before .before .before .before .before .before .before .before .args) .insts .now)) (instWidth * (c .before .before .before .before .before .before .before .before .before .args) .i) 0 = ap (λ (k : ℕ). getD (((c .before .before .before .before .before .before .before .before .before .args) .insts .now)) k 0) (add-zero (instWidth * (c .before .before .before .before .before .before .before .before .before .args) .i)) in fields-5 (instPlaced (((c .before .before .before .before .before .before .before .before .before .args) .insts .now)) ((c .before .before .before .before .before .before .before .before .before .args) .i)) (instLea (((c .before .before .before .before .before .before .before .before .before .args) .insts .now)) ((c .before .before .before .before .before .before .before .before .before .args) .i)) (instMem (((c .before .before .before .before .before .before .before .before .before .args) .insts .now)) ((c .before .before .before .before .before .before .before .before .before .args) .i)) (instBase (((c .before .before .before .before .before .before .before .before .before .args) .insts .now)) ((c .before .before .before .before .before .before .before .before .before .args) .i)) (instIndex (((c .before .before .before .before .before .before .before .before .before .args) .insts .now)) ((c .before .before .before .before .before .before .before .before .before .args) .i)) (omega arith) (omega arith) (omega arith) (omega arith))
 
 pub bad-fields-spec : {M : Type 1} → statement M
 bad-fields-spec =

@@ -5,7 +5,7 @@ use mathlib.Core.Path.{_≡_, ap}
 use lib.ListN.{getD}
 use denote.Ref.{now}
 use Rattle.insts.proofs.CheckLaws.{points-1, points-2, points-3}
-use Rattle.words.specs.Rows.{field}
+use Rattle.words.specs.Widths.{instWidth, instPlaced, instEarly, instLate}
 use native.Mathlib.Nat.{add-zero}
 use Rattle.graph.specs.Line.{blocksOf}
 use Rattle.carrying.specs.Checks.{misplaced}
@@ -35,7 +35,7 @@ shared-slice-read-late : tie.Need-shared-slice-read-late
 shared-slice-read-late c = omega arith
 
 returns : tie.Need-returns
-returns c = points-1 (field 9 (((c .before .before .before .before .before .args) .insts .now)) ((c .before .before .before .before .before .args) .i) 3) (field 9 (((c .before .before .before .before .before .args) .insts .now)) ((c .before .before .before .before .before .args) .i) 2) _ (omega arith)
+returns c = points-1 (instLate (((c .before .before .before .before .before .args) .insts .now)) ((c .before .before .before .before .before .args) .i)) (instEarly (((c .before .before .before .before .before .args) .insts .now)) ((c .before .before .before .before .before .args) .i)) _ (omega arith)
 
 mul-if2 : tie.Need-mul-if2
 mul-if2 c = omega arith
@@ -44,7 +44,7 @@ shared-slice-read-if2 : tie.Need-shared-slice-read-if2
 shared-slice-read-if2 c = omega arith
 
 returns-2 : tie.Need-returns-2
-returns-2 c = (let z : getD (((c .before .before .before .before .before .before .before .args) .insts .now)) (9 * (c .before .before .before .before .before .before .before .args) .i + 0) 0 ≡ getD (((c .before .before .before .before .before .before .before .args) .insts .now)) (9 * (c .before .before .before .before .before .before .before .args) .i) 0 = ap (λ (k : ℕ). getD (((c .before .before .before .before .before .before .before .args) .insts .now)) k 0) (add-zero (9 * (c .before .before .before .before .before .before .before .args) .i)) in points-2 (field 9 (((c .before .before .before .before .before .before .before .args) .insts .now)) ((c .before .before .before .before .before .before .before .args) .i) 3) (field 9 (((c .before .before .before .before .before .before .before .args) .insts .now)) ((c .before .before .before .before .before .before .before .args) .i) 2) (field 9 (((c .before .before .before .before .before .before .before .args) .insts .now)) ((c .before .before .before .before .before .before .before .args) .i) 0) _ (omega arith) (λ q. (c .if2) .taken (omega arith)))
+returns-2 c = (let z : instPlaced (((c .before .before .before .before .before .before .before .args) .insts .now)) ((c .before .before .before .before .before .before .before .args) .i) ≡ getD (((c .before .before .before .before .before .before .before .args) .insts .now)) (instWidth * (c .before .before .before .before .before .before .before .args) .i) 0 = ap (λ (k : ℕ). getD (((c .before .before .before .before .before .before .before .args) .insts .now)) k 0) (add-zero (instWidth * (c .before .before .before .before .before .before .before .args) .i)) in points-2 (instLate (((c .before .before .before .before .before .before .before .args) .insts .now)) ((c .before .before .before .before .before .before .before .args) .i)) (instEarly (((c .before .before .before .before .before .before .before .args) .insts .now)) ((c .before .before .before .before .before .before .before .args) .i)) (instPlaced (((c .before .before .before .before .before .before .before .args) .insts .now)) ((c .before .before .before .before .before .before .before .args) .i)) _ (omega arith) (λ q. (c .if2) .taken (omega arith)))
 
 add-outside : tie.Need-add-outside
 add-outside c = omega arith
@@ -59,7 +59,7 @@ outside-requires : tie.Need-outside-requires
 outside-requires c κs = ((c .before .before .before .before .before .before .before .before .pre) .0, omega arith, (c .before .before .before .before .before .before .before .before .pre) .2)
 
 returns-3 : tie.Need-returns-3
-returns-3 c = (let z : getD (((c .before .before .before .before .before .before .before .before .before .args) .insts .now)) (9 * (c .before .before .before .before .before .before .before .before .before .args) .i + 0) 0 ≡ getD (((c .before .before .before .before .before .before .before .before .before .args) .insts .now)) (9 * (c .before .before .before .before .before .before .before .before .before .args) .i) 0 = ap (λ (k : ℕ). getD (((c .before .before .before .before .before .before .before .before .before .args) .insts .now)) k 0) (add-zero (9 * (c .before .before .before .before .before .before .before .before .before .args) .i)) in points-3 (field 9 (((c .before .before .before .before .before .before .before .before .before .args) .insts .now)) ((c .before .before .before .before .before .before .before .before .before .args) .i) 3) (field 9 (((c .before .before .before .before .before .before .before .before .before .args) .insts .now)) ((c .before .before .before .before .before .before .before .before .before .args) .i) 2) (field 9 (((c .before .before .before .before .before .before .before .before .before .args) .insts .now)) ((c .before .before .before .before .before .before .before .before .before .args) .i) 0) (misplaced (blocksOf (((c .before .before .before .before .before .before .before .before .before .args) .blocks .now))) (rowInst (((c .before .before .before .before .before .before .before .before .before .args) .insts .now)) ((c .before .before .before .before .before .before .before .before .before .args) .i))) _ (omega arith) (omega arith) ((c .outside) .ensures))
+returns-3 c = (let z : instPlaced (((c .before .before .before .before .before .before .before .before .before .args) .insts .now)) ((c .before .before .before .before .before .before .before .before .before .args) .i) ≡ getD (((c .before .before .before .before .before .before .before .before .before .args) .insts .now)) (instWidth * (c .before .before .before .before .before .before .before .before .before .args) .i) 0 = ap (λ (k : ℕ). getD (((c .before .before .before .before .before .before .before .before .before .args) .insts .now)) k 0) (add-zero (instWidth * (c .before .before .before .before .before .before .before .before .before .args) .i)) in points-3 (instLate (((c .before .before .before .before .before .before .before .before .before .args) .insts .now)) ((c .before .before .before .before .before .before .before .before .before .args) .i)) (instEarly (((c .before .before .before .before .before .before .before .before .before .args) .insts .now)) ((c .before .before .before .before .before .before .before .before .before .args) .i)) (instPlaced (((c .before .before .before .before .before .before .before .before .before .args) .insts .now)) ((c .before .before .before .before .before .before .before .before .before .args) .i)) (misplaced (blocksOf (((c .before .before .before .before .before .before .before .before .before .args) .blocks .now))) (rowInst (((c .before .before .before .before .before .before .before .before .before .args) .insts .now)) ((c .before .before .before .before .before .before .before .before .before .args) .i))) _ (omega arith) (omega arith) ((c .outside) .ensures))
 
 pub bad-points-spec : {M : Type 1} → statement M
 bad-points-spec =

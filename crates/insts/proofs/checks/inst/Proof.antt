@@ -8,7 +8,7 @@ use Rattle.refusals.specs.Verdicts.{scan}
 use Rattle.refusals.specs.declared.Verdict.the-variants.{Fine}
 use Rattle.refusals.specs.declared.Refusal.the-variants.{Inst as InstWord}
 use Rattle.refusals.proofs.Laws.{scan-none, scan-miss, scan-hit, scan-end}
-use Rattle.words.specs.Rows.{field}
+use Rattle.words.specs.Widths.{blockCount, instCount, instOperands}
 use Rattle.graph.specs.Line.{blocksOf}
 use Rattle.graph.proofs.Sums.{sum-start, sum-next}
 use Rattle.carrying.specs.Insts.{instsOf, instAt}
@@ -19,7 +19,7 @@ use Rattle.insts.proofs.checks.inst.Statement.{statement}
 use Rattle.insts.proofs.checks.inst.Tie as tie
 
 abbrev Inv-loop : tie.InvT-loop
-Inv-loop blocks v insts operands n from₀ i₀ k₀ from i k = (k ≤ length blocks / 3) × (n ≡ length insts / 9) × (i ≤ n) × (from ≡ offset insts i) × (scan InstWord (λ k. badInst (blocksOf blocks) v (instAt (instsOf insts operands) k)) i ≡ Fine)
+Inv-loop blocks v insts operands n from₀ i₀ k₀ from i k = (k ≤ blockCount blocks) × (n ≡ instCount insts) × (i ≤ n) × (from ≡ offset insts i) × (scan InstWord (λ k. badInst (blocksOf blocks) v (instAt (instsOf insts operands) k)) i ≡ Fine)
 
 abbrev μ-loop : tie.MeasureT-loop
 μ-loop blocks v insts operands n from₀ i₀ k₀ from i k = n - i
@@ -73,7 +73,7 @@ loop-less : tie.Need-loop-less Inv-loop μ-loop
 loop-less c = omega arith
 
 loop-again : tie.Need-loop-again Inv-loop μ-loop
-loop-again c = ((c .before .before .before .before .near) .ensures .within, omega arith, omega arith, ap (λ (x : ℕ). x + (c .wide) .result) ((c .before .before .before .before .before .before .before .loop) .inv .3) ∙ ap (λ (x : ℕ). offset (((c .before .before .before .before .before .before .before .before .before .before .before .args) .insts .now)) ((c .before .before .before .before .before .before .before .loop) .i) + x) ((c .wide) .ensures) ∙ sym (sum-next (λ k. field 9 (((c .before .before .before .before .before .before .before .before .before .before .before .args) .insts .now)) k 8) ((c .before .before .before .before .before .before .before .loop) .i)), scan-miss _ _ _ ((c .before .before .before .before .before .before .before .loop) .inv .4) (sym ((c .before .before .before .bad-inst) .ensures) ∙ (c .before .before .if1) .left))
+loop-again c = ((c .before .before .before .before .near) .ensures .within, omega arith, omega arith, ap (λ (x : ℕ). x + (c .wide) .result) ((c .before .before .before .before .before .before .before .loop) .inv .3) ∙ ap (λ (x : ℕ). offset (((c .before .before .before .before .before .before .before .before .before .before .before .args) .insts .now)) ((c .before .before .before .before .before .before .before .loop) .i) + x) ((c .wide) .ensures) ∙ sym (sum-next (λ k. instOperands (((c .before .before .before .before .before .before .before .before .before .before .before .args) .insts .now)) k) ((c .before .before .before .before .before .before .before .loop) .i)), scan-miss _ _ _ ((c .before .before .before .before .before .before .before .loop) .inv .4) (sym ((c .before .before .before .bad-inst) .ensures) ∙ (c .before .before .if1) .left))
 
 returns-2 : tie.Need-returns-2 Inv-loop μ-loop
 returns-2 c = sym (scan-end _ _ _ _ ((c .before .loop) .inv .4) (omega (arith, insts-length (((c .before .before .before .before .before .args) .insts .now)) (((c .before .before .before .before .before .args) .operands .now)))) (omega (arith, insts-length (((c .before .before .before .before .before .args) .insts .now)) (((c .before .before .before .before .before .args) .operands .now)))))

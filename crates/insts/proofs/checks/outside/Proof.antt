@@ -5,7 +5,7 @@ use mathlib.Core.Path.{_≡_, sym, ap, _∙_}
 use lib.ListN.{getD}
 use denote.Ref.{now}
 use Rattle.insts.proofs.CheckLaws.{search-found, not-in, found-in}
-use Rattle.words.specs.Rows.{field}
+use Rattle.words.specs.Widths.{blockWidth, blockStart}
 use borrow.Author.Tests.{leb-true}
 use Rattle.graph.proofs.Line.{number-is}
 use Rattle.insts.proofs.checks.outside.Statement.{statement}
@@ -27,7 +27,7 @@ shared-slice-read-if2 : tie.Need-shared-slice-read-if2
 shared-slice-read-if2 c = let w = (c .before .before .pre) .2 .within in omega arith
 
 returns-2 : tie.Need-returns-2
-returns-2 c = not-in (((c .before .before .before .args) .blocks .now)) ((c .before .before .before .pre) .0) ((c .before .before .before .args) .number) ((c .before .before .before .args) .early) ((c .before .before .before .args) .late) (λ k h e a b. let q = search-found (((c .before .before .before .args) .blocks .now)) ((c .before .before .before .pre) .0) _ k ((c .before .before .before .args) .early) ((c .before .before .before .pre) .2) h a (omega arith) in let z : (c .before .before .before .args) .k - 1 ≡ k = omega arith in (c .if2) .taken (ap (λ (j : ℕ). getD (((c .before .before .before .args) .blocks .now)) (3 * j) 0) z ∙ sym (number-is (((c .before .before .before .args) .blocks .now)) k h) ∙ e))
+returns-2 c = not-in (((c .before .before .before .args) .blocks .now)) ((c .before .before .before .pre) .0) ((c .before .before .before .args) .number) ((c .before .before .before .args) .early) ((c .before .before .before .args) .late) (λ k h e a b. let q = search-found (((c .before .before .before .args) .blocks .now)) ((c .before .before .before .pre) .0) _ k ((c .before .before .before .args) .early) ((c .before .before .before .pre) .2) h a (omega arith) in let z : (c .before .before .before .args) .k - 1 ≡ k = omega arith in (c .if2) .taken (ap (λ (j : ℕ). getD (((c .before .before .before .args) .blocks .now)) (blockWidth * j) 0) z ∙ sym (number-is (((c .before .before .before .args) .blocks .now)) k h) ∙ e))
 
 mul-result : tie.Need-mul-result
 mul-result c = let w = (c .before .before .before .pre) .2 .within in omega arith
@@ -42,7 +42,7 @@ shared-slice-read-result : tie.Need-shared-slice-read-result
 shared-slice-read-result c = let w = (c .before .before .before .before .pre) .2 .within in omega arith
 
 returns-3 : tie.Need-returns-3
-returns-3 c = let w = (c .before .before .before .before .pre) .2 .within in found-in (((c .before .before .before .before .args) .blocks .now)) ((c .before .before .before .before .pre) .0) ((c .before .before .before .before .args) .number) ((c .before .before .before .before .args) .early) ((c .before .before .before .before .args) .late) ((c .before .before .before .before .args) .k - 1) (omega arith) ((c .before .if2) .left) (leb-true (field 3 (((c .before .before .before .before .args) .blocks .now)) ((c .before .before .before .before .args) .k - 1) 1) ((c .before .before .before .before .args) .early) ((c .before .before .before .before .pre) .2 .holds ((c .before .before .before .before .args) .k - 1) (omega arith)))
+returns-3 c = let w = (c .before .before .before .before .pre) .2 .within in found-in (((c .before .before .before .before .args) .blocks .now)) ((c .before .before .before .before .pre) .0) ((c .before .before .before .before .args) .number) ((c .before .before .before .before .args) .early) ((c .before .before .before .before .args) .late) ((c .before .before .before .before .args) .k - 1) (omega arith) ((c .before .if2) .left) (leb-true (blockStart (((c .before .before .before .before .args) .blocks .now)) ((c .before .before .before .before .args) .k - 1)) ((c .before .before .before .before .args) .early) ((c .before .before .before .before .pre) .2 .holds ((c .before .before .before .before .args) .k - 1) (omega arith)))
 
 pub outside-spec : {M : Type 1} → statement M
 outside-spec =

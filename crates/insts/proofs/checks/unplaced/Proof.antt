@@ -9,7 +9,7 @@ use native.Mathlib.Nat.{add-zero}
 use Rattle.carrying.specs.Insts.{isSet}
 use mathlib.Core.Bool.{not, _||_}
 use lib.Dec.{leb, eqb}
-use Rattle.words.specs.Rows.{field}
+use Rattle.words.specs.Widths.{instWidth, instCount, instPlaced}
 use Rattle.insts.proofs.checks.unplaced.Statement.{statement}
 use Rattle.insts.proofs.checks.unplaced.Tie as tie
 
@@ -17,7 +17,7 @@ wide-requires : tie.Need-wide-requires
 wide-requires c κs = omega arith
 
 returns : tie.Need-returns
-returns c = unplaced-1 (length (((c .before .before .before .args) .insts .now)) / 9) ((c .before .before .before .args) .number) (not (isSet (field 9 (((c .before .before .before .args) .insts .now)) ((c .before .before .before .args) .number) 0))) (omega arith)
+returns c = unplaced-1 (instCount (((c .before .before .before .args) .insts .now))) ((c .before .before .before .args) .number) (not (isSet (instPlaced (((c .before .before .before .args) .insts .now)) ((c .before .before .before .args) .number)))) (omega arith)
 
 mul-result : tie.Need-mul-result
 mul-result c = omega arith
@@ -29,7 +29,7 @@ shared-slice-read-result : tie.Need-shared-slice-read-result
 shared-slice-read-result c = omega arith
 
 returns-2 : tie.Need-returns-2
-returns-2 c = ap (λ (x : ℕ). not (eqb (getD (((c .before .before .before .before .args) .insts .now)) (9 * x) 0) 1)) ((c .before .before .wide) .ensures) ∙ unplaced-2 (length (((c .before .before .before .before .args) .insts .now)) / 9) ((c .before .before .before .before .args) .number) (getD (((c .before .before .before .before .args) .insts .now)) (9 * (c .before .before .before .before .args) .number) 0) (omega arith) ∙ ap (λ (k : ℕ). leb (length (((c .before .before .before .before .args) .insts .now)) / 9) ((c .before .before .before .before .args) .number) || not (isSet (getD (((c .before .before .before .before .args) .insts .now)) k 0))) (sym (add-zero (9 * (c .before .before .before .before .args) .number)))
+returns-2 c = ap (λ (x : ℕ). not (eqb (getD (((c .before .before .before .before .args) .insts .now)) (instWidth * x) 0) 1)) ((c .before .before .wide) .ensures) ∙ unplaced-2 (instCount (((c .before .before .before .before .args) .insts .now))) ((c .before .before .before .before .args) .number) (getD (((c .before .before .before .before .args) .insts .now)) (instWidth * (c .before .before .before .before .args) .number) 0) (omega arith) ∙ ap (λ (k : ℕ). leb (instCount (((c .before .before .before .before .args) .insts .now))) ((c .before .before .before .before .args) .number) || not (isSet (getD (((c .before .before .before .before .args) .insts .now)) k 0))) (sym (add-zero (instWidth * (c .before .before .before .before .args) .number)))
 
 pub unplaced-spec : {M : Type 1} → statement M
 unplaced-spec =

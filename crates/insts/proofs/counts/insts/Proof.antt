@@ -7,6 +7,7 @@ use borrow.Author.Needs.{needs}
 use Rattle.insts.proofs.CheckLaws.{insts-bad, operands-bad, sum-last, rows-few}
 use Rattle.insts.proofs.counts.insts.Statement.{statement}
 use Rattle.insts.proofs.counts.insts.Tie as tie
+use Rattle.words.specs.Widths.{instWidth}
 
 rows-requires : tie.Need-rows-requires
 rows-requires c κs = search needs
@@ -33,7 +34,7 @@ enum-told-2 : tie.Need-enum-told-2
 enum-told-2 c = search needs
 
 add-up-requires : tie.Need-add-up-requires
-add-up-requires c κs = rows-few 9 65536 (length (((c .before .before .before .before .before .before .before .before .args) .insts .now))) (sym ((c .before .before .before .before .before .rows) .ensures) ∙ (c .before .before .before .enum-told) .given .1)
+add-up-requires c κs = rows-few instWidth 65536 (length (((c .before .before .before .before .before .before .before .before .args) .insts .now))) (sym ((c .before .before .before .before .before .rows) .ensures) ∙ (c .before .before .before .enum-told) .given .1)
 
 returns-3 : tie.Need-returns-3
 returns-3 c = c .add-up .ensures ∙ sum-last (((c .before .before .before .before .before .before .before .before .before .args) .insts .now)) (((c .before .before .before .before .before .before .before .before .before .args) .operands .now)) (sym ((c .before .before .before .before .before .before .rows) .ensures) ∙ (c .before .before .before .before .enum-told) .given .1) (sym ((c .before .before .before .rows2) .ensures) ∙ (c .before .enum-told2) .given .1)

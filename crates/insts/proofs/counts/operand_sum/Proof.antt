@@ -6,12 +6,12 @@ use lib.ListN.{length, getD}
 use denote.Ref.{now}
 use Rattle.graph.proofs.Sums.{sum-start, sum-next}
 use Rattle.insts.specs.Counts.{offset}
-use Rattle.words.specs.Rows.{field}
+use Rattle.words.specs.Widths.{instWidth, instCount, instOperands}
 use Rattle.insts.proofs.counts.operand_sum.Statement.{statement}
 use Rattle.insts.proofs.counts.operand_sum.Tie as tie
 
 abbrev Inv-loop : tie.InvT-loop
-Inv-loop insts n sum₀ i₀ sum i = (n ≡ length insts / 9) × (i ≤ n) × (n ≤ 65536) × (sum ≡ offset insts i) × (sum ≤ i * 4294967295)
+Inv-loop insts n sum₀ i₀ sum i = (n ≡ instCount insts) × (i ≤ n) × (n ≤ 65536) × (sum ≡ offset insts i) × (sum ≤ i * 4294967295)
 
 abbrev μ-loop : tie.MeasureT-loop
 μ-loop insts n sum₀ i₀ sum i = n - i
@@ -32,10 +32,10 @@ shared-slice-read-sum : tie.Need-shared-slice-read-sum Inv-loop μ-loop
 shared-slice-read-sum c = omega arith
 
 cast-sum : tie.Need-cast-sum Inv-loop μ-loop
-cast-sum c = omega (arith, (c .shared-slice-known) .given (9 * (c .before .before .loop) .i + 8))
+cast-sum c = omega (arith, (c .shared-slice-known) .given (instWidth * (c .before .before .loop) .i + 8))
 
 add-sum-2 : tie.Need-add-sum-2 Inv-loop μ-loop
-add-sum-2 c = omega (arith, (c .shared-slice-known) .given (9 * (c .before .before .loop) .i + 8))
+add-sum-2 c = omega (arith, (c .shared-slice-known) .given (instWidth * (c .before .before .loop) .i + 8))
 
 add-i : tie.Need-add-i Inv-loop μ-loop
 add-i c = omega arith
@@ -44,10 +44,10 @@ loop-less : tie.Need-loop-less Inv-loop μ-loop
 loop-less c = omega arith
 
 loop-again : tie.Need-loop-again Inv-loop μ-loop
-loop-again c = (omega arith, omega arith, omega arith, ap (λ (x : ℕ). x + getD (((c .before .before .before .args) .insts .now)) (9 * (c .before .before .loop) .i + 8) 0) ((c .before .before .loop) .inv .3) ∙ sym (sum-next (λ k. field 9 (((c .before .before .before .args) .insts .now)) k 8) ((c .before .before .loop) .i)), omega (arith, (c .shared-slice-known) .given (9 * (c .before .before .loop) .i + 8)))
+loop-again c = (omega arith, omega arith, omega arith, ap (λ (x : ℕ). x + instOperands (((c .before .before .before .args) .insts .now)) ((c .before .before .loop) .i)) ((c .before .before .loop) .inv .3) ∙ sym (sum-next (λ k. instOperands (((c .before .before .before .args) .insts .now)) k) ((c .before .before .loop) .i)), omega (arith, (c .shared-slice-known) .given (instWidth * (c .before .before .loop) .i + 8)))
 
 returns : tie.Need-returns Inv-loop μ-loop
-returns c = let q : (c .before .loop) .i ≡ length (((c .before .before .args) .insts .now)) / 9 = omega arith in (c .before .loop) .inv .3 ∙ ap (offset (((c .before .before .args) .insts .now))) q
+returns c = let q : (c .before .loop) .i ≡ instCount (((c .before .before .args) .insts .now)) = omega arith in (c .before .loop) .inv .3 ∙ ap (offset (((c .before .before .args) .insts .now))) q
 
 pub operand-sum-spec : {M : Type 1} → statement M
 operand-sum-spec =

@@ -3,7 +3,7 @@ use native.Mathlib.Omega.{arith}
 use Prim.Native.Nat.{_-_, _*_, _^_, _≤_, _<_}
 use mathlib.Core.Path.{_≡_, refl}
 use lib.ListN.{length}
-use Rattle.words.specs.Rows.{field}
+use Rattle.words.specs.Widths.{instCount, instOperands}
 use Rattle.graph.proofs.Sums.{sum-start, sum-next}
 use Rattle.reach.proofs.Bounds.{count-at}
 use Rattle.reach.proofs.ScanLaws.{scan-start, scan-more}
@@ -17,7 +17,7 @@ use Rattle.reach.proofs.scan.scan.Statement.{statement}
 use Rattle.reach.proofs.scan.scan.Tie as tie
 
 abbrev Inv-loop : tie.InvT-loop
-Inv-loop insts operands v work₀ lay m count₀ from₀ i₀ work count from i = (m ≡ length insts / 9) × (i ≤ m) × (from ≡ offset insts i) × Scanning v (instsOf insts operands) insts lay work₀ work i count
+Inv-loop insts operands v work₀ lay m count₀ from₀ i₀ work count from i = (m ≡ instCount insts) × (i ≤ m) × (from ≡ offset insts i) × Scanning v (instsOf insts operands) insts lay work₀ work i count
 
 abbrev μ-loop : tie.MeasureT-loop
 μ-loop insts operands v work₀ lay m count₀ from₀ i₀ work count from i = m - i
@@ -56,13 +56,13 @@ loop-less : tie.Need-loop-less Inv-loop μ-loop
 loop-less c = omega arith
 
 loop-again : tie.Need-loop-again Inv-loop μ-loop
-loop-again c = let z = sum-next (λ k. field 9 (c .before .before .before .before .before .before .before .before .before .before .before .args .insts .now) k 8) (c .before .before .before .before .before .before .before .loop .i) in let y = c .wide .ensures in (omega arith, omega arith, omega arith, scan-more _ (c .before .before .before .before .before .before .before .before .before .before .before .args .insts .now) (c .before .before .before .before .before .before .before .before .before .before .before .args .operands .now) _ (c .before .before .before .before .before .before .before .before .before .before .before .pre .0 .0) (omega arith) (c .before .before .before .before .before .before .before .loop .inv .3) (omega arith) (c .before .before .before .before .before .before .before .loop .from) (c .before .before .before .before .before .before .before .loop .inv .2) (c .before .before .before .before .one .ensures))
+loop-again c = let z = sum-next (λ k. instOperands (c .before .before .before .before .before .before .before .before .before .before .before .args .insts .now) k) (c .before .before .before .before .before .before .before .loop .i) in let y = c .wide .ensures in (omega arith, omega arith, omega arith, scan-more _ (c .before .before .before .before .before .before .before .before .before .before .before .args .insts .now) (c .before .before .before .before .before .before .before .before .before .before .before .args .operands .now) _ (c .before .before .before .before .before .before .before .before .before .before .before .pre .0 .0) (omega arith) (c .before .before .before .before .before .before .before .loop .inv .3) (omega arith) (c .before .before .before .before .before .before .before .loop .from) (c .before .before .before .before .before .before .before .loop .inv .2) (c .before .before .before .before .one .ensures))
 
 same-length : tie.Need-same-length Inv-loop μ-loop
 same-length c = c .before .loop .inv .3 .kept .len
 
 returns : tie.Need-returns Inv-loop μ-loop
-returns c = let z : (c .before .loop) .i ≡ length (c .before .before .before .before .before .args .insts .now) / 9 = omega arith in rw z at (c .before .loop .inv .3)
+returns c = let z : (c .before .loop) .i ≡ instCount (c .before .before .before .before .before .args .insts .now) = omega arith in rw z at (c .before .loop .inv .3)
 
 pub scan-spec : {M : Type 1} → statement M
 scan-spec =

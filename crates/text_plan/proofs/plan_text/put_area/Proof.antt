@@ -14,6 +14,7 @@ use Rattle.text_plan.proofs.PutLaws.{puts-as, puts-length}
 use Rattle.text_plan.specs.Lines.{lineText}
 use Rattle.text_plan.proofs.plan_text.put_area.Statement.{statement}
 use Rattle.text_plan.proofs.plan_text.put_area.Tie as tie
+use Rattle.words.specs.Widths.{rangeWidth}
 
 abbrev Inv-loop : tie.InvT-loop
 Inv-loop areas local start n out₀ at next₀ j₀ out next j = Lines (λ i. rowLine areas local (start + i)) 128 out₀ at n out next j
@@ -37,7 +38,7 @@ shared-slice-read-t15 : tie.Need-shared-slice-read-t15 Inv-loop μ-loop
 shared-slice-read-t15 c = omega arith
 
 cast-t16 : tie.Need-cast-t16 Inv-loop μ-loop
-cast-t16 c = omega (arith, (c .shared-slice-known2) .given (2 * ((c .before .before .before .before .before .args) .start + (c .before .before .loop) .j)))
+cast-t16 c = omega (arith, (c .shared-slice-known2) .given (rangeWidth * ((c .before .before .before .before .before .args) .start + (c .before .before .loop) .j)))
 
 add-t17 : tie.Need-add-t17 Inv-loop μ-loop
 add-t17 c = omega arith
@@ -49,7 +50,7 @@ shared-slice-read-t20 : tie.Need-shared-slice-read-t20 Inv-loop μ-loop
 shared-slice-read-t20 c = omega arith
 
 cast-t21 : tie.Need-cast-t21 Inv-loop μ-loop
-cast-t21 c = omega (arith, (c .shared-slice-known3) .given ((2 * ((c .before .before .before .before .before .before .args) .start + (c .before .before .before .loop) .j)) + 1))
+cast-t21 c = omega (arith, (c .shared-slice-known3) .given ((rangeWidth * ((c .before .before .before .before .before .before .args) .start + (c .before .before .before .loop) .j)) + 1))
 
 slice-aggregate-put-line : tie.Need-slice-aggregate-put-line Inv-loop μ-loop
 slice-aggregate-put-line c = search needs
@@ -76,8 +77,8 @@ loop-again c =
     let a = s3 .args in
     lines-more (loop .inv) (omega arith)
     (puts-as
-    (ap (λ (k : ℕ). lineText 71 (a .local ∷ getD (now (a .areas)) k 0 ∷ getD (now (a .areas)) ((2 * (a .start + loop .j)) + 1) 0 ∷ []))
-    (sym (add-zero (2 * (a .start + loop .j))))) ((s1 .put-line) .ensures))
+    (ap (λ (k : ℕ). lineText 71 (a .local ∷ getD (now (a .areas)) k 0 ∷ getD (now (a .areas)) ((rangeWidth * (a .start + loop .j)) + 1) 0 ∷ []))
+    (sym (add-zero (rangeWidth * (a .start + loop .j))))) ((s1 .put-line) .ensures))
 
 same-length : tie.Need-same-length Inv-loop μ-loop
 same-length c = puts-length ((c .before .loop) .inv .puts)

@@ -14,6 +14,7 @@ use Rattle.text_plan.proofs.PutLaws.{puts-as, puts-length}
 use Rattle.text_plan.specs.Lines.{lineText}
 use Rattle.text_plan.proofs.plan_text.put_cells.Statement.{statement}
 use Rattle.text_plan.proofs.plan_text.put_cells.Tie as tie
+use Rattle.words.specs.Widths.{cellWidth, cellAlign}
 
 abbrev Inv-loop : tie.InvT-loop
 Inv-loop cells out₀ at n next₀ i₀ out next i = Lines (cellLine cells) 128 out₀ at n out next i
@@ -34,7 +35,7 @@ shared-slice-read-t14 : tie.Need-shared-slice-read-t14 Inv-loop μ-loop
 shared-slice-read-t14 c = omega arith
 
 cast-t15 : tie.Need-cast-t15 Inv-loop μ-loop
-cast-t15 c = omega (arith, (c .shared-slice-known2) .given (2 * (c .before .before .loop) .i))
+cast-t15 c = omega (arith, (c .shared-slice-known2) .given (cellWidth * (c .before .before .loop) .i))
 
 mul-t16 : tie.Need-mul-t16 Inv-loop μ-loop
 mul-t16 c = omega arith
@@ -49,7 +50,7 @@ shared-slice-read-t20 : tie.Need-shared-slice-read-t20 Inv-loop μ-loop
 shared-slice-read-t20 c = omega arith
 
 cast-t21 : tie.Need-cast-t21 Inv-loop μ-loop
-cast-t21 c = omega (arith, (c .shared-slice-known3) .given (2 * (c .before .before .before .loop) .i + 1))
+cast-t21 c = omega (arith, (c .shared-slice-known3) .given (cellWidth * (c .before .before .before .loop) .i + 1))
 
 slice-aggregate-put-line : tie.Need-slice-aggregate-put-line Inv-loop μ-loop
 slice-aggregate-put-line c = search needs
@@ -75,7 +76,7 @@ loop-again c =
     let s3 = s2 .before .before .before in
     let a = s3 .args in
     lines-more (loop .inv) (omega arith)
-    (puts-as (ap (λ (k : ℕ). lineText 67 (loop .i ∷ getD (now (a .cells)) k 0 ∷ getD (now (a .cells)) (2 * loop .i + 1) 0 ∷ [])) (sym (add-zero (2 * loop .i))))
+    (puts-as (ap (λ (k : ℕ). lineText 67 (loop .i ∷ getD (now (a .cells)) k 0 ∷ cellAlign (now (a .cells)) (loop .i) ∷ [])) (sym (add-zero (cellWidth * loop .i))))
     ((s1 .put-line) .ensures))
 
 same-length : tie.Need-same-length Inv-loop μ-loop

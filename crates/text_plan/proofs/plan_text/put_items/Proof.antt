@@ -14,6 +14,7 @@ use Rattle.text_plan.proofs.PutLaws.{puts-as, puts-length}
 use Rattle.text_plan.specs.Lines.{lineText}
 use Rattle.text_plan.proofs.plan_text.put_items.Statement.{statement}
 use Rattle.text_plan.proofs.plan_text.put_items.Tie as tie
+use Rattle.words.specs.Widths.{itemWidth}
 
 abbrev Inv-loop : tie.InvT-loop
 Inv-loop letter items base n out₀ at next₀ i₀ out next i = Lines (itemLine letter items base) 128 out₀ at n out next i
@@ -37,7 +38,7 @@ shared-slice-read-t16 : tie.Need-shared-slice-read-t16 Inv-loop μ-loop
 shared-slice-read-t16 c = omega arith
 
 cast-t17 : tie.Need-cast-t17 Inv-loop μ-loop
-cast-t17 c = omega (arith, (c .shared-slice-known2) .given (4 * ((c .before .before .before .before .before .args) .base + (c .before .before .loop) .i)))
+cast-t17 c = omega (arith, (c .shared-slice-known2) .given (itemWidth * ((c .before .before .before .before .before .args) .base + (c .before .before .loop) .i)))
 
 slice-aggregate-put-line : tie.Need-slice-aggregate-put-line Inv-loop μ-loop
 slice-aggregate-put-line c = search needs
@@ -63,7 +64,7 @@ loop-again c =
     let s3 = s2 .before .before .before in
     let a = s3 .args in
     lines-more (loop .inv) (omega arith)
-    (puts-as (ap (λ (k : ℕ). lineText (a .letter) (loop .i ∷ getD (now (a .items)) k 0 ∷ [])) (sym (add-zero (4 * (a .base + loop .i))))) ((s1 .put-line) .ensures))
+    (puts-as (ap (λ (k : ℕ). lineText (a .letter) (loop .i ∷ getD (now (a .items)) k 0 ∷ [])) (sym (add-zero (itemWidth * (a .base + loop .i))))) ((s1 .put-line) .ensures))
 
 same-length : tie.Need-same-length Inv-loop μ-loop
 same-length c = puts-length ((c .before .loop) .inv .puts)

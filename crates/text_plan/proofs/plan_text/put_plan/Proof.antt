@@ -10,6 +10,7 @@ use Rattle.text_plan.proofs.PlanLaws.{whole-of, cells-length, items-len
 use Rattle.text_plan.proofs.PutLaws.{puts-length, puts-then}
 use Rattle.text_plan.proofs.plan_text.put_plan.Statement.{statement}
 use Rattle.text_plan.proofs.plan_text.put_plan.Tie as tie
+use Rattle.words.specs.Widths.{itemRowCount}
 
 put-cells-requires : tie.Need-put-cells-requires
 put-cells-requires c κs =
@@ -65,7 +66,7 @@ put-shared-requires c κs =
     let p = s4 .pre in (
       (let w = whole-of (now (a′ .cells)) (now (a′ .items)) (now (a′ .areas)) (a′ .locals) p in let f = w .few in let e = w .enough in let g = w .locals-in in let a =
           (s3 .put-cells) .ensures .place in let x = cells-length (now (a′ .cells)) in let b = (s2 .put-items) .ensures .place in let y = items-length 76 (now (a′ .items)) 0
-          (a′ .locals) in let d = (s1 .put-items2) .ensures .place in let z = items-length 83 (now (a′ .items)) (a′ .locals) (length (now (a′ .items)) / 4 - (a′ .locals)) in omega
+          (a′ .locals) in let d = (s1 .put-items2) .ensures .place in let z = items-length 83 (now (a′ .items)) (a′ .locals) (itemRowCount (now (a′ .items)) - (a′ .locals)) in omega
           arith),
       (let w = whole-of (now (a′ .cells)) (now (a′ .items)) (now (a′ .areas)) (a′ .locals) p in let f = w .few in let e = w .locals-in in omega arith),
       (let w = whole-of (now (a′ .cells)) (now (a′ .items)) (now (a′ .areas)) (a′ .locals) p in w .ranges),
@@ -96,7 +97,7 @@ put-line-requires c κs =
       (let w = whole-of (now (a′ .cells)) (now (a′ .items)) (now (a′ .areas)) (a′ .locals) p in let f = w .few in let e = w .enough in let g = w .locals-in in let s =
           (s1 .put-shared) .ensures .1 in let a = (s4 .put-cells) .ensures .place in let x = cells-length (now (a′ .cells)) in let b = (s3 .put-items) .ensures .place in let y =
           items-length 76 (now (a′ .items)) 0 (a′ .locals) in let d = (s2 .put-items2) .ensures .place in let z = items-length 83 (now (a′ .items)) (a′ .locals)
-          (length (now (a′ .items)) / 4 - (a′ .locals)) in omega arith),
+          (itemRowCount (now (a′ .items)) - (a′ .locals)) in omega arith),
       lit≤ tt,
     )
 
