@@ -6,10 +6,9 @@ ghost use lib.ListN.{length, getD, drop};
 ghost use Rattle.answer_rows.specs.Rows.{rowsIn};
 ghost use Rattle.answer_rows.specs.Tables.{itemOf, rowsOf};
 ghost use Rattle.words.specs.Widths.{partWidth, rangeWidth};
+use words::HALF;
 use words::widths::part;
 use words::widths::range;
-
-const HALF: u64 = 0x1_0000_0000;
 
 // A row of two numbers for each of the `n` words from `from` on, less `less`: its upper and its lower half.
 pub fn write_rows(out: &mut [u32], w: &[u64], from: usize, n: usize, less: u64)

@@ -7,19 +7,20 @@ use Rattle.words.proofs.Points.{cut}
 use Rattle.area_flow.specs.declared.Grid.{Grid}
 use Rattle.local_spots.specs.declared.Places.{Places}
 use Rattle.area_layout.specs.declared.Sizes.{Sizes}
-use Rattle.area_layout.specs.Layout.{wordsFor, spaceFor, Numbers, Small, Placed, Gridded, markOf}
+use Rattle.area_layout.specs.Layout.{spaceFor, Numbers, Small, Placed, Gridded, markOf}
+use Rattle.words.specs.Regions.{rowWords}
 
 -- the rows of the places are short
-pub rows-small : {z : Sizes} → Small z → z .blocks * wordsFor (z .locals) ≤ 131072
+pub rows-small : {z : Sizes} → Small z → z .blocks * rowWords (z .locals) ≤ 131072
 rows-small {z} S =
-    let l : wordsFor (z .locals) ≤ 32 = omega (arith, S .few-locals) in
+    let l : rowWords (z .locals) ≤ 32 = omega (arith, S .few-locals) in
     let a = mul-le-mul-left (z .blocks) l in
     omega (arith, S .few-blocks)
 
 -- W of any 32-bit numbers is far below 64 bits
 pub space-fits : {z : Sizes} → Numbers z → spaceFor z < 2 ^ 62
 space-fits {z} C =
-    let w : wordsFor (z .locals) ≤ 67108864 = omega (arith, C .locals) in
+    let w : rowWords (z .locals) ≤ 67108864 = omega (arith, C .locals) in
     let a = mul-le-mul-left (z .blocks) w in
     omega (arith, C .blocks, C .edges, C .locals, C .touches, C .ends, C .ranges)
 
@@ -41,30 +42,30 @@ room-left d b m x r w l h₁ h₂ h₃ h₄ h₅ = omega arith
 
 module _ (b l : ℕ) (some-block : 0 < b) (few-blocks : b ≤ 4096) (some-local : 0 < l) where
   -- up to 64 locals have one word a row
-  one-word : l ≤ 64 → 3 + b / 64 + b + wordsFor b + l * wordsFor b ≤ 2 * (b * wordsFor l) + 4 * l
+  one-word : l ≤ 64 → 3 + b / 64 + b + rowWords b + l * rowWords b ≤ 2 * (b * rowWords l) + 4 * l
   one-word h =
-      let e : wordsFor l ≡ 1 = omega arith in
-      let r : b * wordsFor l ≡ b * 1 = ap (λ (k : ℕ). b * k) e in
-      cut 5 (wordsFor b)
+      let e : rowWords l ≡ 1 = omega arith in
+      let r : b * rowWords l ≡ b * 1 = ap (λ (k : ℕ). b * k) e in
+      cut 5 (rowWords b)
       (λ m.
-      let f : wordsFor b ≡ wordsFor b - 4 + 4 = omega arith in
-      let x : l * wordsFor b ≡ l * (wordsFor b - 4 + 4) = ap (λ (k : ℕ). l * k) f in
-      let y : l * (wordsFor b - 4) ≤ 64 * (wordsFor b - 4) = mul-le-mul-right (wordsFor b - 4) h in
+      let f : rowWords b ≡ rowWords b - 4 + 4 = omega arith in
+      let x : l * rowWords b ≡ l * (rowWords b - 4 + 4) = ap (λ (k : ℕ). l * k) f in
+      let y : l * (rowWords b - 4) ≤ 64 * (rowWords b - 4) = mul-le-mul-right (rowWords b - 4) h in
       omega arith)
-      (λ m. cut 2 (wordsFor b)
-      (λ q. let x : l * wordsFor b ≤ l * 4 = mul-le-mul-left l (omega arith) in omega arith)
-      (λ q. let x : l * wordsFor b ≡ l * 1 = ap (λ (k : ℕ). l * k) (omega arith) in omega arith))
+      (λ m. cut 2 (rowWords b)
+      (λ q. let x : l * rowWords b ≤ l * 4 = mul-le-mul-left l (omega arith) in omega arith)
+      (λ q. let x : l * rowWords b ≡ l * 1 = ap (λ (k : ℕ). l * k) (omega arith) in omega arith))
 
   -- more have two or more
-  more-words : 64 < l → 3 + b / 64 + b + wordsFor b + l * wordsFor b ≤ 2 * (b * wordsFor l) + 4 * l
+  more-words : 64 < l → 3 + b / 64 + b + rowWords b + l * rowWords b ≤ 2 * (b * rowWords l) + 4 * l
   more-words h =
-      let x : l * wordsFor b ≤ wordsFor l * 64 * wordsFor b = mul-le-mul-right (wordsFor b) (omega arith) in
-      let y : wordsFor l * 64 * wordsFor b ≡ wordsFor l * (64 * wordsFor b) = mul-assoc (wordsFor l) 64 (wordsFor b) in
-      let z : wordsFor l * (64 * wordsFor b) ≤ wordsFor l * (b + 63) = mul-le-mul-left (wordsFor l) (omega arith) in
-      let t : b * 2 ≤ b * wordsFor l = mul-le-mul-left b (omega arith) in
-      room-left (b / 64) b (wordsFor b) (l * wordsFor b) (b * wordsFor l) (wordsFor l) l (row-sum _ (wordsFor l) b (omega (arith, x, y, z))) (omega (arith, t)) (omega arith) (omega arith) (omega arith)
+      let x : l * rowWords b ≤ rowWords l * 64 * rowWords b = mul-le-mul-right (rowWords b) (omega arith) in
+      let y : rowWords l * 64 * rowWords b ≡ rowWords l * (64 * rowWords b) = mul-assoc (rowWords l) 64 (rowWords b) in
+      let z : rowWords l * (64 * rowWords b) ≤ rowWords l * (b + 63) = mul-le-mul-left (rowWords l) (omega arith) in
+      let t : b * 2 ≤ b * rowWords l = mul-le-mul-left b (omega arith) in
+      room-left (b / 64) b (rowWords b) (l * rowWords b) (b * rowWords l) (rowWords l) l (row-sum _ (rowWords l) b (omega (arith, x, y, z))) (omega (arith, t)) (omega arith) (omega arith) (omega arith)
 
-  pub rows-fit : 3 + b / 64 + b + wordsFor b + l * wordsFor b ≤ 2 * (b * wordsFor l) + 4 * l
+  pub rows-fit : 3 + b / 64 + b + rowWords b + l * rowWords b ≤ 2 * (b * rowWords l) + 4 * l
   rows-fit = cut 65 l (λ h. more-words (omega arith)) (λ h. one-word (omega arith))
 
 -- the last region, three words a touch and a word a block, ends within W
@@ -72,6 +73,6 @@ pub layout-fits : (z : Sizes) (p : Places) (g : Grid) → Small z → 0 < z .loc
     → markOf g + g .width + z .blocks + (3 * z .touches + z .blocks) ≤ spaceFor z
 layout-fits z p g S h P G =
     let r = rows-fit (z .blocks) (z .locals) (S .some-block) (S .few-blocks) h in
-    let w : z .blocks * g .words ≡ z .blocks * wordsFor (z .locals) = ap (λ (k : ℕ). z .blocks * k) (G .words-are) in
-    let x : g .locals * g .width ≡ z .locals * wordsFor (z .blocks) = ap (λ (k : ℕ). k * g .width) (G .locals-are) ∙ ap (λ (k : ℕ). z .locals * k) (G .width-is) in
+    let w : z .blocks * g .words ≡ z .blocks * rowWords (z .locals) = ap (λ (k : ℕ). z .blocks * k) (G .words-are) in
+    let x : g .locals * g .width ≡ z .locals * rowWords (z .blocks) = ap (λ (k : ℕ). k * g .width) (G .locals-are) ∙ ap (λ (k : ℕ). z .locals * k) (G .width-is) in
     omega arith

@@ -4,14 +4,11 @@ use mathlib.Core.Path.{_≡_}
 use Rattle.area_flow.specs.declared.Grid.{Grid}
 use Rattle.local_spots.specs.declared.Places.{Places}
 use Rattle.area_layout.specs.declared.Sizes.{Sizes}
-
--- ⌈n/64⌉
-abbrev pub wordsFor : ℕ → ℕ
-wordsFor n = (n + 63) / 64
+use Rattle.words.specs.Regions.{rowWords}
 
 -- W = 8 × (the records lent + B × ⌈locals/64⌉ + the length of the area list)
 abbrev pub spaceFor : Sizes → ℕ
-spaceFor z = 8 * (z .blocks + z .edges + z .locals + z .touches + z .ends + z .blocks * wordsFor (z .locals) + z .room)
+spaceFor z = 8 * (z .blocks + z .edges + z .locals + z .touches + z .ends + z .blocks * rowWords (z .locals) + z .room)
 
 -- each number fits 32 bits: W of any such numbers is computed
 pub record Numbers (z : Sizes) : Type 0 where
@@ -42,9 +39,9 @@ pub record Placed (z : Sizes) (p : Places) : Type 0 where
 
 -- the rows, each of them behind the one before
 pub record Gridded (z : Sizes) (base : ℕ) (g : Grid) : Type 0 where
-  pub words-are : g .words ≡ wordsFor (z .locals)
+  pub words-are : g .words ≡ rowWords (z .locals)
   pub locals-are : g .locals ≡ z .locals
-  pub width-is : g .width ≡ wordsFor (z .blocks)
+  pub width-is : g .width ≡ rowWords (z .blocks)
   pub base-is : g .base ≡ base
   pub tarjan-at : g .tarjan ≡ base + z .edges + z .edges + (z .blocks + 1 + z .edges)
   pub touched-at : g .touched ≡ g .tarjan + 6 * z .blocks

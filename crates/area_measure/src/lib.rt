@@ -4,10 +4,9 @@ ghost use Rattle.graph.specs.Line.{blocksOf, Sound};
 ghost use Rattle.area_measure.specs.Measure.{Measurable, AreaIn, Listable, Measured};
 use area_pieces::Local;
 use spots::Spots;
+use words::HALF;
 
 pub mod locals; // locals.rt: all locals of touches lent by themselves
-
-const HALF: u64 = 0x1_0000_0000;
 
 // Where the areas stand in the work space, with room for `room` ranges, and from `items` on a word a local: the first of its ranges and one more than
 // how many they are, or 0 without an area.

@@ -14,7 +14,7 @@ use Rattle.refusals.specs.declared.Refusal.{Refusal}
 use Rattle.refusals.specs.Outcomes.{given, after}
 use Rattle.words.specs.Rows.{tabulate}
 use Rattle.words.specs.Sort.{sortOf}
-use Rattle.words.specs.Regions.{Region, part, cleared}
+use Rattle.words.specs.Regions.{Region, part, cleared, rowWords}
 use Rattle.words.specs.Widths.{instCount, operandCount, localCount, addressCount}
 use Rattle.words.proofs.RowLaws.{tabulate-getD}
 use Rattle.words.proofs.SortLaws.{mem-sort, mem-of-sort, length-sort}
@@ -25,7 +25,7 @@ use Rattle.graph.proofs.Line.{mem-at, at-mem}
 use Rattle.carrying.specs.Carried.{Code, Carries, carries, carried}
 use Rattle.carrying.proofs.CarryLaws.{carries-below, carried-least}
 use Rattle.reach.specs.declared.Lay.{Lay}
-use Rattle.reach.specs.Prepared.{wordsOf, codeOf}
+use Rattle.reach.specs.Prepared.{codeOf}
 use Rattle.follow.specs.declared.Sizes.{Sizes}
 use Rattle.follow.specs.declared.Followed.{Followed}
 use Rattle.queue.specs.Walk.{queued}
@@ -152,7 +152,7 @@ module _ (points v : ℕ) (blocks insts operands crossings locals addresses ends
   pub carried-given : {answer work₁ work : List ℕ} (m : ℕ) → m ≡ mostOf v insts
       → carryVerdict points v blocks insts operands crossings locals addresses ends (length answer₀) m (length work₀) ≡ Fine
       → l < localCount locals → (n : ℕ)
-      → Registers C₀ l (usedOf (wordsOf v) (instCount insts) (operandCount operands) (localCount locals) (addressCount addresses)) n answer₀ answer work₀ work₁
+      → Registers C₀ l (usedOf (rowWords v) (instCount insts) (operandCount operands) (localCount locals) (addressCount addresses)) n answer₀ answer work₀ work₁
       → (words : ℕ) → words ≡ carrySpace v blocks insts operands crossings locals addresses ends → work ≡ cleared words work₁
       → CarriedTo points v blocks insts operands crossings locals addresses ends l answer₀ work₀ (Listed n) answer work
   carried-given {answer} {work₁} {work} m em f h n r words ew c =

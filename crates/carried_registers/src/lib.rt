@@ -2,10 +2,11 @@
 ghost use mathlib.Core.Path.{_≡_};
 ghost use Prim.Native.Nat.{_/_, _≤_, _<_, min};
 ghost use lib.ListN.{length};
-ghost use Rattle.reach.specs.Prepared.{wordsOf, codeOf};
+ghost use Rattle.reach.specs.Prepared.{codeOf};
 ghost use Rattle.carry_checks.specs.Layout.{usedOf, Checked};
 ghost use Rattle.carried_registers.specs.Carried.{mostOf, Registers, CarriedTo};
 ghost use Rattle.words.specs.Widths.{instCount, operandCount, localCount, addressCount};
+ghost use Rattle.words.specs.Regions.{rowWords};
 use carry_checks::checks;
 use carry_checks::layout;
 use follow::Sizes;
@@ -49,7 +50,7 @@ fn list(
 ) -> usize
     requires { ⌜ Checked v (now insts) (now operands) (now locals) (now addresses) (now ends) (length (now work)) × (mostOf v (now insts) ≤ length (now answer)) × (local < localCount (now locals)) ⌝ }
     ensures { λ r. ⌜ Registers (codeOf v (now (insts .entry)) (now (operands .entry)) (now (crossings .entry)) (now (addresses .entry)) (now (ends .entry))) local
-        (usedOf (wordsOf v) (instCount (now (insts .entry))) (operandCount (now (operands .entry))) (localCount (now (locals .entry))) (addressCount (now (addresses .entry)))) r
+        (usedOf (rowWords v) (instCount (now (insts .entry))) (operandCount (now (operands .entry))) (localCount (now (locals .entry))) (addressCount (now (addresses .entry)))) r
         (now (answer .entry)) (now (answer .exit)) (now (work .entry)) (now (work .exit)) ⌝ }
 {
     let i = insts.len() / inst::WIDTH;

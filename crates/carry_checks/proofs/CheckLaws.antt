@@ -15,7 +15,6 @@ use Rattle.refusals.specs.Verdicts.{first, inOrder}
 use Rattle.refusals.proofs.Laws.{first-fine, first-bad, first-left, first-right, first-assoc, scan-fine, bad-fine, check-last}
 use Rattle.words.proofs.Points.{cut}
 use Rattle.words.proofs.Bools.{or-neither}
-use Rattle.job_space.specs.Space.{rowWords}
 use Rattle.carrying.specs.Insts.{instsOf, instAt, isSet}
 use Rattle.carrying.specs.Carried.{mentionsOf}
 use Rattle.carrying.specs.Checks.{crossingVerdict, addressVerdict, endVerdict, absent, mentionAt}
@@ -28,6 +27,7 @@ use Rattle.rooms.proofs.RoomLaws.{room-answer, room-work}
 use Rattle.carry_checks.specs.Checks.{carryCounts, placeVerdict, strayVerdict, carrySpace, roomVerdict, carryVerdict}
 use Rattle.carry_checks.specs.Layout.{Checked}
 use Rattle.words.specs.Widths.{blockCount, instCount, operandCount, localWidth, localCount, mentionWidth, addressCount, endCount}
+use Rattle.words.specs.Regions.{rowWords}
 
 -- ---- number 7
 

@@ -4,12 +4,12 @@ use native.Mathlib.Omega.{arith}
 use mathlib.Core.Path.{_≡_, refl, sym, ap, _∙_}
 use mathlib.Core.List.{List, _++_}
 use lib.ListN.{length, drop, replicate, length-replicate}
-use Rattle.words.specs.Regions.{cleared}
+use Rattle.words.specs.Regions.{cleared, rowWords}
 use Rattle.words.specs.Widths.{instCount, operandCount, localCount, addressCount}
 use Rattle.words.proofs.RegionLaws.{drop-same}
 use Rattle.graph.specs.Work.{Within}
 use Rattle.reach.specs.declared.Lay.{Lay}
-use Rattle.reach.specs.Prepared.{Laid, wordsOf, codeOf, Readied}
+use Rattle.reach.specs.Prepared.{Laid, codeOf, Readied}
 use Rattle.follow.specs.Followed.{Ready}
 use Rattle.follow.proofs.KeptLaws.{made-ready}
 use Rattle.carry_checks.specs.Layout.{usedOf, Checked}
@@ -30,7 +30,7 @@ laid-longer d m h = record {
 
 module _ (v : ℕ) (insts operands crossings locals addresses ends : List ℕ) (lay : Lay) (n : ℕ) {w₀ w₁ : List ℕ}
     (c : Checked v insts operands locals addresses ends (length w₀))
-    (a : Laid lay v (instCount insts) (operandCount operands) (localCount locals) (addressCount addresses) (usedOf (wordsOf v) (instCount insts) (operandCount operands) (localCount locals) (addressCount addresses)))
+    (a : Laid lay v (instCount insts) (operandCount operands) (localCount locals) (addressCount addresses) (usedOf (rowWords v) (instCount insts) (operandCount operands) (localCount locals) (addressCount addresses)))
     (b : Readied (codeOf v insts operands crossings addresses ends) lay (operandCount operands) (localCount locals) n w₀ w₁) where
   pub measure-ready : Ready lay (record { v = v; insts = instCount insts; locals = localCount locals; edges = n }) insts addresses w₁
   measure-ready =

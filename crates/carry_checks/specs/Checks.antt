@@ -8,7 +8,7 @@ use Rattle.refusals.specs.declared.Verdict.{Verdict}
 use Rattle.refusals.specs.declared.Refusal.the-variants.{Space}
 use Rattle.refusals.specs.Verdicts.{first, inOrder, check}
 use Rattle.words.specs.Widths.{blockCount, instCount, operandCount, localCount, addressCount, endCount}
-use Rattle.job_space.specs.Space.{rowWords}
+use Rattle.words.specs.Regions.{rowWords}
 use Rattle.graph.specs.Line.{blocksOf, lineVerdict}
 use Rattle.carrying.specs.Insts.{instsOf}
 use Rattle.carrying.specs.Carried.{mentionsOf}

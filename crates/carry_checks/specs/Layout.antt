@@ -3,8 +3,8 @@ use Prim.Native.Nat.{ℕ, _+_, _*_, _/_, _≤_, _<_}
 use mathlib.Core.List.{List}
 use lib.ListN.{length, getD}
 use Rattle.insts.specs.Rows.{AddsUp}
-use Rattle.reach.specs.Prepared.{wordsOf}
 use Rattle.words.specs.Widths.{instCount, operandCount, localCount, mentionWidth, addressCount, endCount}
+use Rattle.words.specs.Regions.{rowWords}
 
 -- the words that carrying uses: w words a row of bits, i instructions, o operands, l locals, a addresses
 abbrev pub usedOf : ℕ → ℕ → ℕ → ℕ → ℕ → ℕ
@@ -20,4 +20,4 @@ pub record Checked (v : ℕ) (insts operands locals addresses ends : List ℕ) (
   pub registers : v ≤ 65535
   pub found : (a : ℕ) → a < addressCount addresses → getD addresses (mentionWidth * a) 0 < instCount insts
   pub ended : (k : ℕ) → k < endCount ends → getD ends (mentionWidth * k) 0 < instCount insts
-  pub room : usedOf (wordsOf v) (instCount insts) (operandCount operands) (localCount locals) (addressCount addresses) ≤ work
+  pub room : usedOf (rowWords v) (instCount insts) (operandCount operands) (localCount locals) (addressCount addresses) ≤ work

@@ -13,6 +13,7 @@ use borrow.Author.Tests.{eqb-true, eq-eqb}
 use Rattle.graph.specs.Work.{Within}
 use Rattle.graph.proofs.Line.{mem-at, at-mem}
 use Rattle.words.specs.Widths.{instLea, mentionWidth, addressCount, mentionInst, mentionLocal}
+use Rattle.words.specs.Regions.{rowWords}
 use Rattle.words.proofs.RowLaws.{mem-tabulate, mem-of-tabulate}
 use Rattle.words.proofs.Points.{cut}
 use Rattle.words.proofs.Bools.{or-right, and-both, or-cases, or-left, and-pair, both-ways}
@@ -28,7 +29,7 @@ use Rattle.carrying.proofs.CarryLaws.{carries-below, carried-least}
 use Rattle.insts.proofs.DealtLaws.{insts-length, lea-is}
 use Rattle.reach.specs.declared.Lay.{Lay}
 use Rattle.operands.specs.Numbers.{defNumber}
-use Rattle.reach.specs.Prepared.{wordsOf, key, latest, leaReader, Hands, codeOf, Prepared}
+use Rattle.reach.specs.Prepared.{key, latest, leaReader, Hands, codeOf, Prepared}
 use Rattle.reach.specs.Steps.{rowLocal}
 use Rattle.reach.proofs.UseLaws.{by-bool, not-false, Some, some-at, some-index}
 use Rattle.reach.proofs.ReadyLaws.{empty-keep, any-rows}
@@ -65,7 +66,7 @@ pub follow-kept : {lay : Lay} {z : Sizes} {insts addresses : List ℕ} {l : ℕ}
 follow-kept {lay} {z} {w₀ = w₀} {w₃ = w₃} {s = s} t e₀ bg wk un = record {
   len = un .len ∙ wk .walking .grew .len ∙ bg .grew .len;
   below = λ k h. cut (lay .seen) k
-      (λ a. cut (lay .seen + wordsOf (z .v)) k
+      (λ a. cut (lay .seen + rowWords (z .v)) k
       (λ c. whole-way k (inr c) (inl h))
       (λ c.
       let y : lay .seen + (k - lay .seen) ≡ k = omega arith in
@@ -79,7 +80,7 @@ follow-kept {lay} {z} {w₀ = w₀} {w₃ = w₃} {s = s} t e₀ bg wk un = reco
     left k (inl h) = inl h
     left k (inr h) = inr (let q = wk .walking .grew .held .n-le in omega arith)
 
-    whole-way : (k : ℕ) → (k < lay .seen) ⊎ (lay .seen + wordsOf (z .v) ≤ k) → (k < lay .queue) ⊎ (lay .queue + z .insts ≤ k) → getD w₃ k 0 ≡ getD w₀ k 0
+    whole-way : (k : ℕ) → (k < lay .seen) ⊎ (lay .seen + rowWords (z .v) ≤ k) → (k < lay .queue) ⊎ (lay .queue + z .insts ≤ k) → getD w₃ k 0 ≡ getD w₀ k 0
     whole-way k a c = un .outside k a (left k c) ∙ wk .walking .grew .outside k a c ∙ bg .grew .outside k a c
 
 some-number : (o : Option ℕ) (r : ℕ) → o ≡ some r → defNumber o ≡ suc r
@@ -237,12 +238,12 @@ module _ (insts operands crossings addresses ends : List ℕ) (lay : Lay) (z : S
 
       -- ---- flags
 
-      row-bit : (row : ℕ) → row + wordsOf (z .v) ≤ lay .seen → (k : ℕ) → k < s .count → bit w₁ row (registerAt lay w₂ k) ≡ bit w₀ row (registerAt lay w₂ k)
+      row-bit : (row : ℕ) → row + rowWords (z .v) ≤ lay .seen → (k : ℕ) → k < s .count → bit w₁ row (registerAt lay w₂ k) ≡ bit w₀ row (registerAt lay w₂ k)
       row-bit row h k c =
           same-bit w₀ w₁ row (z .v) (registerAt lay w₂ k) (carries-below C l _ (sound k c))
           (λ x a d. bg .grew .outside x (inl (omega arith)) (inl (let y = t .laid in omega arith)))
 
-      some-carried : (row : ℕ) (f : ℕ → Bool) → row + wordsOf (z .v) ≤ lay .seen → ((r : ℕ) → r < z .v → bit w₀ row r ≡ f r) → (n : ℕ) → n ≤ s .count
+      some-carried : (row : ℕ) (f : ℕ → Bool) → row + rowWords (z .v) ≤ lay .seen → ((r : ℕ) → r < z .v → bit w₀ row r ≡ f r) → (n : ℕ) → n ≤ s .count
           → Some n (λ k. bit w₁ row (registerAt lay w₂ k)) ≡ true → any f (carried C l) ≡ true
       some-carried row f h e n c d =
           let (k, a, u) = some-index n (λ k. bit w₁ row (registerAt lay w₂ k)) d in
@@ -250,7 +251,7 @@ module _ (insts operands crossings addresses ends : List ℕ) (lay : Lay) (z : S
           any-true f (carried C l) (registerAt lay w₂ k) (carried-least C l (registerAt lay w₂ k) .1 o)
           (sym (e (registerAt lay w₂ k) (carries-below C l _ o)) ∙ sym (row-bit row h k (omega arith)) ∙ u)
 
-      carried-some : (row : ℕ) (f : ℕ → Bool) → row + wordsOf (z .v) ≤ lay .seen → ((r : ℕ) → r < z .v → bit w₀ row r ≡ f r) → s .count ≤ wk .upto
+      carried-some : (row : ℕ) (f : ℕ → Bool) → row + rowWords (z .v) ≤ lay .seen → ((r : ℕ) → r < z .v → bit w₀ row r ≡ f r) → s .count ≤ wk .upto
           → any f (carried C l) ≡ true → Some (wk .upto) (λ k. bit w₁ row (registerAt lay w₂ k)) ≡ true
       carried-some row f h e end d =
           let (r, m, u) = any-entry f (carried C l) d in

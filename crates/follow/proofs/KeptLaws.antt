@@ -9,13 +9,14 @@ use mathlib.Core.List.{List}
 use lib.ListN.{length, getD}
 use lib.Dec.{eqb, ltb}
 use Rattle.words.specs.Widths.{instCount, mentionWidth, addressCount}
+use Rattle.words.specs.Regions.{rowWords}
 use Rattle.graph.specs.Work.{Within}
 use Rattle.carrying.specs.Insts.{instsOf, instAt, defOf}
 use Rattle.carrying.specs.Carried.{Code, isNone, mentionsOf}
 use Rattle.insts.proofs.DealtLaws.{insts-length}
 use Rattle.reach.specs.declared.Lay.{Lay}
 use Rattle.operands.specs.Numbers.{defNumber}
-use Rattle.reach.specs.Prepared.{Laid, wordsOf, latest, localOf, codeOf, Prepared, Readied}
+use Rattle.reach.specs.Prepared.{Laid, latest, localOf, codeOf, Prepared, Readied}
 use Rattle.reach.specs.Steps.{rowLocal}
 use Rattle.reach.proofs.StepLaws.{splits-same}
 use Rattle.reach.proofs.ReadyLaws.{latest-same, local-is, mentions-count, def-small}
@@ -139,7 +140,7 @@ module _ {lay : Lay} {z : Sizes} {w₀ w : List ℕ} (t : Walkable lay z w₀) (
       next = λ a h g. same-at (lay .nexts + a) (let l = t .laid in omega arith) (let l = t .laid in omega arith) ∙ p .chains .next a h g;
     };
     ends = record { ended = λ m h. ap (λ (x : ℕ). eqb x 0) (same-at (lay .ended + m) (let l = t .laid in omega arith) (let l = t .laid in omega arith)) ∙ p .ends .ended m h };
-    unseen = λ x h. same-at (lay .seen + x) (let l = t .laid in omega arith) (let l = t .laid in let y : wordsOf (C .numbered) ≡ wordsOf (z .v) = ap wordsOf ev in omega arith) ∙ p .unseen x h;
+    unseen = λ x h. same-at (lay .seen + x) (let l = t .laid in omega arith) (let l = t .laid in let y : rowWords (C .numbered) ≡ rowWords (z .v) = ap rowWords ev in omega arith) ∙ p .unseen x h;
   }
 
 pub ready-stays : {lay : Lay} {z : Sizes} {insts addresses : List ℕ} {w₀ w : List ℕ} → Ready lay z insts addresses w₀ → Stays (lay .escapes) (lay .queue) w₀ w → Ready lay z insts addresses w

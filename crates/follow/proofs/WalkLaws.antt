@@ -10,13 +10,14 @@ use lib.Seq.{getD-set-same, getD-set-other}
 use lib.Dec.{ltb}
 use borrow.Author.Tests.{ltb-true, ltb-false}
 use Rattle.words.specs.Search.{Splits}
+use Rattle.words.specs.Regions.{rowWords}
 use Rattle.words.proofs.SortLaws.{rising-le}
 use Rattle.words.proofs.Points.{cut, same}
 use Rattle.words.proofs.Bools.{both-ways}
 use Rattle.bits.specs.Bits.{bit}
 use Rattle.insts.proofs.DealtLaws.{any-none, any-next}
 use Rattle.reach.specs.declared.Lay.{Lay}
-use Rattle.reach.specs.Prepared.{wordsOf, key}
+use Rattle.reach.specs.Prepared.{key}
 use Rattle.reach.proofs.StepLaws.{splits-same}
 use Rattle.reach.proofs.UseLaws.{Some, some-at, some-index}
 use Rattle.reach.proofs.ScanLaws.{same-bit}
@@ -213,7 +214,7 @@ module _ {lay : Lay} {z : Sizes} {w₀ w : List ℕ} {b : Begun} {h : ℕ} {s : 
       reg : (k : ℕ) → k < s .count → registerAt lay w' k ≡ registerAt lay w k
       reg k a = ap (λ (x : ℕ). x - 1) (ap (defAt lay w') (gr .old k a) ∙ grew-def gr (queued lay w k) (d .grew .held .low k a))
 
-      flags : (row : ℕ) → ((x : ℕ) → row ≤ x → x < row + wordsOf (z .v) → getD w x 0 ≡ getD w₀ x 0)
+      flags : (row : ℕ) → ((x : ℕ) → row ≤ x → x < row + rowWords (z .v) → getD w x 0 ≡ getD w₀ x 0)
           → (Some h (λ k. bit w₀ row (registerAt lay w k)) || bit w row (registerAt lay w h)) ≡ Some (h + 1) (λ k. bit w₀ row (registerAt lay w' k))
       flags row f =
           ap (λ (u : Bool). Some h (λ k. bit w₀ row (registerAt lay w k)) || u) (same-bit w₀ w row (z .v) (registerAt lay w h) (walk-here l .small) f)
@@ -233,9 +234,9 @@ pub record Unseeing (lay : Lay) (v m : ℕ) (w₀ w : List ℕ) (n k : ℕ) : Ty
   pub held : Held v m lay w₀ n
   pub k-le : k ≤ n
   pub len : length w ≡ length w₀
-  pub outside : (x : ℕ) → (x < lay .seen) ⊎ (lay .seen + wordsOf v ≤ x) → (x < lay .queue) ⊎ (lay .queue + k ≤ x) → getD w x 0 ≡ getD w₀ x 0
+  pub outside : (x : ℕ) → (x < lay .seen) ⊎ (lay .seen + rowWords v ≤ x) → (x < lay .queue) ⊎ (lay .queue + k ≤ x) → getD w x 0 ≡ getD w₀ x 0
   pub done : (j : ℕ) → j < k → suc (queued lay w j) ≡ defAt lay w₀ (queued lay w₀ j)
-  pub words : (x : ℕ) → x < wordsOf v → (getD w (lay .seen + x) 0 ≡ 0) ⊎ ((j : ℕ) × (k ≤ j) × (j < n) × ((defAt lay w₀ (queued lay w₀ j) - 1) / 64 ≡ x))
+  pub words : (x : ℕ) → x < rowWords v → (getD w (lay .seen + x) 0 ≡ 0) ⊎ ((j : ℕ) × (k ≤ j) × (j < n) × ((defAt lay w₀ (queued lay w₀ j) - 1) / 64 ≡ x))
 
 pub unsee-start : {lay : Lay} {v m : ℕ} {w : List ℕ} {n : ℕ} → Held v m lay w n → Unseeing lay v m w w n 0
 unsee-start {lay} {v} {m} {w} {n} h = record {
@@ -302,7 +303,7 @@ module _ {lay : Lay} {v m : ℕ} {w₀ w : List ℕ} {n k : ℕ} (d : Unseeing l
       in-x : x < length w
       in-x = (let q = back .fits in let s = d .held .n-le in omega arith)
 
-      low-r : r / 64 < wordsOf v
+      low-r : r / 64 < rowWords v
       low-r = (let q = back .small in let s = back .def in let f = back .has-def in omega arith)
 
       in-y : y < length w
@@ -311,13 +312,13 @@ module _ {lay : Lay} {v m : ℕ} {w₀ w : List ℕ} {n k : ℕ} (d : Unseeing l
       away : (j : ℕ) → lay .queue + j ≢ y
       away j e = absurd (let q = low-r in let s = d .held .seen-fits in let f = d .held .defs-fits in omega arith)
 
-      out : (u : ℕ) → (u < lay .seen) ⊎ (lay .seen + wordsOf v ≤ u) → (u < lay .queue) ⊎ (lay .queue + (k + 1) ≤ u) → getD (set (set w x r) y 0) u 0 ≡ getD w₀ u 0
+      out : (u : ℕ) → (u < lay .seen) ⊎ (lay .seen + rowWords v ≤ u) → (u < lay .queue) ⊎ (lay .queue + (k + 1) ≤ u) → getD (set (set w x r) y 0) u 0 ≡ getD w₀ u 0
       out u (inl a) (inl c) = getD-set-other (set w x r) y u 0 0 (λ e. absurd (omega arith)) ∙ getD-set-other w x u r 0 (λ e. absurd (omega arith)) ∙ d .outside u (inl a) (inl c)
       out u (inl a) (inr c) = getD-set-other (set w x r) y u 0 0 (λ e. absurd (omega arith)) ∙ getD-set-other w x u r 0 (λ e. absurd (omega arith)) ∙ d .outside u (inl a) (inr (omega arith))
       out u (inr a) (inl c) = getD-set-other (set w x r) y u 0 0 (λ e. absurd (let q = low-r in omega arith)) ∙ getD-set-other w x u r 0 (λ e. absurd (omega arith)) ∙ d .outside u (inr a) (inl c)
       out u (inr a) (inr c) = getD-set-other (set w x r) y u 0 0 (λ e. absurd (let q = low-r in omega arith)) ∙ getD-set-other w x u r 0 (λ e. absurd (omega arith)) ∙ d .outside u (inr a) (inr (omega arith))
 
-      go : (u : ℕ) → u < wordsOf v → u ≢ r / 64 → (getD w (lay .seen + u) 0 ≡ 0) ⊎ ((j : ℕ) × (k ≤ j) × (j < n) × ((defAt lay w₀ (queued lay w₀ j) - 1) / 64 ≡ u))
+      go : (u : ℕ) → u < rowWords v → u ≢ r / 64 → (getD w (lay .seen + u) 0 ≡ 0) ⊎ ((j : ℕ) × (k ≤ j) × (j < n) × ((defAt lay w₀ (queued lay w₀ j) - 1) / 64 ≡ u))
           → (getD (set (set w x r) y 0) (lay .seen + u) 0 ≡ 0) ⊎ ((j : ℕ) × (k + 1 ≤ j) × (j < n) × ((defAt lay w₀ (queued lay w₀ j) - 1) / 64 ≡ u))
       go u a e (inl f) =
           inl (getD-set-other (set w x r) y (lay .seen + u) 0 0 (λ o. e (omega arith))

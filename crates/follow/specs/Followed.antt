@@ -10,11 +10,12 @@ use Rattle.carrying.specs.declared.Kind.{Kind}
 use Rattle.carrying.specs.declared.Kind.the-variants.{Unfollowed, Plain, Ending}
 use Rattle.carrying.specs.Carried.{Code, Carries, kindOf}
 use Rattle.reach.specs.declared.Lay.{Lay}
-use Rattle.reach.specs.Prepared.{wordsOf, codeOf, Prepared}
+use Rattle.reach.specs.Prepared.{codeOf, Prepared}
 use Rattle.follow.specs.declared.Sizes.{Sizes}
 use Rattle.follow.specs.declared.Followed.{Followed}
 use Rattle.queue.specs.Walk.{queued}
 use Rattle.follow.specs.Steps.{Walkable, Chain}
+use Rattle.words.specs.Regions.{rowWords}
 
 -- the kind of a local: no address entry, lost or dead, escaping, without a placed end
 abbrev pub kindBy : Bool → Bool → Bool → Bool → Kind
@@ -22,7 +23,7 @@ kindBy none bad escapes endless = cond (none || bad) Unfollowed (cond escapes (c
 
 -- no register is seen
 pub record Empty (lay : Lay) (v : ℕ) (w : List ℕ) : Type 0 where
-  pub unseen : (k : ℕ) → k < wordsOf v → getD w (lay .seen + k) 0 ≡ 0
+  pub unseen : (k : ℕ) → k < rowWords v → getD w (lay .seen + k) 0 ≡ 0
 
 -- the local's kind, and the registers that carry its address, each once, in the queue's region; of an unfollowed local all of them only if the walk is to be whole
 pub record FollowedTo (C : Code) (lay : Lay) (z : Sizes) (l : ℕ) (whole : Bool) (w : List ℕ) (r : Followed) : Type 0 where

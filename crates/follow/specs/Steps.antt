@@ -10,11 +10,12 @@ use Rattle.words.specs.Rows.{tabulate}
 use Rattle.words.specs.Sort.{Rising}
 use Rattle.words.specs.Search.{Splits}
 use Rattle.words.specs.Widths.{instCount, instLea, mentionWidth, addressCount}
+use Rattle.words.specs.Regions.{rowWords}
 use Rattle.bits.specs.Bits.{bit}
 use Rattle.carrying.specs.Lists.{any}
 use Rattle.carrying.specs.Insts.{isSet}
 use Rattle.reach.specs.declared.Lay.{Lay}
-use Rattle.reach.specs.Prepared.{Laid, wordsOf, key, latest}
+use Rattle.reach.specs.Prepared.{Laid, key, latest}
 use Rattle.reach.specs.Steps.{rowLocal}
 use Rattle.follow.specs.declared.Sizes.{Sizes}
 use Rattle.follow.specs.declared.Begun.{Begun}
@@ -104,13 +105,13 @@ pub record Walked (lay : Lay) (z : Sizes) (w₀ w : List ℕ) (b : Begun) (whole
 -- no register is seen, and the queue has the registers themselves
 pub record Unseen (lay : Lay) (z : Sizes) (w₀ w : List ℕ) (n : ℕ) : Type 0 where
   pub len : length w ≡ length w₀
-  pub outside : (k : ℕ) → (k < lay .seen) ⊎ (lay .seen + wordsOf (z .v) ≤ k) → (k < lay .queue) ⊎ (lay .queue + n ≤ k) → getD w k 0 ≡ getD w₀ k 0
-  pub seen : (k : ℕ) → k < wordsOf (z .v) → getD w (lay .seen + k) 0 ≡ 0
+  pub outside : (k : ℕ) → (k < lay .seen) ⊎ (lay .seen + rowWords (z .v) ≤ k) → (k < lay .queue) ⊎ (lay .queue + n ≤ k) → getD w k 0 ≡ getD w₀ k 0
+  pub seen : (k : ℕ) → k < rowWords (z .v) → getD w (lay .seen + k) 0 ≡ 0
   pub registers : (k : ℕ) → k < n → suc (queued lay w k) ≡ defAt lay w₀ (queued lay w₀ k)
 
 -- what taking the instruction at k out of the queue asks: it is there, and its def is a numbered register
 pub record Forgetting (lay : Lay) (z : Sizes) (w : List ℕ) (k : ℕ) : Type 0 where
-  pub seen-fits : lay .seen + wordsOf (z .v) ≤ lay .defs
+  pub seen-fits : lay .seen + rowWords (z .v) ≤ lay .defs
   pub defs-fits : lay .defs + z .insts ≤ lay .queue
   pub queue-fits : lay .queue + z .insts ≤ length w
   pub room : k < z .insts

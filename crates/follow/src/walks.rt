@@ -13,6 +13,7 @@ use crate::Sizes;
 use crate::Walk;
 use carrying::Kind;
 use reach::Lay;
+use words::HALF;
 use words::widths::inst;
 use words::widths::mention;
 
@@ -45,10 +46,10 @@ fn grow(work: &mut [u64], lay: Lay, z: Sizes, i: usize, n: usize) -> usize
     let mut x = work[lay.firsts + i] as usize;
     while x < z.edges {
         let y = work[lay.edges + x];
-        if y / 4294967296 != q {
+        if y / HALF != q {
             return k;
         }
-        k = queue::join(z.v, z.insts, work, lay, (y % 4294967296) as usize, k);
+        k = queue::join(z.v, z.insts, work, lay, (y % HALF) as usize, k);
         x += 1;
     }
     k

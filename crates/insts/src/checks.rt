@@ -18,15 +18,10 @@ ghost use Rattle.insts.specs.Counts.{offset};
 ghost use Rattle.insts.specs.Rows.{operandsFrom, placing, rowInst, AddsUp};
 use refusals::Refusal;
 use refusals::Verdict;
+use words::wide;
 use words::widths::block;
 use words::widths::inst;
 use words::widths::mention;
-
-fn wide(x: u32) -> usize
-    ensures { λ r. ⌜ r ≡ x ⌝ }
-{
-    x as usize
-}
 
 // The first row whose field `f` is at least `limit`.
 pub fn below(s: &[u32], width: usize, f: usize, limit: usize, word: Refusal) -> Verdict

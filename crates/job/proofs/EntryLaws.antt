@@ -11,7 +11,7 @@ use native.Mathlib.Nat.{mul-le-mul-right}
 use Rattle.refusals.specs.declared.Verdict.the-variants.{Fine, Bad}
 use Rattle.refusals.specs.declared.Refusal.{Refusal}
 use Rattle.refusals.proofs.Laws.{first-fine, first-bad}
-use Rattle.words.specs.Regions.{cleared}
+use Rattle.words.specs.Regions.{cleared, rowWords}
 use Rattle.words.specs.Rows.{tabulate}
 use Rattle.words.specs.Widths.{blockCount, localWidth, localCount, localSize, localAlign, rangeCount, slotCount, slotSize}
 use Rattle.words.proofs.Points.{cut}
@@ -19,7 +19,6 @@ use Rattle.words.proofs.RowLaws.{length-records, getD-records, tabulate-eq}
 use Rattle.graph.specs.Work.{Within}
 use Rattle.components.proofs.Entries.{cleared-same}
 use Rattle.ranges.specs.declared.Range.{Range}
-use Rattle.reach.specs.Prepared.{wordsOf}
 use Rattle.areas.specs.Job.{Local, localsOf, itemCount, itemArea, itemsVerdict, areasVerdict}
 use Rattle.areas.proofs.ApartLaws.{areas-apart}
 use Rattle.fitting.specs.Wants.{Want, orderOf}
@@ -78,14 +77,14 @@ module _ (R : Rows) where
 
 -- ---- W is small
 
-words-small : (n : ℕ) → n ≤ 65535 → wordsOf n ≤ 1024
+words-small : (n : ℕ) → n ≤ 65535 → rowWords n ≤ 1024
 words-small n h = omega arith
 
 space-small : (z : Sizes) → Small z → (z .room + 8 * (z .locals + z .slots) ≤ spaceOf z) × (spaceOf z < 2 ^ 32)
 space-small z s =
-    let a : wordsOf (z .locals) ≤ 1024 = words-small (z .locals) (omega (arith, s .few-locals)) in
-    let b : wordsOf (z .v) ≤ 1024 = words-small (z .v) (s .registers) in
-    let m : z .blocks * wordsOf (z .locals) ≤ 4096 * wordsOf (z .locals) = mul-le-mul-right (wordsOf (z .locals)) (s .few-blocks) in
+    let a : rowWords (z .locals) ≤ 1024 = words-small (z .locals) (omega (arith, s .few-locals)) in
+    let b : rowWords (z .v) ≤ 1024 = words-small (z .v) (s .registers) in
+    let m : z .blocks * rowWords (z .locals) ≤ 4096 * rowWords (z .locals) = mul-le-mul-right (rowWords (z .locals)) (s .few-blocks) in
     (omega arith, omega (arith, s .few-blocks, s .few-edges, s .few-insts, s .few-operands, s .few-crossings, s .few-locals, s .few-slots, s .few-addresses, s .few-ends, s .few-pieces, s .few-assigned, s .few-moves, s .few-ranges))
 
 -- ---- the entry

@@ -6,10 +6,10 @@ use mathlib.Core.Path.{_≡_, sym, ap, _∙_, subst}
 use mathlib.Core.List.{List}
 use lib.ListN.{length}
 use Rattle.reach.specs.declared.Lay.{Lay}
-use Rattle.reach.specs.Prepared.{wordsOf, Laid as CarryLaid}
+use Rattle.reach.specs.Prepared.{Laid as CarryLaid}
 use Rattle.area_flow.specs.declared.Grid.{Grid}
 use Rattle.area_flow.specs.Grid.{Laid as GridLaid}
-use Rattle.area_layout.specs.Layout.{wordsFor, Gridded, markOf}
+use Rattle.area_layout.specs.Layout.{Gridded, markOf}
 use Rattle.area_layout.specs.Layout.{Small as GridSmall}
 use Rattle.area_layout.proofs.FitLaws.{rows-fit}
 use Rattle.slot_spots.specs.declared.Places.{Places}
@@ -19,6 +19,7 @@ use Rattle.job_space.specs.Space.{spaceOf, Small}
 use Rattle.job_space.proofs.SpaceLaws.{rows-small}
 use Rattle.job_layout.specs.declared.Regions.{Regions}
 use Rattle.job_layout.specs.Layout.{gridSizes, Placed, LaidFrom, SlotsFrom, mostOfLocal, mostOfSlot, Fits, Order, SlotOrder, LocalsLaid, SlotsLaid}
+use Rattle.words.specs.Regions.{rowWords}
 
 pub grid-small : {z : Sizes} → Small z → GridSmall (gridSizes z)
 grid-small S = record {
@@ -42,16 +43,16 @@ module _ {z : Sizes} {r : Regions} (S : Small z) (P : Placed z r) where
 
 -- the grid's products by the counts
 module _ (z : Sizes) {base : ℕ} {g : Grid} (G : Gridded (gridSizes z) base g) where
-  rows-are : z .blocks * g .words ≡ z .blocks * wordsFor (z .locals)
+  rows-are : z .blocks * g .words ≡ z .blocks * rowWords (z .locals)
   rows-are = ap (λ (k : ℕ). z .blocks * k) (G .words-are)
 
-  columns-are : g .locals * g .width ≡ z .locals * wordsFor (z .blocks)
+  columns-are : g .locals * g .width ≡ z .locals * rowWords (z .blocks)
   columns-are = ap (λ (k : ℕ). k * g .width) (G .locals-are) ∙ ap (λ (k : ℕ). z .locals * k) (G .width-is)
 
 module _ {z : Sizes} {base : ℕ} {g : Grid} (S : Small z) (G : Gridded (gridSizes z) base g) where
   pub columns-small : g .locals * g .width ≤ 131072
   columns-small =
-      let l : wordsFor (z .blocks) ≤ 64 = omega (arith, S .few-blocks) in
+      let l : rowWords (z .blocks) ≤ 64 = omega (arith, S .few-blocks) in
       let a = mul-le-mul-left (z .locals) l in
       omega (arith, columns-are z G, S .few-locals)
 
@@ -63,18 +64,18 @@ module _ {z : Sizes} {base : ℕ} {g : Grid} (S : Small z) (G : Gridded (gridSiz
 
 -- where the grid begins and where it ends
 base-is : (z : Sizes) (r : Regions) → Placed z r
-    → r .base ≡ z .room + 4 * z .locals + z .slots + 3 * z .pieces + 3 * wordsOf (z .v) + 3 * z .insts + z .operands + 2 * z .addresses + 2 * z .ends
+    → r .base ≡ z .room + 4 * z .locals + z .slots + 3 * z .pieces + 3 * rowWords (z .v) + 3 * z .insts + z .operands + 2 * z .addresses + 2 * z .ends
 base-is z r P = omega arith
 
 mark-is : (z : Sizes) (base : ℕ) (g : Grid) → Gridded (gridSizes z) base g
-    → markOf g ≡ base + 3 * z .edges + 7 * z .blocks + 6 * (z .blocks * wordsFor (z .locals)) + (z .blocks / 64 + 2) + z .locals * wordsFor (z .blocks)
+    → markOf g ≡ base + 3 * z .edges + 7 * z .blocks + 6 * (z .blocks * rowWords (z .locals)) + (z .blocks / 64 + 2) + z .locals * rowWords (z .blocks)
 mark-is z base g G = let w = rows-are z G in let x = columns-are z G in omega arith
 
 locals-sum : (z : Sizes) (base mark : ℕ)
-    → base ≡ z .room + 4 * z .locals + z .slots + 3 * z .pieces + 3 * wordsOf (z .v) + 3 * z .insts + z .operands + 2 * z .addresses + 2 * z .ends
-    → mark ≡ base + 3 * z .edges + 7 * z .blocks + 6 * (z .blocks * wordsFor (z .locals)) + (z .blocks / 64 + 2) + z .locals * wordsFor (z .blocks)
-    → 3 + z .blocks / 64 + z .blocks + wordsFor (z .blocks) + z .locals * wordsFor (z .blocks) ≤ 2 * (z .blocks * wordsFor (z .locals)) + 4 * z .locals
-    → mark + wordsFor (z .blocks) + z .blocks + mostOfLocal z < spaceOf z
+    → base ≡ z .room + 4 * z .locals + z .slots + 3 * z .pieces + 3 * rowWords (z .v) + 3 * z .insts + z .operands + 2 * z .addresses + 2 * z .ends
+    → mark ≡ base + 3 * z .edges + 7 * z .blocks + 6 * (z .blocks * rowWords (z .locals)) + (z .blocks / 64 + 2) + z .locals * rowWords (z .blocks)
+    → 3 + z .blocks / 64 + z .blocks + rowWords (z .blocks) + z .locals * rowWords (z .blocks) ≤ 2 * (z .blocks * rowWords (z .locals)) + 4 * z .locals
+    → mark + rowWords (z .blocks) + z .blocks + mostOfLocal z < spaceOf z
 locals-sum z base mark e f h = omega arith
 
 slots-sum : (z : Sizes) (free to : ℕ) → free ≡ z .room + z .locals + z .slots + z .pieces → to ≡ free + 3 * z .slots + z .blocks + 2 * z .moves → to + mostOfSlot z ≤ spaceOf z

@@ -4,7 +4,7 @@ use mathlib.Core.Path.{_≡_}
 use mathlib.Core.List.{List}
 use lib.ListN.{length}
 use Rattle.reach.specs.declared.Lay.{Lay}
-use Rattle.reach.specs.Prepared.{wordsOf, Laid as CarryLaid}
+use Rattle.reach.specs.Prepared.{Laid as CarryLaid}
 use Rattle.carry_checks.specs.Layout.{usedOf}
 use Rattle.area_flow.specs.declared.Grid.{Grid}
 use Rattle.area_flow.specs.Grid.{Laid as GridLaid}
@@ -15,6 +15,7 @@ use Rattle.slot_spots.specs.Slots.{Laid as SlotLaid}
 use Rattle.job_space.specs.declared.Sizes.{Sizes}
 use Rattle.job_space.specs.Space.{spaceOf}
 use Rattle.job_layout.specs.declared.Regions.{Regions}
+use Rattle.words.specs.Regions.{rowWords}
 
 -- the counts that the grid goes by; it has no region for the others
 abbrev pub gridSizes : Sizes → GridSizes
@@ -25,7 +26,7 @@ pub record Placed (z : Sizes) (r : Regions) : Type 0 where
   pub items-at : r .items ≡ z .room
   pub keys-at : r .keys ≡ r .items + z .locals + z .slots
   pub free-at : r .free ≡ r .keys + z .pieces
-  pub heads-at : r .heads ≡ r .free + usedOf (wordsOf (z .v)) (z .insts) (z .operands) (z .locals) (z .addresses)
+  pub heads-at : r .heads ≡ r .free + usedOf (rowWords (z .v)) (z .insts) (z .operands) (z .locals) (z .addresses)
   pub nexts-at : r .nexts ≡ r .heads + z .locals
   pub touches-at : r .at ≡ r .nexts + z .ends
   pub ends-at : r .ends ≡ r .at + z .pieces + z .pieces + z .addresses
@@ -34,9 +35,9 @@ pub record Placed (z : Sizes) (r : Regions) : Type 0 where
 -- what carrying keeps
 pub record LaidFrom (z : Sizes) (from : ℕ) (lay : Lay) : Type 0 where
   pub escapes-at : lay .escapes ≡ from
-  pub dead-at : lay .dead ≡ lay .escapes + wordsOf (z .v)
-  pub seen-at : lay .seen ≡ lay .dead + wordsOf (z .v)
-  pub defs-at : lay .defs ≡ lay .seen + wordsOf (z .v)
+  pub dead-at : lay .dead ≡ lay .escapes + rowWords (z .v)
+  pub seen-at : lay .seen ≡ lay .dead + rowWords (z .v)
+  pub defs-at : lay .defs ≡ lay .seen + rowWords (z .v)
   pub firsts-at : lay .firsts ≡ lay .defs + z .insts
   pub edges-at : lay .edges ≡ lay .firsts + z .insts
   pub heads-at : lay .heads ≡ lay .edges + z .operands

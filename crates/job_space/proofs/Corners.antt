@@ -5,7 +5,8 @@ use mathlib.Core.Bool.{true, false}
 use mathlib.Core.List.{[], _∷_}
 use Rattle.job_space.specs.declared.Terms.{Terms}
 use Rattle.job_space.specs.Rows.{rowsOf}
-use Rattle.job_space.specs.Space.{rowWords, sizesOf, spaceOf, badShape}
+use Rattle.job_space.specs.Space.{sizesOf, spaceOf, badShape}
+use Rattle.words.specs.Regions.{rowWords}
 
 pub words : (rowWords 0 ≡ 0) × (rowWords 1 ≡ 1) × (rowWords 64 ≡ 1) × (rowWords 65 ≡ 2)
 words = (refl, refl, refl, refl)

@@ -10,8 +10,9 @@ use borrow.Author.Tests.{lt-ltb, le-ltb, eq-eqb, ne-eqb}
 use Rattle.job_space.specs.declared.Terms.{Terms}
 use Rattle.job_space.specs.declared.Sizes.{Sizes}
 use Rattle.job_space.specs.Rows.{rowsOf}
-use Rattle.job_space.specs.Space.{rowWords, sizesOf, spaceOf, Counted, Small, badShape}
+use Rattle.job_space.specs.Space.{sizesOf, spaceOf, Counted, Small, badShape}
 use Rattle.words.specs.Widths.{cellWidth, itemWidth}
+use Rattle.words.specs.Regions.{rowWords}
 
 -- the rows of the places are short
 pub rows-small : {z : Sizes} → Small z → z .blocks * rowWords (z .locals) ≤ 131072

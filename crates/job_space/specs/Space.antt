@@ -4,13 +4,10 @@ use mathlib.Core.Bool.{Bool, not, _||_}
 use lib.ListN.{length}
 use lib.Dec.{ltb, eqb}
 use Rattle.words.specs.Widths.{blockCount, edgeCount, instCount, operandCount, localCount, addressCount, endCount, pieceCount, assignedCount, moveCount, cellWidth, itemWidth, rangeWidth}
+use Rattle.words.specs.Regions.{rowWords}
 use Rattle.job_space.specs.declared.Terms.{Terms}
 use Rattle.job_space.specs.declared.Sizes.{Sizes}
 use Rattle.job_space.specs.Rows.{Rows}
-
--- ⌈n/64⌉: the words of a row of n bits
-abbrev pub rowWords : ℕ → ℕ
-rowWords n = (n + 63) / 64
 
 -- how many records are lent, how many ranges the area list holds, and V
 abbrev pub sizesOf : Rows → ℕ → Sizes

@@ -10,14 +10,9 @@ ghost use Rattle.graph.specs.Checks.{badSpan, countVerdict, graphVerdict, rowsV
 ghost use Rattle.words.specs.Widths.{blockCount};
 use refusals::Refusal;
 use refusals::Verdict;
+use words::wide;
 use words::widths::block;
 use words::widths::edge;
-
-fn wide(x: u32) -> usize
-    ensures { λ r. ⌜ r ≡ x ⌝ }
-{
-    x as usize
-}
 
 // Refusal 1: whole records, 1 to 4,096 blocks and at most 16,384 edges.
 pub fn count(blocks: &[u32], edges: &[u32]) -> Verdict

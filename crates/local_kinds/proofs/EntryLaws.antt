@@ -7,7 +7,7 @@ use mathlib.Core.List.{List, _++_}
 use lib.ListN.{length, set, drop, length-set}
 use Rattle.refusals.specs.declared.Verdict.the-variants.{Fine, Bad}
 use Rattle.refusals.specs.declared.Refusal.{Refusal}
-use Rattle.words.specs.Regions.{cleared}
+use Rattle.words.specs.Regions.{cleared, rowWords}
 use Rattle.words.specs.Widths.{instCount, operandCount, localCount, addressCount}
 use Rattle.words.proofs.RowLaws.{length-tabulate}
 use Rattle.words.proofs.RegionLaws.{Done, done-start, done-more, done-all, region-front}
@@ -17,7 +17,7 @@ use Rattle.carrying.specs.Carried.{kindOf}
 use Rattle.insts.proofs.DealtLaws.{insts-length}
 use Rattle.reach.specs.declared.Lay.{Lay}
 use Rattle.reach.proofs.ReadyLaws.{mentions-count}
-use Rattle.reach.specs.Prepared.{Laid, wordsOf, codeOf, Prepared, Readied}
+use Rattle.reach.specs.Prepared.{Laid, codeOf, Prepared, Readied}
 use Rattle.follow.specs.declared.Sizes.{Sizes}
 use Rattle.follow.specs.declared.Followed.{Followed}
 use Rattle.follow.specs.Followed.{FollowsAny, Ready}
@@ -84,11 +84,11 @@ module _ {insts addresses : List ℕ} {lay : Lay} {z : Sizes} {answer₀ answer 
 
 module _ (v : ℕ) (insts operands crossings locals addresses ends : List ℕ) (lay : Lay) (n : ℕ) {w₀ w₁ : List ℕ}
     (c : Checked v insts operands locals addresses ends (length w₀))
-    (a : Laid lay v (instCount insts) (operandCount operands) (localCount locals) (addressCount addresses) (usedOf (wordsOf v) (instCount insts) (operandCount operands) (localCount locals) (addressCount addresses)))
+    (a : Laid lay v (instCount insts) (operandCount operands) (localCount locals) (addressCount addresses) (usedOf (rowWords v) (instCount insts) (operandCount operands) (localCount locals) (addressCount addresses)))
     (b : Readied (codeOf v insts operands crossings addresses ends) lay (operandCount operands) (localCount locals) n w₀ w₁) where
   pub measured : {answer₀ answer w : List ℕ} → Kinds insts addresses lay (record { v = v; insts = instCount insts; locals = localCount locals; edges = n }) answer₀ answer w₁ w
-      → lay .queue + instCount insts ≡ usedOf (wordsOf v) (instCount insts) (operandCount operands) (localCount locals) (addressCount addresses)
-      → Measured (codeOf v insts operands crossings addresses ends) (localCount locals) (usedOf (wordsOf v) (instCount insts) (operandCount operands) (localCount locals) (addressCount addresses)) answer₀ answer w₀ w
+      → lay .queue + instCount insts ≡ usedOf (rowWords v) (instCount insts) (operandCount operands) (localCount locals) (addressCount addresses)
+      → Measured (codeOf v insts operands crossings addresses ends) (localCount locals) (usedOf (rowWords v) (instCount insts) (operandCount operands) (localCount locals) (addressCount addresses)) answer₀ answer w₀ w
   measured k e = record {
     kept = within-trans (within-wider 0 _ (omega arith) (omega arith) (b .kept)) (within-wider 0 _ (omega arith) (omega arith) (k .kept));
     kinds = k .kinds operands crossings ends (b .prepared);
@@ -103,7 +103,7 @@ module _ (points v : ℕ) (blocks insts operands crossings locals addresses ends
 
   pub reach-given : {answer work₁ work : List ℕ} → carryVerdict points v blocks insts operands crossings locals addresses ends (length answer₀) (localCount locals) (length work₀) ≡ Fine
       → localCount locals ≤ length answer₀
-      → Measured (codeOf v insts operands crossings addresses ends) (localCount locals) (usedOf (wordsOf v) (instCount insts) (operandCount operands) (localCount locals) (addressCount addresses)) answer₀ answer work₀ work₁
+      → Measured (codeOf v insts operands crossings addresses ends) (localCount locals) (usedOf (rowWords v) (instCount insts) (operandCount operands) (localCount locals) (addressCount addresses)) answer₀ answer work₀ work₁
       → (words : ℕ) → words ≡ carrySpace v blocks insts operands crossings locals addresses ends → work ≡ cleared words work₁
       → ReachTo points v blocks insts operands crossings locals addresses ends answer₀ work₀ (Given (localCount locals)) answer work
   reach-given {answer} {work₁} {work} e h m words ew c = record {

@@ -1,11 +1,12 @@
 // The entry `reach`: what becomes of each local.
 ghost use Prim.Native.Nat.{_+_, _/_, _≤_, _<_};
 ghost use lib.ListN.{length};
-ghost use Rattle.reach.specs.Prepared.{wordsOf, codeOf};
+ghost use Rattle.reach.specs.Prepared.{codeOf};
 ghost use Rattle.follow.specs.Followed.{Ready};
 ghost use Rattle.local_kinds.specs.Entry.{Kinds, Measured, ReachTo};
 ghost use Rattle.carry_checks.specs.Layout.{usedOf, Checked};
 ghost use Rattle.words.specs.Widths.{instCount, operandCount, localCount, addressCount};
+ghost use Rattle.words.specs.Regions.{rowWords};
 use carry_checks::checks;
 use carry_checks::layout;
 use follow::Sizes;
@@ -51,7 +52,7 @@ fn measure(
 )
     requires { ⌜ Checked v (now insts) (now operands) (now locals) (now addresses) (now ends) (length (now work)) × (localCount (now locals) ≤ length (now answer)) ⌝ }
     ensures { λ _. ⌜ Measured (codeOf v (now (insts .entry)) (now (operands .entry)) (now (crossings .entry)) (now (addresses .entry)) (now (ends .entry)))
-        (localCount (now (locals .entry))) (usedOf (wordsOf v) (instCount (now (insts .entry))) (operandCount (now (operands .entry))) (localCount (now (locals .entry)))
+        (localCount (now (locals .entry))) (usedOf (rowWords v) (instCount (now (insts .entry))) (operandCount (now (operands .entry))) (localCount (now (locals .entry)))
         (addressCount (now (addresses .entry)))) (now (answer .entry)) (now (answer .exit)) (now (work .entry)) (now (work .exit)) ⌝ }
 {
     let i = insts.len() / inst::WIDTH;

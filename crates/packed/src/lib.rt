@@ -5,24 +5,25 @@ ghost use lib.ListN.{length};
 ghost use Rattle.ranges.specs.Points.{range};
 ghost use Rattle.ranges.specs.Forms.{pack};
 ghost use Rattle.packed.specs.Work.{TakenIn, MergedIn};
+use words::HALF;
 
 // A range in one word: the start above, the end in the low 32 bits.
 pub fn pack(start: u32, end: u32) -> u64
     ensures { λ r. ⌜ r ≡ pack (range start end) ⌝ }
 {
-    (start as u64) * 0x1_0000_0000 + (end as u64)
+    (start as u64) * HALF + (end as u64)
 }
 
 pub fn start_of(x: u64) -> u32
     ensures { λ r. ⌜ r ≡ x / 2 ^ 32 ⌝ }
 {
-    (x / 0x1_0000_0000) as u32
+    (x / HALF) as u32
 }
 
 pub fn end_of(x: u64) -> u32
     ensures { λ r. ⌜ r ≡ x % 2 ^ 32 ⌝ }
 {
-    (x % 0x1_0000_0000) as u32
+    (x % HALF) as u32
 }
 
 // Takes a range up into the k ranges from `at` on: the last is widened where they share a point, else it is appended.

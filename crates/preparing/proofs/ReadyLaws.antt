@@ -10,7 +10,7 @@ use lib.ListN.{length, getD}
 use lib.Dec.{eqb, ltb}
 use Rattle.words.specs.Rows.{tabulate}
 use Rattle.words.specs.Sort.{sortOf}
-use Rattle.words.specs.Regions.{Region, part}
+use Rattle.words.specs.Regions.{Region, part, rowWords}
 use Rattle.words.specs.Widths.{instCount, operandCount, mentionWidth, addressCount, endCount, mentionInst, mentionLocal}
 use Rattle.words.proofs.RowLaws.{tabulate-getD}
 use Rattle.words.proofs.SortLaws.{sorted-rising, mem-sort, mem-of-sort, length-sort}
@@ -26,7 +26,7 @@ use Rattle.insts.specs.Rows.{AddsUp}
 use Rattle.insts.proofs.DealtLaws.{insts-length, placed-is}
 use Rattle.reach.specs.declared.Lay.{Lay}
 use Rattle.operands.specs.Numbers.{defNumber}
-use Rattle.reach.specs.Prepared.{codeOf, wordsOf, Laid, latest, localOf, leaReader, Tables, Sorted, Registered, Readied}
+use Rattle.reach.specs.Prepared.{codeOf, Laid, latest, localOf, leaReader, Tables, Sorted, Registered, Readied}
 use Rattle.reach.specs.Scan.{Marked, strayReader, Scanning, Blank}
 use Rattle.reach.specs.Steps.{rowLocal}
 use Rattle.chains.specs.Chains.{Linked}
@@ -47,7 +47,7 @@ cleared-two lay words h a b = record {
   second = λ k l. b .inside (lay .dead + k) k refl l;
 }
 
-pub cleared-blank : (lay : Lay) (v words : ℕ) {w₀ w : List ℕ} → words ≡ wordsOf v → Cleared lay words w₀ w → Blank v lay w
+pub cleared-blank : (lay : Lay) (v words : ℕ) {w₀ w : List ℕ} → words ≡ rowWords v → Cleared lay words w₀ w → Blank v lay w
 cleared-blank lay v words e c = record {
   escaping = λ r l. ap (λ (y : ℕ). bitOf y (r % 64)) (c .first (r / 64) (omega arith)) ∙ bit-zero (r % 64);
   sticking = λ r l. ap (λ (y : ℕ). bitOf y (r % 64)) (c .second (r / 64) (omega arith)) ∙ bit-zero (r % 64);
@@ -87,9 +87,9 @@ module _ (v : ℕ) (insts operands crossings : List ℕ) (lay : Lay) where
   all-of : tabulate (instCount insts) (instAt Is) ≡ Is
   all-of = ap (λ (n : ℕ). tabulate n (instAt Is)) (sym (insts-length insts operands)) ∙ tabulate-getD Is _
 
-  module _ (adds : AddsUp insts operands) (fits₁ : lay .escapes + wordsOf v ≤ lay .dead) (fits₂ : lay .dead + wordsOf v ≤ lay .defs)
+  module _ (adds : AddsUp insts operands) (fits₁ : lay .escapes + rowWords v ≤ lay .dead) (fits₂ : lay .dead + rowWords v ≤ lay .defs)
       (fits₃ : lay .defs + instCount insts ≤ lay .firsts) (fits₄ : lay .firsts + instCount insts ≤ lay .edges) (fits₅ : lay .edges + operandCount operands ≤ lay .heads) where
-    module _ {w₀ w₁ w₂ w₃ : List ℕ} {n words : ℕ} (ew : words ≡ wordsOf v) (room : lay .heads ≤ length w₀) (a : Cleared lay words w₀ w₁)
+    module _ {w₀ w₁ w₂ w₃ : List ℕ} {n words : ℕ} (ew : words ≡ rowWords v) (room : lay .heads ≤ length w₀) (a : Cleared lay words w₀ w₁)
         (b : Scanning v Is insts lay w₁ w₂ (instCount insts) n) (c : Marked w₂ w₃ (lay .escapes) v (λ r. any (eqb r) crossings)) where
       pub edges-few : n ≤ operandCount operands
       edges-few = let q = b .few in omega arith
@@ -206,7 +206,7 @@ module _ (v : ℕ) (insts operands crossings addresses ends : List ℕ) (lay : L
           ap (λ (x : ℕ). eqb (mentionLocal ends k) m && isSet (instAt (instsOf insts operands) x .placed)) z
           ∙ ap (λ (x : ℕ). eqb (mentionLocal ends k) m && isSet x) (placed-is insts operands (getD ends (mentionWidth * k) 0) (found k h))
 
-  pub readied : {w₀ w₁ w : List ℕ} {words o n : ℕ} → words ≡ wordsOf v → Laid lay v (instCount insts) o l (addressCount addresses) (length w₀)
+  pub readied : {w₀ w₁ w : List ℕ} {words o n : ℕ} → words ≡ rowWords v → Laid lay v (instCount insts) o l (addressCount addresses) (length w₀)
       → Registered (codeOf v insts operands crossings [] []) lay o n w₀ w₁ → ByLocal lay words insts addresses ends l w₁ w → Readied C lay o l n w₀ w
   readied {w₀} {w₁} {w} {words} {o} {n} e d a b = record {
     kept = record {

@@ -6,19 +6,21 @@ ghost use lib.Dec.{eqb};
 ghost use lib.ListN.{length, getD};
 ghost use Rattle.words.specs.Sort.{Rising};
 ghost use Rattle.words.specs.Widths.{instCount, operandCount, mentionWidth, addressCount, endCount};
+ghost use Rattle.words.specs.Regions.{rowWords};
 ghost use Rattle.carrying.specs.Lists.{any};
 ghost use Rattle.insts.specs.Rows.{AddsUp};
-ghost use Rattle.reach.specs.Prepared.{codeOf, wordsOf, Laid, Registered, Readied};
+ghost use Rattle.reach.specs.Prepared.{codeOf, Laid, Registered, Readied};
 ghost use Rattle.reach.specs.Scan.{Marked};
 ghost use Rattle.preparing.specs.Steps.{Firsts, Indexed, Ends, Cleared, Emptied, ByLocal};
 use reach::Lay;
 use reach::scan;
+use words::HALF;
 use words::widths::inst;
 use words::widths::mention;
 
 // Sets the bit of each numbered register that crosses.
 fn cross(crossings: &[u32], v: u32, work: &mut [u64], row: usize)
-    requires { ⌜ row + wordsOf v ≤ length (now work) ⌝ }
+    requires { ⌜ row + rowWords v ≤ length (now work) ⌝ }
     ensures { λ _. ⌜ Marked (now (work .entry)) (now (work .exit)) row v (λ r. any (eqb r) (now (crossings .entry))) ⌝ }
 {
     let n = crossings.len();
@@ -46,7 +48,7 @@ fn firsts(work: &mut [u64], lay: Lay, m: usize, n: usize)
         if d == 0 {
             i += 1;
         } else {
-            let f = words::below(work, lay.edges, n, (d - 1) * 4294967296);
+            let f = words::below(work, lay.edges, n, (d - 1) * HALF);
             work[lay.firsts + i] = f as u64;
             i += 1;
         }
@@ -114,8 +116,8 @@ fn registers(
     lay: Lay,
     words: usize,
 ) -> usize
-    requires { ⌜ AddsUp (now insts) (now operands) × (instCount (now insts) ≤ 65536) × (v ≤ 65535) × (words ≡ wordsOf v) ⌝ }
-    requires { ⌜ (lay .escapes + wordsOf v ≤ lay .dead) × (lay .dead + wordsOf v ≤ lay .defs) × (lay .defs + instCount (now insts) ≤ lay .firsts)
+    requires { ⌜ AddsUp (now insts) (now operands) × (instCount (now insts) ≤ 65536) × (v ≤ 65535) × (words ≡ rowWords v) ⌝ }
+    requires { ⌜ (lay .escapes + rowWords v ≤ lay .dead) × (lay .dead + rowWords v ≤ lay .defs) × (lay .defs + instCount (now insts) ≤ lay .firsts)
         × (lay .firsts + instCount (now insts) ≤ lay .edges) × (lay .edges + operandCount (now operands) ≤ lay .heads) × (lay .heads ≤ length (now work)) ⌝ }
     ensures { λ r. ⌜ Registered (codeOf v (now (insts .entry)) (now (operands .entry)) (now (crossings .entry)) [] []) lay (operandCount (now (operands .entry))) r (now (work .entry))
         (now (work .exit)) ⌝ }

@@ -13,9 +13,9 @@ use Rattle.words.proofs.Points.{cut, same}
 use Rattle.bits.specs.Bits.{bit, PutBit}
 use Rattle.graph.proofs.Counting.{all-taken}
 use Rattle.reach.specs.declared.Lay.{Lay}
-use Rattle.reach.specs.Prepared.{wordsOf}
 use Rattle.reach.proofs.ScanLaws.{same-bit}
 use Rattle.queue.specs.Walk.{defAt, queued, Held, Listed, Grew, Joined}
+use Rattle.words.specs.Regions.{rowWords}
 
 module _ {v m : ℕ} {lay : Lay} {w : List ℕ} {n : ℕ} (h : Held v m lay w n) where
   -- a def that is not seen is of an instruction that is not there, so there is room
@@ -49,7 +49,7 @@ module _ {v m : ℕ} {lay : Lay} {w : List ℕ} {n : ℕ} (h : Held v m lay w n)
     small : r < v
     small = let q = h .def-le i l in omega arith
 
-    other : (k : ℕ) → (k < lay .seen) ⊎ (lay .seen + wordsOf v ≤ k) → k ≢ lay .queue + n → getD after k 0 ≡ getD w k 0
+    other : (k : ℕ) → (k < lay .seen) ⊎ (lay .seen + rowWords v ≤ k) → k ≢ lay .queue + n → getD after k 0 ≡ getD w k 0
     other k (inl a) b = getD-set-other w₁ x k i 0 (λ z. b (z ∙ ex)) ∙ p .rest k (λ z. absurd (omega arith))
     other k (inr a) b = getD-set-other w₁ x k i 0 (λ z. b (z ∙ ex)) ∙ p .rest k (λ z. absurd (let q = small in omega arith))
 
@@ -121,7 +121,7 @@ module _ {v m : ℕ} {lay : Lay} {w : List ℕ} {n : ℕ} (h : Held v m lay w n)
           (λ z. go y z g (h .words y g));
     }
       where
-        go : (y : ℕ) → y ≢ r / 64 → y < wordsOf v → (getD w (lay .seen + y) 0 ≡ 0) ⊎ ((k : ℕ) × (k < n) × ((defAt lay w (queued lay w k) - 1) / 64 ≡ y))
+        go : (y : ℕ) → y ≢ r / 64 → y < rowWords v → (getD w (lay .seen + y) 0 ≡ 0) ⊎ ((k : ℕ) × (k < n) × ((defAt lay w (queued lay w k) - 1) / 64 ≡ y))
             → (getD after (lay .seen + y) 0 ≡ 0) ⊎ ((k : ℕ) × (k < n + 1) × ((defAt lay after (queued lay after k) - 1) / 64 ≡ y))
         go y z g (inl a) =
             inl (getD-set-other w₁ x (lay .seen + y) i 0 (λ q. absurd (let s = h .seen-fits in let t = h .defs-fits in omega arith)) ∙ p .rest (lay .seen + y) (λ q. z (omega arith)) ∙ a)

@@ -7,7 +7,7 @@ use mathlib.Core.List.{List}
 use lib.ListN.{length, getD}
 use Rattle.bits.specs.Bits.{bit}
 use Rattle.reach.specs.declared.Lay.{Lay}
-use Rattle.reach.specs.Prepared.{wordsOf}
+use Rattle.words.specs.Regions.{rowWords}
 
 -- the def of instruction i plus 1, or 0; the instruction that stands at k in the queue
 abbrev pub defAt : Lay → List ℕ → ℕ → ℕ
@@ -18,7 +18,7 @@ queued lay w k = getD w (lay .queue + k) 0
 
 -- of v registers and m instructions, n stand in the queue, and their defs are those seen
 pub record Held (v m : ℕ) (lay : Lay) (w : List ℕ) (n : ℕ) : Type 0 where
-  pub seen-fits : lay .seen + wordsOf v ≤ lay .defs
+  pub seen-fits : lay .seen + rowWords v ≤ lay .defs
   pub defs-fits : lay .defs + m ≤ lay .queue
   pub queue-fits : lay .queue + m ≤ length w
   pub def-le : (i : ℕ) → i < m → defAt lay w i ≤ v
@@ -28,7 +28,7 @@ pub record Held (v m : ℕ) (lay : Lay) (w : List ℕ) (n : ℕ) : Type 0 where
   pub marked : (k : ℕ) → k < n → bit w (lay .seen) (defAt lay w (queued lay w k) - 1) ≡ true
   pub listed : (r : ℕ) → r < v → bit w (lay .seen) r ≡ true → (k : ℕ) × (k < n) × (defAt lay w (queued lay w k) ≡ suc r)
   pub differ : (j k : ℕ) → j < k → k < n → defAt lay w (queued lay w j) ≢ defAt lay w (queued lay w k)
-  pub words : (x : ℕ) → x < wordsOf v → (getD w (lay .seen + x) 0 ≡ 0) ⊎ ((k : ℕ) × (k < n) × ((defAt lay w (queued lay w k) - 1) / 64 ≡ x))
+  pub words : (x : ℕ) → x < rowWords v → (getD w (lay .seen + x) 0 ≡ 0) ⊎ ((k : ℕ) × (k < n) × ((defAt lay w (queued lay w k) - 1) / 64 ≡ x))
 
 -- d is the def of one of the first n in the queue
 pub record Listed (lay : Lay) (w : List ℕ) (n d : ℕ) : Type 0 where
@@ -40,7 +40,7 @@ pub record Listed (lay : Lay) (w : List ℕ) (n d : ℕ) : Type 0 where
 pub record Grew (v m : ℕ) (lay : Lay) (w₀ w : List ℕ) (n₀ n : ℕ) (P : ℕ → Type 0) : Type 0 where
   pub held : Held v m lay w n
   pub len : length w ≡ length w₀
-  pub outside : (k : ℕ) → (k < lay .seen) ⊎ (lay .seen + wordsOf v ≤ k) → (k < lay .queue) ⊎ (lay .queue + m ≤ k) → getD w k 0 ≡ getD w₀ k 0
+  pub outside : (k : ℕ) → (k < lay .seen) ⊎ (lay .seen + rowWords v ≤ k) → (k < lay .queue) ⊎ (lay .queue + m ≤ k) → getD w k 0 ≡ getD w₀ k 0
   pub more : n₀ ≤ n
   pub old : (k : ℕ) → k < n₀ → queued lay w k ≡ queued lay w₀ k
   pub new : (k : ℕ) → n₀ ≤ k → k < n → P (queued lay w k)

@@ -12,11 +12,12 @@ use Rattle.bits.specs.Bits.{bit, PutBit}
 use Rattle.graph.specs.Work.{Within}
 use Rattle.graph.proofs.Within.{within-refl, within-set, within-trans, within-wider}
 use Rattle.insts.proofs.DealtLaws.{any-none, any-next}
-use Rattle.reach.specs.Prepared.{wordsOf, key}
+use Rattle.reach.specs.Prepared.{key}
 use Rattle.reach.specs.Scan.{Marked, Linked}
 use Rattle.reach.proofs.UseLaws.{Some}
+use Rattle.words.specs.Regions.{rowWords}
 
-pub put-within : {w₀ w : List ℕ} {row v b : ℕ} {t : Bool} → PutBit w₀ w row b t → b < v → Within row (row + wordsOf v) w₀ w
+pub put-within : {w₀ w : List ℕ} {row v b : ℕ} {t : Bool} → PutBit w₀ w row b t → b < v → Within row (row + rowWords v) w₀ w
 put-within p h = record {
   len = p .len;
   below = λ i l. p .rest i (λ e. absurd (omega arith));
@@ -26,11 +27,11 @@ put-within p h = record {
 -- of the first p indices those that pass t had the bit of their register set
 pub record Marking (w₀ w : List ℕ) (row v : ℕ) (t : ℕ → Bool) (reg : ℕ → ℕ) (n p : ℕ) : Type 0 where
   pub p-le : p ≤ n
-  pub room : row + wordsOf v ≤ length w₀
-  pub kept : Within row (row + wordsOf v) w₀ w
+  pub room : row + rowWords v ≤ length w₀
+  pub kept : Within row (row + rowWords v) w₀ w
   pub bits : (r : ℕ) → r < v → bit w row r ≡ (bit w₀ row r || Some p (λ k. t k && eqb (reg k) r))
 
-pub mark-start : (w : List ℕ) (row v : ℕ) (t : ℕ → Bool) (reg : ℕ → ℕ) (n : ℕ) → row + wordsOf v ≤ length w → Marking w w row v t reg n 0
+pub mark-start : (w : List ℕ) (row v : ℕ) (t : ℕ → Bool) (reg : ℕ → ℕ) (n : ℕ) → row + rowWords v ≤ length w → Marking w w row v t reg n 0
 mark-start w row v t reg n h = record {
   p-le = omega arith;
   room = h;

@@ -11,6 +11,7 @@ use lib.Seq.{getD-set-same, getD-set-other}
 use borrow.Author.Tests.{not-true, not-false}
 use Rattle.words.specs.Rows.{field}
 use Rattle.words.specs.Widths.{instWidth, instCount, instPlaced, instLea, instMem, instBase, instIndex, instOperands, operandCount}
+use Rattle.words.specs.Regions.{rowWords}
 use Rattle.words.proofs.Points.{cut, same}
 use Rattle.bits.specs.Bits.{bit, bitOf}
 use Rattle.graph.proofs.Within.{within-refl, within-trans, within-wider}
@@ -23,7 +24,7 @@ use Rattle.insts.specs.Rows.{operandsFrom, AddsUp}
 use Rattle.insts.proofs.DealtLaws.{any-none, any-next, inst-at, insts-length, operands-within}
 use Rattle.reach.specs.declared.Lay.{Lay}
 use Rattle.operands.specs.Numbers.{defNumber, addressing}
-use Rattle.reach.specs.Prepared.{wordsOf, key, leaReader, Hands}
+use Rattle.reach.specs.Prepared.{key, leaReader, Hands}
 use Rattle.reach.specs.Scan.{Marked, Linked, escapesIn, handsIn, rowOf, strayReader, Handing, Added, Scanning, Blank}
 
 pub none-number : (o : Option ℕ) → defNumber o ≡ 0 → isNone o ≡ true
@@ -39,7 +40,7 @@ some-number none e = absurd (e refl)
 some-number (some r) e = refl
 
 -- bits of a row of which no word has changed
-pub same-bit : (w₀ w : List ℕ) (row v r : ℕ) → r < v → ((k : ℕ) → row ≤ k → k < row + wordsOf v → getD w k 0 ≡ getD w₀ k 0) → bit w row r ≡ bit w₀ row r
+pub same-bit : (w₀ w : List ℕ) (row v r : ℕ) → r < v → ((k : ℕ) → row ≤ k → k < row + rowWords v → getD w k 0 ≡ getD w₀ k 0) → bit w row r ≡ bit w₀ row r
 same-bit w₀ w row v r h f = ap (λ (y : ℕ). bitOf y (r % 64)) (f (row + r / 64) (omega arith) (omega arith))
 
 lea-no : (p l m a e : Bool) → (p && (l && m)) ≡ false → ((p && a) && ((m && e) && l)) ≡ false
@@ -114,11 +115,11 @@ module _ (lay : Lay) (v : ℕ) (x : Inst) (i m : ℕ) where
     has = λ q l h z. absurd (true≢false (sym d ∙ z));
   }
     where
-      beside : (j : ℕ) → (j < lay .dead) ⊎ (lay .dead + wordsOf v ≤ j) → getD w j 0 ≡ getD w₀ j 0
+      beside : (j : ℕ) → (j < lay .dead) ⊎ (lay .dead + rowWords v ≤ j) → getD w j 0 ≡ getD w₀ j 0
       beside j (inl h) = k .kept .below j h
       beside j (inr h) = k .kept .past j h
 
-  pub hand-linked : {w₀ w : List ℕ} {m' n₀ n : ℕ} {f : ℕ → Bool} → Linked w₀ w (lay .edges) v i m' n₀ n f → m' ≡ m → lay .dead + wordsOf v ≤ lay .edges
+  pub hand-linked : {w₀ w : List ℕ} {m' n₀ n : ℕ} {f : ℕ → Bool} → Linked w₀ w (lay .edges) v i m' n₀ n f → m' ≡ m → lay .dead + rowWords v ≤ lay .edges
       → ((r : ℕ) → f r ≡ leaReader x r) → isNone (defOf v x) ≡ false → Handing w₀ w lay v x i m n₀ n
   hand-linked {w₀} {w} {m'} {n₀} {n} {f} k em fits e d = record {
     len = k .kept .len;
@@ -140,7 +141,7 @@ module _ (lay : Lay) (v : ℕ) (x : Inst) (i m : ℕ) where
 
   -- the def is stored, the escaping registers are marked, the edges put down
   pub added : {w₀ w₂ w : List ℕ} {n₀ n : ℕ} (at d : ℕ) → at ≡ lay .defs + i → d ≡ defNumber (defOf v x)
-      → lay .escapes + wordsOf v ≤ lay .dead → lay .dead + wordsOf v ≤ lay .defs → lay .defs + i < lay .edges → lay .edges ≤ length w₀
+      → lay .escapes + rowWords v ≤ lay .dead → lay .dead + rowWords v ≤ lay .defs → lay .defs + i < lay .edges → lay .edges ≤ length w₀
       → Marked (set w₀ at d) w₂ (lay .escapes) v (strayReader x) → Handing w₂ w lay v x i m n₀ n → Added w₀ w lay v x i m n₀ n
   added {w₀} {w₂} {w} {n₀} {n} at d ea ed fe fd fi room k h = record {
     kept = record {

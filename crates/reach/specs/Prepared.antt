@@ -8,6 +8,7 @@ use lib.ListN.{length, getD}
 use lib.Dec.{eqb, ltb}
 use Rattle.words.specs.Sort.{Rising}
 use Rattle.words.specs.Search.{Splits}
+use Rattle.words.specs.Regions.{rowWords}
 use Rattle.bits.specs.Bits.{bit}
 use Rattle.graph.specs.Work.{Within}
 use Rattle.carrying.specs.Insts.{Inst, instsOf, instAt, defOf, isSet, reads, addressed}
@@ -21,15 +22,11 @@ abbrev pub codeOf : ℕ → List ℕ → List ℕ → List ℕ → List ℕ → 
 codeOf v insts operands crossings addresses ends =
     record { numbered = v; insts = instsOf insts operands; crossings = crossings; addresses = mentionsOf addresses; ends = mentionsOf ends }
 
--- words of a row of bits over the registers
-abbrev pub wordsOf : ℕ → ℕ
-wordsOf v = (v + 63) / 64
-
 -- the regions stand one after another, gaps allowed, in n words: v registers, i instructions, o operands, l locals, a addresses
 pub record Laid (lay : Lay) (v i o l a n : ℕ) : Type 0 where
-  pub escapes-fits : lay .escapes + wordsOf v ≤ lay .dead
-  pub dead-fits : lay .dead + wordsOf v ≤ lay .seen
-  pub seen-fits : lay .seen + wordsOf v ≤ lay .defs
+  pub escapes-fits : lay .escapes + rowWords v ≤ lay .dead
+  pub dead-fits : lay .dead + rowWords v ≤ lay .seen
+  pub seen-fits : lay .seen + rowWords v ≤ lay .defs
   pub defs-fits : lay .defs + i ≤ lay .firsts
   pub firsts-fits : lay .firsts + i ≤ lay .edges
   pub edges-fits : lay .edges + o ≤ lay .heads
@@ -94,7 +91,7 @@ module _ (C : Code) (lay : Lay) (w : List ℕ) where
     pub edges : Edges n
     pub chains : Chains l
     pub ends : Ended l
-    pub unseen : (k : ℕ) → k < wordsOf (C .numbered) → getD w (lay .seen + k) 0 ≡ 0
+    pub unseen : (k : ℕ) → k < rowWords (C .numbered) → getD w (lay .seen + k) 0 ≡ 0
 
 -- what the pass leaves of the registers, in the words below the locals' regions
 pub record Registered (C : Code) (lay : Lay) (o n : ℕ) (w₀ w : List ℕ) : Type 0 where

@@ -7,6 +7,7 @@ use mathlib.Core.List.{List}
 use lib.ListN.{length, getD}
 use Rattle.words.specs.Rows.{tabulate, field}
 use Rattle.words.specs.Widths.{instWidth, instOperands}
+use Rattle.words.specs.Regions.{rowWords}
 use Rattle.bits.specs.Bits.{bit}
 use Rattle.graph.specs.Work.{Within}
 use Rattle.carrying.specs.Lists.{any}
@@ -16,11 +17,11 @@ use Rattle.insts.specs.Counts.{offset}
 use Rattle.insts.specs.Rows.{operandsFrom}
 use Rattle.reach.specs.declared.Lay.{Lay}
 use Rattle.operands.specs.Numbers.{defNumber, addressing}
-use Rattle.reach.specs.Prepared.{wordsOf, key, leaReader, Hands}
+use Rattle.reach.specs.Prepared.{key, leaReader, Hands}
 
 -- bits of v registers: those that pass f are set too, and nothing else has changed
 pub record Marked (w₀ w : List ℕ) (row v : ℕ) (f : ℕ → Bool) : Type 0 where
-  pub kept : Within row (row + wordsOf v) w₀ w
+  pub kept : Within row (row + rowWords v) w₀ w
   pub bits : (r : ℕ) → r < v → bit w row r ≡ (bit w₀ row r || f r)
 
 -- the registers that operands use other than as the base or the index, and those of which each use is one of the two
@@ -49,7 +50,7 @@ strayReader x r = reads x r && not (addressed x r)
 -- what instruction i, which is x, adds to the dead registers and to the n₀ edges
 pub record Handing (w₀ w : List ℕ) (lay : Lay) (v : ℕ) (x : Inst) (i m n₀ n : ℕ) : Type 0 where
   pub len : length w ≡ length w₀
-  pub outside : (k : ℕ) → (k < lay .dead) ⊎ (lay .dead + wordsOf v ≤ k) → (k < lay .edges + n₀) ⊎ (lay .edges + n ≤ k) → getD w k 0 ≡ getD w₀ k 0
+  pub outside : (k : ℕ) → (k < lay .dead) ⊎ (lay .dead + rowWords v ≤ k) → (k < lay .edges + n₀) ⊎ (lay .edges + n ≤ k) → getD w k 0 ≡ getD w₀ k 0
   pub dead : (r : ℕ) → r < v → bit w (lay .dead) r ≡ (bit w₀ (lay .dead) r || (leaReader x r && isNone (defOf v x)))
   pub more : n₀ ≤ n
   pub few : n ≤ n₀ + m

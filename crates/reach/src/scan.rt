@@ -5,20 +5,16 @@ ghost use Prim.Native.Nat.{_+_, _*_, _/_, _≤_, _<_};
 ghost use lib.ListN.{length};
 ghost use lib.Dec.{ltb};
 ghost use Rattle.words.specs.Widths.{instCount, instOperands, operandCount};
+ghost use Rattle.words.specs.Regions.{rowWords};
 ghost use Rattle.carrying.specs.Insts.{instsOf, isSet, addressPosition, eachAddress, defOf};
 ghost use Rattle.insts.specs.Rows.{operandAt, operandsFrom, AddsUp};
 ghost use Rattle.operands.specs.Numbers.{defNumber, addressing};
-ghost use Rattle.reach.specs.Prepared.{wordsOf};
 ghost use Rattle.reach.specs.Scan.{Marked, Linked, escapesIn, handsIn, rowOf, strayReader, Handing, Added, Blank, Scanning};
 use crate::Lay;
+use words::HALF;
+use words::wide;
 use words::widths::inst;
 use words::widths::operand;
-
-fn wide(x: u32) -> usize
-    ensures { λ r. ⌜ r ≡ x ⌝ }
-{
-    x as usize
-}
 
 // Whether operand `i`, at position `p`, uses a numbered register other than as the base or the index.
 fn strays(operands: &[u32], i: usize, p: usize, v: u32, mem: u32, base: u32, index: u32) -> bool
@@ -50,7 +46,7 @@ fn escape(
     work: &mut [u64],
     row: usize,
 )
-    requires { ⌜ (from + n ≤ operandCount (now operands)) × (row + wordsOf v ≤ length (now work)) ⌝ }
+    requires { ⌜ (from + n ≤ operandCount (now operands)) × (row + rowWords v ≤ length (now work)) ⌝ }
     ensures { λ _. ⌜ Marked (now (work .entry)) (now (work .exit)) row v (escapesIn mem base index (operandsFrom (now (operands .entry)) from n)) ⌝ }
 {
     let mut p = 0;
@@ -98,7 +94,7 @@ fn stick(
     work: &mut [u64],
     row: usize,
 )
-    requires { ⌜ (from + n ≤ operandCount (now operands)) × (row + wordsOf v ≤ length (now work)) ⌝ }
+    requires { ⌜ (from + n ≤ operandCount (now operands)) × (row + rowWords v ≤ length (now work)) ⌝ }
     ensures { λ _. ⌜ Marked (now (work .entry)) (now (work .exit)) row v (handsIn base index (operandsFrom (now (operands .entry)) from n)) ⌝ }
 {
     let mut p = 0;
@@ -134,7 +130,7 @@ fn link(
     while p < n {
         if handed(operands, from, n, p, v, base, index) {
             let r = operands[operand::WIDTH * (from + p) + operand::REGISTER] as u64;
-            work[at + k] = r * 4294967296 + inst as u64;
+            work[at + k] = r * HALF + inst as u64;
             k += 1;
             p += 1;
         } else {
@@ -155,7 +151,7 @@ fn escapes(
     work: &mut [u64],
     row: usize,
 )
-    requires { ⌜ (i < instCount (now insts)) × (n ≡ instOperands (now insts) i) × (from + n ≤ operandCount (now operands)) × (row + wordsOf v ≤ length (now work)) ⌝ }
+    requires { ⌜ (i < instCount (now insts)) × (n ≡ instOperands (now insts) i) × (from + n ≤ operandCount (now operands)) × (row + rowWords v ≤ length (now work)) ⌝ }
     ensures { λ _. ⌜ Marked (now (work .entry)) (now (work .exit)) row v (strayReader (rowOf (now (insts .entry)) (now (operands .entry)) i from)) ⌝ }
 {
     if inst_flags::unplaced(insts, i) {
@@ -189,7 +185,7 @@ fn hand(
     count: usize,
 ) -> usize
     requires { ⌜ (i < instCount (now insts)) × (n ≡ instOperands (now insts) i) × (from + n ≤ operandCount (now operands)) × (i < 65536) × (v ≤ 65535) ⌝ }
-    requires { ⌜ (lay .dead + wordsOf v ≤ lay .edges) × (lay .edges + count + n ≤ length (now work)) ⌝ }
+    requires { ⌜ (lay .dead + rowWords v ≤ lay .edges) × (lay .edges + count + n ≤ length (now work)) ⌝ }
     requires { ⌜ def ≡ defNumber (defOf v (rowOf (now insts) (now operands) i from)) ⌝ }
     ensures { λ r. ⌜ Handing (now (work .entry)) (now (work .exit)) lay v (rowOf (now (insts .entry)) (now (operands .entry)) i from) i (instOperands (now (insts .entry)) i) count r ⌝ }
 {
@@ -218,7 +214,7 @@ fn one(
     count: usize,
 ) -> usize
     requires { ⌜ (i < instCount (now insts)) × (from + instOperands (now insts) i ≤ operandCount (now operands)) × (i < 65536) × (v ≤ 65535) ⌝ }
-    requires { ⌜ (lay .escapes + wordsOf v ≤ lay .dead) × (lay .dead + wordsOf v ≤ lay .defs) × (lay .defs + i < lay .edges) × (lay .edges + count + instOperands (now insts) i ≤ length (now work)) ⌝ }
+    requires { ⌜ (lay .escapes + rowWords v ≤ lay .dead) × (lay .dead + rowWords v ≤ lay .defs) × (lay .defs + i < lay .edges) × (lay .edges + count + instOperands (now insts) i ≤ length (now work)) ⌝ }
     ensures { λ r. ⌜ Added (now (work .entry)) (now (work .exit)) lay v (rowOf (now (insts .entry)) (now (operands .entry)) i from) i (instOperands (now (insts .entry)) i) count r ⌝ }
 {
     let n = wide(insts[inst::WIDTH * i + inst::OPERANDS]);
@@ -232,7 +228,7 @@ fn one(
 // The pass over all instructions; how many edges there are.
 pub fn scan(insts: &[u32], operands: &[u32], v: u32, work: &mut [u64], lay: Lay) -> usize
     requires { ⌜ AddsUp (now insts) (now operands) × (instCount (now insts) ≤ 65536) × (v ≤ 65535) × Blank v lay (now work) ⌝ }
-    requires { ⌜ (lay .escapes + wordsOf v ≤ lay .dead) × (lay .dead + wordsOf v ≤ lay .defs) × (lay .defs + instCount (now insts) ≤ lay .edges)
+    requires { ⌜ (lay .escapes + rowWords v ≤ lay .dead) × (lay .dead + rowWords v ≤ lay .defs) × (lay .defs + instCount (now insts) ≤ lay .edges)
         × (lay .edges + operandCount (now operands) ≤ lay .heads) × (lay .heads ≤ length (now work)) ⌝ }
     ensures { λ r. ⌜ Scanning v (instsOf (now (insts .entry)) (now (operands .entry))) (now (insts .entry)) lay (now (work .entry)) (now (work .exit)) (instCount (now (insts .entry))) r ⌝ }
 {

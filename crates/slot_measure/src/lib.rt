@@ -15,10 +15,9 @@ ghost use Rattle.slot_measure.specs.Slots.{SlotIn, Placeable, Placed};
 use area_measure::Listing;
 use slot_areas::Found;
 use slot_spots::Places;
+use words::HALF;
 
 pub mod slots; // slots.rt: all slots of a job
-
-const HALF: u64 = 0x1_0000_0000;
 
 // The area of a slot: from `held` on stands a word a slot, its register plus 1, or 0.
 pub fn slot_area(

@@ -16,6 +16,7 @@ ghost use Rattle.spill_checks.specs.declared.Position.the-variants.{Stra
 use graph::Block;
 use refusals::Refusal;
 use refusals::Verdict;
+use words::wide;
 use words::widths::assigned;
 use words::widths::block;
 use words::widths::moving;
@@ -34,12 +35,6 @@ pub enum Position {
     Start(Block),
     End(Block),
     Stray,
-}
-
-fn wide(x: u32) -> usize
-    ensures { λ r. ⌜ r ≡ x ⌝ }
-{
-    x as usize
 }
 
 // `p`, which is at this instruction; stray where it is absent or unplaced.

@@ -12,7 +12,7 @@ use Rattle.refusals.specs.Verdicts.{first, inOrder, check}
 use Rattle.refusals.specs.Outcomes.{unless, after}
 use Rattle.words.specs.Rows.{tabulate}
 use Rattle.words.specs.Widths.{assignedWidth, assignedCount}
-use Rattle.job_space.specs.Space.{rowWords}
+use Rattle.words.specs.Regions.{rowWords}
 use Rattle.insts.specs.Counts.{rowsVerdict, mostVerdict}
 use Rattle.areas.specs.Slots.{assignedOf, spilled, assignedVerdict}
 use Rattle.spill_checks.specs.declared.Answer.{Answer}
