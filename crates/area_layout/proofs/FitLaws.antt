@@ -10,13 +10,6 @@ use Rattle.area_layout.specs.declared.Sizes.{Sizes}
 use Rattle.area_layout.specs.Layout.{spaceFor, Numbers, Small, Placed, Gridded, markOf}
 use Rattle.words.specs.Regions.{rowWords}
 
--- the rows of the places are short
-pub rows-small : {z : Sizes} → Small z → z .blocks * rowWords (z .locals) ≤ 131072
-rows-small {z} S =
-    let l : rowWords (z .locals) ≤ 32 = omega (arith, S .few-locals) in
-    let a = mul-le-mul-left (z .blocks) l in
-    omega (arith, S .few-blocks)
-
 -- W of any 32-bit numbers is far below 64 bits
 pub space-fits : {z : Sizes} → Numbers z → spaceFor z < 2 ^ 62
 space-fits {z} C =

@@ -31,7 +31,7 @@ use Rattle.job_locals.specs.Locals.{Asked, LocalsIn}
 use Rattle.job_space.specs.declared.Sizes.{Sizes}
 use Rattle.job_space.specs.Space.{sizesOf, spaceOf, Small}
 use Rattle.job_checks.specs.Job.{jobOf}
-use Rattle.job_space.proofs.SpaceLaws.{rows-small}
+use Rattle.words.proofs.FitLaws.{rows-few}
 use Rattle.job_layout.specs.declared.Regions.{Regions}
 use Rattle.job_layout.specs.Layout.{gridSizes, Placed, LaidFrom, SlotsFrom, mostOfLocal, LocalsLaid}
 use Rattle.job_layout.proofs.FitLaws.{ranges-small, locals-laid, layout-fits}
@@ -97,7 +97,7 @@ module _ (R : Rows) (areas : ℕ) (r : Regions) {w₀ : List ℕ}
 
     space-small : spaceOf z < 2 ^ 32
     space-small =
-        let m = rows-small S in
+        let m = rows-few (S .few-blocks) (S .few-locals) in
         omega (arith, S .registers, S .few-blocks, S .few-edges, S .few-insts, S .few-operands, S .few-crossings, S .few-locals, S .few-slots, S .few-addresses, S .few-ends, S .few-pieces, S .few-assigned, S .few-moves, S .few-ranges)
 
     pub locals-asked : {m : ℕ} → m ≡ markOf g

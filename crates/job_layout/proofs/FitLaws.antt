@@ -16,7 +16,7 @@ use Rattle.slot_spots.specs.declared.Places.{Places}
 use Rattle.slot_spots.specs.Slots.{Laid as SlotLaid}
 use Rattle.job_space.specs.declared.Sizes.{Sizes}
 use Rattle.job_space.specs.Space.{spaceOf, Small}
-use Rattle.job_space.proofs.SpaceLaws.{rows-small}
+use Rattle.words.proofs.FitLaws.{rows-few}
 use Rattle.job_layout.specs.declared.Regions.{Regions}
 use Rattle.job_layout.specs.Layout.{gridSizes, Placed, LaidFrom, SlotsFrom, mostOfLocal, mostOfSlot, Fits, Order, SlotOrder, LocalsLaid, SlotsLaid}
 use Rattle.words.specs.Regions.{rowWords}
@@ -58,7 +58,7 @@ module _ {z : Sizes} {base : ℕ} {g : Grid} (S : Small z) (G : Gridded (gridSiz
 
   pub to-small : base ≤ 1048576 → g .to ≤ 2097152
   to-small h =
-      omega (arith, rows-are z G, rows-small S, S .few-blocks, S .few-edges, G .tarjan-at, G .touched-at, G .leaves-at, G .passes-at, G .written-at, G .read-at, G .wait-at, G .to-at)
+      omega (arith, rows-are z G, rows-few (S .few-blocks) (S .few-locals), S .few-blocks, S .few-edges, G .tarjan-at, G .touched-at, G .leaves-at, G .passes-at, G .written-at, G .read-at, G .wait-at, G .to-at)
 
 -- ---- W is enough
 

@@ -14,13 +14,6 @@ use Rattle.job_space.specs.Space.{sizesOf, spaceOf, Counted, Small, badS
 use Rattle.words.specs.Widths.{cellWidth, itemWidth}
 use Rattle.words.specs.Regions.{rowWords}
 
--- the rows of the places are short
-pub rows-small : {z : Sizes} → Small z → z .blocks * rowWords (z .locals) ≤ 131072
-rows-small {z} S =
-    let l : rowWords (z .locals) ≤ 32 = omega (arith, S .few-locals) in
-    let a = mul-le-mul-left (z .blocks) l in
-    omega (arith, S .few-blocks)
-
 -- ★1 with an area list of 64 ranges: 7 records, one block with a row of one word, 64 ranges and no register
 pub star-1-space : spaceOf (sizesOf (rowsOf 20 0 (0 ∷ 0 ∷ 19 ∷ []) []
     (1 ∷ 0 ∷ 2 ∷ 3 ∷ 0 ∷ 0 ∷ 256 ∷ 256 ∷ 0 ∷ 1 ∷ 0 ∷ 6 ∷ 7 ∷ 0 ∷ 0 ∷ 256 ∷ 256 ∷ 0 ∷ []) [] []

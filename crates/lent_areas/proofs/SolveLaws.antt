@@ -37,7 +37,8 @@ use Rattle.lent_areas.specs.declared.Found.the-variants.{Inverted, Range
 use Rattle.area_layout.specs.Layout.{spaceFor, Small, Placed, Gridded, markOf}
 use Rattle.area_checks.specs.Checks.{sizesOf, Lent}
 use Rattle.lent_areas.specs.Areas.{graphFor, listing, Markable, Marking, Rowed, Solved}
-use Rattle.area_layout.proofs.FitLaws.{rows-small, layout-fits}
+use Rattle.words.proofs.FitLaws.{rows-few}
+use Rattle.area_layout.proofs.FitLaws.{layout-fits}
 
 -- the ends' room is not far
 pub past-ends : (z : Sizes) (p : Places) → Small z → Placed z p → p .ends + z .ends ≤ 1048576
@@ -172,7 +173,7 @@ module _ (blocks edges kinds touches ends : List ℕ) (areas : ℕ) (p : Places)
   pub from-small : markOf g + g .width + n < 2 ^ 64
   from-small =
       let s = N .small in
-      let r = rows-small s in
+      let r = rows-few (s .few-blocks) (s .few-locals) in
       omega (arith, fit, s .few-blocks, s .few-edges, s .few-locals, s .few-touches, s .few-ends, s .few-ranges)
 
   pub mark-fits : WordFits w64 (g .locals * g .width) × WordFits w64 (markOf g)

@@ -3,7 +3,9 @@ use Prim.Native.Nat.{ℕ, _*_, _^_, _≤_, _<_}
 use mathlib.Core.Path.{_≡_}
 use mir.Syntax.{w64}
 use mir.Val.{Fits}
+use native.Mathlib.Nat.{mul-le-mul-left}
 use native.Mathlib.Omega.{arith}
+use Rattle.words.specs.Regions.{rowWords}
 
 -- what is at most the length of a list of words fits, in words and in bytes
 pub small : (a n : ℕ) → a ≤ n → n * 8 < 2 ^ 63 → Fits w64 a
@@ -35,3 +37,10 @@ not-none n h = omega arith
 
 pub positive : (n : ℕ) → (n ≡ 0 → ⊥) → 0 < n
 positive n h = omega arith
+
+-- a row of bits for each of at most 4,096 blocks, of at most 2,048 locals
+pub rows-few : {b l : ℕ} → b ≤ 4096 → l ≤ 2048 → b * rowWords l ≤ 131072
+rows-few {b} {l} h k =
+    let w : rowWords l ≤ 32 = omega arith in
+    let a = mul-le-mul-left b w in
+    omega arith
