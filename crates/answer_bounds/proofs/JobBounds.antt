@@ -37,7 +37,7 @@ use Rattle.codes.specs.Codes.{Fits}
 use Rattle.codes.proofs.IndexLaws.{check-fits, first-fits}
 use Rattle.answer_bounds.proofs.Steps.{AllFit, no-more, order-fit, next-fits, rows-fits, most-fits, carry-counts-fit, line-fits, edge-fits, inst-fits, crossing-fits, address-fits, end-fits, move-fits, piece-fits, assigned-fits}
 use Rattle.job_space.specs.Rows.{Rows}
-use Rattle.job_space.specs.declared.Terms.{Terms}
+use Rattle.fitting.specs.declared.Terms.{Terms}
 
 module _ (R : Rows) (areas : ℕ) where
   counts-fit : Fits (countVerdict R areas)

@@ -22,7 +22,7 @@ use Rattle.want_codes.specs.Plans.{fewCounts}
 use Rattle.job_codes.specs.Job.{codedVerdict}
 use Rattle.export_laws.specs.Orders.{codedChecks}
 use Rattle.job_space.specs.Rows.{Rows}
-use Rattle.job_space.specs.declared.Terms.{Terms}
+use Rattle.fitting.specs.declared.Terms.{Terms}
 
 module _ (R : Rows) (t : Terms) (cells items areas counts work : ℕ) where
   abbrev J : Job

@@ -7,7 +7,7 @@ use Rattle.job.proofs.Paths.{shared-by-paths}
 use Rattle.job_codes.specs.Job.{JobCoded}
 use Rattle.export_laws.proofs.Demand.{shared}
 use Rattle.job_space.specs.Rows.{Rows}
-use Rattle.job_space.specs.declared.Terms.{Terms}
+use Rattle.fitting.specs.declared.Terms.{Terms}
 use Rattle.job_checks.specs.Job.{jobOf}
 
 module _ {R : Rows} {t : Terms} {cells items areas counts work cells′ items′ areas′ counts′ work′ : List ℕ} {r : ℕ}

@@ -58,7 +58,7 @@ use Rattle.answer_bounds.proofs.QueryBounds.{local-small, slot-small, saved-sma
 use Rattle.answer_bounds.proofs.RangeBounds.{merged-fits, merged-count, joined-fits, joined-count, union-fits, union-count, clashes-fits}
 use Rattle.slots.specs.Exports.{FlowCoded, SpreadCoded, ComponentsCoded, SettlingCoded, ReachCoded, CarriedCoded, MovedCoded, SpilledCoded, LocalAreasCoded, ItemAreasCoded, TextCoded, ListCoded, CrowdCoded, CapCoded, ApartCoded}
 use Rattle.job_space.specs.Rows.{Rows}
-use Rattle.job_space.specs.declared.Terms.{Terms}
+use Rattle.fitting.specs.declared.Terms.{Terms}
 
 -- ---- the whole job and fitting alone
 

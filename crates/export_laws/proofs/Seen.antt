@@ -38,7 +38,7 @@ use Rattle.job_codes.specs.Job.{JobCoded}
 use Rattle.slots.specs.Exports.{ApartCoded}
 use Rattle.export_laws.proofs.Demand.{no-refusal, shared}
 use Rattle.job_space.specs.Rows.{Rows}
-use Rattle.job_space.specs.declared.Terms.{Terms}
+use Rattle.fitting.specs.declared.Terms.{Terms}
 use Rattle.job_checks.specs.Job.{jobOf}
 
 -- ---- the whole job: its rows, as many cells as the plan has

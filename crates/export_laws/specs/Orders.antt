@@ -5,7 +5,7 @@ use Rattle.refusals.specs.declared.Verdict.{Verdict}
 use Rattle.refusals.specs.declared.Refusal.the-variants.{Space}
 use Rattle.refusals.specs.Verdicts.{check}
 use Rattle.areas.specs.Job.{itemsVerdict}
-use Rattle.job_space.specs.declared.Terms.{Terms}
+use Rattle.fitting.specs.declared.Terms.{Terms}
 use Rattle.job_space.specs.Rows.{Rows}
 use Rattle.job_checks.specs.Job.{jobOf}
 use Rattle.job.specs.Entry.{lentChecks}

@@ -12,7 +12,7 @@ ghost use mathlib.Core.Path.{_≡_};
 ghost use lib.ListN.{length};
 ghost use Rattle.cases.specs.Cuts.{Ordered};
 use cases::Cuts;
-use job_space::Terms;
+use fitting::Terms;
 use queries::Crowd;
 use queries::Place;
 use queries::Saving;

@@ -21,7 +21,7 @@ use Rattle.job_checks.proofs.CheckLaws.{whole-areas, placedOf, by-own, by-count
 use Rattle.job_areas.specs.Areas.{Lent}
 use Rattle.job.specs.Entry.{spaceVerdict, lentVerdict}
 use Rattle.job_space.specs.Rows.{Rows}
-use Rattle.job_space.specs.declared.Terms.{Terms}
+use Rattle.fitting.specs.declared.Terms.{Terms}
 use Rattle.areas.specs.Job.{checks}
 use Rattle.words.specs.Widths.{cellWidth, itemWidth, rangeWidth}
 

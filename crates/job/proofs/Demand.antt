@@ -28,7 +28,7 @@ use Rattle.job.specs.Entry.{lentVerdict, verdictOf, SharedAs}
 use Rattle.job.specs.Reads.{cellIn, sizeIn, ReadsAsPrivate}
 use Rattle.job.proofs.CheckLaws.{granted}
 use Rattle.job_space.specs.Rows.{Rows}
-use Rattle.job_space.specs.declared.Terms.{Terms}
+use Rattle.fitting.specs.declared.Terms.{Terms}
 
 -- number 2·c of the cell list is cell c's size
 listed-size : (cs : List Cell) (old : List ℕ) (c b : ℕ) → b < cellAt cs c .size → b < getD (flat (map cellRow cs) ++ old) (cellWidth * c) 0

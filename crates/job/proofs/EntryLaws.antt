@@ -38,7 +38,7 @@ use Rattle.job_answers.specs.Answers.{AnsweredBy}
 use Rattle.job_answers.specs.Inner.{Measured}
 use Rattle.job.proofs.CheckLaws.{Granted}
 use Rattle.job_space.specs.Rows.{Rows}
-use Rattle.job_space.specs.declared.Terms.{Terms}
+use Rattle.fitting.specs.declared.Terms.{Terms}
 
 -- ---- the wants are the job's
 

@@ -19,7 +19,7 @@ use Rattle.job_checks.specs.Job.{jobOf, checksGive}
 use Rattle.job_checks.proofs.OrderLaws.{counts-give, checks-give}
 use Rattle.job.specs.Entry.{spaceVerdict, lentChecks, lentVerdict, verdictOf, jobChecks}
 use Rattle.job_space.specs.Rows.{Rows}
-use Rattle.job_space.specs.declared.Terms.{Terms}
+use Rattle.fitting.specs.declared.Terms.{Terms}
 
 module _ (R : Rows) (t : Terms) (cells items areas work : ℕ) where
   abbrev J : Job

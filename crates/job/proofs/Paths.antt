@@ -21,7 +21,7 @@ use Rattle.job.specs.Entry.{SharedAs}
 use Rattle.job_answers.proofs.SeenLaws.{field-listed}
 use Rattle.job.proofs.Demand.{none-refused, passed, items-written}
 use Rattle.job_space.specs.Rows.{Rows}
-use Rattle.job_space.specs.declared.Terms.{Terms}
+use Rattle.fitting.specs.declared.Terms.{Terms}
 
 module _ {R : Rows} {t : Terms} {cells items areas work cells′ items′ areas′ work′ : List ℕ} {c p d : ℕ}
     (E : SharedAs R t cells items areas work (Planned c p d) cells′ items′ areas′ work′) where

@@ -12,7 +12,7 @@ ghost use Rattle.job_answers.specs.Answers.{AnsweredBy};
 ghost use Rattle.job_answers.specs.Inner.{Measured};
 ghost use Rattle.areas.specs.Job.{areasVerdict};
 ghost use Rattle.words.specs.Widths.{rangeCount};
-use job_space::Terms;
+use fitting::Terms;
 use refusals::Refusal;
 use words::widths::local;
 use words::widths::range;

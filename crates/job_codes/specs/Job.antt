@@ -18,7 +18,7 @@ use Rattle.job.specs.Entry.{lentVerdict}
 use Rattle.codes.specs.Codes.{codeOf}
 use Rattle.want_codes.specs.Plans.{countsOf, fewCounts}
 use Rattle.job_space.specs.Rows.{Rows}
-use Rattle.job_space.specs.declared.Terms.{Terms}
+use Rattle.fitting.specs.declared.Terms.{Terms}
 use Rattle.job_checks.specs.Job.{jobOf}
 use Rattle.words.specs.Widths.{rangeWidth}
 

@@ -7,7 +7,7 @@ use mathlib.Core.Bool.{Bool, true, not}
 use mathlib.Core.List.{[], _∷_}
 use lib.Dec.{eqb}
 use borrow.Author.Tests.{lt-ltb, le-ltb, eq-eqb, ne-eqb}
-use Rattle.job_space.specs.declared.Terms.{Terms}
+use Rattle.fitting.specs.declared.Terms.{Terms}
 use Rattle.job_space.specs.declared.Sizes.{Sizes}
 use Rattle.job_space.specs.Rows.{rowsOf}
 use Rattle.job_space.specs.Space.{sizesOf, spaceOf, Counted, Small, badShape}

@@ -5,7 +5,7 @@ use lib.ListN.{length}
 use lib.Dec.{ltb, eqb}
 use Rattle.words.specs.Widths.{blockCount, edgeCount, instCount, operandCount, localCount, addressCount, endCount, pieceCount, assignedCount, moveCount, cellWidth, itemWidth, rangeWidth}
 use Rattle.words.specs.Regions.{rowWords}
-use Rattle.job_space.specs.declared.Terms.{Terms}
+use Rattle.fitting.specs.declared.Terms.{Terms}
 use Rattle.job_space.specs.declared.Sizes.{Sizes}
 use Rattle.job_space.specs.Rows.{Rows}
 

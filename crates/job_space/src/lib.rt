@@ -1,6 +1,7 @@
 // The counts of a job's records as they are lent, W, and what only fitting takes.
 ghost use mathlib.Core.Path.{_≡_};
 ghost use Rattle.job_space.specs.Space.{spaceOf, Counted, badShape};
+use fitting::Terms;
 
 pub mod records; // records.rt: how many are lent
 
@@ -8,11 +9,6 @@ use words::widths::cell;
 use words::widths::item;
 
 const BUDGET: u32 = 1048576;
-
-// What a fitting is asked to keep to: how many probes it may make.
-pub struct Terms {
-    pub budget: u32,
-}
 
 // The numbers of a job's `H` line: the points, V, and what fitting has to keep to.
 pub struct Head {

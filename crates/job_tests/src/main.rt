@@ -6,9 +6,9 @@ ghost use mathlib.Core.Path.{_≡_};
 ghost use lib.ListN.{length};
 ghost use Rattle.cases.specs.Cuts.{Ordered};
 use cases::Cuts;
+use fitting::Terms;
 use job::Shared;
 use job_space::Head;
-use job_space::Terms;
 use words::widths::moving;
 
 // How many plans there are, and how many of them have fewer cells than items, spent as many probes as the budget has, have an ending local, over 64 locals, and a move that

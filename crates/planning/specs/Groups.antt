@@ -5,7 +5,7 @@ use lib.ListN.{getD}
 use Rattle.refusals.specs.declared.Verdict.{Verdict}
 use Rattle.words.specs.Regions.{part}
 use Rattle.areas.specs.Job.{Job}
-use Rattle.job_space.specs.declared.Terms.{Terms}
+use Rattle.fitting.specs.declared.Terms.{Terms}
 use Rattle.job_space.specs.Rows.{Rows, rowsOf}
 use Rattle.job_checks.specs.Job.{jobOf}
 use Rattle.job_answers.specs.declared.Shared.{Shared}

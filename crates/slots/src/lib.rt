@@ -13,8 +13,8 @@ ghost use Rattle.query_codes.specs.Codes.{toldOf, PartTold};
 ghost use Rattle.slots.specs.Exports.{FlowCoded, SpreadCoded, fitSpace, ListCoded, CrowdCoded, CapCoded, ApartCoded};
 ghost use Rattle.job_space.specs.Rows.{lentRows};
 ghost use Rattle.job_codes.specs.Job.{JobCoded};
+use fitting::Terms;
 use job_space::Head;
-use job_space::Terms;
 
 mod area_exports; // area_exports.rt: areas of items
 mod carry_exports; // carry_exports.rt: carried addresses, moves and slots

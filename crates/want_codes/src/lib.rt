@@ -5,7 +5,7 @@ ghost use Rattle.wants.specs.Entry.{answerOf};
 ghost use Rattle.want_codes.specs.Plans.{PlanTold, codedOutcome, PlanCoded};
 use codes::refused;
 use codes::tell;
-use job_space::Terms;
+use fitting::Terms;
 use refusals::Refusal;
 use wants::Fitted;
 

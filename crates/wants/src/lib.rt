@@ -7,7 +7,7 @@ use fit_tables::CELLS;
 use fit_tables::Counts;
 use fit_tables::HOMES;
 use fit_tables::Tables;
-use job_space::Terms;
+use fitting::Terms;
 use refusals::Refusal;
 use refusals::Verdict;
 use words::widths::range;
