@@ -2,11 +2,10 @@
 ghost use mathlib.Core.Path.{_≡_};
 ghost use Rattle.job_space.specs.Space.{spaceOf, Counted, badShape};
 use fitting::Terms;
-
-pub mod records; // records.rt: how many are lent
-
 use words::widths::cell;
 use words::widths::item;
+
+pub mod records; // records.rt: how many are lent
 
 const BUDGET: u32 = 1048576;
 
