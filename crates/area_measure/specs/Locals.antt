@@ -33,18 +33,17 @@ listed (some rs) = rs
 
 -- where local l's rows stand, and the words that its area is made in
 abbrev pub localAt : Grid → ℕ → ℕ → ℕ → Local
-localAt g n mark l =
-    record {
-      row = g .to + l * g .width;
-      wide = g .width;
-      written = g .written;
-      read = g .read;
-      words = g .words;
-      local = l;
-      mark = mark;
-      span = mark + g .width;
-      to = mark + g .width + n;
-    }
+localAt g n mark l = record {
+  row = g .to + l * g .width;
+  wide = g .width;
+  written = g .written;
+  read = g .read;
+  words = g .words;
+  local = l;
+  mark = mark;
+  span = mark + g .width;
+  to = mark + g .width + n;
+}
 
 -- the most ranges that one local's area is made of
 abbrev pub mostIn : List ℕ → List ℕ → ℕ

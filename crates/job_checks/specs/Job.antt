@@ -24,18 +24,17 @@ use Rattle.job_space.specs.Space.{sizesOf, Small}
 
 -- the records of the rows, in the job text's group order
 abbrev pub jobOf : Rows → Job
-jobOf R =
-    record {
-      points = R .points;
-      blocks = blocksOf (R .blocks);
-      jumps = jumpsOf (R .edges);
-      code = codeOf (R .v) (R .insts) (R .operands) (R .crossings) (R .addresses) (R .ends);
-      locals = localsOf (R .locals);
-      slots = R .slots;
-      pieces = piecesOf (R .pieces);
-      assigned = assignedOf (R .assigned);
-      moves = movesOf (R .moves);
-    }
+jobOf R = record {
+  points = R .points;
+  blocks = blocksOf (R .blocks);
+  jumps = jumpsOf (R .edges);
+  code = codeOf (R .v) (R .insts) (R .operands) (R .crossings) (R .addresses) (R .ends);
+  locals = localsOf (R .locals);
+  slots = R .slots;
+  pieces = piecesOf (R .pieces);
+  assigned = assignedOf (R .assigned);
+  moves = movesOf (R .moves);
+}
 
 -- "edges 16,384; slots 2,048; live pieces, assignments, moves and the area list 65,536 each", by their lengths in numbers
 unfoldable pub otherCounts : ℕ → ℕ → ℕ → ℕ → ℕ → ℕ → Verdict

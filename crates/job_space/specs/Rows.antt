@@ -21,37 +21,50 @@ pub record Rows : Type 0 where
   pub assigned : List ℕ
   pub moves : List ℕ
 
+-- a list that a function is lent, as its `ensures` names it: at entry and at exit
+abbrev pub Slice : Type 0
+Slice = Both (RefT (List ℕ)) (RefT (List ℕ))
+
+-- what a function is lent
+abbrev pub lentRows : ℕ → ℕ → Slice → Slice → Slice → Slice → Slice → Slice → Slice → Slice → Slice → Slice → Slice → Slice → Rows
+lentRows points v blocks edges insts operands crossings locals slots addresses ends pieces assigned moves = record {
+  points = points;
+  v = v;
+  blocks = now (blocks .entry);
+  edges = now (edges .entry);
+  insts = now (insts .entry);
+  operands = now (operands .entry);
+  crossings = now (crossings .entry);
+  locals = now (locals .entry);
+  slots = now (slots .entry);
+  addresses = now (addresses .entry);
+  ends = now (ends .entry);
+  pieces = now (pieces .entry);
+  assigned = now (assigned .entry);
+  moves = now (moves .entry);
+}
+
 -- the record of these numbers and lists
 abbrev pub rowsOf : ℕ → ℕ → List ℕ → List ℕ → List ℕ → List ℕ → List ℕ → List ℕ → List ℕ → List ℕ → List ℕ → List ℕ → List ℕ → List ℕ → Rows
-rowsOf points v blocks edges insts operands crossings locals slots addresses ends pieces assigned moves =
-    record {
-      points = points;
-      v = v;
-      blocks = blocks;
-      edges = edges;
-      insts = insts;
-      operands = operands;
-      crossings = crossings;
-      locals = locals;
-      slots = slots;
-      addresses = addresses;
-      ends = ends;
-      pieces = pieces;
-      assigned = assigned;
-      moves = moves;
-    }
+rowsOf points v blocks edges insts operands crossings locals slots addresses ends pieces assigned moves = record {
+  points = points;
+  v = v;
+  blocks = blocks;
+  edges = edges;
+  insts = insts;
+  operands = operands;
+  crossings = crossings;
+  locals = locals;
+  slots = slots;
+  addresses = addresses;
+  ends = ends;
+  pieces = pieces;
+  assigned = assigned;
+  moves = moves;
+}
 
--- what a function is lent, as its `requires` names the lists
+-- the same, as a `requires` names the lists
 abbrev pub rowsAt : ℕ → ℕ → RefT (List ℕ) → RefT (List ℕ) → RefT (List ℕ) → RefT (List ℕ) → RefT (List ℕ) → RefT (List ℕ)
     → RefT (List ℕ) → RefT (List ℕ) → RefT (List ℕ) → RefT (List ℕ) → RefT (List ℕ) → RefT (List ℕ) → Rows
 rowsAt points v blocks edges insts operands crossings locals slots addresses ends pieces assigned moves =
     rowsOf points v (now blocks) (now edges) (now insts) (now operands) (now crossings) (now locals) (now slots) (now addresses) (now ends) (now pieces) (now assigned) (now moves)
-
--- and as its `ensures` does: a list at entry and at exit
-abbrev pub Slice : Type 0
-Slice = Both (RefT (List ℕ)) (RefT (List ℕ))
-
-abbrev pub lentRows : ℕ → ℕ → Slice → Slice → Slice → Slice → Slice → Slice → Slice → Slice → Slice → Slice → Slice → Slice → Rows
-lentRows points v blocks edges insts operands crossings locals slots addresses ends pieces assigned moves =
-    rowsAt points v (blocks .entry) (edges .entry) (insts .entry) (operands .entry) (crossings .entry) (locals .entry) (slots .entry) (addresses .entry) (ends .entry) (pieces .entry)
-    (assigned .entry) (moves .entry)

@@ -11,23 +11,22 @@ use Rattle.job_space.specs.Rows.{Rows}
 
 -- how many records are lent, how many ranges the area list holds, and V
 abbrev pub sizesOf : Rows → ℕ → Sizes
-sizesOf R areas =
-    record {
-      v = R .v;
-      blocks = blockCount (R .blocks);
-      edges = edgeCount (R .edges);
-      insts = instCount (R .insts);
-      operands = operandCount (R .operands);
-      crossings = length (R .crossings);
-      locals = localCount (R .locals);
-      slots = length (R .slots);
-      addresses = addressCount (R .addresses);
-      ends = endCount (R .ends);
-      pieces = pieceCount (R .pieces);
-      assigned = assignedCount (R .assigned);
-      moves = moveCount (R .moves);
-      room = areas / rangeWidth;
-    }
+sizesOf R areas = record {
+  v = R .v;
+  blocks = blockCount (R .blocks);
+  edges = edgeCount (R .edges);
+  insts = instCount (R .insts);
+  operands = operandCount (R .operands);
+  crossings = length (R .crossings);
+  locals = localCount (R .locals);
+  slots = length (R .slots);
+  addresses = addressCount (R .addresses);
+  ends = endCount (R .ends);
+  pieces = pieceCount (R .pieces);
+  assigned = assignedCount (R .assigned);
+  moves = moveCount (R .moves);
+  room = areas / rangeWidth;
+}
 
 -- W = 8 × (all record counts + B × ⌈locals/64⌉ + area list length + ⌈V/64⌉)
 abbrev pub spaceOf : Sizes → ℕ
