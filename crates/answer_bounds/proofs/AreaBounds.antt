@@ -23,7 +23,7 @@ use Rattle.area_measure.specs.Locals.{areaFor}
 use Rattle.lent_areas.specs.Areas.{graphFor}
 use Rattle.area_entries.specs.Entry.{verdictOf}
 use Rattle.area_entries.proofs.OrderLaws.{local-verdict}
-use Rattle.codes.specs.Codes.{Fits}
+use Rattle.codes.specs.Inner.{Fits}
 use Rattle.codes.proofs.IndexLaws.{check-fits}
 use Rattle.answer_bounds.proofs.Steps.{no-more, order-fit, next-fits, few-fits, rows-fits, most-fits}
 use Rattle.answer_bounds.proofs.GraphBounds.{graph-fit}

@@ -30,7 +30,7 @@ use Rattle.carried_registers.proofs.CarriedLaws.{carried-length}
 use Rattle.moved_ranges.specs.Moved.{movedCounts, movedSpace, movedVerdict}
 use Rattle.moved_ranges.proofs.MovedEntry.{counted as moved-counted}
 use Rattle.spilled_registers.specs.Spilled.{spilledCounts, spilledSpace, spilledVerdict}
-use Rattle.codes.specs.Codes.{Fits}
+use Rattle.codes.specs.Inner.{Fits}
 use Rattle.codes.proofs.IndexLaws.{check-fits, first-fits}
 use Rattle.answer_bounds.proofs.Steps.{no-more, order-fit, next-fits, rows-fits, most-fits, blocks-fit, insts-fit, carry-counts-fit, line-fits, inst-fits, crossing-fits, address-fits, end-fits, move-fits, assigned-fits}
 

@@ -19,7 +19,7 @@ use Rattle.line_checks.proofs.Refusals.{counts}
 use Rattle.components.specs.Entry.{verdictOf as orderVerdict}
 use Rattle.flow.specs.Entry.{flowedChecks, verdictOf as rowVerdict}
 use Rattle.spread.specs.Entry.{verdictOf as spreadVerdict}
-use Rattle.codes.specs.Codes.{Fits}
+use Rattle.codes.specs.Inner.{Fits}
 use Rattle.codes.proofs.IndexLaws.{check-fits}
 use Rattle.answer_bounds.proofs.Steps.{AllFit, no-more, order-fit, next-fits, line-fits, edge-fits}
 

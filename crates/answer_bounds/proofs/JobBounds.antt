@@ -13,8 +13,7 @@ use Rattle.refusals.specs.declared.Refusal.the-variants.{Count, Space, List as 
 use Rattle.refusals.specs.Verdicts.{inOrder}
 use Rattle.refusals.proofs.Laws.{first-left, first-right, check-told}
 use Rattle.words.specs.Rows.{tabulate}
-use Rattle.words.specs.Widths.{edgeWidth, mentionWidth, addressCount, endCount, pieceWidth, pieceCount, assignedWidth, assignedCount, moveWidth, moveCount, cellWidth, itemWidth, partWidth}
-use Rattle.words.specs.Widths.{rangeWidth}
+use Rattle.words.specs.Widths.{edgeWidth, mentionWidth, addressCount, endCount, pieceWidth, pieceCount, assignedWidth, assignedCount, moveWidth, moveCount, cellWidth, itemWidth, partWidth, rangeWidth}
 use Rattle.words.proofs.RowLaws.{length-records}
 use Rattle.graph.specs.Line.{blocksOf, jumpsOf}
 use Rattle.graph.proofs.Line.{blocks-length, jumps-length}
@@ -33,7 +32,7 @@ use Rattle.item_areas.specs.Entry.{itemChecks, spaceVerdict as areasSpace, lent
 use Rattle.item_areas.proofs.OrderLaws.{item-verdict}
 use Rattle.job_codes.specs.Job.{codedVerdict}
 use Rattle.want_codes.specs.Plans.{fewCounts}
-use Rattle.codes.specs.Codes.{Fits}
+use Rattle.codes.specs.Inner.{Fits}
 use Rattle.codes.proofs.IndexLaws.{check-fits, first-fits}
 use Rattle.answer_bounds.proofs.Steps.{AllFit, no-more, order-fit, next-fits, rows-fits, most-fits, carry-counts-fit, line-fits, edge-fits, inst-fits, crossing-fits, address-fits, end-fits, move-fits, piece-fits, assigned-fits}
 use Rattle.job_space.specs.Rows.{Rows}

@@ -22,7 +22,7 @@ use Rattle.want_codes.specs.Plans.{fewCounts, codedVerdict}
 use Rattle.query_checks.specs.Checks.{badCount, noCell, surplus, badAreas, badItem, planVerdict, crowdedVerdict, toldVerdict}
 use Rattle.capping.specs.Cap.{capVerdict}
 use Rattle.apart.specs.Apart.{apartCount, apartSpace, apartVerdict}
-use Rattle.codes.specs.Codes.{Fits}
+use Rattle.codes.specs.Inner.{Fits}
 use Rattle.codes.proofs.IndexLaws.{check-fits, named-fits}
 use Rattle.answer_bounds.proofs.Steps.{no-more, order-fit, next-fits, few-fits}
 

@@ -20,7 +20,7 @@ use Rattle.ranges.specs.Forms.{columns}
 use Rattle.ranges.proofs.FormLaws.{columns-length}
 use Rattle.range_checks.specs.Verdicts.{uneven, badList, pairVerdict, mergedVerdict, joinedVerdict, unionVerdict, clashesVerdict}
 use Rattle.range_checks.proofs.VerdictLaws.{even-list, small-list}
-use Rattle.codes.specs.Codes.{indexOf, Fits}
+use Rattle.codes.specs.Inner.{indexOf, Fits}
 use Rattle.codes.proofs.IndexLaws.{check-fits, scan-within, counted-fits, first-fits}
 use Rattle.answer_bounds.proofs.Steps.{no-more, order-fit, next-fits, few-fits}
 

@@ -19,7 +19,7 @@ use Rattle.carrying.specs.Checks.{instVerdict, crossingVerdict, addressVerdict,
 use Rattle.areas.specs.Slots.{Assigned, Move, moveVerdict, pieceVerdict, assignedVerdict}
 use Rattle.insts.specs.Counts.{badRows, rowsVerdict, mostVerdict, blockCounts, offset, instCounts, codeCounts}
 use Rattle.carry_checks.specs.Checks.{carryCounts}
-use Rattle.codes.specs.Codes.{Fits}
+use Rattle.codes.specs.Inner.{Fits}
 use Rattle.codes.proofs.IndexLaws.{check-fits, first-fits, order-fits, none-fits, scan-fits}
 
 -- of a list of checks

@@ -12,7 +12,7 @@ use Rattle.words.specs.Rows.{tabulate, flat}
 use Rattle.words.specs.Widths.{partWidth}
 use Rattle.words.proofs.FlatLaws.{flat-at}
 use Rattle.words.proofs.PasteLaws.{Filling, fill-more}
-use Rattle.answer_rows.specs.Tables.{itemOf}
+use Rattle.answer_rows.specs.Inner.{itemOf}
 
 -- three numbers more of the rows
 pub three-more : (n : ℕ) (row : ℕ → List ℕ) (d s : List ℕ) (i : ℕ) → i < n → ((j : ℕ) → j < n → length (row j) ≡ 3) → Filling d 0 (flat (tabulate n row)) (partWidth * n) s (partWidth * i)

@@ -15,14 +15,16 @@ use Rattle.refusals.specs.Verdicts.{check}
 use Rattle.refusals.specs.Outcomes.{numbered}
 use Rattle.refusals.proofs.Laws.{check-bad, check-fine, check-last}
 use Rattle.words.specs.Rows.{wholeRows, tabulate, flat}
-use Rattle.words.specs.Widths.{localWidth, localCount, localSize, localAlign, cellWidth, itemWidth, slotCount, slotSize}
+use Rattle.words.specs.Widths.{localWidth, localCount, cellWidth, itemWidth, slotCount}
+use Rattle.words.specs.Inner.{localSize, localAlign, slotSize}
 use Rattle.words.proofs.RowLaws.{length-tabulate, tabulate-eq, tabulate-add, tabulate-getD, map-tabulate}
 use Rattle.words.proofs.FlatLaws.{flat-length}
 use Rattle.words.proofs.Bools.{or-neither}
 use Rattle.fitting.specs.Wants.{Want}
 use Rattle.fitting.specs.Queries.{Room, apart, roomOf}
 use Rattle.capping.specs.Cap.{roomRow}
-use Rattle.apart.specs.Apart.{localsOf, widthsOf, apartCount, apartSpace, apartVerdict, loneRow, roomRows, loneRows, apartOf, ApartBy, ownCell, ownCells, ownItems}
+use Rattle.apart.specs.Apart.{localsOf, widthsOf, apartCount, apartSpace, apartVerdict, loneRow, roomRows, loneRows, apartOf, ApartBy}
+use Rattle.apart.specs.Inner.{ownCell, ownCells, ownItems}
 
 module _ (locals slots : List ℕ) (cells items : ℕ) where
   pub apart-count : apartCount locals slots cells items ≡ true → Bad Count 0 ≡ apartVerdict locals slots cells items

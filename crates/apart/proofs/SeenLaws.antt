@@ -20,7 +20,8 @@ use Rattle.fitting.specs.Queries.{Room, Item, Slots, areasOf, partOf, apart}
 use Rattle.queries.specs.Seen.{PlanSeen}
 use Rattle.queries.proofs.SeenLaws.{RowsHold, planBy, plan-seen}
 use Rattle.capping.specs.Cap.{roomRow}
-use Rattle.apart.specs.Apart.{localsOf, widthsOf, apartVerdict, roomRows, loneRows, apartOf, ApartBy, ownCell, ownCells, ownItems}
+use Rattle.apart.specs.Apart.{localsOf, widthsOf, apartVerdict, roomRows, loneRows, apartOf, ApartBy}
+use Rattle.apart.specs.Inner.{ownCell, ownCells, ownItems}
 use Rattle.apart.proofs.ApartLaws.{apart-passed, localAt, slotAt, widths-are, roomAt, rooms-are, row-is, cells-are, items-are, lone, cell-wide}
 
 module _ (locals slots : List ℕ) where

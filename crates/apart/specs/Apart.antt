@@ -1,17 +1,16 @@
 -- What `apart` answers and refuses: document 01, numbers 1 and 7.
-use Prim.Native.Nat.{ℕ, _+_, _-_, _/_, _%_}
+use Prim.Native.Nat.{ℕ, _+_, _/_, _%_}
 use mathlib.Core.Path.{_≡_}
-use mathlib.Core.Bool.{Bool, cond, not, _||_}
+use mathlib.Core.Bool.{Bool, not, _||_}
 use mathlib.Core.Option.{none}
 use mathlib.Core.List.{List, [], _∷_, _++_, map}
-use lib.ListN.{length, getD}
 use lib.Dec.{ltb, eqb}
 use Rattle.refusals.specs.declared.Verdict.{Verdict}
 use Rattle.refusals.specs.declared.Refusal.the-variants.{Count, Space}
 use Rattle.refusals.specs.Verdicts.{inOrder, check}
 use Rattle.refusals.specs.Outcomes.{Outcome, unless, numbered, after}
-use Rattle.words.specs.Rows.{wholeRows, records, tabulate, flat}
-use Rattle.words.specs.Widths.{localWidth, localCount, localSize, localAlign, cellWidth, itemWidth, slotCount, slotSize}
+use Rattle.words.specs.Rows.{wholeRows, records, flat}
+use Rattle.words.specs.Widths.{localWidth, localCount, cellWidth, itemWidth, slotCount}
 use Rattle.fitting.specs.Wants.{Want}
 use Rattle.fitting.specs.Queries.{Item, Slots, apart}
 use Rattle.capping.specs.Cap.{roomRow}
@@ -56,14 +55,3 @@ pub record ApartBy (v : Verdict) (o : Outcome Slots) (cells items : List ℕ) (r
   pub answer : numbered r ≡ numbered v
   pub in-cells : cells′ ≡ after o roomRows cells
   pub in-items : items′ ≡ after o loneRows items
-
--- item i's rows where each item has its own cell
-abbrev pub ownCell : List ℕ → List ℕ → ℕ → List ℕ
-ownCell locals slots i =
-    cond (ltb i (localCount locals)) (localSize locals i ∷ localAlign locals i ∷ []) (slotSize slots (i - localCount locals) ∷ slotSize slots (i - localCount locals) ∷ [])
-
-abbrev pub ownCells : List ℕ → List ℕ → List ℕ
-ownCells locals slots = flat (tabulate (localCount locals + slotCount slots) (ownCell locals slots))
-
-abbrev pub ownItems : ℕ → List ℕ
-ownItems n = flat (tabulate n (λ i. i ∷ 0 ∷ 0 ∷ 0 ∷ []))

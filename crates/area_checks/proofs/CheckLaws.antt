@@ -21,8 +21,10 @@ use Rattle.line_checks.proofs.Refusals.{passed}
 use Rattle.insts.specs.Counts.{badRows, rowsVerdict, mostVerdict}
 use Rattle.insts.proofs.DealtLaws.{scan-same}
 use Rattle.area_layout.specs.declared.Sizes.{Sizes}
-use Rattle.area_layout.specs.Layout.{spaceFor, Small}
-use Rattle.area_checks.specs.Checks.{rowCounts, sizesOf, kindsVerdict, spaceVerdict, lentVerdict, Lent}
+use Rattle.area_layout.specs.Layout.{spaceFor}
+use Rattle.area_layout.specs.Inner.{Small}
+use Rattle.area_checks.specs.Checks.{rowCounts, sizesOf, kindsVerdict, spaceVerdict, lentVerdict}
+use Rattle.area_checks.specs.Inner.{Lent}
 
 rows-told : (width limit n : ℕ) → rowsVerdict width limit n ≡ Fine → n / width ≤ limit
 rows-told width limit n e = ltb-false limit (n / width) (or-neither (not (eqb (n % width) 0)) _ (check-told Count (badRows width limit n) e) .1)

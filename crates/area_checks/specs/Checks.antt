@@ -1,6 +1,5 @@
 -- Areas of touches and ends lent by themselves: what is refused before anything is measured (numbers 1, 2, 3, 4 and 7), and W.
-use Prim.Native.Nat.{ℕ, _/_, _-_, _≤_}
-use mathlib.Core.Path.{_≡_}
+use Prim.Native.Nat.{ℕ, _/_}
 use mathlib.Core.Bool.{_||_}
 use mathlib.Core.List.{List, [], _∷_}
 use lib.ListN.{length, getD}
@@ -13,9 +12,8 @@ use Rattle.words.specs.Widths.{blockCount, edgeCount, touchWidth, stopWidth, pa
 use Rattle.graph.specs.Checks.{countVerdict, graphVerdict}
 use Rattle.insts.specs.Counts.{rowsVerdict, mostVerdict}
 use Rattle.area_layout.specs.declared.Sizes.{Sizes}
-use Rattle.area_layout.specs.Layout.{spaceFor, Small}
-use Rattle.refusals.specs.declared.Verdict.the-variants.{Fine}
-use Rattle.graph.specs.Line.{blocksOf, jumpsOf, lineVerdict, edgeVerdict, Sound}
+use Rattle.area_layout.specs.Layout.{spaceFor}
+use Rattle.graph.specs.Line.{blocksOf, jumpsOf, lineVerdict, edgeVerdict}
 
 -- number 1: "locals 2,048; ends and the area list 65,536", and as many touches; an answer list that is no whole rows
 unfoldable pub rowCounts : ℕ → ℕ → ℕ → ℕ → ℕ → Verdict
@@ -51,10 +49,3 @@ lentChecks blocks edges points kinds touches ends areas items work =
 
 abbrev pub lentGive : List Refusal
 lentGive = Count ∷ Count ∷ Count ∷ Count ∷ Count ∷ Count ∷ Line ∷ Edge ∷ Inst ∷ Space ∷ []
-
--- what no refusal before measuring says of the lists, the area list by its length
-pub record Lent (blocks edges kinds touches ends : List ℕ) (areas : ℕ) (w : List ℕ) : Type 0 where
-  pub small : Small (sizesOf blocks edges (length kinds) (length touches) (length ends) areas)
-  pub sound : Sound (blocksOf blocks)
-  pub edges-fine : edgeVerdict (blocksOf blocks) (jumpsOf edges) ≡ Fine
-  pub space : spaceFor (sizesOf blocks edges (length kinds) (length touches) (length ends) areas) ≤ length w

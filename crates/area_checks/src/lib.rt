@@ -1,6 +1,7 @@
 // The refusals that come before the areas are measured: numbers 1, 2, 3, 4 and 7, in linear time and without work space.
 ghost use mathlib.Core.Path.{_≡_};
-ghost use Rattle.area_layout.specs.Layout.{spaceFor, Numbers, Small};
+ghost use Rattle.area_layout.specs.Layout.{spaceFor};
+ghost use Rattle.area_layout.specs.Inner.{Numbers, Small};
 ghost use Rattle.area_checks.specs.Checks.{rowCounts, kindsVerdict, spaceVerdict, lentVerdict};
 use area_layout::Sizes;
 use refusals::Refusal;

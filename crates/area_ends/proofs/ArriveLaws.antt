@@ -5,18 +5,18 @@ use mathlib.Core.Path.{_≡_, refl, sym, ap, _∙_}
 use mathlib.Core.Bool.{Bool, true, false}
 use mathlib.Core.List.{List, [], _∷_, _++_, append-nil}
 use lib.ListN.{length, getD, set}
-use Rattle.words.specs.Regions.{Region, part}
-use Rattle.bits.specs.Bits.{PutBit, FirstSet}
+use Rattle.words.specs.Inner.{Region, part}
+use Rattle.bits.specs.Inner.{PutBit, FirstSet}
 use Rattle.bits.proofs.BitLaws.{row-copied}
 use Rattle.ranges.specs.declared.Range.{Range}
-use Rattle.ranges.specs.Forms.{unpack, unpacked}
+use Rattle.ranges.specs.Inner.{unpack, unpacked}
 use Rattle.graph.specs.Paths.{Edge}
 use Rattle.areas.specs.Blocks.{Graph}
 use Rattle.spots.specs.declared.Spots.{Spots}
-use Rattle.spots.specs.Spots.{lineOf, endsAt, Stand}
+use Rattle.spots.specs.Spots.{lineOf}
+use Rattle.spots.specs.Inner.{endsAt, Stand}
 use Rattle.area_pieces.specs.declared.Local.{Local}
-use Rattle.area_pieces.specs.Local.{ownBit, markBit}
-use Rattle.area_pieces.specs.Inner.{Listed}
+use Rattle.area_pieces.specs.Inner.{ownBit, markBit, Listed}
 use Rattle.area_ends.specs.Inner.{arrival, arrivals, Arriving, Arrivable, Arrived}
 use Rattle.area_pieces.proofs.PushLaws.{pushed}
 use Rattle.area_pieces.proofs.SweepLaws.{stays, next-above, one-taken, Sweep, sweep-begin, sweep-in, sweep-mark, sweep-next, sweep-skip, sweep-pieces, sweep-more, sweep-done, swept-after}

@@ -7,22 +7,22 @@ use mathlib.Core.List.{List, [], _∷_, _++_, append-assoc}
 use lib.ListN.{length, getD, take, set, length-set}
 use lib.Seq.{take-all}
 use borrow.Author.Tests.{eq-eqb, ne-eqb}
-use Rattle.words.specs.Regions.{part}
+use Rattle.words.specs.Inner.{part}
 use Rattle.words.specs.Widths.{blockCount, blockStart, blockEnd}
 use Rattle.words.proofs.RegionLaws.{kept-part-list}
 use Rattle.ranges.specs.declared.Range.{Range}
 use Rattle.ranges.specs.Points.{range}
-use Rattle.ranges.specs.Forms.{pack, unpack, unpacked}
+use Rattle.ranges.specs.Inner.{pack, unpack, unpacked}
 use Rattle.ranges.proofs.FormLaws.{unpack-pack}
 use Rattle.graph.specs.Line.{Sound}
 use Rattle.graph.proofs.Line.{start-is, end-is}
 use Rattle.carrying.specs.Lists.{gather}
 use Rattle.areas.specs.Blocks.{Graph, top, bottom, blockOf, inverted, until, cover}
 use Rattle.spots.specs.declared.Spots.{Spots}
-use Rattle.spots.specs.Spots.{lineOf, touchesAt, endsAt, Stand}
+use Rattle.spots.specs.Spots.{lineOf}
+use Rattle.spots.specs.Inner.{touchesAt, endsAt, Stand}
 use Rattle.area_pieces.specs.declared.Local.{Local}
-use Rattle.area_pieces.specs.Local.{Laid}
-use Rattle.area_pieces.specs.Inner.{Listed}
+use Rattle.area_pieces.specs.Inner.{Laid, Listed}
 use Rattle.touch_covers.proofs.TouchLaws.{until-le}
 use Rattle.area_ends.specs.Inner.{covering, touchPieces, arrival, Covered, Covers}
 use Rattle.area_pieces.proofs.PushLaws.{pushed, set-other}

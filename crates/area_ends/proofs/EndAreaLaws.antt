@@ -4,14 +4,14 @@ use native.Mathlib.Omega.{arith}
 use mathlib.Core.Path.{_≡_, sym, ap, _∙_}
 use mathlib.Core.List.{List, [], _++_}
 use lib.ListN.{length, getD}
-use Rattle.words.specs.Regions.{part}
+use Rattle.words.specs.Inner.{part}
 use Rattle.words.specs.Widths.{blockCount}
 use Rattle.words.proofs.RegionLaws.{kept-part-list}
 use Rattle.bits.specs.Bits.{bitOf}
 use Rattle.ranges.specs.declared.Range.{Range}
 use Rattle.ranges.specs.Merged.{merged}
-use Rattle.ranges.specs.Forms.{unpacked}
-use Rattle.packed.specs.Work.{MergedIn}
+use Rattle.ranges.specs.Inner.{unpacked}
+use Rattle.packed.specs.Inner.{MergedIn}
 use Rattle.graph.specs.Paths.{Edge}
 use Rattle.graph.specs.Line.{blocksOf, Sound}
 use Rattle.graph.proofs.Line.{blocks-length}
@@ -19,11 +19,11 @@ use Rattle.carrying.specs.Lists.{gather}
 use Rattle.areas.specs.Blocks.{Graph}
 use Rattle.areas.specs.Pieces.{arrivesRow}
 use Rattle.spots.specs.declared.Spots.{Spots}
-use Rattle.spots.specs.Spots.{lineOf, touchesAt, endsAt, Stand}
+use Rattle.spots.specs.Spots.{lineOf}
+use Rattle.spots.specs.Inner.{touchesAt, endsAt, Stand}
 use Rattle.area_pieces.specs.declared.Local.{Local}
-use Rattle.area_pieces.specs.Local.{ownBit, Bounded, Laid, Upright}
-use Rattle.area_ends.specs.Ending.{EndRow, EndingIn}
-use Rattle.area_ends.specs.Inner.{touchPieces, arrivals, Covers, Arrivable, Arrived}
+use Rattle.area_pieces.specs.Inner.{ownBit, Bounded, Laid, Upright}
+use Rattle.area_ends.specs.Inner.{EndRow, EndingIn, touchPieces, arrivals, Covers, Arrivable, Arrived}
 use Rattle.area_pieces.proofs.SpanLaws.{touches-length}
 use Rattle.area_pieces.proofs.AreaLaws.{unpacked-both}
 use Rattle.area_ends.proofs.CoverLaws.{ends-kept, stand-kept}

@@ -5,18 +5,21 @@ use mathlib.Core.Bool.{Bool, cond}
 use mathlib.Core.List.{List, [], _∷_, _++_}
 use lib.ListN.{length}
 use lib.Dec.{eqb}
-use Rattle.words.specs.Regions.{part}
+use Rattle.words.specs.Inner.{part}
 use Rattle.ranges.specs.declared.Range.{Range}
 use Rattle.ranges.specs.Points.{range}
-use Rattle.ranges.specs.Forms.{unpack, unpacked}
+use Rattle.ranges.specs.Inner.{unpack, unpacked}
 use Rattle.carrying.specs.Lists.{gather}
 use Rattle.areas.specs.Blocks.{Graph, top, bottom, blockOf, until, cover}
-use Rattle.areas.specs.Pieces.{through}
+use Rattle.areas.specs.Pieces.{through, arrivesRow, endingArea}
 use Rattle.spots.specs.declared.Spots.{Spots}
-use Rattle.spots.specs.Spots.{Stand}
+use Rattle.spots.specs.Inner.{Stand, touchesAt, endsAt}
 use Rattle.area_pieces.specs.declared.Local.{Local}
-use Rattle.area_pieces.specs.Local.{Bounded}
-use Rattle.area_pieces.specs.Inner.{Sweepable, Swept, Listed}
+use Rattle.area_pieces.specs.Inner.{Bounded, Sweepable, Swept, Listed, ownBit, Unmarked}
+use Rattle.words.specs.Widths.{blockCount}
+use Rattle.graph.specs.Paths.{Edge}
+use Rattle.graph.specs.Inner.Work.{Within}
+use Rattle.spots.specs.Spots.{lineOf}
 
 -- the pieces of a touch: its covers in its first and its last block, once where these are one, and its between-piece
 abbrev pub covering : Graph → List ℕ → Range → List Range
@@ -70,3 +73,17 @@ pub record Arrivable (t : Spots) (s : Local) (n from : ℕ) (w : List ℕ) : Typ
 pub record Arrived (G : Graph) (es : List ℕ) (row : ℕ → Bool) (s : Local) (n from r : ℕ) (w₀ w : List ℕ) : Type 0 where
   pub swept : Swept s n from r w₀ w
   pub pieces : unpacked (part from r w) ≡ arrivals G es row n
+
+-- An ending local in the work space: its own row, and its area there.
+
+-- the local's own row is that of the blocks it arrives at
+pub record EndRow (G : Graph) (s : Local) (ts : List Range) (es : List ℕ) (w : List ℕ) : Type 0 where
+  pub arriving : (k : ℕ) → k < length (G .blocks) → ownBit s w k ≡ arrivesRow G ts es k
+
+-- the area of an ending local stands from `to` on
+pub record EndingIn (blocks : List ℕ) (t : Spots) (s : Local) (w₀ w : List ℕ) (r : ℕ) : Type 0 where
+  pub kept : Within (s .mark) (s .to + (3 * t .count + blockCount blocks)) w₀ w
+  pub unmarked : Unmarked s w
+  pub count : r ≤ 3 * t .count + blockCount blocks
+  pub is : (es : List Edge) → EndRow (lineOf blocks es) s (touchesAt t w₀) (endsAt t w₀) w₀
+      → unpacked (part (s .to) r w) ≡ endingArea (lineOf blocks es) (touchesAt t w₀) (endsAt t w₀)

@@ -14,9 +14,10 @@ use Rattle.refusals.proofs.Laws.{first-fine, first-bad}
 use Rattle.words.specs.Regions.{cleared}
 use Rattle.words.specs.Widths.{rangeCount}
 use Rattle.ranges.specs.declared.Range.{Range}
-use Rattle.graph.specs.Work.{Within}
+use Rattle.graph.specs.Inner.Work.{Within}
 use Rattle.components.proofs.Entries.{cleared-same}
-use Rattle.area_measure.specs.Locals.{areaFor, wordOf, ListedBy}
+use Rattle.area_measure.specs.Locals.{areaFor}
+use Rattle.area_measure.specs.Inner.Locals.{wordOf, ListedBy}
 use Rattle.item_lists.specs.declared.Answer.{Answer}
 use Rattle.item_lists.specs.declared.Answer.the-variants.{Refused}
 use Rattle.lent_areas.specs.declared.Found.{Found}
@@ -24,10 +25,11 @@ use Rattle.lent_areas.specs.declared.Found.the-variants.{Inverted, Ranges}
 use Rattle.area_layout.specs.Layout.{spaceFor}
 use Rattle.item_lists.specs.Lists.{AnsweredBy}
 use Rattle.item_lists.specs.Inner.{Held as HeldList}
-use Rattle.area_entries.specs.Entry.{areaVerdict, verdictOf, LocalAreas}
-use Rattle.lent_areas.specs.Areas.{graphFor, listing, FoundAs}
+use Rattle.area_entries.specs.Inner.{areaVerdict, Held}
+use Rattle.area_entries.specs.Entry.{verdictOf, LocalAreas}
+use Rattle.lent_areas.specs.Areas.{graphFor}
+use Rattle.lent_areas.specs.Inner.{listing, FoundAs}
 use Rattle.area_checks.specs.Checks.{sizesOf, lentVerdict}
-use Rattle.area_entries.specs.Inner.{Held}
 use Rattle.area_entries.proofs.OrderLaws.{local-verdict}
 use Rattle.areas.specs.Job.{areasVerdict}
 

@@ -17,7 +17,8 @@ use Rattle.area_measure.specs.Locals.{areaFor}
 use Rattle.area_checks.specs.Checks.{lentVerdict, lentChecks, lentGive}
 use Rattle.area_checks.proofs.OrderLaws.{lent-order, lent-give}
 use Rattle.lent_areas.specs.Areas.{graphFor}
-use Rattle.area_entries.specs.Entry.{areaVerdict, localChecks, localGive, verdictOf}
+use Rattle.area_entries.specs.Inner.{areaVerdict}
+use Rattle.area_entries.specs.Entry.{localChecks, localGive, verdictOf}
 
 module _ (blocks edges : List ℕ) (points : ℕ) (kinds touches ends : List ℕ) (areas items work : ℕ) where
   -- what is refused before measuring, then numbers 8 and 9

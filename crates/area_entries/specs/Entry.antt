@@ -1,16 +1,13 @@
 -- Document 01, "Areas of items", of touches and ends lent by themselves: what the entry answers and refuses.
 use Prim.Native.Nat.{ℕ, _/_}
 use mathlib.Core.Path.{_≡_}
-use mathlib.Core.Option.{Option}
 use mathlib.Core.List.{List, [], _∷_, _++_}
 use lib.ListN.{length, replicate}
 use Rattle.refusals.specs.declared.Verdict.{Verdict}
 use Rattle.refusals.specs.declared.Refusal.{Refusal}
 use Rattle.refusals.specs.declared.Refusal.the-variants.{Inverted, List as ListWord}
-use Rattle.refusals.specs.Verdicts.{first, inOrder, check}
+use Rattle.refusals.specs.Verdicts.{inOrder, check}
 use Rattle.refusals.specs.Outcomes.{unless, after}
-use Rattle.ranges.specs.declared.Range.{Range}
-use Rattle.areas.specs.Blocks.{Graph}
 use Rattle.local_marks.specs.Marks.{someInverted}
 use Rattle.area_measure.specs.Locals.{areaFor}
 use Rattle.item_lists.specs.declared.Answer.{Answer}
@@ -20,10 +17,6 @@ use Rattle.area_checks.specs.Checks.{sizesOf, lentVerdict, lentChecks, lentGive
 use Rattle.lent_areas.specs.Areas.{graphFor}
 use Rattle.areas.specs.Job.{areasVerdict}
 use Rattle.words.specs.Widths.{rangeWidth}
-
--- numbers 8 and 9: 8 of any local before 9
-abbrev pub areaVerdict : Graph → List ℕ → List ℕ → (ℕ → Option (List Range)) → ℕ → Verdict
-areaVerdict G kinds touches A room = first (check Inverted (someInverted G kinds touches (length kinds))) (areasVerdict (length kinds) A room)
 
 -- the checks in the entry's order, "lowest number wins": 1, 2, 3, 4 and 7 of what is lent, then 8 and 9 of what is found; and the refusal that each gives
 abbrev pub localChecks : List ℕ → List ℕ → ℕ → List ℕ → List ℕ → List ℕ → ℕ → ℕ → ℕ → List Verdict

@@ -9,7 +9,7 @@ ghost use Rattle.refusals.specs.declared.Refusal.the-variants.{Inverted};
 ghost use Rattle.ranges.specs.declared.Range.{Range};
 ghost use Rattle.item_lists.specs.Lists.{AnsweredBy};
 ghost use Rattle.area_entries.specs.Entry.{LocalAreas};
-ghost use Rattle.lent_areas.specs.Areas.{FoundAs};
+ghost use Rattle.lent_areas.specs.Inner.{FoundAs};
 ghost use Rattle.area_entries.specs.Inner.{Held};
 ghost use Rattle.areas.specs.Job.{areasVerdict};
 ghost use Rattle.words.specs.Widths.{partWidth, rangeCount};

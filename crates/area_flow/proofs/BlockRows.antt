@@ -6,7 +6,7 @@ use mathlib.Core.Logic.{_⊎_, inl, inr, ⊎-elim}
 use mathlib.Core.Bool.{Bool, true, false, _&&_, _||_, or-false}
 use mathlib.Core.List.{List}
 use lib.ListN.{length, getD}
-use Rattle.words.specs.Regions.{Region}
+use Rattle.words.specs.Inner.{Region}
 use Rattle.words.specs.Widths.{blockCount}
 use Rattle.words.proofs.RegionLaws.{row-before}
 use Rattle.words.proofs.Bools.{not-both}
@@ -16,21 +16,19 @@ use Rattle.graph.specs.Paths.{Edge, Between, Route, one, more}
 use Rattle.graph.specs.Flow.{Arrives, left, passed}
 use Rattle.graph.specs.Line.{blocksOf}
 use Rattle.graph.specs.Rounds.{reachedRow, reachingRow, arrivingRow}
-use Rattle.graph.specs.Work.{Within}
+use Rattle.graph.specs.Inner.Work.{Within}
 use Rattle.graph.proofs.Within.{within-trans, region-within}
 use Rattle.graph.proofs.Line.{blocks-length}
-use Rattle.graph.proofs.RoundLaws.{reached, reaching}
-use Rattle.graph.proofs.RoundLaws.{arriving as arriving-row}
+use Rattle.graph.proofs.RoundLaws.{reached, reaching, arriving as arriving-row}
 use Rattle.flow_rows.proofs.Moved.{reaching-as}
 use Rattle.spread_rows.proofs.Turns.{arrives-as}
 use Rattle.ranges.specs.declared.Range.{Range}
 use Rattle.areas.specs.Blocks.{Graph, touched, leaves, passes}
 use Rattle.areas.specs.Pieces.{beforeRow, afterRow, arrivesRow}
 use Rattle.row_turns.specs.declared.Turn.{Turn}
-use Rattle.row_turns.specs.Turns.{Turnable, Turned}
+use Rattle.row_turns.specs.Inner.{Turnable, Turned}
 use Rattle.area_flow.specs.declared.Grid.{Grid}
-use Rattle.area_flow.specs.Grid.{rowBit, arriving, blockBit, Laid, Quiet, AreaRows}
-use Rattle.area_flow.specs.Inner.{Flowing, Still, Blocked}
+use Rattle.area_flow.specs.Inner.{rowBit, arriving, blockBit, Laid, Quiet, AreaRows, Flowing, Still, Blocked}
 use Rattle.area_flow.proofs.FlowLaws.{both-ways}
 
 -- ---- turning

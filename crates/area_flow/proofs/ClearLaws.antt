@@ -4,12 +4,12 @@ use native.Mathlib.Omega.{arith}
 use mathlib.Core.Logic.{inl}
 use mathlib.Core.List.{List}
 use mathlib.Core.Bool.{true, false}
-use Rattle.words.specs.Regions.{Region}
+use Rattle.words.specs.Inner.{Region}
 use Rattle.bits.proofs.DigitLaws.{bit-zero}
 use Rattle.graph.proofs.Within.{within-trans, within-wider, region-within}
 use Rattle.area_rows.proofs.ColumnLaws.{Columns, columns-start, columns-kept, ones-bit}
 use Rattle.area_flow.specs.declared.Grid.{Grid}
-use Rattle.area_flow.specs.Grid.{Unmarked}
+use Rattle.area_flow.specs.Inner.{Unmarked}
 
 module _ (g : Grid) (n : ℕ) {w₀ w₁ w₂ w₃ : List ℕ} (p : g .touched + n * g .words ≤ g .leaves) (q : g .leaves + n * g .words ≤ g .passes)
     (A : Region w₀ w₁ (g .touched) (n * g .words) (λ _. 0)) (B : Region w₁ w₂ (g .leaves) (n * g .words) (λ _. 0)) (C : Region w₂ w₃ (g .passes) (n * g .words) (λ _. 18446744073709551615)) where

@@ -9,28 +9,24 @@ use lib.ListN.{length, getD}
 use Rattle.words.proofs.RegionLaws.{row-before}
 use Rattle.bits.specs.Bits.{bit, bitOf}
 use Rattle.graph.specs.Paths.{Edge, Between}
-use Rattle.graph.specs.Work.{EdgeRows, Neighbours}
-use Rattle.tarjan.specs.Components.{Walkable, Found}
+use Rattle.graph.specs.Inner.Work.{EdgeRows, Neighbours}
+use Rattle.tarjan.specs.Inner.Components.{Walkable, Found}
 use Rattle.flow_rows.specs.declared.Flow.{Flow}
 use Rattle.flow.specs.declared.Over.{Over}
 use Rattle.flow.specs.declared.Over.the-variants.{Predecessors, Successors}
-use Rattle.flow_rows.specs.Flowed.{order, Flowed}
-use Rattle.flow_rows.specs.Flowed.{Laid as FlowLaid}
-use Rattle.flow.specs.Entry.{wayOf}
+use Rattle.flow_rows.specs.Inner.{order, Flowed, Laid as FlowLaid}
+use Rattle.flow.specs.Inner.{wayOf}
 use Rattle.flow.proofs.Ways.{flows-as}
 use Rattle.graph.proofs.Within.{rows-moved}
-use Rattle.graph.proofs.RoundLaws.{reached, reaching}
-use Rattle.graph.proofs.RoundLaws.{arriving as arriving-row}
+use Rattle.graph.proofs.RoundLaws.{reached, reaching, arriving as arriving-row}
 use Rattle.flow_rows.proofs.Moved.{reaching-as}
 use Rattle.spread_rows.specs.declared.Layout.{Layout}
-use Rattle.postorder.specs.Settling.{Settling, Ordered}
-use Rattle.postorder.specs.Settling.{Walkable as Orderable}
-use Rattle.spread_rows.specs.Spread.{Arrived}
-use Rattle.spread_rows.specs.Spread.{Laid as SpreadLaid}
+use Rattle.postorder.specs.Settling.{Settling}
+use Rattle.postorder.specs.Inner.{Ordered, Walkable as Orderable}
+use Rattle.spread_rows.specs.Inner.{Arrived, Laid as SpreadLaid}
 use Rattle.spread_rows.proofs.Turns.{arrives-as}
 use Rattle.area_flow.specs.declared.Grid.{Grid}
-use Rattle.area_flow.specs.Grid.{rowBit, arriving, Laid, Outside}
-use Rattle.area_flow.specs.Inner.{Linked, FlowedOver, ArrivedAt, Flowing}
+use Rattle.area_flow.specs.Inner.{rowBit, arriving, Laid, Outside, Linked, FlowedOver, ArrivedAt, Flowing}
 
 -- two tests that hold together are one
 pub both-ways : {A : Type 0} (s t : Bool) → (s ≡ true) ↔ A → (t ≡ true) ↔ A → s ≡ t

@@ -7,7 +7,8 @@ use Rattle.words.proofs.Points.{cut}
 use Rattle.area_flow.specs.declared.Grid.{Grid}
 use Rattle.local_spots.specs.declared.Places.{Places}
 use Rattle.area_layout.specs.declared.Sizes.{Sizes}
-use Rattle.area_layout.specs.Layout.{spaceFor, Numbers, Small, Placed, Gridded, markOf}
+use Rattle.area_layout.specs.Layout.{spaceFor}
+use Rattle.area_layout.specs.Inner.{Numbers, Small, Placed, Gridded, markOf}
 use Rattle.words.specs.Regions.{rowWords}
 
 -- W of any 32-bit numbers is far below 64 bits

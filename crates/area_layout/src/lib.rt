@@ -1,6 +1,6 @@
 // Where the regions stand in the work space, one behind another.
 ghost use Prim.Native.Nat.{_≤_};
-ghost use Rattle.area_layout.specs.Layout.{Small, Placed, Gridded};
+ghost use Rattle.area_layout.specs.Inner.{Small, Placed, Gridded};
 use area_flow::Grid;
 use local_spots::Places;
 

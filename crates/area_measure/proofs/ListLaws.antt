@@ -7,18 +7,19 @@ use mathlib.Core.Option.{Option}
 use mathlib.Core.List.{List, [], _∷_, _++_}
 use lib.ListN.{length, getD}
 use Rattle.words.specs.Rows.{tabulate}
-use Rattle.words.specs.Regions.{part}
+use Rattle.words.specs.Inner.{part}
 use Rattle.words.proofs.Points.{cut}
 use Rattle.words.proofs.RowLaws.{tabulate-suc}
 use Rattle.words.proofs.RegionLaws.{kept-part-list}
 use Rattle.ranges.specs.declared.Range.{Range}
-use Rattle.ranges.specs.Forms.{unpacked}
+use Rattle.ranges.specs.Inner.{unpacked}
 use Rattle.carrying.specs.Lists.{gather}
 use Rattle.areas.specs.Job.{rangesIn, rangesOf}
 use Rattle.area_pieces.proofs.AreaLaws.{unpacked-both}
 use Rattle.area_pieces.proofs.HullLaws.{gather-append, gather-one}
 use Rattle.area_measure.specs.declared.Listing.{Listing}
-use Rattle.area_measure.specs.Locals.{listed, ListedBy}
+use Rattle.area_measure.specs.Locals.{listed}
+use Rattle.area_measure.specs.Inner.Locals.{ListedBy}
 
 pub ranges-append : (l m : List (Option (List Range))) → rangesOf (l ++ m) ≡ rangesOf l + rangesOf m
 unfolding rangesOf

@@ -8,13 +8,13 @@ use mathlib.Core.Option.{Option, some, none}
 use mathlib.Core.List.{List}
 use lib.ListN.{length, getD, set, length-set}
 use Rattle.words.specs.Sort.{sortOf}
-use Rattle.words.specs.Regions.{part}
-use Rattle.words.specs.Widths.{blockCount, touchCount, stopCount}
+use Rattle.words.specs.Inner.{part, touchCount, stopCount}
+use Rattle.words.specs.Widths.{blockCount}
 use Rattle.words.proofs.Points.{stored}
 use Rattle.words.proofs.RegionLaws.{row-before}
 use Rattle.bits.specs.Bits.{bit, bitOf}
 use Rattle.ranges.specs.declared.Range.{Range}
-use Rattle.ranges.specs.Forms.{unpacked}
+use Rattle.ranges.specs.Inner.{unpacked}
 use Rattle.graph.specs.Paths.{Edge}
 use Rattle.graph.proofs.Line.{blocks-length}
 use Rattle.carrying.specs.Lists.{any}
@@ -23,17 +23,20 @@ use Rattle.carrying.specs.declared.Kind.the-variants.{Unfollowed, Plain, Ending
 use Rattle.areas.specs.Blocks.{Graph, inverted}
 use Rattle.areas.specs.Job.{areaBy, rangesIn}
 use Rattle.spots.specs.declared.Spots.{Spots}
-use Rattle.spots.specs.Spots.{lineOf, touchesAt, endsAt}
+use Rattle.spots.specs.Spots.{lineOf}
+use Rattle.spots.specs.Inner.{touchesAt, endsAt}
 use Rattle.area_pieces.proofs.PushLaws.{set-other}
 use Rattle.area_flow.specs.declared.Grid.{Grid}
-use Rattle.area_flow.specs.Grid.{rowBit, blockBit}
+use Rattle.area_flow.specs.Inner.{rowBit, blockBit}
 use Rattle.local_spots.specs.declared.Places.{Places}
 use Rattle.kind_numbers.specs.Numbers.{kindBy}
-use Rattle.local_spots.specs.Locals.{touchesFor, endsFor, Laid, Chains, Fetched}
+use Rattle.local_spots.specs.Locals.{touchesFor, endsFor}
+use Rattle.local_spots.specs.Inner.{Laid, Chains, Fetched}
 use Rattle.local_spots.proofs.OrderLaws.{arrives-sorted, ending-sorted}
 use Rattle.area_measure.specs.declared.Listing.{Listing}
-use Rattle.area_measure.specs.Measure.{itemWord, RowsFor, Measurable, Listable, Measured}
-use Rattle.area_measure.specs.Locals.{listed, wordOf, localAt, mostIn, Fits, Ready, RowsOf, areaFor, Spared, Next, ListedFor, MeasuredAll}
+use Rattle.area_measure.specs.Inner.Measure.{itemWord, RowsFor, Measurable, Listable, Measured}
+use Rattle.area_measure.specs.Locals.{listed, areaFor}
+use Rattle.area_measure.specs.Inner.Locals.{wordOf, localAt, mostIn, Fits, Ready, RowsOf, Spared, Next, ListedFor, MeasuredAll}
 use Rattle.area_measure.proofs.ListLaws.{listed-none, listed-more}
 
 -- the order of its ends does not matter

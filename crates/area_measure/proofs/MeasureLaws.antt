@@ -6,26 +6,27 @@ use mathlib.Core.Logic.{_⊎_, inl, inr, ⊎-elim}
 use mathlib.Core.Option.{some}
 use mathlib.Core.List.{List}
 use lib.ListN.{length, getD, set, length-set}
-use Rattle.words.specs.Regions.{part}
+use Rattle.words.specs.Inner.{part}
 use Rattle.words.proofs.Points.{cut, stored}
 use Rattle.words.proofs.RegionLaws.{kept-store, kept-part-list, length-part}
 use Rattle.bits.specs.Bits.{bitOf}
 use Rattle.ranges.specs.declared.Range.{Range}
-use Rattle.ranges.specs.Forms.{unpacked}
+use Rattle.ranges.specs.Inner.{unpacked}
 use Rattle.ranges.proofs.FormLaws.{unpacked-length}
-use Rattle.packed.specs.Work.{Clear}
+use Rattle.packed.specs.Inner.{Clear}
 use Rattle.graph.proofs.Within.{within-wider}
 use Rattle.carrying.specs.declared.Kind.{Kind}
 use Rattle.areas.specs.Job.{areaBy, rangesIn}
 use Rattle.spots.specs.declared.Spots.{Spots}
-use Rattle.spots.specs.Spots.{lineOf, touchesAt, endsAt}
+use Rattle.spots.specs.Spots.{lineOf}
+use Rattle.spots.specs.Inner.{touchesAt, endsAt}
 use Rattle.area_pieces.specs.declared.Local.{Local}
-use Rattle.area_pieces.specs.Local.{Appended, PlainIn}
+use Rattle.area_pieces.specs.Inner.{Appended, PlainIn}
 use Rattle.area_pieces.proofs.PushLaws.{set-other}
-use Rattle.area_ends.specs.Ending.{EndingIn}
+use Rattle.area_ends.specs.Inner.{EndingIn}
 use Rattle.kind_numbers.proofs.KindLaws.{plain-kind, ending-kind}
 use Rattle.area_measure.specs.declared.Listing.{Listing}
-use Rattle.area_measure.specs.Measure.{mostOf, itemWord, Measurable, AreaIn, Listable, Measured}
+use Rattle.area_measure.specs.Inner.Measure.{mostOf, itemWord, Measurable, AreaIn, Listable, Measured}
 
 module _ (blocks : List ℕ) (kind : ℕ) (t : Spots) (s : Local) {w₀ w : List ℕ} {r : ℕ} where
   pub area-plain : kind ≡ 1 → PlainIn blocks t s w₀ w r → AreaIn blocks kind t s w₀ w r

@@ -1,2 +1,2 @@
-pub mod Measure
 pub mod Locals
+pub mod Inner

@@ -1,7 +1,7 @@
 // The areas of locals whose rows stand in the work space, one behind another in item order, and the table of their items.
 ghost use Prim.Native.Nat.{_+_, _*_};
 ghost use Rattle.graph.specs.Line.{blocksOf, Sound};
-ghost use Rattle.area_measure.specs.Measure.{Measurable, AreaIn, Listable, Measured};
+ghost use Rattle.area_measure.specs.Inner.Measure.{Measurable, AreaIn, Listable, Measured};
 use area_pieces::Local;
 use spots::Spots;
 use words::HALF;

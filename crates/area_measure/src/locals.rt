@@ -2,7 +2,7 @@
 ghost use Prim.Native.Nat.{_+_, _*_, _/_, _≤_, _<_};
 ghost use lib.ListN.{length};
 ghost use Rattle.graph.specs.Line.{blocksOf, Sound};
-ghost use Rattle.area_measure.specs.Locals.{mostIn, Ready, Next, MeasuredAll};
+ghost use Rattle.area_measure.specs.Inner.Locals.{mostIn, Ready, Next, MeasuredAll};
 use crate::Listing;
 use area_flow::Grid;
 use area_pieces::Local;

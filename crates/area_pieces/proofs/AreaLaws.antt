@@ -6,24 +6,24 @@ use mathlib.Core.Bool.{Bool}
 use mathlib.Core.List.{List, [], _++_}
 use lib.ListN.{length, getD, take, drop}
 use lib.Seq.{take-add, drop-drop}
-use Rattle.words.specs.Regions.{part}
+use Rattle.words.specs.Inner.{part}
 use Rattle.words.specs.Widths.{blockCount}
 use Rattle.words.proofs.RegionLaws.{kept-part-list}
 use Rattle.bits.specs.Bits.{bitOf}
 use Rattle.ranges.specs.declared.Range.{Range}
 use Rattle.ranges.specs.Merged.{merged}
-use Rattle.ranges.specs.Forms.{unpack, unpacked}
+use Rattle.ranges.specs.Inner.{unpack, unpacked}
 use Rattle.ranges.proofs.FormLaws.{map-append}
-use Rattle.packed.specs.Work.{MergedIn}
+use Rattle.packed.specs.Inner.{MergedIn}
 use Rattle.graph.specs.Paths.{Edge}
 use Rattle.graph.proofs.Line.{blocks-length}
 use Rattle.areas.specs.Blocks.{Graph}
 use Rattle.areas.specs.Pieces.{blockPiece, joinEach, linePieces, throughs, beforeRow, afterRow, plainArea}
 use Rattle.spots.specs.declared.Spots.{Spots}
-use Rattle.spots.specs.Spots.{lineOf, touchesAt}
+use Rattle.spots.specs.Spots.{lineOf}
+use Rattle.spots.specs.Inner.{touchesAt}
 use Rattle.area_pieces.specs.declared.Local.{Local}
-use Rattle.area_pieces.specs.Local.{writtenBit, readBit, Laid, Flowing, Both, PlainRows, PlainIn}
-use Rattle.area_pieces.specs.Inner.{Visitable, Spanned, Lined}
+use Rattle.area_pieces.specs.Inner.{writtenBit, readBit, Laid, Flowing, Both, PlainRows, PlainIn, Visitable, Spanned, Lined}
 use Rattle.area_pieces.proofs.SpanLaws.{touches-length}
 use Rattle.area_pieces.proofs.LineLaws.{written-kept, read-kept, own-kept}
 

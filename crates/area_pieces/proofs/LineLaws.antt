@@ -6,17 +6,18 @@ use mathlib.Core.Logic.{_≢_}
 use mathlib.Core.Bool.{Bool, true, false, cond, _&&_, _||_, true≢false, false≢true, or-true}
 use mathlib.Core.List.{List, [], _∷_}
 use lib.ListN.{length, getD}
-use Rattle.words.specs.Regions.{part}
+use Rattle.words.specs.Inner.{part}
 use Rattle.words.specs.Widths.{blockCount, blockStart, blockEnd}
 use Rattle.words.proofs.RegionLaws.{row-before}
 use Rattle.words.proofs.Points.{cut, same}
 use borrow.Author.Tests.{eq-eqb}
 use lib.Dec.{eqb}
-use Rattle.bits.specs.Bits.{bitOf, Row, FirstSet}
+use Rattle.bits.specs.Bits.{bitOf}
+use Rattle.bits.specs.Inner.{Row, FirstSet}
 use Rattle.ranges.specs.declared.Range.{Range}
 use Rattle.ranges.specs.Points.{range}
 use Rattle.ranges.specs.Merged.{joined}
-use Rattle.ranges.specs.Forms.{pack, unpack, unpacked}
+use Rattle.ranges.specs.Inner.{pack, unpack, unpacked}
 use Rattle.ranges.proofs.FormLaws.{unpack-pack}
 use Rattle.graph.specs.Paths.{Edge}
 use Rattle.graph.specs.Line.{blocksOf, Sound}
@@ -26,8 +27,7 @@ use Rattle.areas.specs.Pieces.{clips, span, blockPiece, joinEach, linePieces}
 use Rattle.spots.specs.Spots.{lineOf}
 use Rattle.area_pieces.proofs.SweepLaws.{stays, Sweep, sweep-begin, sweep-in, sweep-mark, sweep-next, sweep-skip, sweep-pieces, sweep-more, sweep-done, swept-after}
 use Rattle.area_pieces.specs.declared.Local.{Local}
-use Rattle.area_pieces.specs.Local.{ownBit, writtenBit, readBit, markBit, Flowing, Both}
-use Rattle.area_pieces.specs.Inner.{spanAt, hull, pieceAt, Spans, Run, RunPiece, Taken, Covered, Visitable, Pieced, Visited, Lined, JoinedIn}
+use Rattle.area_pieces.specs.Inner.{ownBit, writtenBit, readBit, markBit, Flowing, Both, spanAt, hull, pieceAt, Spans, Run, RunPiece, Taken, Covered, Visitable, Pieced, Visited, Lined, JoinedIn}
 
 -- ---- a block's piece by its span
 

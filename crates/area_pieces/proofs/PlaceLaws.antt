@@ -9,8 +9,7 @@ use lib.ListN.{length}
 use Rattle.words.proofs.FitLaws.{Word, word, small}
 use Rattle.words.proofs.RegionLaws.{row-before}
 use Rattle.area_pieces.specs.declared.Local.{Local}
-use Rattle.area_pieces.specs.Local.{Free, Flowing}
-use Rattle.area_pieces.specs.Inner.{Spannable}
+use Rattle.area_pieces.specs.Inner.{Free, Flowing, Spannable}
 use Rattle.words.specs.Widths.{blockWidth}
 
 pub one-lt : 1 < 3

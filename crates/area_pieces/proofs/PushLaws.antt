@@ -5,11 +5,11 @@ use mathlib.Core.Logic.{inl, inr}
 use mathlib.Core.List.{List}
 use native.Mathlib.Omega.{arith}
 use lib.ListN.{length, getD}
-use Rattle.words.specs.Regions.{Region, part, Disjoint, below, above}
+use Rattle.words.specs.Inner.{Region, part, Disjoint, below, above}
 use Rattle.words.proofs.RegionLaws.{part-is, length-part, getD-part}
-use Rattle.packed.specs.Work.{Clear}
+use Rattle.packed.specs.Inner.{Clear}
 pub use Rattle.joining.proofs.PushLaws.{part-push, set-other, pushed}
-use Rattle.area_pieces.specs.Local.{Appended}
+use Rattle.area_pieces.specs.Inner.{Appended}
 
 -- ---- an area behind the areas so far
 

@@ -11,14 +11,13 @@ use Rattle.words.proofs.Points.{same}
 use Rattle.bits.specs.Bits.{digit, bitOf}
 use Rattle.bits.proofs.DigitLaws.{digit-zero, digit-suc}
 use Rattle.ranges.specs.Points.{range}
-use Rattle.ranges.specs.Forms.{pack, unpack}
+use Rattle.ranges.specs.Inner.{pack, unpack}
 use Rattle.ranges.proofs.FormLaws.{unpack-pack}
 use Rattle.graph.proofs.Line.{start-is, end-is}
 use Rattle.areas.specs.Blocks.{top, bottom}
 use Rattle.spots.specs.Spots.{lineOf}
 use Rattle.area_pieces.specs.declared.Local.{Local}
-use Rattle.area_pieces.specs.Local.{ownBit}
-use Rattle.area_pieces.specs.Inner.{Run}
+use Rattle.area_pieces.specs.Inner.{ownBit, Run}
 use Rattle.words.specs.Widths.{blockCount, blockStart, blockEnd}
 
 -- each digit of the largest number with d digits is 1

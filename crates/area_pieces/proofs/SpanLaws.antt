@@ -10,29 +10,30 @@ use lib.ListN.{length, getD, take, set, length-set}
 use lib.Seq.{getD-set-same, take-suc, take-all}
 use lib.Dec.{ltb}
 use borrow.Author.Tests.{eq-eqb, ne-eqb, lt-ltb, le-ltb}
-use Rattle.words.specs.Regions.{part}
+use Rattle.words.specs.Inner.{part}
 use Rattle.words.specs.Widths.{blockCount, blockStart, blockEnd}
 use Rattle.words.proofs.Points.{same}
 use Rattle.words.proofs.RegionLaws.{length-part, getD-part, kept-part-list}
-use Rattle.bits.specs.Bits.{bitOf, PutBit}
+use Rattle.bits.specs.Bits.{bitOf}
+use Rattle.bits.specs.Inner.{PutBit}
 use Rattle.ranges.specs.declared.Range.{Range}
 use Rattle.ranges.specs.Points.{range}
-use Rattle.ranges.specs.Forms.{pack, unpack, unpacked}
+use Rattle.ranges.specs.Inner.{pack, unpack, unpacked}
 use Rattle.ranges.proofs.FormLaws.{unpack-pack, unpacked-at, unpacked-length}
 use Rattle.graph.specs.Paths.{Edge}
 use Rattle.graph.specs.Line.{Sound}
-use Rattle.graph.specs.Work.{Within}
+use Rattle.graph.specs.Inner.Work.{Within}
 use Rattle.graph.proofs.Line.{start-is, end-is}
 use Rattle.areas.specs.Blocks.{Graph, top, bottom, blockOf, clip, inverted}
 use Rattle.carrying.proofs.ListLaws.{any-false}
 use Rattle.areas.specs.Pieces.{clips, through, throughs}
 use Rattle.areas.proofs.BlockLaws.{bounds-first, bounds-last, block-rises, clip-up}
 use Rattle.spots.specs.declared.Spots.{Spots}
-use Rattle.spots.specs.Spots.{lineOf, touchesAt}
+use Rattle.spots.specs.Spots.{lineOf}
+use Rattle.spots.specs.Inner.{touchesAt}
 use Rattle.spots.proofs.SpotLaws.{touch-in}
 use Rattle.area_pieces.specs.declared.Local.{Local}
-use Rattle.area_pieces.specs.Local.{markBit, Free, Laid, Unmarked, Upright}
-use Rattle.area_pieces.specs.Inner.{spanAt, hull, hulled, Spannable, Widened, Put, Spanned}
+use Rattle.area_pieces.specs.Inner.{markBit, Free, Laid, Unmarked, Upright, spanAt, hull, hulled, Spannable, Widened, Put, Spanned}
 use Rattle.area_pieces.proofs.PushLaws.{set-other, pushed}
 use Rattle.area_pieces.proofs.HullLaws.{hull-append, gather-append, gather-one, gather-none, clips-append, clips-none, clips-in, clips-out, bounds-not}
 

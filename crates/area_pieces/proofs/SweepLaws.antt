@@ -7,15 +7,15 @@ use mathlib.Core.Bool.{Bool, true, false, cond, true≢false}
 use mathlib.Core.List.{List}
 use lib.ListN.{length, getD, set, length-set}
 use borrow.Author.Tests.{eq-eqb, ne-eqb}
-use Rattle.words.specs.Regions.{part}
+use Rattle.words.specs.Inner.{part}
 use Rattle.words.proofs.Points.{cut, same, stored}
 use Rattle.words.proofs.RegionLaws.{kept-part-list}
-use Rattle.bits.specs.Bits.{bitOf, PutBit, FirstSet}
+use Rattle.bits.specs.Bits.{bitOf}
+use Rattle.bits.specs.Inner.{PutBit, FirstSet}
 use Rattle.bits.proofs.DigitLaws.{bit-zero}
 use Rattle.ranges.specs.declared.Range.{Range}
 use Rattle.area_pieces.specs.declared.Local.{Local}
-use Rattle.area_pieces.specs.Local.{markBit}
-use Rattle.area_pieces.specs.Inner.{Sweepable, Swept, Taken}
+use Rattle.area_pieces.specs.Inner.{markBit, Sweepable, Swept, Taken}
 
 -- lists by count, of which some in a row are the same
 pub stays : (L : ℕ → List Range) (n a b : ℕ) → a ≤ b → a ≤ n → ((i : ℕ) → a ≤ i → i < b → i < n → L (suc i) ≡ L i) → L (min b n) ≡ L a

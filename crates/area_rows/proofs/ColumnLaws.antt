@@ -7,13 +7,13 @@ use mathlib.Core.Logic.{_⊎_, ⊎-elim}
 use mathlib.Core.Bool.{Bool, true, false, _&&_, _||_, or-false, and-true}
 use mathlib.Core.List.{List}
 use lib.Dec.{eqb}
-use Rattle.words.specs.Regions.{Region}
+use Rattle.words.specs.Inner.{Region}
 use Rattle.words.proofs.Points.{same}
 use Rattle.words.proofs.RegionLaws.{row-before}
 use Rattle.bits.specs.Bits.{digit, bit, bitOf}
 use Rattle.bits.proofs.DigitLaws.{digit-zero, digit-suc}
-use Rattle.graph.specs.Work.{Within}
-use Rattle.area_rows.specs.Marks.{marked, Marked}
+use Rattle.graph.specs.Inner.Work.{Within}
+use Rattle.area_rows.specs.Inner.{marked, Marked}
 
 -- of the first i locals the bits are f's, of the others v
 pub record Columns (n base words : ℕ) (v : Bool) (f : ℕ → ℕ → Bool) (i : ℕ) (w : List ℕ) : Type 0 where

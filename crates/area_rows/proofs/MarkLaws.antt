@@ -7,26 +7,26 @@ use mathlib.Core.Bool.{Bool, true, false, _||_}
 use mathlib.Core.List.{List, [], _∷_, List·Memᴰ, List·Memᴰ·head, List·Memᴰ·tail}
 use lib.ListN.{length, getD}
 use borrow.Author.Tests.{leb-true, le-leb}
-use Rattle.words.specs.Regions.{Kept}
+use Rattle.words.specs.Inner.{Kept}
 use Rattle.words.proofs.Points.{same}
 use Rattle.words.proofs.Bools.{and-both, or-cases, and-pair, both-ways}
 use Rattle.ranges.specs.declared.Range.{Range}
 use Rattle.ranges.specs.Points.{range, overlaps}
-use Rattle.ranges.specs.Forms.{unpack}
+use Rattle.ranges.specs.Inner.{unpack}
 use Rattle.graph.specs.Paths.{Edge}
 use Rattle.graph.specs.Line.{Sound}
-use Rattle.graph.specs.Work.{Within}
+use Rattle.graph.specs.Inner.Work.{Within}
 use Rattle.graph.proofs.Line.{blocks-length}
 use Rattle.carrying.specs.Lists.{any}
 use Rattle.carrying.proofs.ListLaws.{any-true, any-entry, any-false}
 use Rattle.areas.specs.Blocks.{Graph, top, bottom, whole, blockOf, inverted, touched}
 use Rattle.areas.proofs.BlockLaws.{bounds-first, bounds-last, between-test, block-is, block-rises, touched-bound, touched-between}
 use Rattle.spots.specs.declared.Spots.{Spots}
-use Rattle.spots.specs.Spots.{lineOf, touchesAt}
+use Rattle.spots.specs.Spots.{lineOf}
+use Rattle.spots.specs.Inner.{touchesAt}
 use Rattle.spots.proofs.SpotLaws.{touch-in, touch-of, unpack-is}
 use Rattle.area_rows.specs.declared.Column.{Column}
-use Rattle.area_rows.specs.Marks.{marked, Fits, Marked, TouchesReady}
-use Rattle.area_rows.specs.Inner.{Put, spans}
+use Rattle.area_rows.specs.Inner.{marked, Fits, Marked, TouchesReady, Put, spans}
 use Rattle.area_rows.proofs.PutLaws.{put-none, put-then, put-as, put-fits, put-set}
 
 pub any-same : {A : Type 0} (f g : A → Bool) (l : List A) → ((a : A) → List·Memᴰ a l → f a ≡ g a) → any f l ≡ any g l

@@ -8,11 +8,11 @@ use mathlib.Core.List.{List}
 use borrow.Author.Tests.{eq-eqb, ne-eqb}
 use Rattle.words.proofs.Points.{cut, same}
 use Rattle.words.proofs.RegionLaws.{row-before}
-use Rattle.bits.specs.Bits.{bit, bitOf, PutBit}
+use Rattle.bits.specs.Bits.{bit, bitOf}
+use Rattle.bits.specs.Inner.{PutBit}
 use Rattle.graph.proofs.Within.{within-refl, within-trans}
 use Rattle.area_rows.specs.declared.Column.{Column}
-use Rattle.area_rows.specs.Marks.{marked, Fits, Marked}
-use Rattle.area_rows.specs.Inner.{Put}
+use Rattle.area_rows.specs.Inner.{marked, Fits, Marked, Put}
 
 -- the word of the local's bit in the row of place k is one of the rows' words
 pub word-in : (c : Column) (w : List ℕ) (k : ℕ) → Fits c w → k < c .n → c .base + k * c .words + c .bit / 64 < c .base + c .n * c .words

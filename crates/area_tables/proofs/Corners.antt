@@ -10,7 +10,8 @@ use Rattle.ranges.specs.declared.Range.{Range}
 use Rattle.ranges.specs.Points.{range}
 use Rattle.carrying.specs.Lists.{gather}
 use Rattle.areas.specs.Job.{rangesOf, areasVerdict}
-use Rattle.area_tables.specs.Tables.{areaRows, listing}
+use Rattle.area_tables.specs.Tables.{areaRows}
+use Rattle.area_tables.specs.Inner.{listing}
 
 -- an item with two ranges, one without area, one with a range
 abbrev three : ℕ → Option (List Range)

@@ -6,18 +6,18 @@ use mathlib.Core.Option.{Option, some, none}
 use mathlib.Core.List.{List, [], _∷_, map}
 use lib.ListN.{length, getD, length-append}
 use Rattle.words.specs.Rows.{tabulate, flat}
-use Rattle.words.specs.Regions.{part}
+use Rattle.words.specs.Inner.{part}
 use Rattle.words.specs.Widths.{rangeWidth}
 use Rattle.words.proofs.RowLaws.{tabulate-getD, tabulate-eq, map-tabulate, tabulate-add}
 use Rattle.words.proofs.RegionLaws.{length-part, getD-part}
 use Rattle.words.proofs.FlatLaws.{flat-length}
 use Rattle.ranges.specs.declared.Range.{Range}
-use Rattle.ranges.specs.Forms.{unpack, unpacked}
+use Rattle.ranges.specs.Inner.{unpack, unpacked}
 use Rattle.carrying.specs.Lists.{gather}
 use Rattle.areas.specs.Job.{rangesIn, rangesOf}
 use Rattle.area_measure.specs.Locals.{listed}
 use Rattle.area_measure.proofs.ListLaws.{ranges-append, ranges-more}
-use Rattle.answer_rows.specs.Rows.{halves, rowsIn}
+use Rattle.answer_rows.specs.Inner.{halves, rowsIn}
 use Rattle.area_tables.specs.Tables.{areaRows}
 
 abbrev rangeRow : Range → List ℕ

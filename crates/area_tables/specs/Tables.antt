@@ -5,13 +5,8 @@ use mathlib.Core.List.{List, [], _∷_, map}
 use Rattle.words.specs.Rows.{tabulate, flat}
 use Rattle.ranges.specs.declared.Range.{Range}
 use Rattle.carrying.specs.Lists.{gather}
-use Rattle.area_measure.specs.declared.Listing.{Listing}
 use Rattle.area_measure.specs.Locals.{listed}
 
 -- the area list 2 numbers: start, end
 abbrev pub areaRows : ℕ → (ℕ → Option (List Range)) → List ℕ
 areaRows locals A = flat (map (λ (r : Range). r .start ∷ r .end ∷ []) (gather listed (tabulate locals A)))
-
--- in the work space: the areas stand from 0 on, the items' words from `items` on
-abbrev pub listing : ℕ → ℕ → Listing
-listing room items = record { areas = 0; room = room; items = items }

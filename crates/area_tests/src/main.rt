@@ -3,7 +3,7 @@
 // The columns of a case: points, the lengths of the area list, of the item list and of the work space; blocks, edges, kinds, touches, ends.
 ghost use mathlib.Core.Path.{_≡_};
 ghost use lib.ListN.{length};
-ghost use Rattle.cases.specs.Cuts.{Ordered};
+ghost use Rattle.cases.specs.Inner.{Ordered};
 use area_entries::Answer;
 use cases::Cuts;
 

@@ -15,7 +15,8 @@ use Rattle.carrying.specs.declared.Kind.the-variants.{Unfollowed}
 use Rattle.carrying.specs.Lists.{any, keep, gather}
 use Rattle.carrying.specs.Insts.{Inst}
 use Rattle.carrying.specs.Carried.{Piece, kindOf}
-use Rattle.areas.specs.Blocks.{Graph, holding, blockOf, bounds, between, clip, invertedVerdict, touched, until, cover, leaves, passes}
+use Rattle.areas.specs.Blocks.{Graph, holding, blockOf, bounds, between, clip, touched, until, cover, leaves, passes}
+use Rattle.areas.specs.Inner.{invertedVerdict}
 use Rattle.areas.specs.Pieces.{through}
 use Rattle.areas.specs.Slots.{Move, assignedOf, movesOf, position, around, spilled, moveVerdict, badPiece, pieceVerdict, assignedVerdict}
 use Rattle.areas.specs.Job.{Job, localsOf, areaBy, itemCount, itemArea, rangesOf, itemsVerdict}

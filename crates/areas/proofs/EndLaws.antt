@@ -9,7 +9,8 @@ use lib.ListN.{length}
 use lib.Dec.{leb}
 use borrow.Author.Tests.{leb-true, le-leb}
 use Rattle.ranges.specs.declared.Range.{Range}
-use Rattle.ranges.specs.Points.{range, Within, Point}
+use Rattle.ranges.specs.Points.{range, Point}
+use Rattle.ranges.specs.Inner.{Within}
 use Rattle.ranges.proofs.PointLaws.{point-none, point-cases, point-head, point-left, point-right, point-split}
 use Rattle.ranges.proofs.MergeLaws.{merged-keeps, merged-only}
 use Rattle.graph.specs.Paths.{Between}

@@ -12,7 +12,8 @@ use Rattle.graph.specs.Line.{Stretch, placeIn}
 use Rattle.graph.specs.Rounds.{fed, round}
 use Rattle.carrying.specs.Lists.{any, keep, gather}
 use Rattle.carrying.specs.Carried.{Piece}
-use Rattle.areas.specs.Blocks.{holding, invertedVerdict}
+use Rattle.areas.specs.Blocks.{holding}
+use Rattle.areas.specs.Inner.{invertedVerdict}
 use Rattle.areas.specs.Pieces.{joinEach, linePieces, plainArea}
 use Rattle.areas.specs.Slots.{Assigned, Move, moved, spilled, slotArea}
 use Rattle.areas.proofs.Stars.{straight}

@@ -24,7 +24,8 @@ use Rattle.carrying.specs.Insts.{Inst, instAt, isSet}
 use Rattle.carrying.specs.Carried.{Mention, Piece, mentions, mentioned, carried, livePieces, touchesOf}
 use Rattle.carrying.specs.Checks.{misplaced, badInst, instVerdict, absent, mentionAt, addressVerdict}
 use Rattle.carrying.proofs.ListLaws.{of-kept, of-gathered, any-false, false-any}
-use Rattle.areas.specs.Blocks.{Graph, top, bottom, InBlock, blockOf, clip, reversed, inverted, invertedVerdict}
+use Rattle.areas.specs.Blocks.{Graph, top, bottom, InBlock, blockOf, clip, reversed, inverted}
+use Rattle.areas.specs.Inner.{invertedVerdict}
 use Rattle.areas.specs.Slots.{badPiece, pieceVerdict}
 use Rattle.areas.specs.Job.{Job, Checked, graphOf, touchesIn}
 use Rattle.areas.proofs.BlockLaws.{tops, bottoms, locate, block-is}

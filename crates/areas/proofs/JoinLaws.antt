@@ -3,7 +3,8 @@ use Prim.Native.Nat.{ℕ, _≤_}
 use mathlib.Core.Logic.{_⊎_, inl, inr}
 use mathlib.Core.List.{List, [], _∷_}
 use Rattle.ranges.specs.declared.Range.{Range}
-use Rattle.ranges.specs.Points.{Within, Point, Upright}
+use Rattle.ranges.specs.Inner.{Within}
+use Rattle.ranges.specs.Points.{Point, Upright}
 use Rattle.ranges.specs.Merged.{joined}
 use Rattle.ranges.proofs.PointLaws.{point-none, point-cases, point-head, point-tail, upright-head, upright-tail}
 use Rattle.ranges.proofs.JoinLaws.{joined-upright, joined-keeps, joined-adds, joined-only}

@@ -9,7 +9,8 @@ use mathlib.Core.List.{List, [], _∷_, _++_, List·Memᴰ, List·Memᴰ·head, 
 use lib.ListN.{length}
 use Rattle.words.proofs.Bools.{and-both, and-pair}
 use Rattle.ranges.specs.declared.Range.{Range}
-use Rattle.ranges.specs.Points.{range, Within, Point, Upright}
+use Rattle.ranges.specs.Points.{range, Point, Upright}
+use Rattle.ranges.specs.Inner.{Within}
 use Rattle.ranges.proofs.PointLaws.{point-none, point-cases, point-head, point-left, point-right, point-split, upright-none, upright-cons}
 use Rattle.ranges.proofs.MergeLaws.{merged-keeps, merged-only}
 use Rattle.graph.specs.Paths.{Between}

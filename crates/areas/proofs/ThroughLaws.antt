@@ -8,7 +8,8 @@ use mathlib.Core.List.{List, [], _∷_, List·Memᴰ}
 use lib.Dec.{ltb}
 use borrow.Author.Tests.{ltb-true, lt-ltb}
 use Rattle.ranges.specs.declared.Range.{Range}
-use Rattle.ranges.specs.Points.{range, Within, Point}
+use Rattle.ranges.specs.Points.{range, Point}
+use Rattle.ranges.specs.Inner.{Within}
 use Rattle.ranges.proofs.PointLaws.{point-head, point-cases, point-none}
 use Rattle.graph.specs.Line.{Sound}
 use Rattle.carrying.specs.Lists.{gather}

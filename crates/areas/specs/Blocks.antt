@@ -4,9 +4,6 @@ use mathlib.Core.Bool.{Bool, cond, not, _&&_, _||_}
 use mathlib.Core.List.{List, [], _∷_}
 use lib.ListN.{length}
 use lib.Dec.{eqb, leb, ltb}
-use Rattle.refusals.specs.declared.Verdict.{Verdict}
-use Rattle.refusals.specs.declared.Refusal.the-variants.{Inverted}
-use Rattle.refusals.specs.Verdicts.{check}
 use Rattle.ranges.specs.declared.Range.{Range}
 use Rattle.ranges.specs.Points.{range, overlaps}
 use Rattle.graph.specs.Paths.{Edge}
@@ -60,9 +57,6 @@ reversed r = ltb (r .end) (r .start)
 
 abbrev pub inverted : Graph → Range → Bool
 inverted G t = reversed (clip G (blockOf G (t .start)) t) || reversed (clip G (blockOf G (t .end)) t)
-
-abbrev pub invertedVerdict : Graph → List Range → Verdict
-invertedVerdict G ts = check Inverted (any (inverted G) ts)
 
 -- "a block is touched if any point of a touch lies in it"
 abbrev pub touched : Graph → List Range → ℕ → Bool

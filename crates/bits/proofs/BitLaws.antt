@@ -9,10 +9,11 @@ use lib.Bits.{bitAnd, bitOr, bitXor, or-lt}
 use lib.Dec.{eqb}
 use lib.ListN.{length, getD, set, length-set}
 use borrow.Author.Tests.{eq-eqb, ne-eqb, eqb-true, eqb-false}
-use Rattle.words.specs.Regions.{Region, Kept, below, above}
+use Rattle.words.specs.Inner.{Region, Kept, below, above}
 use Rattle.words.proofs.Points.{cut, same, stored}
 use Rattle.words.proofs.RegionLaws.{Done, done-start, done-more, done-skip, done-all, done-next, done-source, row-before}
-use Rattle.bits.specs.Bits.{digit, bitOf, bit, PutBit, Row, Grown, Aligned, same as same-row, apart, Lowest, FirstSet}
+use Rattle.bits.specs.Bits.{digit, bitOf, bit}
+use Rattle.bits.specs.Inner.{PutBit, Row, Grown, Aligned, same as same-row, apart, Lowest, FirstSet}
 use Rattle.bits.proofs.DigitLaws.{bit-or, bit-and, bit-xor, bit-power, bit-zero, shift-one, low-bit, differ-at}
 
 -- ---- one bit

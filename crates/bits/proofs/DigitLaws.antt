@@ -13,7 +13,8 @@ use lib.Count.{trailingZeros, under, trailing-le}
 use lib.Dec.{eqb}
 use lib.ListN.{length}
 use borrow.Author.Tests.{eq-eqb, ne-eqb, eqb-true}
-use Rattle.bits.specs.Bits.{digit, bitOf, places, Lowest, Without}
+use Rattle.bits.specs.Bits.{digit, bitOf}
+use Rattle.bits.specs.Inner.{places, Lowest, Without}
 use Rattle.words.proofs.Points.{cut, same}
 
 -- ---- digits

@@ -3,7 +3,8 @@ ghost use mathlib.Core.Path.{_≡_};
 ghost use mathlib.Core.Bool.{true, false, _||_, _&&_};
 ghost use Prim.Native.Nat.{_+_, _*_, _/_, _^_, _≤_, _<_};
 ghost use lib.ListN.{length};
-ghost use Rattle.bits.specs.Bits.{bit, PutBit, Row, Grown, Aligned, Lowest, Without, FirstSet};
+ghost use Rattle.bits.specs.Bits.{bit};
+ghost use Rattle.bits.specs.Inner.{PutBit, Row, Grown, Aligned, Lowest, Without, FirstSet};
 
 // Whether bit `b` of the row at `base` is set.
 pub fn test(w: &[u64], base: usize, b: usize) -> bool

@@ -13,7 +13,8 @@ use Rattle.words.proofs.FlatLaws.{flat-length, flat-at}
 use Rattle.fitting.specs.Queries.{Room, Item, Slots, cap}
 use Rattle.queries.specs.Seen.{PlanSeen}
 use Rattle.queries.proofs.SeenLaws.{RowsHold, planBy, plan-seen}
-use Rattle.capping.specs.Cap.{capVerdict, capRows, cappedPlan}
+use Rattle.capping.specs.Cap.{capVerdict, capRows}
+use Rattle.capping.specs.Inner.{cappedPlan}
 use Rattle.capping.proofs.CapLaws.{capRow}
 
 module _ {cells items areas : List ℕ} {locals c n : ℕ} {room : ℕ → Room} {item : ℕ → Item} (H : RowsHold cells items areas locals c n room item) where

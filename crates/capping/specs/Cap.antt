@@ -2,7 +2,7 @@
 use Prim.Native.Nat.{ℕ}
 use mathlib.Core.Path.{_≡_}
 use mathlib.Core.Bool.{not, _||_}
-use mathlib.Core.List.{List, [], _∷_, map}
+use mathlib.Core.List.{List, [], _∷_}
 use lib.Dec.{ltb}
 use Rattle.refusals.specs.declared.Verdict.{Verdict}
 use Rattle.refusals.specs.declared.Refusal.the-variants.{Count}
@@ -10,7 +10,7 @@ use Rattle.refusals.specs.Verdicts.{check}
 use Rattle.refusals.specs.Outcomes.{unless, numbered, after}
 use Rattle.words.specs.Rows.{wholeRows, tabulate, flat}
 use Rattle.words.specs.Widths.{cellWidth, cellCount, cellSize, cellAlign}
-use Rattle.fitting.specs.Queries.{Room, Slots, cap}
+use Rattle.fitting.specs.Queries.{Room, cap}
 use Rattle.capping.specs.declared.Cell.{Cell}
 
 -- a cell's row: size, align
@@ -36,7 +36,3 @@ capRows cells count most = flat (tabulate count (λ i. roomRow (cap most (record
 pub record CappedBy (cells : List ℕ) (count most : ℕ) (r : Verdict) (cells′ : List ℕ) : Type 0 where
   pub answer : numbered r ≡ numbered (capVerdict cells count)
   pub in-cells : cells′ ≡ after (unless (capVerdict cells count) (capRows cells count most)) (λ l. l) cells
-
--- a plan with each cell's alignment lowered
-abbrev pub cappedPlan : ℕ → Slots → Slots
-cappedPlan most S = record { cells = map (cap most) (S .cells); locals = S .locals; slots = S .slots }

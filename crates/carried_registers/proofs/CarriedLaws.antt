@@ -14,12 +14,13 @@ use Rattle.refusals.specs.declared.Refusal.{Refusal}
 use Rattle.refusals.specs.Outcomes.{given, after}
 use Rattle.words.specs.Rows.{tabulate}
 use Rattle.words.specs.Sort.{sortOf}
-use Rattle.words.specs.Regions.{Region, part, cleared, rowWords}
+use Rattle.words.specs.Inner.{Region, part}
+use Rattle.words.specs.Regions.{cleared, rowWords}
 use Rattle.words.specs.Widths.{instCount, operandCount, localCount, addressCount}
 use Rattle.words.proofs.RowLaws.{tabulate-getD}
 use Rattle.words.proofs.SortLaws.{mem-sort, mem-of-sort, length-sort}
 use Rattle.words.proofs.RegionLaws.{length-part, getD-part, region-front}
-use Rattle.graph.specs.Work.{Within}
+use Rattle.graph.specs.Inner.Work.{Within}
 use Rattle.graph.proofs.Within.{within-refl, within-trans, within-wider, region-within}
 use Rattle.graph.proofs.Line.{mem-at, at-mem}
 use Rattle.carrying.specs.Carried.{Code, Carries, carries, carried}
@@ -28,12 +29,13 @@ use Rattle.reach.specs.declared.Lay.{Lay}
 use Rattle.reach.specs.Prepared.{codeOf}
 use Rattle.follow.specs.declared.Sizes.{Sizes}
 use Rattle.follow.specs.declared.Followed.{Followed}
-use Rattle.queue.specs.Walk.{queued}
-use Rattle.follow.specs.Followed.{FollowedTo}
+use Rattle.queue.specs.Inner.{queued}
+use Rattle.follow.specs.Inner.{FollowedTo}
 use Rattle.carried_registers.specs.declared.Carrying.the-variants.{Listed, Absent, Refused}
 use Rattle.carry_checks.specs.Checks.{carrySpace, carryVerdict}
-use Rattle.carry_checks.specs.Layout.{usedOf}
-use Rattle.carried_registers.specs.Carried.{mostOf, Registers, verdictOf, CarriedTo}
+use Rattle.carry_checks.specs.Inner.{usedOf}
+use Rattle.carried_registers.specs.Carried.{mostOf, verdictOf, CarriedTo}
+use Rattle.carried_registers.specs.Inner.{Registers}
 use Rattle.carried_registers.proofs.UpLaws.{Up, apart-of, up-sort, up-below, below-length, up-same}
 use Rattle.carry_checks.proofs.LayoutLaws.{cleared-all}
 

@@ -1,17 +1,15 @@
 -- The entry `carried`: the registers that carry one local's address.
-use Prim.Native.Nat.{ℕ, _≤_, min}
+use Prim.Native.Nat.{ℕ, min}
 use mathlib.Core.Path.{_≡_}
 use mathlib.Core.Bool.{cond}
 use mathlib.Core.Option.{Option, some, none}
 use mathlib.Core.List.{List, []}
-use lib.ListN.{length, getD, replicate}
+use lib.ListN.{length, replicate}
 use lib.Dec.{ltb}
 use Rattle.refusals.specs.declared.Verdict.{Verdict}
 use Rattle.refusals.specs.Verdicts.{numberOf}
 use Rattle.refusals.specs.Outcomes.{Outcome, given, refused, unless, after}
-use Rattle.words.specs.Regions.{Region}
 use Rattle.words.specs.Widths.{instCount, localCount}
-use Rattle.graph.specs.Work.{Within}
 use Rattle.carrying.specs.Carried.{Code, carried}
 use Rattle.reach.specs.Prepared.{codeOf}
 use Rattle.carried_registers.specs.declared.Carrying.{Carrying}
@@ -34,13 +32,6 @@ countOf C locals l = cond (ltb l locals) (some (length (carried C l))) none
 
 abbrev pub registersOf : Code → ℕ → ℕ → List ℕ
 registersOf C locals l = cond (ltb l locals) (carried C l) []
-
--- the carried registers of a local at the front of the answer, with changes in the first words of the work space only
-pub record Registers (C : Code) (l used n : ℕ) (answer₀ answer w₀ w : List ℕ) : Type 0 where
-  pub kept : Within 0 used w₀ w
-  pub count : n ≡ length (carried C l)
-  pub room : n ≤ length answer₀
-  pub list : Region answer₀ answer 0 n (λ k. getD (carried C l) k 0)
 
 -- the checks of `carried` in their order: numbers 1, 2, 4, 5 and 7
 abbrev pub carriedChecks : ℕ → ℕ → List ℕ → List ℕ → List ℕ → List ℕ → List ℕ → List ℕ → List ℕ → List ℕ → List ℕ → List Verdict

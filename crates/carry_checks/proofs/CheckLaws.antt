@@ -24,8 +24,8 @@ use Rattle.insts.proofs.DealtLaws.{insts-length}
 use Rattle.insts.proofs.CheckLaws.{most-few, rows-few, blocks-few, blocks-some, insts-counted, inst-is, address-whatever, end-whatever}
 use Rattle.reach.proofs.ReadyLaws.{mentions-count}
 use Rattle.rooms.proofs.RoomLaws.{room-answer, room-work}
-use Rattle.carry_checks.specs.Checks.{carryCounts, placeVerdict, strayVerdict, carrySpace, roomVerdict, carryVerdict}
-use Rattle.carry_checks.specs.Layout.{Checked}
+use Rattle.carry_checks.specs.Checks.{carryCounts, carrySpace, roomVerdict, carryVerdict}
+use Rattle.carry_checks.specs.Inner.{placeVerdict, strayVerdict, Checked}
 use Rattle.words.specs.Widths.{blockCount, instCount, operandCount, localWidth, localCount, mentionWidth, addressCount, endCount}
 use Rattle.words.specs.Regions.{rowWords}
 

@@ -7,12 +7,13 @@ use lib.ListN.{length, drop, replicate, length-replicate}
 use Rattle.words.specs.Regions.{cleared, rowWords}
 use Rattle.words.specs.Widths.{instCount, operandCount, localCount, addressCount}
 use Rattle.words.proofs.RegionLaws.{drop-same}
-use Rattle.graph.specs.Work.{Within}
+use Rattle.graph.specs.Inner.Work.{Within}
 use Rattle.reach.specs.declared.Lay.{Lay}
-use Rattle.reach.specs.Prepared.{Laid, codeOf, Readied}
-use Rattle.follow.specs.Followed.{Ready}
+use Rattle.reach.specs.Inner.{Laid, Readied}
+use Rattle.reach.specs.Prepared.{codeOf}
+use Rattle.follow.specs.Inner.{Ready}
 use Rattle.follow.proofs.KeptLaws.{made-ready}
-use Rattle.carry_checks.specs.Layout.{usedOf, Checked}
+use Rattle.carry_checks.specs.Inner.{usedOf, Checked}
 
 pub laid-longer : {lay : Lay} {v i o l a n : ℕ} → Laid lay v i o l a n → (m : ℕ) → n ≤ m → Laid lay v i o l a m
 laid-longer d m h = record {

@@ -19,14 +19,6 @@ use Rattle.insts.specs.Counts.{blockCounts, codeCounts}
 unfoldable pub carryCounts : ℕ → List ℕ → List ℕ → List ℕ → List ℕ → List ℕ → List ℕ → List ℕ → Verdict
 carryCounts v blocks insts operands crossings locals addresses ends = first (blockCounts blocks) (codeCounts v insts operands crossings locals addresses ends)
 
--- numbers 2 and 4 of the blocks and the instructions
-abbrev pub placeVerdict : ℕ → ℕ → List ℕ → List ℕ → List ℕ → Verdict
-placeVerdict points v blocks insts operands = first (lineVerdict (blocksOf blocks) points) (instVerdict (blocksOf blocks) v (instsOf insts operands))
-
--- number 5 of the addresses and the ends
-abbrev pub strayVerdict : List ℕ → List ℕ → List ℕ → List ℕ → Verdict
-strayVerdict insts operands addresses ends = first (addressVerdict (instsOf insts operands) (mentionsOf addresses)) (endVerdict (instsOf insts operands) (mentionsOf ends))
-
 -- W = 8 × (the records lent + blocks × ⌈locals/64⌉ + ⌈V/64⌉): "other entries count what they are lent"
 abbrev pub carryWords : ℕ → ℕ → ℕ → ℕ → ℕ → ℕ → ℕ → ℕ → ℕ
 carryWords v blocks insts operands crossings locals addresses ends =

@@ -1,8 +1,8 @@
 // Where the regions that carrying uses stand in the work space.
 ghost use mathlib.Core.Path.{_≡_};
 ghost use Prim.Native.Nat.{_+_, _/_, _≤_};
-ghost use Rattle.reach.specs.Prepared.{Laid};
-ghost use Rattle.carry_checks.specs.Layout.{usedOf};
+ghost use Rattle.reach.specs.Inner.{Laid};
+ghost use Rattle.carry_checks.specs.Inner.{usedOf};
 ghost use Rattle.words.specs.Regions.{rowWords};
 use reach::Lay;
 use words::wide;

@@ -3,7 +3,7 @@
 // The columns of a case: points, V, the length of the answer list and of the work space; blocks, instructions, operands, crossings, locals, addresses, ends.
 ghost use mathlib.Core.Path.{_≡_};
 ghost use lib.ListN.{length};
-ghost use Rattle.cases.specs.Cuts.{Ordered};
+ghost use Rattle.cases.specs.Inner.{Ordered};
 use carried_registers::Carrying;
 use cases::Cuts;
 use local_kinds::Answer;

@@ -8,7 +8,7 @@ use mathlib.Core.List.{List}
 use lib.ListN.{length, getD, set}
 use lib.Seq.{getD-set-same, getD-set-other}
 use Rattle.words.proofs.Points.{cut}
-use Rattle.cases.specs.Columns.{RisingTo, Rising}
+use Rattle.cases.specs.Inner.{RisingTo, Rising}
 
 pub rising-none : {ends : List ℕ} {most : ℕ} → RisingTo ends most 0
 rising-none = record { rise = λ i h. omega arith; within = λ i h. omega arith }

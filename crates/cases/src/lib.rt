@@ -2,8 +2,7 @@
 ghost use Prim.Native.Nat.{_≤_, _<_};
 ghost use lib.ListN.{length};
 ghost use mathlib.Core.Path.{_≡_};
-ghost use Rattle.cases.specs.Columns.{RisingTo, Rising};
-ghost use Rattle.cases.specs.Cuts.{Ordered};
+ghost use Rattle.cases.specs.Inner.{RisingTo, Rising, Ordered};
 use refusals::Refusal;
 use refusals::number;
 

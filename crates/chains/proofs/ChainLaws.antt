@@ -8,9 +8,9 @@ use lib.ListN.{length, getD, set, length-set}
 use lib.Seq.{getD-set-other}
 use Rattle.words.proofs.Points.{same, stored}
 use Rattle.words.proofs.RowLaws.{field-within, rows-within}
-use Rattle.reach.specs.Prepared.{latest}
+use Rattle.reach.specs.Inner.{latest}
 use Rattle.reach.proofs.StepLaws.{latest-here, latest-other, latest-none}
-use Rattle.chains.specs.Chains.{Chain, Linked}
+use Rattle.chains.specs.Inner.{Chain, Linked}
 
 -- where a row's number stands
 pub row-in : (width column n i : ℕ) (rows : List ℕ) → column < width → n ≡ length rows / width → i < n → width * i + column < length rows

@@ -10,13 +10,13 @@ use lib.Seq.{getD-set-same, getD-set-other}
 use lib.Dec.{eqb}
 use borrow.Author.Tests.{eqb-true, eq-eqb}
 use Rattle.words.specs.Rows.{tabulate}
-use Rattle.words.specs.Regions.{part}
+use Rattle.words.specs.Inner.{part}
 use Rattle.words.proofs.RegionLaws.{length-part, getD-part, part-is}
-use Rattle.graph.specs.Work.{Within}
+use Rattle.graph.specs.Inner.Work.{Within}
 use Rattle.graph.proofs.Within.{within-refl, within-set}
 use Rattle.carrying.specs.Lists.{gather}
-use Rattle.reach.specs.Prepared.{latest}
-use Rattle.chains.specs.Chains.{Walkable, wordsOf, Walked}
+use Rattle.reach.specs.Inner.{latest}
+use Rattle.chains.specs.Inner.{Walkable, wordsOf, Walked}
 
 -- a word put before a part
 part-push : (w : List ℕ) (at n x : ℕ) → at + n < length w → part at (suc n) (set w at x) ≡ x ∷ part (at + 1) n w

@@ -3,7 +3,7 @@ ghost use mathlib.Core.Path.{_≡_};
 ghost use Prim.Native.Nat.{ℕ, _+_, _/_, _≤_, _<_};
 ghost use lib.ListN.{length, getD};
 ghost use Rattle.words.specs.Rows.{field};
-ghost use Rattle.chains.specs.Chains.{Linked};
+ghost use Rattle.chains.specs.Inner.{Linked};
 
 // Chains the `n` rows of `width` numbers by the number in one column, for the numbers below `keys`: from `heads` on each number's last row, and from
 // `nexts` on for each row the one before it of its number, each plus 1, or 0 where there is none. Rows of other numbers are in no chain.

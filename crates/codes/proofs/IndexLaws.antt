@@ -11,7 +11,8 @@ use Rattle.refusals.specs.declared.Verdict.{Verdict}
 use Rattle.refusals.specs.declared.Verdict.the-variants.{Fine, Bad}
 use Rattle.refusals.specs.Verdicts.{numberOf, first, inOrder, scan, check, countedOn}
 use Rattle.refusals.specs.Outcomes.{given, unless}
-use Rattle.codes.specs.Codes.{refusalCode, codeOf, countCode, optionCode, truthOf, truthCode, verdictCode, indexOf, Fits, Small, SmallOrAbsent, Read}
+use Rattle.codes.specs.Codes.{refusalCode, codeOf, countCode, optionCode, truthOf, truthCode, verdictCode, Small, SmallOrAbsent, Read}
+use Rattle.codes.specs.Inner.{indexOf, Fits}
 use Rattle.codes.proofs.CodeLaws.{code-number, code-index}
 
 -- ---- verdicts whose index fits

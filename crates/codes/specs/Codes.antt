@@ -4,8 +4,6 @@ use mathlib.Core.Path.{_≡_}
 use mathlib.Core.Logic.{_⊎_}
 use mathlib.Core.Bool.{Bool, true, false}
 use mathlib.Core.Option.{Option, some, none}
-use mathlib.Core.List.{List, _++_}
-use lib.ListN.{length, take, drop}
 use Rattle.refusals.specs.Verdicts.{numberOf}
 use Rattle.refusals.specs.Outcomes.{Outcome, given, refused}
 use Rattle.refusals.specs.declared.Refusal.{Refusal}
@@ -54,15 +52,6 @@ pub record Coded {A : Type 0} (code : A → ℕ) (Promised : A → Type 0) (r : 
   pub told : A
   pub answer : r ≡ code told
   pub holds : Promised told
-
--- the index of a refusal
-abbrev pub indexOf : Verdict → ℕ
-indexOf Fine = 0
-indexOf (Bad r i) = i
-
--- it fits the 32 bits that a code has for it
-pub record Fits (v : Verdict) : Type 0 where
-  pub index : indexOf v < 2 ^ 32
 
 -- an answer as the exported functions give it: below every refusal's code; of some also that there is none
 abbrev pub Small : ℕ → Type 0

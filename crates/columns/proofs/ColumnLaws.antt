@@ -6,7 +6,7 @@ use native.Mathlib.Omega.{arith}
 use lib.ListN.{length, getD, take, drop, set, length-drop, length-map}
 use lib.Seq.{set-getD}
 use native.Mathlib.Nat.{zero-add}
-use Rattle.words.specs.Regions.{Region}
+use Rattle.words.specs.Inner.{Region}
 use Rattle.words.proofs.RegionLaws.{part-is, drop-same}
 use Rattle.ranges.specs.declared.Range.{Range}
 use Rattle.ranges.specs.Points.{range, rangeAt}
@@ -15,8 +15,7 @@ use Rattle.ranges.specs.Forms.{columns, starts, ends}
 use Rattle.ranges.specs.Inner.{TakenUp, Listing}
 use Rattle.ranges.proofs.ListingLaws.{up-first, up-next, up-wider, up-kept, listing-all, listing-length, listing-raise, listing-push}
 use Rattle.ranges.proofs.TakeLaws.{joined-first, joined-longer, joined-next}
-use Rattle.ranges.proofs.FormLaws.{columns-length, columns-set, starts-columns, ends-columns, columns-take, columns-drop, map-append}
-use Rattle.ranges.proofs.FormLaws.{start-at, end-at}
+use Rattle.ranges.proofs.FormLaws.{columns-length, columns-set, starts-columns, ends-columns, columns-take, columns-drop, map-append, start-at, end-at}
 
 -- ---- one range taken up
 

@@ -16,19 +16,21 @@ use Rattle.refusals.specs.Orders.{Ordered}
 use Rattle.refusals.proofs.Laws.{first-fine, first-bad, first-left, first-right, bad-fine, check-last}
 use Rattle.refusals.proofs.Orders.{check-gives, order-append, giving-append}
 use Rattle.words.specs.Regions.{cleared}
-use Rattle.words.specs.Regions.{Region}
+use Rattle.words.specs.Inner.{Region}
 use Rattle.words.specs.Widths.{blockCount, edgeCount}
 use Rattle.graph.specs.Line.{blocksOf, jumpsOf}
 use Rattle.graph.specs.Checks.{graphChecks, graphVerdict, spaceOf, spaceVerdict}
 use Rattle.graph.specs.Paths.{Between}
-use Rattle.graph.specs.Work.{Within, EdgeRows, Neighbours}
+use Rattle.graph.specs.Inner.Work.{Within, EdgeRows, Neighbours}
 use Rattle.graph.proofs.CheckLaws.{graph-gives}
 use Rattle.graph.proofs.Within.{within-trans, within-wider}
 use Rattle.graph.proofs.Line.{blocks-length, edges-between}
 use Rattle.line_checks.proofs.Refusals.{Passed, passed, space-told}
-use Rattle.tarjan.specs.Components.{Components, Walkable, Found}
+use Rattle.tarjan.specs.Components.{Components}
+use Rattle.tarjan.specs.Inner.Components.{Walkable, Found}
 use Rattle.components.specs.declared.Answer.the-variants.{Given, Refused}
-use Rattle.components.specs.Entry.{componentsChecks, verdictOf, edgesIn, Turned, Answered, Solved}
+use Rattle.components.specs.Entry.{componentsChecks, verdictOf, edgesIn, Turned, Answered}
+use Rattle.components.specs.Inner.{Solved}
 
 -- ---- the refusals
 

@@ -1,5 +1,5 @@
 -- The entry `components`: what it answers, refuses and leaves, for every input.
-use Prim.Native.Nat.{ℕ, _+_, _≤_}
+use Prim.Native.Nat.{ℕ, _≤_}
 use mathlib.Core.Path.{_≡_}
 use mathlib.Core.List.{List, [], _∷_, _++_}
 use lib.ListN.{length, getD}
@@ -13,7 +13,6 @@ use Rattle.words.specs.Widths.{blockCount, edgeCount}
 use Rattle.graph.specs.Paths.{Edge}
 use Rattle.graph.specs.Line.{blocksOf, jumpsOf, edgesOf}
 use Rattle.graph.specs.Checks.{graphChecks, spaceOf, spaceVerdict}
-use Rattle.graph.specs.Work.{Within}
 use Rattle.tarjan.specs.Components.{Components}
 use Rattle.components.specs.declared.Answer.{Answer}
 use Rattle.components.specs.declared.Answer.the-variants.{Given, Refused}
@@ -53,9 +52,3 @@ pub record Turned (k : Refusal) (i : ℕ) (which₀ work₀ : List ℕ) (r : Ans
 pub record Answered (blocks edges : List ℕ) (points : ℕ) (which₀ work₀ : List ℕ) (r : Answer) (which work : List ℕ) : Type 0 where
   pub answered : verdictOf blocks edges points (length which₀) (length work₀) ≡ Fine → Numbered blocks edges which₀ work₀ r which work
   pub turned : (k : Refusal) (i : ℕ) → verdictOf blocks edges points (length which₀) (length work₀) ≡ Bad k i → Turned k i which₀ work₀ r which work
-
--- what `solve` leaves in the work space: the components' numbers from `base` on, within W
-pub record Solved (blocks edges : List ℕ) (base : ℕ) (work₀ work : List ℕ) (count : ℕ) : Type 0 where
-  pub kept : Within 0 (spaceOf (blockCount blocks) (edgeCount edges) 0) work₀ work
-  pub few : count ≤ blockCount blocks
-  pub components : Components (edgesIn blocks edges) (blockCount blocks) (λ v. getD work (base + v) 0) count

@@ -8,7 +8,8 @@ use mathlib.Core.List.{List}
 use Rattle.words.specs.Rows.{field}
 use Rattle.words.specs.Widths.{blockWidth, blockCount, blockStart, blockEnd, itemRanges, rangeWidth, rangeCount, rangeStart, rangeEnd}
 use Rattle.words.proofs.Points.{cut}
-use Rattle.drawing.specs.Axis.{leastOf, greatestOf, firstOf, lastOf, rangesIn, left, axisWidth, pointsBefore, Placed, Barred}
+use Rattle.drawing.specs.Axis.{leastOf, greatestOf, firstOf, lastOf, left, axisWidth, pointsBefore, Placed, Barred}
+use Rattle.drawing.specs.Inner.{rangesIn}
 
 -- ---- the first and the last point
 

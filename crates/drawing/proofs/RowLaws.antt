@@ -5,7 +5,8 @@ use native.Mathlib.Nat.{le-div-iff-mul-le, le-refl, mul-comm, zero-mul, pow-succ
 use native.Mathlib.Numerals.{add-one}
 use mathlib.Core.Path.{_≡_, refl, sym, ap, _∙_}
 use Rattle.words.proofs.Points.{same}
-use Rattle.drawing.specs.Rows.{topOf, rowHeight, heightOf, Fits, Digits, hueOf}
+use Rattle.drawing.specs.Rows.{topOf, rowHeight, heightOf, hueOf}
+use Rattle.drawing.specs.Inner.{Fits, Digits}
 
 -- rows do not overlap, and stand inside the picture
 pub rows-apart : (c d : ℕ) → c < d → topOf c + rowHeight ≤ topOf d

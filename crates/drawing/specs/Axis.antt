@@ -3,7 +3,7 @@ use Prim.Native.Nat.{ℕ, zero, suc, _+_, _-_, _*_, _≤_, _<_, min, max}
 use mathlib.Core.Path.{_≡_}
 use mathlib.Core.List.{List}
 use Rattle.words.specs.Rows.{field}
-use Rattle.words.specs.Widths.{blockWidth, blockCount, itemRanges, rangeWidth, rangeCount}
+use Rattle.words.specs.Widths.{blockWidth, blockCount, rangeWidth, rangeCount}
 
 -- the least of a number and of field f in the first n rows of width w; the greatest
 unfoldable pub leastOf : ℕ → List ℕ → ℕ → ℕ → ℕ → ℕ
@@ -20,11 +20,6 @@ firstOf blocks areas = leastOf rangeWidth areas 0 (leastOf blockWidth blocks 1 4
 
 abbrev pub lastOf : List ℕ → List ℕ → ℕ
 lastOf blocks areas = greatestOf rangeWidth areas 1 (greatestOf blockWidth blocks 2 0 (blockCount blocks)) (rangeCount areas)
-
--- how many ranges the first n items have, in rows of cell, present, first and count
-unfoldable pub rangesIn : List ℕ → ℕ → ℕ
-rangesIn items zero = 0
-rangesIn items (suc n) = rangesIn items n + itemRanges items n
 
 -- where the axis begins, and its width
 abbrev pub left : ℕ

@@ -36,7 +36,8 @@ use Rattle.moved_ranges.specs.Moved.{movedVerdict, movedOf}
 use Rattle.spilled_registers.specs.Spilled.{spilledVerdict}
 use Rattle.soundness.specs.Demand.{jobPlan}
 use Rattle.job_checks.specs.Job.{jobOf}
-use Rattle.item_areas.specs.Entry.{itemChecks, total}
+use Rattle.item_areas.specs.Entry.{itemChecks}
+use Rattle.item_areas.specs.Inner.{total}
 use Rattle.text_plan.specs.Printed.{roomChecks, counted as bytesOf}
 use Rattle.planning.specs.Program.{programText}
 use Rattle.planning.proofs.TextLaws.{program-short}

@@ -27,7 +27,8 @@ use Rattle.wants.proofs.SeenLaws.{wants-long, held as fit-held, fit-seen, fit-l
 use Rattle.want_codes.specs.Plans.{fewCounts, codedVerdict, codedOutcome, PlanCoded}
 use Rattle.apart.specs.Apart.{localsOf, widthsOf, apartVerdict, apartOf, ApartBy}
 use Rattle.apart.proofs.SeenLaws.{plan-is, held as apart-held, apart-seen}
-use Rattle.capping.specs.Cap.{capVerdict, capRows, cappedPlan}
+use Rattle.capping.specs.Cap.{capVerdict, capRows}
+use Rattle.capping.specs.Inner.{cappedPlan}
 use Rattle.capping.proofs.SeenLaws.{cap-passes, capped-seen}
 use Rattle.areas.specs.Job.{itemCount}
 use Rattle.soundness.specs.Demand.{wantOf, wantsOf as jobWants, jobPlan}

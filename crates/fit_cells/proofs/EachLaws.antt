@@ -9,7 +9,7 @@ use mathlib.Core.Bool.{true, false, _||_}
 use mathlib.Core.Option.{some, Option·none-ne-some, Option·some-injective}
 use mathlib.Core.List.{List}
 use lib.ListN.{length, getD}
-use Rattle.words.specs.Regions.{Kept}
+use Rattle.words.specs.Inner.{Kept}
 use Rattle.words.proofs.Points.{cut, same as same-or}
 use Rattle.words.proofs.Bools.{or-cases}
 use Rattle.bits.specs.Bits.{bitOf, bit}
@@ -21,11 +21,9 @@ use Rattle.ranges.proofs.PointLaws.{apart-upright}
 use Rattle.ranges.proofs.ClashLaws.{common-clashes}
 use Rattle.fitting.specs.Wants.{Want, wantAt}
 use Rattle.fitting.specs.Plan.{cellAt, joinable, Plan, put}
-use Rattle.fit_tables.specs.Keys.{sizeOf, alignOf}
+use Rattle.fit_tables.specs.Inner.{sizeOf, alignOf, orderTable, headTable, linkTable, cellTable, homeTable, listTable, behind, rangesAt, areaIn, wantsIn, Lent, Proper, upTo, chain, allow, orderAt, headAt, nextAt, listAt, areaAt, opens, itemAt, cellIn, Sure, Gridded, Marks, Drawn, Joined, Holds, InOrder, Ready, Stepped, Each}
 use Rattle.fit_tables.specs.declared.Own.{Own}
 use Rattle.fit_tables.specs.declared.Progress.{Progress}
-use Rattle.fit_tables.specs.Tables.{orderTable, headTable, linkTable, cellTable, homeTable, listTable, behind, rangesAt, areaIn, wantsIn, Lent, Proper}
-use Rattle.fit_tables.specs.Inner.{upTo, chain, allow, orderAt, headAt, nextAt, listAt, areaAt, opens, itemAt, cellIn, Sure, Gridded, Marks, Drawn, Joined, Holds, InOrder, Ready, Stepped, Each}
 use Rattle.fit_tables.proofs.ChainLaws.{chain-kept, allow-kept}
 use Rattle.fit_tables.proofs.TableLaws.{area-none, area-some, want-at, want-neat, area-kept, ranges-kept}
 use Rattle.fit_tables.proofs.ListLaws.{Same, list-kept, area-same}

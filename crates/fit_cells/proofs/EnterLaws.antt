@@ -6,8 +6,7 @@ use mathlib.Core.Logic.{_≢_, _⊎_, inl, inr}
 use mathlib.Core.List.{List}
 use lib.ListN.{length, getD, set, length-set}
 use lib.Seq.{getD-set-same, getD-set-other}
-use Rattle.fit_tables.specs.Inner.{enteredIn, headAt, nextAt, listAt}
-use Rattle.fit_tables.specs.Tables.{headTable, linkTable, cellTable, homeTable, listTable, behind}
+use Rattle.fit_tables.specs.Inner.{enteredIn, headAt, nextAt, listAt, headTable, linkTable, cellTable, homeTable, listTable, behind}
 use Rattle.fit_tables.specs.declared.Tables.{Tables}
 
 module _ (w : List ℕ) (t : Tables) (k i c link word area : ℕ) (room : behind t ≤ length w) (k-lt : k < t .n) (i-lt : i < t .n) (c-lt : c < t .n) where

@@ -7,9 +7,8 @@ use mir.Val.{Fits}
 use native.Mathlib.Omega.{arith}
 use lib.ListN.{length}
 use Rattle.words.proofs.FitLaws.{Word, word, small}
-use Rattle.fit_tables.specs.Inner.{listAt, nextAt, Topped, Meets}
+use Rattle.fit_tables.specs.Inner.{listAt, nextAt, Topped, Meets, countOf, linkTable, listTable, behind}
 use Rattle.fit_cells.proofs.FoldLaws.{q-lt}
-use Rattle.fit_tables.specs.Tables.{countOf, linkTable, listTable, behind}
 use Rattle.fit_tables.specs.declared.Tables.{Tables}
 
 -- the list and the link of place q

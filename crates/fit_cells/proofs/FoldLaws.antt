@@ -9,21 +9,19 @@ use mathlib.Core.Option.{Option}
 use mathlib.Core.List.{List}
 use lib.ListN.{length, getD, set, length-set}
 use lib.Seq.{getD-set-same, getD-set-other}
-use Rattle.words.specs.Regions.{part, Kept}
+use Rattle.words.specs.Inner.{part, Kept}
 use Rattle.words.proofs.RegionLaws.{kept-part-list}
 use Rattle.words.proofs.Points.{same as same-or}
 use Rattle.ranges.specs.declared.Range.{Range}
 use Rattle.ranges.specs.Points.{Upright}
 use Rattle.ranges.specs.Merged.{union, clashes}
-use Rattle.ranges.specs.Forms.{unpacked}
+use Rattle.ranges.specs.Inner.{unpacked}
 use Rattle.ranges.proofs.PointLaws.{apart-upright, upright-append}
 use Rattle.ranges.proofs.MergeLaws.{merged-apart}
-use Rattle.packed_pairs.specs.Pairs.{UnitedIn}
+use Rattle.packed_pairs.specs.Inner.{UnitedIn}
 use Rattle.fitting.specs.Plan.{joinable, Plan}
 use Rattle.fitting.proofs.CellLaws.{union-clashes}
-use Rattle.fit_tables.specs.Keys.{sizeOf, alignOf}
-use Rattle.fit_tables.specs.Tables.{headTable, linkTable, cellTable, homeTable, listTable, behind, firstOf, countOf, rangesAt, areaIn}
-use Rattle.fit_tables.specs.Inner.{chain, Falls, allow, headAt, nextAt, listAt, areaAt, Listed, Linked, Holds, Topped, Meets, Folded}
+use Rattle.fit_tables.specs.Inner.{sizeOf, alignOf, headTable, linkTable, cellTable, homeTable, listTable, behind, firstOf, countOf, rangesAt, areaIn, chain, Falls, allow, headAt, nextAt, listAt, areaAt, Listed, Linked, Holds, Topped, Meets, Folded}
 use Rattle.fit_tables.proofs.ChainLaws.{chain-kept, allow-kept, step-is}
 use Rattle.fit_tables.proofs.TableLaws.{area-some, lent-kept}
 use Rattle.fit_tables.proofs.ListLaws.{Same, listed-end, list-kept, area-same}

@@ -6,8 +6,7 @@ use mathlib.Core.Logic.{_⊎_, inl, inr}
 use mathlib.Core.List.{List}
 use lib.ListN.{length, getD}
 use Rattle.words.proofs.Points.{same as same-or}
-use Rattle.fit_tables.specs.Tables.{behind, Lent}
-use Rattle.fit_tables.specs.Inner.{Falls, nextAt, listAt, Listed, Linked, enteredIn, Ready, Topped}
+use Rattle.fit_tables.specs.Inner.{behind, Lent, Falls, nextAt, listAt, Listed, Linked, enteredIn, Ready, Topped}
 use Rattle.fit_cells.proofs.EnterLaws.{entered-length, entered-rest, next-same, next-other, list-same, list-other}
 use Rattle.fit_tables.proofs.TableLaws.{lent-kept}
 use Rattle.fit_tables.proofs.ListLaws.{proper-listed, Same, list-kept}

@@ -7,8 +7,7 @@ use mir.Val.{Fits}
 use native.Mathlib.Omega.{arith}
 use lib.ListN.{length, getD}
 use Rattle.words.proofs.FitLaws.{Word, word, small}
-use Rattle.fit_tables.specs.Inner.{orderAt, Ready}
-use Rattle.fit_tables.specs.Tables.{firstOf, countOf, Proper, wantTable, orderTable, headTable, cellTable, behind}
+use Rattle.fit_tables.specs.Inner.{orderAt, Ready, firstOf, countOf, Proper, wantTable, orderTable, headTable, cellTable, behind}
 use Rattle.fit_tables.specs.declared.Tables.{Tables}
 use Rattle.fit_tables.specs.declared.Progress.{Progress}
 

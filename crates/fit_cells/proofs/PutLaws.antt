@@ -16,9 +16,7 @@ use Rattle.fitting.specs.Wants.{Want, wantAt}
 use Rattle.fitting.specs.Plan.{Cell, cellAt, joinable, lowest, spent, Plan, assign, cellOf, opened, rangesIn, widened, entered, settled, placedBy, put}
 use Rattle.fitting.proofs.SearchLaws.{lowest-found}
 use Rattle.fitting.proofs.CellLaws.{union-clashes, Neat, neat-put}
-use Rattle.fit_tables.specs.Keys.{sizeOf, alignOf}
-use Rattle.fit_tables.specs.Tables.{wantTable, cellTable, wantIn, wantsIn, Lent}
-use Rattle.fit_tables.specs.Inner.{orderAt, headAt, nextAt, areaAt, Probed, enteredIn, Holds}
+use Rattle.fit_tables.specs.Inner.{sizeOf, alignOf, wantTable, cellTable, wantIn, wantsIn, Lent, orderAt, headAt, nextAt, areaAt, Probed, enteredIn, Holds}
 use Rattle.fit_tables.proofs.ChainLaws.{walk-end}
 use Rattle.fit_tables.proofs.TableLaws.{want-at, want-neat}
 use Rattle.fit_cells.proofs.StepLaws.{search-hit, search-miss, holds-enter}

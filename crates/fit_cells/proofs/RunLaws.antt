@@ -9,16 +9,14 @@ use mathlib.Core.List.{List, [], _∷_, _++_}
 use lib.ListN.{length, getD, take}
 use lib.Seq.{take-suc, take-all}
 use Rattle.words.specs.Rows.{tabulate}
-use Rattle.words.specs.Regions.{Region}
+use Rattle.words.specs.Inner.{Region}
 use Rattle.words.proofs.RowLaws.{length-tabulate, getD-tabulate, tabulate-eq, tabulate-getD}
 use Rattle.fitting.specs.Wants.{Want, wantAt, Names, orderOf}
 use Rattle.fitting.specs.Plan.{Plan, nothing, put, fit, planOf}
 use Rattle.fitting.proofs.OrderLaws.{order-names, length-ordered}
-use Rattle.fit_tables.specs.Keys.{sizeOf, alignOf, OrderedIn}
+use Rattle.fit_tables.specs.Inner.{sizeOf, alignOf, OrderedIn, wantTable, orderTable, cellTable, homeTable, behind, rangesAt, areaIn, wantIn, wantsIn, Lent, planIn, Fitted, upTo, orderIn, placedIn, orderAt, headAt, Probed, enteredIn, Holds, InOrder, Ready, Stepped, Placed, Each, Summed, Folded}
 use Rattle.sorting.proofs.RankLaws.{mem-at}
 use Rattle.fit_tables.specs.declared.Progress.{Progress}
-use Rattle.fit_tables.specs.Tables.{wantTable, orderTable, cellTable, homeTable, behind, rangesAt, areaIn, wantIn, wantsIn, Lent, planIn, Fitted}
-use Rattle.fit_tables.specs.Inner.{upTo, orderIn, placedIn, orderAt, headAt, Probed, enteredIn, Holds, InOrder, Ready, Stepped, Placed, Each, Summed, Folded}
 use Rattle.fit_tables.proofs.TableLaws.{area-none, area-some, want-at, sized, area-kept, lent-kept, wants-kept}
 use Rattle.fit_cells.proofs.EnterLaws.{entered-length, entered-rest}
 use Rattle.fit_cells.proofs.StepLaws.{linked, order-kept}

@@ -15,9 +15,7 @@ use Rattle.ranges.specs.Points.{Upright, Apart}
 use Rattle.fitting.specs.Wants.{Want, wantAt}
 use Rattle.fitting.specs.Plan.{Cell, cellAt, joinable, takes, lowest, Plan, assign}
 use Rattle.fitting.proofs.SearchLaws.{found-lowest, none-lowest}
-use Rattle.fit_tables.specs.Keys.{sizeOf, alignOf}
-use Rattle.fit_tables.specs.Tables.{orderTable, headTable, behind, areaIn, wantsIn, Lent}
-use Rattle.fit_tables.specs.Inner.{chain, Falls, allow, orderAt, headAt, nextAt, listAt, areaAt, Linked, opens, Probed, enteredIn, Holds}
+use Rattle.fit_tables.specs.Inner.{sizeOf, alignOf, orderTable, headTable, behind, areaIn, wantsIn, Lent, chain, Falls, allow, orderAt, headAt, nextAt, listAt, areaAt, Linked, opens, Probed, enteredIn, Holds}
 use Rattle.fit_tables.proofs.ChainLaws.{chain-kept, allow-kept, step-is}
 use Rattle.fit_cells.proofs.EnterLaws.{entered-length, entered-rest, next-same, next-other, head-same, head-other, word-same, word-other, cell-same, cell-other, list-same, list-other}
 use Rattle.fit_tables.proofs.ListLaws.{Same, area-same}

@@ -1,8 +1,7 @@
 // The lists of a cell united, so that a cell has few of them: the ranges of two lists in place of both.
 ghost use mathlib.Core.Path.{_≡_};
 ghost use Prim.Native.Nat.{_+_, _-_, _*_, _/_, _%_, _<_, _≤_};
-ghost use Rattle.fit_tables.specs.Tables.{countOf};
-ghost use Rattle.fit_tables.specs.Inner.{nextAt, Topped, Meets, Folded};
+ghost use Rattle.fit_tables.specs.Inner.{countOf, nextAt, Topped, Meets, Folded};
 use fit_tables::HALF;
 use fit_tables::LINKS;
 use fit_tables::LISTS;

@@ -2,8 +2,7 @@
 ghost use mathlib.Core.Path.{_≡_};
 ghost use Prim.Native.Nat.{ℕ, _+_, _-_, _*_, _/_, _^_, _<_, _≤_};
 ghost use lib.ListN.{length, getD};
-ghost use Rattle.fit_tables.specs.Tables.{homeTable, behind, Lent, Fitted};
-ghost use Rattle.fit_tables.specs.Inner.{InOrder, Gridded, Placed, Each, Summed};
+ghost use Rattle.fit_tables.specs.Inner.{homeTable, behind, Lent, Fitted, InOrder, Gridded, Placed, Each, Summed};
 use fit_tables::CELLS;
 use fit_tables::Counts;
 use fit_tables::HALF;

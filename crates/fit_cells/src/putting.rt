@@ -2,9 +2,7 @@
 ghost use mathlib.Core.Path.{_≡_};
 ghost use Prim.Native.Nat.{_+_, _-_, _*_, _/_, _%_, _<_, _≤_, max, min};
 ghost use lib.ListN.{length};
-ghost use Rattle.fit_tables.specs.Keys.{sizeOf, alignOf};
-ghost use Rattle.fit_tables.specs.Tables.{behind};
-ghost use Rattle.fit_tables.specs.Inner.{itemAt, Sure, enteredIn, Ready, Stepped};
+ghost use Rattle.fit_tables.specs.Inner.{sizeOf, alignOf, behind, itemAt, Sure, enteredIn, Ready, Stepped};
 use fit_tables::CELLS;
 use fit_tables::HALF;
 use fit_tables::HEADS;

@@ -8,17 +8,15 @@ use mathlib.Core.Option.{Option, none}
 use mathlib.Core.List.{List, [], _∷_, _++_}
 use lib.ListN.{length, getD, take, drop}
 use lib.Seq.{take-suc, take-all}
-use Rattle.words.specs.Regions.{part}
+use Rattle.words.specs.Inner.{part}
 use Rattle.words.proofs.Points.{same}
 use Rattle.words.proofs.RegionLaws.{lent-part}
 use Rattle.ranges.specs.declared.Range.{Range}
 use Rattle.ranges.specs.Points.{Apart}
 use Rattle.ranges.specs.Merged.{clashes}
-use Rattle.ranges.specs.Forms.{unpacked}
+use Rattle.ranges.specs.Inner.{unpacked}
 use Rattle.fitting.specs.Plan.{Cell, cellAt, joinable, depthOf}
-use Rattle.fit_tables.specs.Keys.{sizeOf}
-use Rattle.fit_tables.specs.Tables.{firstOf, countOf, areaIn}
-use Rattle.fit_tables.specs.Inner.{Summed}
+use Rattle.fit_tables.specs.Inner.{sizeOf, firstOf, countOf, areaIn, Summed}
 use Rattle.fit_tables.proofs.TableLaws.{area-none, area-some}
 
 -- ---- one member

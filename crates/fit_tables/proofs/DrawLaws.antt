@@ -8,17 +8,17 @@ use mathlib.Core.List.{List, [], _∷_, List·Memᴰ, List·Memᴰ·head, List·
 use lib.ListN.{length, getD, set, length-set}
 use lib.Seq.{getD-set-other}
 use borrow.Author.Tests.{ne-eqb}
-use Rattle.words.specs.Regions.{part, Kept, Region}
+use Rattle.words.specs.Inner.{part, Kept, Region}
 use Rattle.words.proofs.RegionLaws.{getD-part, length-part, kept-part-list}
 use native.Mathlib.Nat.{mul-le-mul-right, add-mul}
 use Rattle.words.proofs.Points.{same as same-or}
-use Rattle.bits.specs.Bits.{bitOf, bit, PutBit}
+use Rattle.bits.specs.Bits.{bitOf, bit}
+use Rattle.bits.specs.Inner.{PutBit}
 use Rattle.bits.proofs.DigitLaws.{bit-zero}
 use Rattle.ranges.specs.declared.Range.{Range}
 use Rattle.ranges.specs.Points.{Point}
-use Rattle.ranges.specs.Forms.{unpack, unpacked}
-use Rattle.fit_tables.specs.Tables.{behind, firstOf, countOf, Lent}
-use Rattle.fit_tables.specs.Inner.{orderAt, itemAt, MarkedTo, Pointed, Drawn}
+use Rattle.ranges.specs.Inner.{unpack, unpacked}
+use Rattle.fit_tables.specs.Inner.{behind, firstOf, countOf, Lent, orderAt, itemAt, MarkedTo, Pointed, Drawn}
 use Rattle.fit_tables.specs.declared.Tables.{Tables}
 
 -- ---- a row's bits set, one by one

@@ -7,12 +7,11 @@ use mathlib.Core.Logic.{_⊎_, inl, inr, ⊎-elim}
 use mathlib.Core.Option.{some}
 use mathlib.Core.List.{List}
 use lib.ListN.{length, getD}
-use Rattle.words.specs.Regions.{Kept}
+use Rattle.words.specs.Inner.{Kept}
 use Rattle.words.proofs.RegionLaws.{kept-part-list}
 use Rattle.ranges.specs.declared.Range.{Range}
-use Rattle.ranges.specs.Forms.{unpacked}
-use Rattle.fit_tables.specs.Tables.{behind, firstOf, countOf, rangesAt, areaIn, Proper}
-use Rattle.fit_tables.specs.Inner.{Listed}
+use Rattle.ranges.specs.Inner.{unpacked}
+use Rattle.fit_tables.specs.Inner.{behind, firstOf, countOf, rangesAt, areaIn, Proper, Listed}
 use Rattle.fit_tables.proofs.TableLaws.{area-none, area-some}
 use Rattle.fit_tables.specs.declared.Tables.{Tables}
 

@@ -8,16 +8,15 @@ use mathlib.Core.Option.{some, none, Option·none-ne-some, Option·some-injectiv
 use mathlib.Core.List.{List}
 use lib.ListN.{length, getD, List·getD-eq-default}
 use borrow.Author.Tests.{eq-eqb, ne-eqb}
-use Rattle.words.specs.Regions.{Kept}
+use Rattle.words.specs.Inner.{Kept}
 use Rattle.words.proofs.RegionLaws.{kept-part-list}
 use Rattle.words.proofs.RowLaws.{length-tabulate, getD-tabulate, tabulate-eq}
 use Rattle.words.proofs.Points.{cut}
 use Rattle.ranges.specs.declared.Range.{Range}
 use Rattle.ranges.specs.Points.{Apart}
-use Rattle.ranges.specs.Forms.{unpacked}
+use Rattle.ranges.specs.Inner.{unpacked}
 use Rattle.fitting.specs.Wants.{Want, wantAt}
-use Rattle.fit_tables.specs.Keys.{Sized}
-use Rattle.fit_tables.specs.Tables.{wantTable, orderTable, firstOf, countOf, rangesAt, areaIn, wantIn, wantsIn, Proper, Lent}
+use Rattle.fit_tables.specs.Inner.{Sized, wantTable, orderTable, firstOf, countOf, rangesAt, areaIn, wantIn, wantsIn, Proper, Lent}
 use Rattle.fit_tables.specs.declared.Tables.{Tables}
 
 pub area-none : (w : List ℕ) (at x : ℕ) → x ≡ 0 → areaIn w at x ≡ none

@@ -8,9 +8,10 @@ use mathlib.Core.List.{List, [], _∷_}
 use lib.ListN.{length, getD}
 use lib.Dec.{eqb}
 use borrow.Author.Tests.{eq-eqb, ne-eqb}
-use Rattle.words.specs.Regions.{Region}
-use Rattle.words.specs.Widths.{wantWidth, wantAlign, wantPresent, wantFirst, wantRanges}
-use Rattle.fit_tables.specs.WantTables.{itemRow, itemWord, areaWordAt, itemWordAt, wantWordAt, Loaded}
+use Rattle.words.specs.Inner.{Region, wantAlign}
+use Rattle.words.specs.Widths.{wantWidth, wantPresent, wantFirst, wantRanges}
+use Rattle.fit_tables.specs.WantTables.{itemRow}
+use Rattle.fit_tables.specs.Inner.{itemWord, areaWordAt, itemWordAt, wantWordAt, Loaded}
 
 -- ---- words
 

@@ -1,27 +1,30 @@
 -- What the functions of fitting promise each other: a cell's lists of ranges are linked, latest first, by their places in the order.
 -- A place's list is its item's area, or its union with earlier lists of the cell.
-use Prim.Native.Nat.{ℕ, zero, suc, _+_, _-_, _*_, _/_, _^_, _<_, _≤_}
+use Prim.Native.Nat.{ℕ, zero, suc, _+_, _-_, _*_, _/_, _^_, _<_, _≤_, _%_}
 use mathlib.Core.Path.{_≡_}
 use mathlib.Core.Logic.{_⊎_}
-use mathlib.Core.Bool.{Bool, true, false, _&&_, _||_}
-use mathlib.Core.Option.{Option, some}
+use mathlib.Core.Bool.{Bool, true, false, _&&_, _||_, cond}
+use mathlib.Core.Option.{Option, some, none}
 use mathlib.Core.List.{List, [], _∷_}
 use lib.ListN.{length, getD, set}
 use Rattle.ranges.specs.declared.Range.{Range}
 use Rattle.ranges.specs.Points.{Upright, Apart, Point}
-use Rattle.ranges.specs.Forms.{unpacked}
-use Rattle.words.specs.Rows.{tabulate}
-use Rattle.words.specs.Regions.{part}
-use Rattle.bits.specs.Bits.{bitOf, bit, Row}
-use Rattle.fitting.specs.Wants.{Names}
+use Rattle.ranges.specs.Inner.{unpacked}
+use Rattle.words.specs.Rows.{tabulate, field, flat}
+use Rattle.words.specs.Inner.{part, wantSize, wantAlign}
+use Rattle.bits.specs.Bits.{bitOf, bit}
+use Rattle.bits.specs.Inner.{Row}
+use Rattle.fitting.specs.Wants.{Names, Want, wantAt, orderOf}
 use Rattle.fitting.specs.Plan.{Cell, cellAt, joinable, Plan, put, planOf, depthOf}
-use Rattle.fit_tables.specs.Keys.{sizeOf}
 use Rattle.fit_tables.specs.declared.Tables.{Tables}
 use Rattle.fit_tables.specs.declared.Progress.{Progress}
 use Rattle.fit_tables.specs.declared.Part.{Part}
 use Rattle.fit_tables.specs.declared.Sample.{Sample}
 use Rattle.fit_tables.specs.declared.Own.{Own}
-use Rattle.fit_tables.specs.Tables.{orderTable, headTable, linkTable, cellTable, homeTable, listTable, behind, firstOf, countOf, rangesAt, areaIn, wantsIn, Lent, Shown}
+use lib.Dec.{eqb}
+use Rattle.fit_tables.specs.declared.Counts.{Counts}
+use Rattle.words.specs.Widths.{wantPresent, wantFirst, wantRanges}
+use Rattle.fit_tables.specs.WantTables.{itemRow}
 
 -- the places that a link leads to: a link is 0, or one more than a place
 unfoldable pub places : (ℕ → ℕ) → ℕ → ℕ → List ℕ
@@ -41,61 +44,9 @@ unfoldable pub allow : (ℕ → Option (List Range)) → List ℕ → List Range
 allow area [] a = true
 allow area (q ∷ ms) a = joinable (area q) a && allow area ms a
 
--- a word of a table: the order's, a cell's head, a place's link, its list, whose word is like an item's
-abbrev pub orderAt : List ℕ → Tables → ℕ → ℕ
-orderAt w t q = getD w (orderTable t + q) 0
-
-abbrev pub headAt : List ℕ → Tables → ℕ → ℕ
-headAt w t c = getD w (headTable t + c) 0
-
-abbrev pub nextAt : List ℕ → Tables → ℕ → ℕ
-nextAt w t q = getD w (linkTable t + q) 0
-
-abbrev pub listAt : List ℕ → Tables → ℕ → ℕ
-listAt w t q = getD w (listTable t + q) 0
-
-abbrev pub areaAt : List ℕ → Tables → ℕ → Option (List Range)
-areaAt w t q = areaIn w (t .at) (listAt w t q)
-
 -- the ranges of a part of the work space
 abbrev pub rangesOf : List ℕ → Part → List Range
 rangesOf w a = unpacked (part (a .from) (a .count) w)
-
--- a list stands among the areas, or behind the tables and below `top`
-pub record Listed (w : List ℕ) (t : Tables) (top x : ℕ) : Type 0 where
-  pub inside : (t .at + (firstOf x + countOf x) ≤ t .items) ⊎ ((behind t ≤ t .at + firstOf x) × (t .at + (firstOf x + countOf x) ≤ top))
-  pub neat : Apart (rangesAt w (t .at) x)
-
--- the tables can be read: k places are linked
-pub record Linked (w : List ℕ) (t : Tables) (top k : ℕ) : Type 0 where
-  pub lent : Lent w t
-  pub low : behind t ≤ top
-  pub top-le : top ≤ length w
-  pub k-le : k ≤ t .n
-  pub falls : Falls (nextAt w t) k
-  pub lists : (q : ℕ) → q < k → 0 < listAt w t q → Listed w t top (listAt w t q)
-
--- the cell's members allow an area
-abbrev pub opens : List ℕ → Tables → List Range → ℕ → Bool
-opens w t a c = allow (areaAt w t) (chain (nextAt w t) (headAt w t c)) a
-
--- the first of `most` cells that does
-pub record Probed (w : List ℕ) (t : Tables) (most : ℕ) (a : List Range) (r : ℕ) : Type 0 where
-  pub within : r ≤ most
-  pub hit : r < most → opens w t a r ≡ true
-  pub miss : (c : ℕ) → c < r → opens w t a c ≡ false
-
--- the item at place k of the order: its area's ranges, and its cell
-abbrev pub itemAt : List ℕ → Tables → ℕ → List Range
-itemAt w t k = rangesAt w (t .at) (getD w (t .items + orderAt w t k) 0)
-
-abbrev pub cellIn : List ℕ → Tables → ℕ → ℕ
-cellIn w t k = getD w (homeTable t + orderAt w t k) 0
-
--- a bit that a cell's word and an item's have in common rules the cell out
-pub record Sure (w : List ℕ) (t : Tables) (s : Sample) (most : ℕ) (a : List Range) : Type 0 where
-  pub inside : (c : ℕ) → c < most → 0 < s .word → s .base + c * s .width < length w
-  pub rules : (c b : ℕ) → c < most → b < 64 → bitOf (s .word) b ≡ true → bitOf (getD w (s .base + c * s .width) 0) b ≡ true → opens w t a c ≡ false
 
 -- each cell has a row of `width` words from `end` on: bit b stands for the sample point b * step
 pub record Gridded (w : List ℕ) (t : Tables) (width step : ℕ) : Type 0 where
@@ -124,6 +75,129 @@ pub record Pointed (w₀ w : List ℕ) (row width step : ℕ) (a : List Range) (
   pub sound : (t : ℕ) → t < width * 64 → bit w row t ≡ true → (bit w₀ row t ≡ true) ⊎ Point a (t * step)
   pub within : r < width
 
+-- the same tables, with less room behind them
+abbrev pub upTo : Tables → ℕ → Tables
+upTo t rows = record { at = t .at; items = t .items; n = t .n; end = rows }
+
+-- The wants' table in a work space, and what ordering leaves there.
+
+-- a want's size and alignment in one word: the size above, the alignment in the low 32 bits
+abbrev pub sizeOf : ℕ → ℕ
+sizeOf x = x / 2 ^ 32
+
+-- r is the sum of the sizes of the cells whose words stand from `at` on
+pub record Summed (w : List ℕ) (at cells r : ℕ) : Type 0 where
+  pub is : (cs : List Cell) → length cs ≡ cells → ((c : ℕ) → c < cells → sizeOf (getD w (at + c) 0) ≡ cellAt cs c .size) → r ≡ depthOf cs
+
+abbrev pub alignOf : ℕ → ℕ
+alignOf x = x % 2 ^ 32
+
+-- the n words from `at` on are the wants' sizes and alignments
+pub record Sized (ws : List Want) (w : List ℕ) (at n : ℕ) : Type 0 where
+  pub count : length ws ≡ n
+  pub size : (i : ℕ) → i < n → wantAt ws i .size ≡ sizeOf (getD w (at + i) 0)
+  pub align : (i : ℕ) → i < n → wantAt ws i .align ≡ alignOf (getD w (at + i) 0)
+
+-- a key that sorts by falling number, then by rising index
+abbrev pub falling : ℕ → ℕ → ℕ
+falling x i = (4294967295 - x) * 2 ^ 32 + i
+
+-- the n words from `to` on list the wants' items in order; of the others only the n words after them change
+pub record OrderedIn (w₀ w : List ℕ) (at n to : ℕ) : Type 0 where
+  pub len : length w ≡ length w₀
+  pub is : (ws : List Want) → Sized ws w₀ at n → (k : ℕ) → k < n → getD w (to + k) 0 ≡ getD (orderOf ws) k 0
+  pub rest : (x : ℕ) → (x < to) ⊎ (to + (n + n) ≤ x) → getD w x 0 ≡ getD w₀ x 0
+
+-- Wants and a plan in tables of one work space. The areas' ranges stand from `at` on, up to `items`; from there on eight tables of n words;
+-- behind them, up to `end`, the cells' lists and rows of sample points.
+
+-- where each table stands: the items' words from `items` on, a want's size and alignment, the order, and by cell the latest place
+abbrev pub wantTable : Tables → ℕ
+wantTable t = t .items + t .n
+
+abbrev pub orderTable : Tables → ℕ
+orderTable t = t .items + 2 * t .n
+
+-- a word of a table: the order's, a cell's head, a place's link, its list, whose word is like an item's
+abbrev pub orderAt : List ℕ → Tables → ℕ → ℕ
+orderAt w t q = getD w (orderTable t + q) 0
+
+-- the items in the order in which they stand in its table, and the plan of the wants in that order
+abbrev pub orderIn : List ℕ → Tables → List ℕ
+orderIn w t = tabulate (t .n) (orderAt w t)
+
+abbrev pub headTable : Tables → ℕ
+headTable t = t .items + 3 * t .n
+
+abbrev pub headAt : List ℕ → Tables → ℕ → ℕ
+headAt w t c = getD w (headTable t + c) 0
+
+-- by place the one that it is linked to; by cell its size and alignment; by item its cell; by place its list
+abbrev pub linkTable : Tables → ℕ
+linkTable t = t .items + 4 * t .n
+
+abbrev pub nextAt : List ℕ → Tables → ℕ → ℕ
+nextAt w t q = getD w (linkTable t + q) 0
+
+abbrev pub cellTable : Tables → ℕ
+cellTable t = t .items + 5 * t .n
+
+abbrev pub homeTable : Tables → ℕ
+homeTable t = t .items + 6 * t .n
+
+abbrev pub cellIn : List ℕ → Tables → ℕ → ℕ
+cellIn w t k = getD w (homeTable t + orderAt w t k) 0
+
+-- the row of number `cells`, of those from `end` on, has joined that of the cell of the item at place k
+pub record Joined (w₀ w : List ℕ) (t : Tables) (k width cells : ℕ) : Type 0 where
+  pub row : Row w₀ w (t .end + cellIn w₀ t k * width) width (λ b. bit w₀ (t .end + cellIn w₀ t k * width) b || bit w₀ (t .end + cells * width) b)
+
+abbrev pub listTable : Tables → ℕ
+listTable t = t .items + 7 * t .n
+
+abbrev pub listAt : List ℕ → Tables → ℕ → ℕ
+listAt w t q = getD w (listTable t + q) 0
+
+-- the item i at place k of the order, with the area of word x, has entered cell c, whose size and alignment are now `word` and whose other lists `link` leads to
+abbrev pub enteredIn : List ℕ → Tables → ℕ → ℕ → ℕ → ℕ → ℕ → ℕ → List ℕ
+enteredIn w t k i c link word x =
+    set (set (set (set (set w (linkTable t + k) link) (headTable t + c) (k + 1)) (cellTable t + c) word) (homeTable t + i) c) (listTable t + k) x
+
+-- where the tables end
+abbrev pub behind : Tables → ℕ
+behind t = t .items + 8 * t .n
+
+-- tables from `room` on, over areas from 0 on, with nothing behind them
+abbrev pub tablesAt : ℕ → ℕ → Tables
+tablesAt room n = record { at = 0; items = room; n = n; end = room + 8 * n }
+
+-- an item's word: 0 where it has no area, else one more than its part of the areas, the first range above, the count in the low 32 bits
+abbrev pub firstOf : ℕ → ℕ
+firstOf x = (x - 1) / 2 ^ 32
+
+abbrev pub countOf : ℕ → ℕ
+countOf x = (x - 1) % 2 ^ 32
+
+-- place k is linked to place q, both have a list, and there is room for the two together
+pub record Meets (w : List ℕ) (t : Tables) (k q top : ℕ) : Type 0 where
+  pub next : nextAt w t k ≡ q + 1
+  pub one : 0 < listAt w t k
+  pub two : 0 < listAt w t q
+  pub room : top + (countOf (listAt w t k) + countOf (listAt w t q)) ≤ t .end
+
+-- the ranges of a part of the areas, which stand from `at` on
+abbrev pub rangesAt : List ℕ → ℕ → ℕ → List Range
+rangesAt w at x = unpacked (part (at + firstOf x) (countOf x) w)
+
+-- a list stands among the areas, or behind the tables and below `top`
+pub record Listed (w : List ℕ) (t : Tables) (top x : ℕ) : Type 0 where
+  pub inside : (t .at + (firstOf x + countOf x) ≤ t .items) ⊎ ((behind t ≤ t .at + firstOf x) × (t .at + (firstOf x + countOf x) ≤ top))
+  pub neat : Apart (rangesAt w (t .at) x)
+
+-- the item at place k of the order: its area's ranges, and its cell
+abbrev pub itemAt : List ℕ → Tables → ℕ → List Range
+itemAt w t k = rangesAt w (t .at) (getD w (t .items + orderAt w t k) 0)
+
 -- the row at `row` is that of the item at place k, if it has an area
 pub record Drawn (w₀ w : List ℕ) (t : Tables) (k row width step : ℕ) (r : Own) : Type 0 where
   pub len : length w ≡ length w₀
@@ -132,39 +206,59 @@ pub record Drawn (w₀ w : List ℕ) (t : Tables) (k row width step : ℕ) (r : 
   pub own : 0 < r .word → (r .at < width) × (r .word ≡ getD w (row + r .at) 0) × (0 < getD w₀ (t .items + orderAt w₀ t k) 0)
   pub fits : r .at ≤ width
 
--- the row of number `cells`, of those from `end` on, has joined that of the cell of the item at place k
-pub record Joined (w₀ w : List ℕ) (t : Tables) (k width cells : ℕ) : Type 0 where
-  pub row : Row w₀ w (t .end + cellIn w₀ t k * width) width (λ b. bit w₀ (t .end + cellIn w₀ t k * width) b || bit w₀ (t .end + cells * width) b)
+abbrev pub areaIn : List ℕ → ℕ → ℕ → Option (List Range)
+areaIn w at x = cond (eqb x 0) none (some (rangesAt w at x))
 
--- the item i at place k of the order, with the area of word x, has entered cell c, whose size and alignment are now `word` and whose other lists `link` leads to
-abbrev pub enteredIn : List ℕ → Tables → ℕ → ℕ → ℕ → ℕ → ℕ → ℕ → List ℕ
-enteredIn w t k i c link word x =
-    set (set (set (set (set w (linkTable t + k) link) (headTable t + c) (k + 1)) (cellTable t + c) word) (homeTable t + i) c) (listTable t + k) x
+abbrev pub areaAt : List ℕ → Tables → ℕ → Option (List Range)
+areaAt w t q = areaIn w (t .at) (listAt w t q)
 
--- the tables hold the plan of the first k places; w₁ holds the wants and the order
-pub record Holds (w₁ w : List ℕ) (t : Tables) (budget k : ℕ) (s : Progress) (p : Plan) : Type 0 where
-  pub len : length w ≡ length w₁
-  pub tables : (x : ℕ) → x < headTable t → getD w x 0 ≡ getD w₁ x 0
-  pub low : behind t ≤ s .top
-  pub high : s .top ≤ t .end
-  pub end-le : t .end ≤ length w₁
-  pub lists : (q : ℕ) → q < k → 0 < listAt w t q → Listed w t (s .top) (listAt w t q)
-  pub k-le : k ≤ t .n
-  pub falls : Falls (nextAt w t) k
-  pub cells-is : s .cells ≡ length (p .cells)
-  pub cells-le : s .cells ≤ k
-  pub left-is : s .left + p .probes ≡ budget
-  pub shown : Shown w t p
-  pub heads : (c : ℕ) → c < s .cells → headAt w t c ≤ k
-  pub neat : (c : ℕ) (rs : List Range) → cellAt (p .cells) c .area ≡ some rs → Apart rs
-  pub same : (c : ℕ) → c < s .cells → (a : List Range) → Upright a → joinable (cellAt (p .cells) c .area) a ≡ opens w t a c
+-- the cell's members allow an area
+abbrev pub opens : List ℕ → Tables → List Range → ℕ → Bool
+opens w t a c = allow (areaAt w t) (chain (nextAt w t) (headAt w t c)) a
 
--- the items in the order in which they stand in its table, and the plan of the wants in that order
-abbrev pub orderIn : List ℕ → Tables → List ℕ
-orderIn w t = tabulate (t .n) (orderAt w t)
+-- the first of `most` cells that does
+pub record Probed (w : List ℕ) (t : Tables) (most : ℕ) (a : List Range) (r : ℕ) : Type 0 where
+  pub within : r ≤ most
+  pub hit : r < most → opens w t a r ≡ true
+  pub miss : (c : ℕ) → c < r → opens w t a c ≡ false
+
+-- a bit that a cell's word and an item's have in common rules the cell out
+pub record Sure (w : List ℕ) (t : Tables) (s : Sample) (most : ℕ) (a : List Range) : Type 0 where
+  pub inside : (c : ℕ) → c < most → 0 < s .word → s .base + c * s .width < length w
+  pub rules : (c b : ℕ) → c < most → b < 64 → bitOf (s .word) b ≡ true → bitOf (getD w (s .base + c * s .width) 0) b ≡ true → opens w t a c ≡ false
+
+-- the wants that the tables hold
+abbrev pub wantIn : List ℕ → Tables → ℕ → Want
+wantIn w t i = record {
+  size = sizeOf (getD w (wantTable t + i) 0);
+  align = alignOf (getD w (wantTable t + i) 0);
+  area = areaIn w (t .at) (getD w (t .items + i) 0);
+}
+
+abbrev pub wantsIn : List ℕ → Tables → List Want
+wantsIn w t = tabulate (t .n) (wantIn w t)
 
 abbrev pub placedIn : List ℕ → Tables → ℕ → Plan
 placedIn w t budget = planOf (wantsIn w t) budget (orderIn w t)
+
+-- a part ends no later than `top`, and is in order and apart: of an item, `top` is where the areas end and the tables begin
+pub record Proper (w : List ℕ) (at top x : ℕ) : Type 0 where
+  pub inside : at + (firstOf x + countOf x) ≤ top
+  pub neat : Apart (rangesAt w at x)
+
+pub record Lent (w : List ℕ) (t : Tables) : Type 0 where
+  pub few : t .n ≤ 4096
+  pub room : listTable t ≤ length w
+  pub proper : (i : ℕ) → i < t .n → 0 < getD w (t .items + i) 0 → Proper w (t .at) (t .items) (getD w (t .items + i) 0)
+
+-- the tables can be read: k places are linked
+pub record Linked (w : List ℕ) (t : Tables) (top k : ℕ) : Type 0 where
+  pub lent : Lent w t
+  pub low : behind t ≤ top
+  pub top-le : top ≤ length w
+  pub k-le : k ≤ t .n
+  pub falls : Falls (nextAt w t) k
+  pub lists : (q : ℕ) → q < k → 0 < listAt w t q → Listed w t top (listAt w t q)
 
 -- the order's table names each item once
 pub record InOrder (w : List ℕ) (t : Tables) : Type 0 where
@@ -185,6 +279,41 @@ pub record Ready (w : List ℕ) (t : Tables) (k : ℕ) (s : Progress) : Type 0 w
   pub cells-le : s .cells ≤ k
   pub heads : (c : ℕ) → c < s .cells → headAt w t c ≤ k
 
+-- the list of place k can be united with lists that it is linked to
+pub record Topped (w : List ℕ) (t : Tables) (k top : ℕ) : Type 0 where
+  pub linked : Linked w t top (k + 1)
+  pub top-end : top ≤ t .end
+  pub end-le : t .end ≤ length w
+  pub small : t .end < 2 ^ 32
+
+-- the plan of the wants, by the definition
+abbrev pub planIn : List ℕ → Tables → ℕ → Plan
+planIn w t budget = planOf (wantsIn w t) budget (orderOf (wantsIn w t))
+
+-- the tables hold a plan's cells and each item's cell
+pub record Shown (w : List ℕ) (t : Tables) (p : Plan) : Type 0 where
+  pub size : (c : ℕ) → c < length (p .cells) → sizeOf (getD w (cellTable t + c) 0) ≡ cellAt (p .cells) c .size
+  pub align : (c : ℕ) → c < length (p .cells) → alignOf (getD w (cellTable t + c) 0) ≡ cellAt (p .cells) c .align
+  pub cell : (i : ℕ) → i < t .n → getD w (homeTable t + i) 0 ≡ p .cell i
+
+-- the tables hold the plan of the first k places; w₁ holds the wants and the order
+pub record Holds (w₁ w : List ℕ) (t : Tables) (budget k : ℕ) (s : Progress) (p : Plan) : Type 0 where
+  pub len : length w ≡ length w₁
+  pub tables : (x : ℕ) → x < headTable t → getD w x 0 ≡ getD w₁ x 0
+  pub low : behind t ≤ s .top
+  pub high : s .top ≤ t .end
+  pub end-le : t .end ≤ length w₁
+  pub lists : (q : ℕ) → q < k → 0 < listAt w t q → Listed w t (s .top) (listAt w t q)
+  pub k-le : k ≤ t .n
+  pub falls : Falls (nextAt w t) k
+  pub cells-is : s .cells ≡ length (p .cells)
+  pub cells-le : s .cells ≤ k
+  pub left-is : s .left + p .probes ≡ budget
+  pub shown : Shown w t p
+  pub heads : (c : ℕ) → c < s .cells → headAt w t c ≤ k
+  pub neat : (c : ℕ) (rs : List Range) → cellAt (p .cells) c .area ≡ some rs → Apart rs
+  pub same : (c : ℕ) → c < s .cells → (a : List Range) → Upright a → joinable (cellAt (p .cells) c .area) a ≡ opens w t a c
+
 -- one item more: where the tables held a plan, they hold the plan with the item put
 pub record Stepped (w₀ w : List ℕ) (t : Tables) (k : ℕ) (s r : Progress) : Type 0 where
   pub keeps : (w₁ : List ℕ) (budget : ℕ) (p : Plan) → Lent w₁ t → ((q : ℕ) → q < t .n → orderAt w₁ t q < t .n) → Holds w₁ w₀ t budget k s p
@@ -197,29 +326,11 @@ pub record Each (w₁ w : List ℕ) (t : Tables) (width budget : ℕ) (r : Progr
   pub holds : Holds w₁ w t budget (t .n) r (placedIn w₁ t budget)
   pub rest : (x : ℕ) → t .end + t .n * width ≤ x → getD w x 0 ≡ getD w₁ x 0
 
--- the same tables, with less room behind them
-abbrev pub upTo : Tables → ℕ → Tables
-upTo t rows = record { at = t .at; items = t .items; n = t .n; end = rows }
-
 -- every item put
 pub record Placed (w₁ w : List ℕ) (t : Tables) (budget : ℕ) (r : Progress) : Type 0 where
   pub rows : ℕ
   pub holds : Holds w₁ w (upTo t rows) budget (t .n) r (placedIn w₁ t budget)
   pub rest : (x : ℕ) → t .end ≤ x → getD w x 0 ≡ getD w₁ x 0
-
--- the list of place k can be united with lists that it is linked to
-pub record Topped (w : List ℕ) (t : Tables) (k top : ℕ) : Type 0 where
-  pub linked : Linked w t top (k + 1)
-  pub top-end : top ≤ t .end
-  pub end-le : t .end ≤ length w
-  pub small : t .end < 2 ^ 32
-
--- place k is linked to place q, both have a list, and there is room for the two together
-pub record Meets (w : List ℕ) (t : Tables) (k q top : ℕ) : Type 0 where
-  pub next : nextAt w t k ≡ q + 1
-  pub one : 0 < listAt w t k
-  pub two : 0 < listAt w t q
-  pub room : top + (countOf (listAt w t k) + countOf (listAt w t q)) ≤ t .end
 
 -- the list of place k united with lists that it was linked to: nothing changes of what each cell takes
 pub record Folded (w₀ w : List ℕ) (t : Tables) (k top top′ : ℕ) : Type 0 where
@@ -229,6 +340,41 @@ pub record Folded (w₀ w : List ℕ) (t : Tables) (k top top′ : ℕ) : Type 0
       → Holds w₁ w t budget (k + 1) (record { cells = cells; left = left; top = top′ }) p
   pub rest : (x : ℕ) → t .end ≤ x → getD w x 0 ≡ getD w₀ x 0
 
--- r is the sum of the sizes of the cells whose words stand from `at` on
-pub record Summed (w : List ℕ) (at cells r : ℕ) : Type 0 where
-  pub is : (cs : List Cell) → length cs ≡ cells → ((c : ℕ) → c < cells → sizeOf (getD w (at + c) 0) ≡ cellAt cs c .size) → r ≡ depthOf cs
+-- what fitting leaves: the plan in its tables and in the answer; the areas, the items' and the wants' tables, and everything from `end` on, as it was
+pub record Fitted (w₀ w : List ℕ) (t : Tables) (budget : ℕ) (r : Counts) : Type 0 where
+  pub len : length w ≡ length w₀
+  pub cells : r .cells ≡ length (planIn w₀ t budget .cells)
+  pub few : r .cells ≤ t .n
+  pub probes : r .probes ≡ planIn w₀ t budget .probes
+  pub depth : r .depth ≡ depthOf (planIn w₀ t budget .cells)
+  pub shown : Shown w t (planIn w₀ t budget)
+  pub rest : (x : ℕ) → (x < orderTable t) ⊎ (t .end ≤ x) → getD w x 0 ≡ getD w₀ x 0
+
+-- an item's word, as fitting reads it
+abbrev pub itemWord : ℕ → ℕ → ℕ → ℕ
+itemWord present first count = cond (eqb present 0) 0 (first * 2 ^ 32 + count + 1)
+
+-- a range's, an item's and a want's word, by their rows
+abbrev pub areaWordAt : List ℕ → ℕ → ℕ
+areaWordAt s i = field 2 s i 0 * 2 ^ 32 + field 2 s i 1
+
+abbrev pub itemWordAt : List ℕ → ℕ → ℕ
+itemWordAt s i = itemWord (wantPresent s i) (wantFirst s i) (wantRanges s i)
+
+abbrev pub wantWordAt : List ℕ → ℕ → ℕ
+wantWordAt s i = wantSize s i * 2 ^ 32 + wantAlign s i
+
+-- the tables as they are loaded: nothing behind them changes
+pub record Loaded (w₀ w wants areas : List ℕ) (n ranges : ℕ) : Type 0 where
+  pub len : length w ≡ length w₀
+  pub area : (i : ℕ) → i < ranges → getD w i 0 ≡ areaWordAt areas i
+  pub item : (i : ℕ) → i < n → getD w (ranges + i) 0 ≡ itemWordAt wants i
+  pub want : (i : ℕ) → i < n → getD w (ranges + n + i) 0 ≡ wantWordAt wants i
+  pub rest : (x : ℕ) → ranges + 2 * n ≤ x → getD w x 0 ≡ getD w₀ x 0
+
+-- the answer lists' rows, by the tables
+abbrev pub cellRowsIn : List ℕ → ℕ → ℕ → List ℕ
+cellRowsIn w at n = flat (tabulate n (λ i. sizeOf (getD w (at + i) 0) ∷ alignOf (getD w (at + i) 0) ∷ []))
+
+abbrev pub itemRowsIn : List ℕ → List ℕ → ℕ → ℕ → List ℕ
+itemRowsIn w wants at n = flat (tabulate n (λ i. itemRow (getD w (at + i) 0) (wantPresent wants i) (wantFirst wants i) (wantRanges wants i)))

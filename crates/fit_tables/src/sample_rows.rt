@@ -2,10 +2,9 @@
 ghost use mathlib.Core.Path.{_≡_};
 ghost use Prim.Native.Nat.{_+_, _*_, _/_, _^_, _<_, _≤_};
 ghost use lib.ListN.{length};
-ghost use Rattle.words.specs.Regions.{part};
-ghost use Rattle.ranges.specs.Forms.{unpacked};
-ghost use Rattle.fit_tables.specs.Tables.{behind, Lent};
-ghost use Rattle.fit_tables.specs.Inner.{orderAt, MarkedTo, Pointed, Drawn};
+ghost use Rattle.words.specs.Inner.{part};
+ghost use Rattle.ranges.specs.Inner.{unpacked};
+ghost use Rattle.fit_tables.specs.Inner.{behind, Lent, orderAt, MarkedTo, Pointed, Drawn};
 use crate::HALF;
 use crate::ORDER;
 use crate::Own;

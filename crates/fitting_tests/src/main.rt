@@ -10,7 +10,7 @@
 // item that names no cell, more cells than items. Crowded slots refused: a row cut short; a list under the slots comes before an item that names no cell; such an item. Then `apart` and `cap`.
 ghost use mathlib.Core.Path.{_≡_};
 ghost use lib.ListN.{length};
-ghost use Rattle.cases.specs.Cuts.{Ordered};
+ghost use Rattle.cases.specs.Inner.{Ordered};
 use cases::Cuts;
 use fitting::Terms;
 use queries::Crowd;

@@ -17,7 +17,8 @@ use Rattle.refusals.specs.Verdicts.{numberOf, first, inOrder}
 use Rattle.refusals.specs.Orders.{Ordered}
 use Rattle.refusals.proofs.Laws.{first-fine, first-bad, first-left, first-right, bad-fine, check-last}
 use Rattle.refusals.proofs.Orders.{check-gives, order-append, giving-append}
-use Rattle.words.specs.Regions.{Region, cleared}
+use Rattle.words.specs.Inner.{Region}
+use Rattle.words.specs.Regions.{cleared}
 use Rattle.words.specs.Widths.{blockCount, edgeCount}
 use Rattle.words.proofs.RegionLaws.{row-before}
 use Rattle.bits.specs.Bits.{bit, bitOf}
@@ -25,19 +26,20 @@ use Rattle.bits.proofs.WordLaws.{rows-by-bits}
 use Rattle.graph.specs.Paths.{Edge, Between}
 use Rattle.graph.specs.Line.{blocksOf, jumpsOf}
 use Rattle.graph.specs.Checks.{graphChecks, graphVerdict, rowsVerdict, spaceOf, spaceVerdict}
-use Rattle.graph.specs.Work.{EdgeRows, Neighbours}
+use Rattle.graph.specs.Inner.Work.{EdgeRows, Neighbours}
 use Rattle.graph.proofs.CheckLaws.{graph-gives}
 use Rattle.graph.proofs.Line.{blocks-length, edges-between}
 use Rattle.graph.proofs.Within.{within-trans, within-wider, region-within, rows-moved}
 use Rattle.line_checks.proofs.Refusals.{Passed, passed, rows-told, space-told}
-use Rattle.tarjan.specs.Components.{InOrder, Walkable, Found}
+use Rattle.tarjan.specs.Inner.Components.{InOrder, Walkable, Found}
 use Rattle.components.specs.Entry.{edgesIn}
 use Rattle.components.proofs.Entries.{cleared-same}
 use Rattle.flow_rows.specs.declared.Flow.{Flow}
 use Rattle.flow.specs.declared.Over.{Over}
 use Rattle.flow.specs.declared.Answer.the-variants.{Given, Refused}
-use Rattle.flow_rows.specs.Flowed.{which, order, touchedBit, Laid, Flowed}
-use Rattle.flow.specs.Entry.{FlowsTo, wayOf, flowedChecks, verdictOf, rowBit, Turned, Answered, baseOf, Solved}
+use Rattle.flow_rows.specs.Inner.{which, order, touchedBit, Laid, Flowed}
+use Rattle.flow.specs.Entry.{FlowsTo, flowedChecks, verdictOf, rowBit, Turned, Answered}
+use Rattle.flow.specs.Inner.{wayOf, baseOf, Solved}
 use Rattle.flow_rows.proofs.Moved.{components-as, order-as, reaching-as}
 use Rattle.flow.proofs.Ways.{flows-as, rows-as}
 

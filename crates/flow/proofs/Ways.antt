@@ -11,7 +11,8 @@ use Rattle.words.proofs.Bools.{both-ways}
 use Rattle.flow_rows.proofs.Routes.{reached-turned}
 use Rattle.flow.specs.declared.Over.{Over}
 use Rattle.flow.specs.declared.Over.the-variants.{Predecessors, Successors}
-use Rattle.flow.specs.Entry.{FlowsTo, flowsRow, wayOf}
+use Rattle.flow.specs.Entry.{FlowsTo, flowsRow}
+use Rattle.flow.specs.Inner.{wayOf}
 
 pub flows-as : (over : Over) (es : List Edge) (touched : ℕ → Bool) (k : ℕ) → Reaching (wayOf over es) touched k ↔ FlowsTo over es touched k
 flows-as Predecessors es touched k = reached-turned es touched k

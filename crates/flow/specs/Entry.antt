@@ -1,5 +1,5 @@
 -- The entry `flowed`: what it answers, refuses and leaves, for every input.
-use Prim.Native.Nat.{ℕ, _+_, _*_, _/_, _≤_, _<_}
+use Prim.Native.Nat.{ℕ, _*_, _<_}
 use mathlib.Core.Path.{_≡_}
 use mathlib.Core.Logic.{_↔_}
 use mathlib.Core.Bool.{Bool, true}
@@ -14,11 +14,10 @@ use Rattle.words.specs.Regions.{cleared}
 use Rattle.words.specs.Widths.{blockCount, edgeCount}
 use Rattle.bits.specs.Bits.{bit}
 use Rattle.bits.specs.Words.{rowsOf}
-use Rattle.graph.specs.Paths.{Edge, turned}
+use Rattle.graph.specs.Paths.{Edge}
 use Rattle.graph.specs.Flow.{Reached, Reaching}
 use Rattle.graph.specs.Rounds.{reachedRow, reachingRow}
 use Rattle.graph.specs.Checks.{graphChecks, rowsVerdict, spaceOf, spaceVerdict}
-use Rattle.graph.specs.Work.{Within}
 use Rattle.components.specs.Entry.{edgesIn}
 use Rattle.flow.specs.declared.Over.{Over}
 use Rattle.flow.specs.declared.Over.the-variants.{Predecessors, Successors}
@@ -34,11 +33,6 @@ FlowsTo Successors es touched k = Reaching es touched k
 abbrev pub flowsRow : Over → ℕ → List Edge → (ℕ → Bool) → ℕ → Bool
 flowsRow Predecessors n es touched = reachedRow n es touched
 flowsRow Successors n es touched = reachingRow n es touched
-
--- the edges that are followed
-abbrev pub wayOf : Over → List Edge → List Edge
-wayOf Predecessors es = turned es
-wayOf Successors es = es
 
 -- the answer by document 01's numbers
 abbrev pub outcomeOf : Answer → Outcome (Unit {0})
@@ -79,14 +73,3 @@ pub record Turned (k : Refusal) (i : ℕ) (out₀ work₀ : List ℕ) (r : Answe
 pub record Answered (over : Over) (blocks edges : List ℕ) (points : ℕ) (touched : List ℕ) (words : ℕ) (out₀ work₀ : List ℕ) (r : Answer) (out work : List ℕ) : Type 0 where
   pub answered : verdictOf blocks edges points (length touched) words (length out₀) (length work₀) ≡ Fine → Filled over blocks edges touched words out₀ work₀ r out work
   pub turned-back : (k : Refusal) (i : ℕ) → verdictOf blocks edges points (length touched) words (length out₀) (length work₀) ≡ Bad k i → Turned k i out₀ work₀ r out work
-
--- where the components' numbers stand behind the rows of the edges
-abbrev pub baseOf : List ℕ → List ℕ → ℕ
-baseOf blocks edges = edgeCount edges + edgeCount edges + (blockCount blocks + 1 + edgeCount edges)
-
--- what `solve` leaves: the answer's rows from `at` on, within W
-pub record Solved (over : Over) (blocks edges touched : List ℕ) (words at : ℕ) (w₀ w : List ℕ) : Type 0 where
-  pub kept : Within 0 (spaceOf (blockCount blocks) (edgeCount edges) (length touched)) w₀ w
-  pub inside : at + length touched ≤ spaceOf (blockCount blocks) (edgeCount edges) (length touched)
-  pub bits : (v b : ℕ) → v < blockCount blocks → b < words * 64
-      → (bit w (at + v * words) b ≡ true) ↔ FlowsTo over (edgesIn blocks edges) (λ k. rowBit touched words k b) v

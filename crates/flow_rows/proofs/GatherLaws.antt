@@ -12,10 +12,11 @@ use Rattle.words.proofs.Points.{same}
 use Rattle.words.proofs.FitLaws.{small, bytes}
 use Rattle.words.proofs.Bools.{or-right, or-left, or-cases, never}
 use Rattle.words.proofs.RegionLaws.{row-before}
-use Rattle.bits.specs.Bits.{bit, Row, Aligned}
-use Rattle.graph.specs.Work.{Within}
+use Rattle.bits.specs.Bits.{bit}
+use Rattle.bits.specs.Inner.{Row, Aligned}
+use Rattle.graph.specs.Inner.Work.{Within}
 use Rattle.flow_rows.specs.declared.Flow.{Flow}
-use Rattle.flow_rows.specs.Flowed.{which, begins, ends, target, touchedBit, outBit, Laid, Across, Stays, Joins, Tells}
+use Rattle.flow_rows.specs.Inner.{which, begins, ends, target, touchedBit, outBit, Laid, Across, Stays, Joins, Tells}
 use Rattle.flow_rows.proofs.Joins.{which-kept, target-kept, touched-kept, row-wide, other-row, joins-none, joins-then, joins-as, joins-row, touched-aligned}
 
 -- the edges of u before e

@@ -5,16 +5,17 @@ use mathlib.Core.Logic.{_≢_, _⊎_, inl, inr, ⊎-elim}
 use mathlib.Core.Bool.{Bool, true, _||_}
 use mathlib.Core.List.{List}
 use native.Mathlib.Omega.{arith}
-use Rattle.bits.specs.Bits.{bit, Row, Aligned, apart}
+use Rattle.bits.specs.Bits.{bit}
+use Rattle.bits.specs.Inner.{Row, Aligned, apart}
 use Rattle.bits.proofs.BitLaws.{bit-kept}
-use Rattle.words.specs.Regions.{below, above}
+use Rattle.words.specs.Inner.{below, above}
 use Rattle.words.proofs.Points.{cut, same}
 use Rattle.words.proofs.RegionLaws.{row-before}
 use Rattle.words.proofs.Bools.{or-right, or-left, or-cases}
-use Rattle.graph.specs.Work.{Within}
+use Rattle.graph.specs.Inner.Work.{Within}
 use Rattle.graph.proofs.Within.{within-refl, within-trans, within-wider}
 use Rattle.flow_rows.specs.declared.Flow.{Flow}
-use Rattle.flow_rows.specs.Flowed.{which, order, begins, ends, target, touchedBit, outBit, Laid, Joins}
+use Rattle.flow_rows.specs.Inner.{which, order, begins, ends, target, touchedBit, outBit, Laid, Joins}
 
 module _ {f : Flow} {w₀ w : List ℕ} (L : Laid f w₀) where
   -- what is read is apart from the answer's rows

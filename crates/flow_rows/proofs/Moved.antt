@@ -6,7 +6,8 @@ use mathlib.Core.List.{List}
 use native.Mathlib.Omega.{arith}
 use Rattle.graph.specs.Paths.{Edge, Route, one, more, Between}
 use Rattle.graph.specs.Flow.{Reaching}
-use Rattle.tarjan.specs.Components.{Components, InOrder}
+use Rattle.tarjan.specs.Components.{Components}
+use Rattle.tarjan.specs.Inner.Components.{InOrder}
 
 pub components-as : {es : List Edge} {n : ℕ} {which which' : ℕ → ℕ} {count : ℕ} → Between n es → ((k : ℕ) → k < n → which' k ≡ which k) → Components es n which count → Components es n which' count
 components-as B is X = record {

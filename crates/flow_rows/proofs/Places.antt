@@ -9,7 +9,7 @@ use lib.ListN.{length, getD}
 use Rattle.words.proofs.FitLaws.{small, bytes}
 use Rattle.words.proofs.RegionLaws.{row-before}
 use Rattle.flow_rows.specs.declared.Flow.{Flow}
-use Rattle.flow_rows.specs.Flowed.{Laid, orderFrom, order}
+use Rattle.flow_rows.specs.Inner.{Laid, orderFrom, order}
 
 -- place p of the order, which stands from o on, is read
 pub record OrderAt (o n p : ℕ) : Type 0 where

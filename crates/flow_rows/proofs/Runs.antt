@@ -6,7 +6,7 @@ use native.Mathlib.Omega.{arith}
 use lib.ListN.{getD}
 use Rattle.words.proofs.Points.{same}
 use Rattle.flow_rows.specs.declared.Flow.{Flow}
-use Rattle.flow_rows.specs.Flowed.{which, orderFrom, order, Run}
+use Rattle.flow_rows.specs.Inner.{which, orderFrom, order, Run}
 
 -- the component of the place that stands at p in the order, the order from ord on and the numbers from base on
 abbrev pub numberAt : List ℕ → ℕ → ℕ → ℕ → ℕ

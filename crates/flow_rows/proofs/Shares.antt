@@ -7,14 +7,14 @@ use mathlib.Core.List.{List}
 use native.Mathlib.Omega.{arith}
 use lib.ListN.{length, getD}
 use Rattle.bits.specs.Bits.{bitOf}
-use Rattle.words.specs.Regions.{Region, Disjoint, below as lower, above as upper}
+use Rattle.words.specs.Inner.{Region, Disjoint, below as lower, above as upper}
 use Rattle.words.proofs.Points.{cut, same}
 use Rattle.words.proofs.RegionLaws.{row-before}
 use Rattle.bits.proofs.DigitLaws.{bit-zero}
-use Rattle.graph.specs.Work.{Within}
+use Rattle.graph.specs.Inner.Work.{Within}
 use Rattle.graph.proofs.Within.{within-refl, within-trans, region-within}
 use Rattle.flow_rows.specs.declared.Flow.{Flow}
-use Rattle.flow_rows.specs.Flowed.{which, orderFrom, order, touchedBit, outBit, Laid, Across, Stays, Member, Joins, Tells, Run, Shared, Source, Visited}
+use Rattle.flow_rows.specs.Inner.{which, orderFrom, order, touchedBit, outBit, Laid, Across, Stays, Member, Joins, Tells, Run, Shared, Source, Visited}
 use Rattle.flow_rows.proofs.Joins.{which-kept, order-kept, touched-kept, laid-kept, row-wide, other-row}
 use Rattle.words.proofs.FitLaws.{as-long}
 use Rattle.flow_rows.proofs.Places.{OrderAt, RowAt, order-at, row-at, here}

@@ -6,11 +6,12 @@ use mathlib.Core.Bool.{Bool, true, false, _||_}
 use mathlib.Core.List.{List}
 use native.Mathlib.Omega.{arith}
 use lib.ListN.{length, getD}
-use Rattle.bits.specs.Bits.{bit, Row}
+use Rattle.bits.specs.Bits.{bit}
+use Rattle.bits.specs.Inner.{Row}
 use Rattle.words.proofs.Points.{same}
-use Rattle.graph.specs.Work.{Within}
+use Rattle.graph.specs.Inner.Work.{Within}
 use Rattle.flow_rows.specs.declared.Flow.{Flow}
-use Rattle.flow_rows.specs.Flowed.{which, orderFrom, order, begins, ends, target, touchedBit, outBit, Laid, Across, Stays, Member, Joins, Tells}
+use Rattle.flow_rows.specs.Inner.{which, orderFrom, order, begins, ends, target, touchedBit, outBit, Laid, Across, Stays, Member, Joins, Tells}
 use Rattle.flow_rows.proofs.Joins.{which-kept, order-kept, begins-kept, ends-kept, target-kept, touched-kept, laid-kept, row-wide, other-row, joins-none, joins-then, joins-as, joins-row}
 use Rattle.words.proofs.FitLaws.{as-long}
 use Rattle.words.proofs.Bools.{never}

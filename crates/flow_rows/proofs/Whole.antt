@@ -7,11 +7,12 @@ use mathlib.Core.List.{List}
 use native.Mathlib.Omega.{arith}
 use Rattle.words.proofs.Points.{cut}
 use Rattle.graph.specs.Paths.{Edge, Link, Between}
-use Rattle.graph.specs.Work.{Within, EdgeRows}
+use Rattle.graph.specs.Inner.Work.{Within, EdgeRows}
 use Rattle.graph.proofs.Within.{within-refl, within-trans}
-use Rattle.tarjan.specs.Components.{Components, InOrder}
+use Rattle.tarjan.specs.Components.{Components}
+use Rattle.tarjan.specs.Inner.Components.{InOrder}
 use Rattle.flow_rows.specs.declared.Flow.{Flow}
-use Rattle.flow_rows.specs.Flowed.{which, order, begins, ends, target, touchedBit, outBit, Laid, Source, Visited, Flowed}
+use Rattle.flow_rows.specs.Inner.{which, order, begins, ends, target, touchedBit, outBit, Laid, Source, Visited, Flowed}
 use Rattle.flow_rows.proofs.Joins.{which-kept, order-kept, begins-kept, ends-kept, target-kept, touched-kept, laid-kept}
 use Rattle.flow_rows.proofs.Routes.{From, across, around, flows-reach}
 

@@ -1,1 +1,1 @@
-pub mod Flowed
+pub mod Inner

@@ -2,8 +2,8 @@
 ghost use mathlib.Core.Path.{_≡_};
 ghost use mathlib.Core.Bool.{true};
 ghost use Prim.Native.Nat.{_+_, _*_, _≤_, _<_};
-ghost use Rattle.tarjan.specs.Components.{InOrder};
-ghost use Rattle.flow_rows.specs.Flowed.{Laid, which, orderFrom, order, touchedBit, Across, Stays, Member, Joins, Tells, Run, Shared, Visited, Flowed};
+ghost use Rattle.tarjan.specs.Inner.Components.{InOrder};
+ghost use Rattle.flow_rows.specs.Inner.{Laid, which, orderFrom, order, touchedBit, Across, Stays, Member, Joins, Tells, Run, Shared, Visited, Flowed};
 
 // Where `flowed` finds and puts things in the work space, of n places: the edge rows from `at` on, the components' numbers from
 // `base` on and their order from `base + 5 * n` on; rows of `words` words, the touched ones from `touched` on, the answer's from `out` on.

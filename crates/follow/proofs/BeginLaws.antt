@@ -8,18 +8,18 @@ use mathlib.Core.List.{List}
 use lib.ListN.{getD}
 use lib.Dec.{eqb}
 use borrow.Author.Tests.{eqb-true, eq-eqb, ne-eqb}
-use Rattle.words.specs.Widths.{instLea, mentionWidth, addressCount}
+use Rattle.words.specs.Inner.{instLea}
+use Rattle.words.specs.Widths.{mentionWidth, addressCount}
 use Rattle.words.proofs.Points.{cut, same}
 use Rattle.words.proofs.Bools.{and-both, or-cases, or-left}
 use Rattle.carrying.specs.Insts.{isSet}
 use Rattle.reach.specs.declared.Lay.{Lay}
-use Rattle.reach.specs.Prepared.{latest}
-use Rattle.reach.specs.Steps.{rowLocal}
+use Rattle.reach.specs.Inner.{latest, rowLocal}
 use Rattle.reach.proofs.UseLaws.{by-bool}
 use Rattle.follow.specs.declared.Sizes.{Sizes}
 use Rattle.follow.specs.declared.Begun.{Begun}
-use Rattle.queue.specs.Walk.{defAt, Held, Listed, Grew, Joined}
-use Rattle.follow.specs.Steps.{Walkable, Entry, Chain, Took, Began}
+use Rattle.queue.specs.Inner.{defAt, Held, Listed, Grew, Joined}
+use Rattle.follow.specs.Inner.{Walkable, Entry, Chain, Took, Began}
 use Rattle.queue.proofs.QueueLaws.{grew-none, grew-def, grew-listed, grew-then}
 
 -- ---- the last of some values that is l

@@ -10,9 +10,10 @@ use mathlib.Core.List.{List, List·Memᴰ}
 use lib.ListN.{length, getD}
 use lib.Dec.{eqb}
 use borrow.Author.Tests.{eqb-true, eq-eqb}
-use Rattle.graph.specs.Work.{Within}
+use Rattle.graph.specs.Inner.Work.{Within}
 use Rattle.graph.proofs.Line.{mem-at, at-mem}
-use Rattle.words.specs.Widths.{instLea, mentionWidth, addressCount, mentionInst, mentionLocal}
+use Rattle.words.specs.Inner.{instLea, mentionInst, mentionLocal}
+use Rattle.words.specs.Widths.{mentionWidth, addressCount}
 use Rattle.words.specs.Regions.{rowWords}
 use Rattle.words.proofs.RowLaws.{mem-tabulate, mem-of-tabulate}
 use Rattle.words.proofs.Points.{cut}
@@ -28,18 +29,17 @@ use Rattle.carrying.proofs.ListLaws.{any-true, any-entry, kept, of-kept}
 use Rattle.carrying.proofs.CarryLaws.{carries-below, carried-least}
 use Rattle.insts.proofs.DealtLaws.{insts-length, lea-is}
 use Rattle.reach.specs.declared.Lay.{Lay}
-use Rattle.operands.specs.Numbers.{defNumber}
-use Rattle.reach.specs.Prepared.{key, latest, leaReader, Hands, codeOf, Prepared}
-use Rattle.reach.specs.Steps.{rowLocal}
+use Rattle.operands.specs.Inner.{defNumber}
+use Rattle.reach.specs.Inner.{key, latest, leaReader, Hands, Prepared, rowLocal}
+use Rattle.reach.specs.Prepared.{codeOf}
 use Rattle.reach.proofs.UseLaws.{by-bool, not-false, Some, some-at, some-index}
 use Rattle.reach.proofs.ReadyLaws.{empty-keep, any-rows}
 use Rattle.reach.proofs.ScanLaws.{same-bit, number-is, none-number}
 use Rattle.follow.specs.declared.Sizes.{Sizes}
 use Rattle.follow.specs.declared.Begun.{Begun}
 use Rattle.follow.specs.declared.Walk.{Walk}
-use Rattle.queue.specs.Walk.{defAt, queued, Held, Listed}
-use Rattle.follow.specs.Steps.{Walkable, Edge, Entry, Chain, Began, registerAt, Walking, Walked, Unseen}
-use Rattle.follow.specs.Followed.{kindBy, Empty, FollowedTo}
+use Rattle.queue.specs.Inner.{defAt, queued, Held, Listed}
+use Rattle.follow.specs.Inner.{Walkable, Edge, Entry, Chain, Began, registerAt, Walking, Walked, Unseen, kindBy, Empty, FollowedTo}
 use Rattle.queue.proofs.QueueLaws.{grew-def, grew-listed}
 use Rattle.follow.proofs.WalkLaws.{edge-on, edge-back}
 use Rattle.follow.proofs.BeginLaws.{latest-le, latest-is, latest-gap}

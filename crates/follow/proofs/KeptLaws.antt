@@ -10,21 +10,20 @@ use lib.ListN.{length, getD}
 use lib.Dec.{eqb, ltb}
 use Rattle.words.specs.Widths.{instCount, mentionWidth, addressCount}
 use Rattle.words.specs.Regions.{rowWords}
-use Rattle.graph.specs.Work.{Within}
+use Rattle.graph.specs.Inner.Work.{Within}
 use Rattle.carrying.specs.Insts.{instsOf, instAt, defOf}
 use Rattle.carrying.specs.Carried.{Code, isNone, mentionsOf}
 use Rattle.insts.proofs.DealtLaws.{insts-length}
 use Rattle.reach.specs.declared.Lay.{Lay}
-use Rattle.operands.specs.Numbers.{defNumber}
-use Rattle.reach.specs.Prepared.{Laid, latest, localOf, codeOf, Prepared, Readied}
-use Rattle.reach.specs.Steps.{rowLocal}
+use Rattle.operands.specs.Inner.{defNumber}
+use Rattle.reach.specs.Inner.{Laid, latest, localOf, Prepared, Readied, rowLocal}
+use Rattle.reach.specs.Prepared.{codeOf}
 use Rattle.reach.proofs.StepLaws.{splits-same}
 use Rattle.reach.proofs.ReadyLaws.{latest-same, local-is, mentions-count, def-small}
 use Rattle.reach.proofs.ScanLaws.{same-bit, number-is}
 use Rattle.follow.specs.declared.Sizes.{Sizes}
-use Rattle.queue.specs.Walk.{defAt}
-use Rattle.follow.specs.Steps.{Walkable}
-use Rattle.follow.specs.Followed.{Ready}
+use Rattle.queue.specs.Inner.{defAt}
+use Rattle.follow.specs.Inner.{Walkable, Ready}
 
 -- ---- after the preparation
 

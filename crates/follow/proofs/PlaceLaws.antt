@@ -11,8 +11,8 @@ use Rattle.words.proofs.FitLaws.{Word, word}
 use Rattle.reach.specs.declared.Lay.{Lay}
 use Rattle.follow.specs.declared.Sizes.{Sizes}
 use Rattle.follow.specs.declared.Begun.{Begun}
-use Rattle.queue.specs.Walk.{defAt, queued, Held}
-use Rattle.follow.specs.Steps.{Walkable, registerAt, Forgetting}
+use Rattle.queue.specs.Inner.{defAt, queued, Held}
+use Rattle.follow.specs.Inner.{Walkable, registerAt, Forgetting}
 use Rattle.follow.proofs.WalkLaws.{Growing, Unseeing, unsee-back}
 use Rattle.follow.proofs.BeginLaws.{Beginning, begin-found}
 

@@ -9,7 +9,7 @@ use lib.ListN.{length, getD, set, length-set}
 use lib.Seq.{getD-set-same, getD-set-other}
 use lib.Dec.{ltb}
 use borrow.Author.Tests.{ltb-true, ltb-false}
-use Rattle.words.specs.Search.{Splits}
+use Rattle.words.specs.Inner.{Splits}
 use Rattle.words.specs.Regions.{rowWords}
 use Rattle.words.proofs.SortLaws.{rising-le}
 use Rattle.words.proofs.Points.{cut, same}
@@ -17,15 +17,15 @@ use Rattle.words.proofs.Bools.{both-ways}
 use Rattle.bits.specs.Bits.{bit}
 use Rattle.insts.proofs.DealtLaws.{any-none, any-next}
 use Rattle.reach.specs.declared.Lay.{Lay}
-use Rattle.reach.specs.Prepared.{key}
+use Rattle.reach.specs.Inner.{key}
 use Rattle.reach.proofs.StepLaws.{splits-same}
 use Rattle.reach.proofs.UseLaws.{Some, some-at, some-index}
 use Rattle.reach.proofs.ScanLaws.{same-bit}
 use Rattle.follow.specs.declared.Sizes.{Sizes}
 use Rattle.follow.specs.declared.Begun.{Begun}
 use Rattle.follow.specs.declared.Walk.{Walk}
-use Rattle.queue.specs.Walk.{defAt, queued, Held, Listed, Grew, Joined}
-use Rattle.follow.specs.Steps.{Walkable, Edge, Grown, registerAt, Stepped, Walking, Walked, Unseen}
+use Rattle.queue.specs.Inner.{defAt, queued, Held, Listed, Grew, Joined}
+use Rattle.follow.specs.Inner.{Walkable, Edge, Grown, registerAt, Stepped, Walking, Walked, Unseen}
 use Rattle.queue.proofs.QueueLaws.{grew-none, grew-def, grew-listed, grew-then}
 
 -- ---- the tables stay

@@ -5,7 +5,8 @@ use mathlib.Core.Logic.{_↔_, _⊎_, inl, inr}
 use mathlib.Core.Bool.{Bool, true}
 use mathlib.Core.List.{List}
 use Rattle.graph.specs.Paths.{Edge, Link}
-use Rattle.graph.specs.Flow.{Arrives, left, passed, Passing, one, more, Solution}
+use Rattle.graph.specs.Flow.{Arrives, left, passed}
+use Rattle.graph.specs.Inner.Flow.{Passing, one, more, Solution}
 
 module _ (es : List Edge) (leaves passes : ℕ → Bool) where
   pub arrives-solves : Solution es leaves passes (Arrives es leaves passes)

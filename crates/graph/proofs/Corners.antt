@@ -10,9 +10,12 @@ use Rattle.refusals.specs.Verdicts.{first, scan}
 use Rattle.words.specs.Rows.{tabulate}
 use Rattle.words.specs.Widths.{blockWidth, edgeWidth, wantWidth}
 use Rattle.graph.specs.Paths.{edge, turned}
-use Rattle.graph.specs.Line.{Stretch, Jump, blocksOf, jumpsOf, blockAt, placeIn, placeOf, numberAt, edgesOf, usedBefore, badBlock, lineVerdict, edgeVerdict}
-use Rattle.graph.specs.Checks.{badCount, badSpan, rowsVerdict, spaceOf, spaceVerdict}
-use Rattle.graph.specs.Work.{tally, before, sumOf, spot}
+use Rattle.graph.specs.Line.{Stretch, Jump, blocksOf, jumpsOf, blockAt, placeIn, edgesOf, usedBefore, badBlock, lineVerdict, edgeVerdict}
+use Rattle.graph.specs.Inner.Line.{placeOf, numberAt}
+use Rattle.graph.specs.Checks.{badCount, rowsVerdict, spaceOf, spaceVerdict}
+use Rattle.graph.specs.Inner.Checks.{badSpan}
+use Rattle.graph.specs.Inner.Work.{tally, before, spot}
+use Rattle.graph.specs.Work.{sumOf}
 
 abbrev block : ℕ → ℕ → ℕ → Stretch
 block n s e = record { number = n; start = s; end = e }

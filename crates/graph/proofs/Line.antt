@@ -13,34 +13,16 @@ use borrow.Author.Tests.{eq-eqb, ne-eqb, eqb-true, eqb-false, leb-false, ltb-fal
 use Rattle.refusals.specs.declared.Verdict.the-variants.{Fine}
 use Rattle.refusals.specs.declared.Refusal.the-variants.{Line, Edge as EdgeWord}
 use Rattle.refusals.proofs.Laws.{scan-fine}
-use Rattle.words.specs.Sort.{Rising}
-use Rattle.words.specs.Widths.{blockWidth, blockCount, blockNumber, blockStart, blockEnd, edgeWidth, edgeCount, edgeFrom, edgeInto}
+use Rattle.words.specs.Inner.{Rising, blockNumber, edgeFrom, edgeInto}
+use Rattle.words.specs.Widths.{blockWidth, blockCount, blockStart, blockEnd, edgeWidth, edgeCount}
 use Rattle.words.proofs.RowLaws.{length-tabulate, getD-tabulate}
 use Rattle.words.proofs.Points.{cut, same}
 use Rattle.words.proofs.Bools.{or-neither}
 use Rattle.graph.specs.declared.Block.{Block}
 use Rattle.graph.specs.declared.Place.{Place}
 use Rattle.graph.specs.Paths.{Edge, edge, Between}
-use Rattle.graph.specs.Line.{
-  Stretch,
-  Jump,
-  blocksOf,
-  jumpsOf,
-  nowhere,
-  blockAt,
-  placeIn,
-  placeOf,
-  numberAt,
-  linked,
-  edgesOf,
-  usedBefore,
-  gapAt,
-  badBlock,
-  lineVerdict,
-  badEdge,
-  edgeVerdict,
-  Sound,
-}
+use Rattle.graph.specs.Line.{Stretch, Jump, blocksOf, jumpsOf, nowhere, blockAt, placeIn, linked, edgesOf, usedBefore, gapAt, badBlock, lineVerdict, badEdge, edgeVerdict, Sound}
+use Rattle.graph.specs.Inner.Line.{placeOf, numberAt}
 use Rattle.graph.proofs.Counting.{all-taken}
 
 -- ---- lists by index

@@ -5,9 +5,9 @@ use mathlib.Core.List.{List}
 use native.Mathlib.Omega.{arith}
 use lib.ListN.{length, getD, set, length-set}
 use lib.Seq.{getD-set-other}
-use Rattle.words.specs.Regions.{Region}
+use Rattle.words.specs.Inner.{Region}
 use Rattle.graph.specs.Paths.{Edge, Link, Between}
-use Rattle.graph.specs.Work.{Within, EdgeRows}
+use Rattle.graph.specs.Inner.Work.{Within, EdgeRows}
 
 pub within-refl : (lo hi : ℕ) (w : List ℕ) → Within lo hi w w
 within-refl lo hi w = record { len = refl; below = λ i h. refl; past = λ i h. refl }

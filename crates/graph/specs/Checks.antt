@@ -8,7 +8,7 @@ use Rattle.refusals.specs.declared.Refusal.the-variants.{Count, Space}
 use Rattle.refusals.specs.Verdicts.{inOrder, check}
 use Rattle.words.specs.Rows.{wholeRows}
 use Rattle.words.specs.Widths.{blockWidth, blockCount, edgeWidth, edgeCount}
-use Rattle.graph.specs.Line.{Stretch, blocksOf, jumpsOf, blockAt, gapAt, pastPoints, lineVerdict, edgeVerdict}
+use Rattle.graph.specs.Line.{blocksOf, jumpsOf, lineVerdict, edgeVerdict}
 
 -- number 1: "B 1 to 4,096; edges 16,384"; numbers that are no whole records are no count
 unfoldable pub badCount : List ℕ → List ℕ → Bool
@@ -17,10 +17,6 @@ badCount blocks edges =
 
 abbrev pub countVerdict : List ℕ → List ℕ → Verdict
 countVerdict blocks edges = check Count (badCount blocks edges)
-
--- number 2 without the block numbers: "a reversed block, a start not the last end plus 1, last end > points"
-abbrev pub badSpan : List Stretch → ℕ → ℕ → Bool
-badSpan bs points i = ltb (blockAt bs i .end) (blockAt bs i .start) || (gapAt bs i || pastPoints bs points i)
 
 -- numbers 1, 2 and 3, in this order
 abbrev pub graphChecks : List ℕ → List ℕ → ℕ → List Verdict

@@ -4,3 +4,4 @@ pub mod Line
 pub mod Work
 pub mod Checks
 pub mod Rounds
+pub mod Inner

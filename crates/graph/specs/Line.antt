@@ -12,8 +12,6 @@ use Rattle.words.specs.Rows.{records}
 use Rattle.words.specs.Widths.{blockWidth, edgeWidth}
 use Rattle.ranges.specs.declared.Range.{Range}
 use Rattle.ranges.specs.Points.{range}
-use Rattle.graph.specs.declared.Block.{Block}
-use Rattle.graph.specs.declared.Place.{Place}
 use Rattle.graph.specs.Paths.{Edge, edge}
 
 -- a block of the line: its number, its first and its last point
@@ -44,12 +42,6 @@ blockAt bs k = getD bs k nowhere
 unfoldable pub placeIn : List Stretch → ℕ → ℕ
 placeIn [] n = 0
 placeIn (b ∷ bs) n = cond (eqb (b .number) n) 0 (suc (placeIn bs n))
-
-abbrev pub placeOf : List Stretch → Block → Place
-placeOf bs b = record { 0 = placeIn bs (b .0) }
-
-abbrev pub numberAt : List Stretch → Place → Block
-numberAt bs p = record { 0 = blockAt bs (p .0) .number }
 
 -- the edges by place
 abbrev pub linked : List Stretch → Jump → Edge

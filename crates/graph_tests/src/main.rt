@@ -7,7 +7,7 @@
 // word under W.
 ghost use mathlib.Core.Path.{_≡_};
 ghost use lib.ListN.{length};
-ghost use Rattle.cases.specs.Cuts.{Ordered};
+ghost use Rattle.cases.specs.Inner.{Ordered};
 use cases::Cuts;
 use flow::Over;
 use refusals::Refusal;

@@ -7,7 +7,8 @@ use mathlib.Core.Bool.{Bool, false, not, _&&_}
 use mathlib.Core.List.{List}
 use lib.ListN.{getD}
 use borrow.Author.Tests.{eq-eqb, ne-eqb}
-use Rattle.words.specs.Widths.{instWidth, instPlaced, instLea, instMem}
+use Rattle.words.specs.Widths.{instWidth}
+use Rattle.words.specs.Inner.{instPlaced, instLea, instMem}
 use Rattle.carrying.specs.Insts.{isSet}
 
 module _ (s : List ℕ) (i : ℕ) where

@@ -3,7 +3,8 @@ ghost use mathlib.Core.Path.{_≡_};
 ghost use mathlib.Core.Bool.{not, _&&_};
 ghost use Prim.Native.Nat.{_/_, _<_};
 ghost use lib.ListN.{length};
-ghost use Rattle.words.specs.Widths.{instCount, instPlaced, instLea, instMem};
+ghost use Rattle.words.specs.Widths.{instCount};
+ghost use Rattle.words.specs.Inner.{instPlaced, instLea, instMem};
 ghost use Rattle.carrying.specs.Insts.{isSet};
 use words::widths::inst;
 

@@ -8,8 +8,8 @@ use mathlib.Core.List.{List}
 use lib.ListN.{length, getD}
 use lib.Dec.{leb, ltb}
 use borrow.Author.Tests.{lt-ltb, le-ltb, le-leb, lt-leb}
-use Rattle.words.specs.Search.{Splits}
-use Rattle.words.specs.Widths.{blockCount, blockStart, blockEnd, operandWidth, operandDef, operandRegister}
+use Rattle.words.specs.Inner.{Splits, operandDef, operandRegister}
+use Rattle.words.specs.Widths.{blockCount, blockStart, blockEnd, operandWidth}
 use Rattle.words.proofs.SortLaws.{rising-le}
 use Rattle.graph.specs.Line.{blocksOf, Sound}
 use Rattle.graph.proofs.Line.{blocks-length, start-is, end-is, starts-rise}

@@ -17,9 +17,8 @@ use Rattle.refusals.specs.declared.Refusal.the-variants.{Count, Inst as InstWor
 use Rattle.refusals.specs.Verdicts.{first, scan, check}
 use Rattle.refusals.proofs.Laws.{first-fine, first-bad, first-left, first-right, bad-fine}
 use Rattle.words.specs.Rows.{rowCount, field}
-use Rattle.words.specs.Search.{Splits}
-use Rattle.words.specs.Widths.{blockWidth, blockCount, blockStart, blockEnd, instWidth, instCount, instPlaced, instEarly, instLate, instOperands, operandWidth, operandCount, localWidth}
-use Rattle.words.specs.Widths.{mentionWidth, mentionCount, mentionInst}
+use Rattle.words.specs.Inner.{Splits, instPlaced, instEarly, instLate, mentionCount, mentionInst}
+use Rattle.words.specs.Widths.{blockWidth, blockCount, blockStart, blockEnd, instWidth, instCount, instOperands, operandWidth, operandCount, localWidth, mentionWidth}
 use Rattle.words.proofs.RowLaws.{length-records, getD-records}
 use Rattle.words.proofs.Points.{cut, same}
 use Rattle.graph.specs.Line.{Stretch, blocksOf, blockAt, placeIn, Sound}
@@ -29,7 +28,8 @@ use Rattle.carrying.specs.Insts.{instsOf, instAt, isSet}
 use Rattle.carrying.specs.Carried.{Mention, mentionsOf}
 use Rattle.carrying.specs.Checks.{misplaced, badRegister, badOperand, badFlags, badPositions, badInst, crossingVerdict, absent, mentionAt, addressVerdict, endVerdict}
 use Rattle.insts.specs.Counts.{rowsVerdict, mostVerdict, blockCounts, offset, addUp, instCounts, codeCounts}
-use Rattle.insts.specs.Rows.{operandsFrom, placing, rowInst, AddsUp}
+use Rattle.insts.specs.Inner.{operandsFrom, placing, rowInst}
+use Rattle.insts.specs.Rows.{AddsUp}
 use Rattle.insts.proofs.DealtLaws.{scan-same, insts-length, inst-at, placed-is}
 
 -- ---- number 1

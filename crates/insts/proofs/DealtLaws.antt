@@ -11,7 +11,8 @@ use lib.Seq.{drop-drop}
 use Rattle.refusals.specs.declared.Refusal.{Refusal}
 use Rattle.refusals.specs.Verdicts.{scan}
 use Rattle.words.specs.Rows.{tabulate, field, records}
-use Rattle.words.specs.Widths.{instWidth, instCount, instPlaced, instEarly, instLate, instLea, instOperands, operandWidth, operandCount}
+use Rattle.words.specs.Widths.{instWidth, instCount, instOperands, operandWidth, operandCount}
+use Rattle.words.specs.Inner.{instPlaced, instEarly, instLate, instLea}
 use Rattle.words.proofs.RowLaws.{length-tabulate, getD-tabulate, take-tabulate, drop-tabulate, tabulate-suc, mem-tabulate}
 use Rattle.graph.specs.Work.{sumOf}
 use Rattle.graph.proofs.Sums.{sum-start, sum-within}
@@ -19,7 +20,8 @@ use Rattle.carrying.specs.Lists.{any}
 use Rattle.carrying.specs.Insts.{Operand, Inst, instOf, dealt, instsOf, noInst, instAt}
 use Rattle.carrying.proofs.ListLaws.{any-true}
 use Rattle.insts.specs.Counts.{offset}
-use Rattle.insts.specs.Rows.{operandAt, operandsFrom, AddsUp}
+use Rattle.insts.specs.Inner.{operandAt, operandsFrom}
+use Rattle.insts.specs.Rows.{AddsUp}
 
 -- ---- scans of tests that agree
 

@@ -1,27 +1,9 @@
 -- Instructions and operands by their numbers in the lent rows.
-use Prim.Native.Nat.{ℕ, _+_}
-use mathlib.Core.List.{List, []}
-use Rattle.words.specs.Rows.{tabulate, field}
-use Rattle.words.specs.Widths.{instWidth, instCount, operandCount, operandDef, operandRegister}
-use Rattle.carrying.specs.Insts.{Operand, Inst, instOf}
+use Prim.Native.Nat.{ℕ}
+use mathlib.Core.List.{List}
+use Rattle.words.specs.Widths.{instCount, operandCount}
 use Rattle.insts.specs.Counts.{offset}
 use mathlib.Core.Path.{_≡_}
-
--- operand k of all
-abbrev pub operandAt : List ℕ → ℕ → Operand
-operandAt operands k = record { def = operandDef operands k; register = operandRegister operands k }
-
--- some operands from one on
-abbrev pub operandsFrom : List ℕ → ℕ → ℕ → List Operand
-operandsFrom operands from count = tabulate count (λ p. operandAt operands (from + p))
-
--- an instruction as far as where it stands
-abbrev pub placing : ℕ → ℕ → ℕ → Inst
-placing number early late = record { placed = 1; block = number; early = early; late = late; lea = 0; mem = 0; base = 0; index = 0; operands = [] }
-
--- instruction i but for its operands
-abbrev pub rowInst : List ℕ → ℕ → Inst
-rowInst insts i = instOf (field instWidth insts i) []
 
 -- the operand counts add up
 abbrev pub AddsUp : List ℕ → List ℕ → Type 0

@@ -17,7 +17,7 @@ use Rattle.insts.specs.Counts.{rowsVerdict}
 use Rattle.job_space.specs.declared.Sizes.{Sizes}
 use Rattle.job_space.specs.Space.{sizesOf, spaceOf, Small}
 use Rattle.job_checks.proofs.CheckLaws.{placedOf, by-own, by-counts as records-counts, by-placed as records-placed, by-space as records-space, lent-passed, lent-space}
-use Rattle.job_areas.specs.Areas.{Lent}
+use Rattle.job_areas.specs.Inner.{Lent}
 use Rattle.item_areas.specs.Entry.{spaceVerdict, lentVerdict}
 use Rattle.job_space.specs.Rows.{Rows}
 use Rattle.job_checks.specs.Job.{countVerdict}

@@ -11,18 +11,18 @@ use Rattle.refusals.specs.declared.Refusal.{Refusal}
 use Rattle.refusals.specs.Verdicts.{first, inOrder}
 use Rattle.refusals.proofs.Laws.{first-fine, first-bad}
 use Rattle.words.specs.Regions.{cleared}
-use Rattle.graph.specs.Work.{Within}
+use Rattle.graph.specs.Inner.Work.{Within}
 use Rattle.components.proofs.Entries.{cleared-same}
 use Rattle.words.specs.Widths.{localWidth, localCount, partWidth, rangeCount, slotCount}
 use Rattle.words.proofs.RowLaws.{length-records}
 use Rattle.ranges.specs.declared.Range.{Range}
 use Rattle.areas.specs.Job.{itemCount, itemArea, itemsVerdict, areasVerdict}
-use Rattle.area_tables.specs.Tables.{listing}
-use Rattle.area_measure.specs.Locals.{wordOf, ListedBy}
+use Rattle.area_tables.specs.Inner.{listing}
+use Rattle.area_measure.specs.Inner.Locals.{wordOf, ListedBy}
 use Rattle.job_space.specs.declared.Sizes.{Sizes}
 use Rattle.job_space.specs.Space.{sizesOf, spaceOf}
 use Rattle.job_checks.specs.Job.{jobOf}
-use Rattle.job_areas.specs.Areas.{Lent, Solved}
+use Rattle.job_areas.specs.Inner.{Lent, Solved}
 use Rattle.item_lists.specs.declared.Answer.{Answer}
 use Rattle.item_lists.specs.declared.Answer.the-variants.{Refused}
 use Rattle.item_areas.specs.Entry.{lentVerdict, itemChecks, ItemAreas}

@@ -20,7 +20,8 @@ use Rattle.item_lists.specs.declared.Answer.the-variants.{Given}
 use Rattle.item_lists.specs.Lists.{itemRow, itemRows}
 use Rattle.item_lists.proofs.TableLaws.{row-long}
 use Rattle.job_checks.specs.Job.{jobOf, Passed}
-use Rattle.item_areas.specs.Entry.{lentVerdict, itemChecks, total, ItemAreas}
+use Rattle.item_areas.specs.Entry.{lentVerdict, itemChecks, ItemAreas}
+use Rattle.item_areas.specs.Inner.{total}
 use Rattle.item_areas.proofs.CheckLaws.{lent}
 use Rattle.item_areas.proofs.OrderLaws.{item-verdict}
 use Rattle.job_space.specs.Rows.{Rows}

@@ -10,10 +10,9 @@ use Rattle.refusals.specs.declared.Refusal.{Refusal}
 use Rattle.refusals.specs.declared.Refusal.the-variants.{Count, Space, List as ListWord}
 use Rattle.refusals.specs.Verdicts.{inOrder, check}
 use Rattle.refusals.specs.Outcomes.{unless, after}
-use Rattle.words.specs.Rows.{tabulate}
 use Rattle.words.specs.Widths.{partWidth, rangeWidth}
 use Rattle.insts.specs.Counts.{rowsVerdict}
-use Rattle.areas.specs.Job.{Job, checks, itemCount, itemArea, rangesOf, itemsVerdict}
+use Rattle.areas.specs.Job.{checks, itemCount, itemArea, itemsVerdict}
 use Rattle.job_space.specs.declared.Sizes.{Sizes}
 use Rattle.job_space.specs.Rows.{Rows}
 use Rattle.job_space.specs.Space.{sizesOf, spaceOf}
@@ -38,10 +37,6 @@ itemChecks R areas items work = lentChecks R areas items work ++ (itemsVerdict (
 
 abbrev pub itemGive : List Refusal
 itemGive = (Count ∷ Count ∷ (checksGive ++ (Space ∷ []))) ++ (ListWord ∷ [])
-
--- how many ranges all areas have
-abbrev pub total : Job → ℕ
-total J = rangesOf (tabulate (itemCount J) (itemArea J))
 
 -- the areas of all items: the work space is unchanged after a refusal that comes before measuring, else its first W words are zero
 pub record ItemAreas (R : Rows) (areas items work : List ℕ) (r : Answer) (areas′ items′ work′ : List ℕ) : Type 0 where

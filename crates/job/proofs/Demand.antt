@@ -17,7 +17,8 @@ use Rattle.fitting.specs.Wants.{orderOf}
 use Rattle.fitting.specs.Plan.{Cell, cellAt}
 use Rattle.wants.specs.Entry.{cellRow, cellRows}
 use Rattle.job_checks.specs.Job.{jobOf, Passed}
-use Rattle.soundness.specs.Walks.{Step, Legal, Separate}
+use Rattle.soundness.specs.Walks.{Step, Legal}
+use Rattle.soundness.specs.Inner.{Separate}
 use Rattle.soundness.specs.Demand.{wantsOf, frameOf, jobPlan}
 use Rattle.soundness.proofs.Demand.{job-order, separate, uses, any-cells, demand-3}
 use Rattle.job_answers.specs.declared.Shared.the-variants.{Plan as Planned}

@@ -13,23 +13,24 @@ use Rattle.refusals.specs.declared.Refusal.{Refusal}
 use Rattle.refusals.proofs.Laws.{first-fine, first-bad}
 use Rattle.words.specs.Regions.{cleared, rowWords}
 use Rattle.words.specs.Rows.{tabulate}
-use Rattle.words.specs.Widths.{blockCount, localWidth, localCount, localSize, localAlign, rangeCount, slotCount, slotSize}
+use Rattle.words.specs.Widths.{blockCount, localWidth, localCount, rangeCount, slotCount}
+use Rattle.words.specs.Inner.{localSize, localAlign, slotSize}
 use Rattle.words.proofs.Points.{cut}
 use Rattle.words.proofs.RowLaws.{length-records, getD-records, tabulate-eq}
-use Rattle.graph.specs.Work.{Within}
+use Rattle.graph.specs.Inner.Work.{Within}
 use Rattle.components.proofs.Entries.{cleared-same}
 use Rattle.ranges.specs.declared.Range.{Range}
 use Rattle.areas.specs.Job.{Local, localsOf, itemCount, itemArea, itemsVerdict, areasVerdict}
 use Rattle.areas.proofs.ApartLaws.{areas-apart}
 use Rattle.fitting.specs.Wants.{Want, orderOf}
 use Rattle.fitting.specs.Plan.{Plan, planOf}
-use Rattle.area_tables.specs.Tables.{listing}
-use Rattle.area_measure.specs.Locals.{wordOf, ListedBy}
+use Rattle.area_tables.specs.Inner.{listing}
+use Rattle.area_measure.specs.Inner.Locals.{wordOf, ListedBy}
 use Rattle.job_space.specs.declared.Sizes.{Sizes}
 use Rattle.job_space.specs.Space.{sizesOf, spaceOf, Small}
 use Rattle.job_checks.specs.Job.{jobOf}
-use Rattle.job_areas.specs.Areas.{Solved}
-use Rattle.job_fit.specs.Wants.{countOf, sizeAt, alignAt, wantFor, planFor}
+use Rattle.job_areas.specs.Inner.{Solved}
+use Rattle.job_fit.specs.Inner.{countOf, sizeAt, alignAt, wantFor, planFor}
 use Rattle.soundness.specs.Demand.{wantOf, jobPlan}
 use Rattle.job_answers.specs.declared.Shared.{Shared}
 use Rattle.job_answers.specs.declared.Shared.the-variants.{Refused}

@@ -16,22 +16,22 @@ use Rattle.fitting.specs.Wants.{orderOf}
 use Rattle.fitting.specs.Plan.{Plan, cellAt}
 use Rattle.fitting.proofs.OrderLaws.{order-names}
 use Rattle.fitting.proofs.PlanLaws.{facts}
-use Rattle.fit_tables.specs.Keys.{sizeOf, alignOf}
+use Rattle.fit_tables.specs.Inner.{sizeOf, alignOf, cellRowsIn}
 use Rattle.fit_tables.specs.declared.Counts.{Counts}
 use Rattle.areas.specs.Job.{rangesOf, areasVerdict}
-use Rattle.area_measure.specs.Locals.{wordOf, ListedBy}
-use Rattle.answer_rows.specs.Rows.{rowsIn}
-use Rattle.area_tables.specs.Tables.{areaRows, listing}
+use Rattle.area_measure.specs.Inner.Locals.{wordOf, ListedBy}
+use Rattle.answer_rows.specs.Inner.{rowsIn}
+use Rattle.area_tables.specs.Tables.{areaRows}
+use Rattle.area_tables.specs.Inner.{listing}
 use Rattle.area_tables.proofs.RowLaws.{ranges-below, rows-areas, rows-long}
 use Rattle.wants.specs.Entry.{tallied, cellRow, cellRows}
-use Rattle.fit_tables.specs.WantTables.{cellRowsIn}
 use Rattle.wants.proofs.EntryLaws.{rows-cells}
 use Rattle.item_lists.specs.Lists.{itemRow}
 use Rattle.item_lists.proofs.TableLaws.{word-row, row-long, list-full, list-fine}
-use Rattle.job_fit.specs.Wants.{countOf, wantFor, wantsFor, planFor, Ready, Holds, FittedFor}
+use Rattle.job_fit.specs.Inner.{countOf, wantFor, wantsFor, planFor, Ready, Holds, FittedFor}
 use Rattle.job_answers.specs.declared.Shared.the-variants.{Plan as Planned, Refused}
 use Rattle.job_answers.specs.Answers.{itemRows, AnsweredBy}
-use Rattle.job_tables.specs.Tables.{rowOf, rowsOf, Listable, Written}
+use Rattle.job_tables.specs.Inner.{rowOf, rowsOf, Listable, Written}
 use Rattle.job_answers.specs.Inner.{Measured}
 
 -- number 9

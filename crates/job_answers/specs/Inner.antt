@@ -6,8 +6,8 @@ use mathlib.Core.List.{List}
 use lib.ListN.{length}
 use Rattle.ranges.specs.declared.Range.{Range}
 use Rattle.ranges.specs.Points.{Apart}
-use Rattle.area_measure.specs.Locals.{wordOf, ListedBy}
-use Rattle.area_tables.specs.Tables.{listing}
+use Rattle.area_measure.specs.Inner.Locals.{wordOf, ListedBy}
+use Rattle.area_tables.specs.Inner.{listing}
 use Rattle.words.specs.Widths.{cellWidth, itemWidth}
 
 -- the areas of some items, each in order and apart, and room for their plan

@@ -9,11 +9,11 @@ use lib.ListN.{length, getD}
 use lib.Dec.{eqb}
 use Rattle.words.proofs.RegionLaws.{kept-part-list}
 use Rattle.ranges.specs.declared.Range.{Range}
-use Rattle.ranges.specs.Forms.{unpacked}
+use Rattle.ranges.specs.Inner.{unpacked}
 use Rattle.areas.specs.Slots.{Assigned, orElse, spilled}
-use Rattle.slot_spots.specs.Slots.{heldWord}
+use Rattle.slot_spots.specs.Inner.{heldWord}
 use Rattle.area_measure.specs.declared.Listing.{Listing}
-use Rattle.area_measure.specs.Locals.{ListedBy}
+use Rattle.area_measure.specs.Inner.Locals.{ListedBy}
 
 pub listed-kept : (f : ℕ → Option (List Range) → ℕ) (o : Listing) (A : ℕ → Option (List Range)) {l total : ℕ} {w₀ : List ℕ} (w : List ℕ) → ListedBy f o A l total w₀ → length w ≡ length w₀
     → o .areas + o .room ≤ o .items → o .items + l ≤ length w₀ → ((i : ℕ) → i < o .items + l → getD w i 0 ≡ getD w₀ i 0) → ListedBy f o A l total w

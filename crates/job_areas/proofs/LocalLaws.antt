@@ -20,23 +20,23 @@ use Rattle.reach.specs.Prepared.{codeOf}
 use Rattle.spots.specs.Spots.{lineOf}
 use Rattle.spots.proofs.SpotLaws.{holding-edges}
 use Rattle.area_flow.specs.declared.Grid.{Grid}
-use Rattle.area_layout.specs.Layout.{Gridded, markOf}
-use Rattle.area_pieces.specs.Local.{Upright}
-use Rattle.live.specs.Live.{InOrder}
+use Rattle.area_layout.specs.Inner.{Gridded, markOf}
+use Rattle.area_pieces.specs.Inner.{Upright}
+use Rattle.live.specs.Inner.{InOrder}
 use Rattle.slot_spots.specs.declared.Places.{Places as SlotPlaces}
-use Rattle.area_measure.specs.Locals.{wordOf}
+use Rattle.area_measure.specs.Inner.Locals.{wordOf}
 use Rattle.area_measure.proofs.ListLaws.{listed-none}
 use Rattle.job_spots.specs.declared.Places.{Places}
-use Rattle.job_locals.specs.Locals.{Asked, LocalsIn}
+use Rattle.job_locals.specs.Inner.{Asked, LocalsIn}
 use Rattle.job_space.specs.declared.Sizes.{Sizes}
 use Rattle.job_space.specs.Space.{sizesOf, spaceOf, Small}
 use Rattle.job_checks.specs.Job.{jobOf}
 use Rattle.words.proofs.FitLaws.{rows-few}
 use Rattle.job_layout.specs.declared.Regions.{Regions}
-use Rattle.job_layout.specs.Layout.{gridSizes, Placed, LaidFrom, SlotsFrom, mostOfLocal, LocalsLaid}
+use Rattle.job_layout.specs.Inner.{gridSizes, Placed, LaidFrom, SlotsFrom, mostOfLocal, LocalsLaid}
 use Rattle.job_layout.proofs.FitLaws.{ranges-small, locals-laid, layout-fits}
-use Rattle.area_tables.specs.Tables.{listing}
-use Rattle.job_areas.specs.Areas.{Lent, LocalsDone}
+use Rattle.area_tables.specs.Inner.{listing}
+use Rattle.job_areas.specs.Inner.{Lent, LocalsDone}
 use Rattle.job_space.specs.Rows.{Rows}
 
 same-inverted : (blocks : List ℕ) (d e : List Edge) (t : Range) → inverted (lineOf blocks d) t ≡ inverted (lineOf blocks e) t

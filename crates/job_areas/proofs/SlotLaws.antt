@@ -4,18 +4,18 @@ use native.Mathlib.Omega.{arith}
 use mathlib.Core.Path.{_≡_, refl, _∙_}
 use mathlib.Core.List.{List}
 use lib.ListN.{length, getD}
-use Rattle.words.specs.Regions.{Region}
+use Rattle.words.specs.Inner.{Region}
 use Rattle.words.specs.Widths.{blockCount}
 use Rattle.graph.specs.Line.{blocksOf}
-use Rattle.graph.specs.Work.{Tabled}
+use Rattle.graph.specs.Inner.Work.{Tabled}
 use Rattle.graph.proofs.Line.{blocks-length}
 use Rattle.areas.specs.Slots.{assignedOf, spilled}
 use Rattle.slot_spots.specs.declared.Places.{Places}
-use Rattle.slot_spots.specs.Slots.{heldWord, Chained}
+use Rattle.slot_spots.specs.Inner.{heldWord, Chained}
 use Rattle.area_measure.specs.declared.Listing.{Listing}
-use Rattle.area_measure.specs.Locals.{wordOf}
-use Rattle.slot_measure.specs.All.{Ready, MeasuredSlots}
-use Rattle.job_areas.specs.Areas.{SlotsAsked, SlotsIn}
+use Rattle.area_measure.specs.Inner.Locals.{wordOf}
+use Rattle.slot_measure.specs.Inner.{Ready, MeasuredSlots}
+use Rattle.job_areas.specs.Inner.{SlotsAsked, SlotsIn}
 use Rattle.job_areas.proofs.KeptLaws.{listed-kept}
 
 module _ (points : ℕ) (blocks insts moves pieces assigned : List ℕ) (p : Places) (keys held : ℕ) (o : Listing) (first total : ℕ) {w₀ w₁ : List ℕ}

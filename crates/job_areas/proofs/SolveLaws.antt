@@ -19,19 +19,19 @@ use Rattle.carrying.specs.Carried.{piecesOf}
 use Rattle.areas.specs.Slots.{Assigned, assignedOf, movesOf, spilled, slotArea}
 use Rattle.spill_checks.proofs.OperandLaws.{moved-whatever}
 use Rattle.areas.specs.Job.{Job, localArea, slotAreaIn, itemArea}
-use Rattle.live.specs.Live.{PutInOrder}
+use Rattle.live.specs.Inner.{PutInOrder}
 use Rattle.slot_spots.specs.declared.Places.{Places}
-use Rattle.slot_spots.specs.Slots.{heldWord}
-use Rattle.area_measure.specs.Locals.{wordOf, ListedBy}
-use Rattle.slot_measure.specs.All.{mostFor}
+use Rattle.slot_spots.specs.Inner.{heldWord}
+use Rattle.area_measure.specs.Inner.Locals.{wordOf, ListedBy}
+use Rattle.slot_measure.specs.Inner.{mostFor}
 use Rattle.job_space.specs.declared.Sizes.{Sizes}
 use Rattle.job_space.specs.Space.{sizesOf, spaceOf}
 use Rattle.job_checks.specs.Job.{jobOf}
 use Rattle.job_layout.specs.declared.Regions.{Regions}
-use Rattle.job_layout.specs.Layout.{Placed, SlotsFrom, mostOfLocal, mostOfSlot}
+use Rattle.job_layout.specs.Inner.{Placed, SlotsFrom, mostOfLocal, mostOfSlot}
 use Rattle.job_layout.proofs.FitLaws.{slots-in-order, slots-laid, slots-within}
-use Rattle.area_tables.specs.Tables.{listing}
-use Rattle.job_areas.specs.Areas.{SlotsAsked, SlotsIn, Lent, LocalsDone, SlotsDue, SlotsDone, Solved}
+use Rattle.area_tables.specs.Inner.{listing}
+use Rattle.job_areas.specs.Inner.{SlotsAsked, SlotsIn, Lent, LocalsDone, SlotsDue, SlotsDone, Solved}
 use Rattle.job_areas.proofs.KeptLaws.{held-bound}
 use Rattle.job_space.specs.Rows.{Rows}
 

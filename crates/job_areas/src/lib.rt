@@ -1,6 +1,7 @@
 // The areas of all items of a job in the work space, from records that no check refuses: the locals', then the slots'.
-ghost use Rattle.job_space.specs.Rows.{rowsAt, lentRows};
-ghost use Rattle.job_areas.specs.Areas.{Lent, LocalsDue, LocalsDone, SlotsDue, SlotsDone, Solved};
+ghost use Rattle.job_space.specs.Inner.{rowsAt};
+ghost use Rattle.job_space.specs.Rows.{lentRows};
+ghost use Rattle.job_areas.specs.Inner.{Lent, LocalsDue, LocalsDone, SlotsDue, SlotsDone, Solved};
 use area_measure::Listing;
 use job_layout::Regions;
 use job_space::Sizes;

@@ -1,5 +1,5 @@
 // The slots' phase of a job.
-ghost use Rattle.job_areas.specs.Areas.{SlotsAsked, SlotsIn};
+ghost use Rattle.job_areas.specs.Inner.{SlotsAsked, SlotsIn};
 use area_measure::Listing;
 use slot_spots::Places;
 

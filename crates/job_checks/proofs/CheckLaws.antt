@@ -25,7 +25,8 @@ use Rattle.areas.specs.Slots.{assignedOf, movesOf, moveVerdict, pieceVerdict, a
 use Rattle.areas.specs.Job.{checks}
 use Rattle.insts.specs.Counts.{badRows, rowsVerdict, mostVerdict}
 use Rattle.insts.proofs.CheckLaws.{most-few, rows-few}
-use Rattle.carry_checks.specs.Checks.{carryCounts, strayVerdict as mentionVerdict}
+use Rattle.carry_checks.specs.Checks.{carryCounts}
+use Rattle.carry_checks.specs.Inner.{strayVerdict as mentionVerdict}
 use Rattle.carry_checks.proofs.CheckLaws.{counted, Counted, stray-whatever, addresses-found, ends-found}
 use Rattle.spill_checks.proofs.OperandLaws.{moves-whatever}
 use Rattle.job_space.specs.Rows.{Rows}

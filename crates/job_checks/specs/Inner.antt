@@ -8,7 +8,7 @@ use Rattle.carrying.specs.Insts.{instsOf}
 use Rattle.carrying.specs.Carried.{piecesOf}
 use Rattle.carrying.specs.Checks.{instVerdict, crossingVerdict}
 use Rattle.areas.specs.Slots.{assignedOf, movesOf, moveVerdict, pieceVerdict, assignedVerdict}
-use Rattle.carry_checks.specs.Checks.{strayVerdict as mentionVerdict}
+use Rattle.carry_checks.specs.Inner.{strayVerdict as mentionVerdict}
 use Rattle.areas.specs.Job.{checks}
 
 -- numbers 2, 3 and 4 of the blocks, the edges and the instructions

@@ -21,7 +21,8 @@ use Rattle.job_answers.specs.declared.Shared.{Shared}
 use Rattle.job_answers.specs.Answers.{answered}
 use Rattle.job.specs.Entry.{lentVerdict, SharedAs}
 use Rattle.codes.specs.Codes.{refusalCode, codeOf, verdictCode}
-use Rattle.want_codes.specs.Plans.{countsOf, PlanTold}
+use Rattle.want_codes.specs.Plans.{countsOf}
+use Rattle.want_codes.specs.Inner.{PlanTold}
 use Rattle.job_codes.specs.Job.{measuredVerdict, itemsTold, areasTold, JobCoded}
 use Rattle.job_space.specs.Rows.{Rows}
 use Rattle.fitting.specs.declared.Terms.{Terms}

@@ -9,7 +9,7 @@ ghost use Rattle.codes.specs.Codes.{verdictCode};
 ghost use Rattle.job_space.specs.Rows.{lentRows};
 ghost use Rattle.job.specs.Entry.{lentVerdict};
 ghost use Rattle.job_answers.specs.Answers.{answered};
-ghost use Rattle.want_codes.specs.Plans.{PlanTold};
+ghost use Rattle.want_codes.specs.Inner.{PlanTold};
 ghost use Rattle.job_codes.specs.Job.{JobCoded};
 use codes::refused;
 use codes::tell;

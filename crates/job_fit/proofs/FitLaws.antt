@@ -10,19 +10,18 @@ use mathlib.Core.List.{List}
 use lib.ListN.{length, getD}
 use lib.Dec.{ltb}
 use borrow.Author.Tests.{lt-ltb, le-ltb}
-use Rattle.words.specs.Regions.{Region}
-use Rattle.words.specs.Widths.{localWidth, localCount, localAlign, slotCount, slotSize}
+use Rattle.words.specs.Inner.{Region, localAlign, slotSize}
+use Rattle.words.specs.Widths.{localWidth, localCount, slotCount}
 use Rattle.words.proofs.RowLaws.{tabulate-eq}
 use Rattle.words.proofs.RegionLaws.{region-next}
 use Rattle.ranges.specs.declared.Range.{Range}
 use Rattle.fitting.specs.Wants.{Want, orderOf}
 use Rattle.fitting.specs.Plan.{planOf}
-use Rattle.fit_tables.specs.Keys.{sizeOf, alignOf}
+use Rattle.fit_tables.specs.Inner.{sizeOf, alignOf, wantIn, wantsIn, Lent, Fitted}
 use Rattle.fit_tables.specs.declared.Counts.{Counts}
-use Rattle.fit_tables.specs.Tables.{wantIn, wantsIn, Lent, Fitted}
-use Rattle.area_measure.specs.Locals.{wordOf, ListedBy}
-use Rattle.area_tables.specs.Tables.{listing}
-use Rattle.job_fit.specs.Wants.{tablesFor, countOf, sizeAt, alignAt, localWord, slotWord, wantWord, wantFor, wantsFor, planFor, Ready, Holds, FittedFor}
+use Rattle.area_measure.specs.Inner.Locals.{wordOf, ListedBy}
+use Rattle.area_tables.specs.Inner.{listing}
+use Rattle.job_fit.specs.Inner.{tablesFor, countOf, sizeAt, alignAt, localWord, slotWord, wantWord, wantFor, wantsFor, planFor, Ready, Holds, FittedFor}
 use Rattle.job_fit.proofs.AreaLaws.{area-is, proper-is, listed-kept}
 
 -- ---- the wants' table

@@ -1,1 +1,1 @@
-pub mod Wants
+pub mod Inner

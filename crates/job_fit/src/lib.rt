@@ -1,9 +1,9 @@
 // Fitting of a job's items, from their areas in the work space: the wants' table, and the lowest fitting cell for each.
 ghost use Prim.Native.Nat.{_+_, _≤_};
 ghost use lib.ListN.{length};
-ghost use Rattle.words.specs.Regions.{Region};
+ghost use Rattle.words.specs.Inner.{Region};
 ghost use Rattle.words.specs.Widths.{localCount, slotCount};
-ghost use Rattle.job_fit.specs.Wants.{localWord, slotWord, wantWord, Ready, FittedFor};
+ghost use Rattle.job_fit.specs.Inner.{localWord, slotWord, wantWord, Ready, FittedFor};
 use fit_tables::Counts;
 use fit_tables::HALF;
 use fit_tables::Tables;

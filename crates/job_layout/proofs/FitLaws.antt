@@ -6,19 +6,18 @@ use mathlib.Core.Path.{_≡_, sym, ap, _∙_, subst}
 use mathlib.Core.List.{List}
 use lib.ListN.{length}
 use Rattle.reach.specs.declared.Lay.{Lay}
-use Rattle.reach.specs.Prepared.{Laid as CarryLaid}
+use Rattle.reach.specs.Inner.{Laid as CarryLaid}
 use Rattle.area_flow.specs.declared.Grid.{Grid}
-use Rattle.area_flow.specs.Grid.{Laid as GridLaid}
-use Rattle.area_layout.specs.Layout.{Gridded, markOf}
-use Rattle.area_layout.specs.Layout.{Small as GridSmall}
+use Rattle.area_flow.specs.Inner.{Laid as GridLaid}
+use Rattle.area_layout.specs.Inner.{Gridded, markOf, Small as GridSmall}
 use Rattle.area_layout.proofs.FitLaws.{rows-fit}
 use Rattle.slot_spots.specs.declared.Places.{Places}
-use Rattle.slot_spots.specs.Slots.{Laid as SlotLaid}
+use Rattle.slot_spots.specs.Inner.{Laid as SlotLaid}
 use Rattle.job_space.specs.declared.Sizes.{Sizes}
 use Rattle.job_space.specs.Space.{spaceOf, Small}
 use Rattle.words.proofs.FitLaws.{rows-few}
 use Rattle.job_layout.specs.declared.Regions.{Regions}
-use Rattle.job_layout.specs.Layout.{gridSizes, Placed, LaidFrom, SlotsFrom, mostOfLocal, mostOfSlot, Fits, Order, SlotOrder, LocalsLaid, SlotsLaid}
+use Rattle.job_layout.specs.Inner.{gridSizes, Placed, LaidFrom, SlotsFrom, mostOfLocal, mostOfSlot, Fits, Order, SlotOrder, LocalsLaid, SlotsLaid}
 use Rattle.words.specs.Regions.{rowWords}
 
 pub grid-small : {z : Sizes} → Small z → GridSmall (gridSizes z)

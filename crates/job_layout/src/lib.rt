@@ -3,8 +3,8 @@
 ghost use mathlib.Core.Path.{_≡_};
 ghost use Prim.Native.Nat.{_*_, _≤_};
 ghost use Rattle.job_space.specs.Space.{Small};
-ghost use Rattle.area_layout.specs.Layout.{Gridded, markOf};
-ghost use Rattle.job_layout.specs.Layout.{gridSizes, Placed, LaidFrom, SlotsFrom};
+ghost use Rattle.area_layout.specs.Inner.{Gridded, markOf};
+ghost use Rattle.job_layout.specs.Inner.{gridSizes, Placed, LaidFrom, SlotsFrom};
 use area_flow::Grid;
 use job_space::Sizes;
 use reach::Lay;

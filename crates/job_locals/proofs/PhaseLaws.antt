@@ -6,17 +6,17 @@ use mathlib.Core.List.{List}
 use Rattle.words.specs.Widths.{blockCount, edgeCount, endCount}
 use Rattle.components.specs.Entry.{edgesIn}
 use Rattle.reach.specs.declared.Lay.{Lay}
-use Rattle.reach.specs.Prepared.{codeOf, Prepared}
+use Rattle.reach.specs.Prepared.{codeOf}
+use Rattle.reach.specs.Inner.{Prepared}
 use Rattle.follow.specs.declared.Sizes.{Sizes}
 use Rattle.area_flow.specs.declared.Grid.{Grid}
-use Rattle.area_flow.specs.Grid.{Laid as GridLaid}
+use Rattle.area_flow.specs.Inner.{Laid as GridLaid}
 use Rattle.area_measure.specs.declared.Listing.{Listing}
 use Rattle.job_spots.specs.declared.Places.{Places}
-use Rattle.job_spots.specs.Fetch as fetching
+use Rattle.job_spots.specs.Inner as fetching
 use Rattle.job_spots.proofs.FetchLaws.{prepared-kept, ready-since}
-use Rattle.job_measure.specs.Measure.{Fits, MeasuredLocals}
-use Rattle.job_measure.specs.Measure.{Ready as MeasureReady}
-use Rattle.job_locals.specs.Locals.{sizes, TablesIn, RowsAsked, RowsIn, Asked, LocalsIn}
+use Rattle.job_measure.specs.Inner.{Fits, MeasuredLocals, Ready as MeasureReady}
+use Rattle.job_locals.specs.Inner.{sizes, TablesIn, RowsAsked, RowsIn, Asked, LocalsIn}
 
 module _ (blocks edges insts operands crossings addresses ends pieces : List ℕ) (v locals : ℕ) (lay : Lay) (p : Places) (g : Grid) (mark : ℕ) (o : Listing) {w₀ w₁ : List ℕ} {n : ℕ}
     (K : Asked blocks edges insts operands crossings addresses ends pieces v locals lay p g mark o w₀) (T : TablesIn insts operands crossings addresses ends v locals lay p w₀ w₁ n) where

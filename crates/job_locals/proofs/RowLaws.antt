@@ -5,7 +5,7 @@ use mathlib.Core.Path.{_≡_, refl, ap, _∙_}
 use mathlib.Core.Logic.{inl, inr}
 use mathlib.Core.List.{List, []}
 use lib.ListN.{getD}
-use Rattle.words.specs.Regions.{Region}
+use Rattle.words.specs.Inner.{Region}
 use Rattle.words.specs.Widths.{blockCount, edgeCount}
 use Rattle.bits.specs.Bits.{bitOf}
 use Rattle.bits.proofs.DigitLaws.{bit-zero}
@@ -13,12 +13,11 @@ use Rattle.components.specs.Entry.{edgesIn}
 use Rattle.reach.specs.declared.Lay.{Lay}
 use Rattle.follow.specs.declared.Sizes.{Sizes}
 use Rattle.area_flow.specs.declared.Grid.{Grid}
-use Rattle.area_flow.specs.Grid.{Quiet, AreaRows}
-use Rattle.area_flow.specs.Grid.{Laid as GridLaid}
+use Rattle.area_flow.specs.Inner.{Quiet, AreaRows, Laid as GridLaid}
 use Rattle.local_marks.proofs.RowLaws.{rows-by}
 use Rattle.job_spots.specs.declared.Places.{Places}
-use Rattle.job_marks.specs.Marks.{MarkedAll}
-use Rattle.job_locals.specs.Locals.{RowsAsked, RowsIn}
+use Rattle.job_marks.specs.Inner.{MarkedAll}
+use Rattle.job_locals.specs.Inner.{RowsAsked, RowsIn}
 
 module _ (blocks edges insts addresses ends pieces : List ℕ) (lay : Lay) (p : Places) (z : Sizes) (g : Grid) (mark : ℕ) {w₀ w₁ : List ℕ}
     (R : RowsAsked blocks edges insts addresses ends pieces lay p z g mark w₀) (M : MarkedAll blocks insts addresses ends pieces lay p z g w₀ w₁) where

@@ -4,18 +4,19 @@ use native.Mathlib.Omega.{arith}
 use mathlib.Core.Path.{refl, _∙_}
 use mathlib.Core.Logic.{inl, inr}
 use mathlib.Core.List.{List}
-use Rattle.words.specs.Regions.{Region}
-use Rattle.words.specs.Widths.{operandCount, endCount, mentionLocal}
-use Rattle.graph.specs.Work.{Within}
+use Rattle.words.specs.Inner.{Region, mentionLocal}
+use Rattle.words.specs.Widths.{operandCount, endCount}
+use Rattle.graph.specs.Inner.Work.{Within}
 use Rattle.insts.proofs.DealtLaws.{insts-length}
 use Rattle.reach.specs.declared.Lay.{Lay}
-use Rattle.reach.specs.Prepared.{codeOf, Readied}
+use Rattle.reach.specs.Prepared.{codeOf}
+use Rattle.reach.specs.Inner.{Readied}
 use Rattle.reach.proofs.ReadyLaws.{mentions-count}
 use Rattle.follow.proofs.KeptLaws.{made-ready, prepared-kept, ready-kept}
-use Rattle.follow.specs.Followed as following
-use Rattle.chains.specs.Chains.{Linked}
+use Rattle.follow.specs.Inner as following
+use Rattle.chains.specs.Inner.{Linked}
 use Rattle.job_spots.specs.declared.Places.{Places}
-use Rattle.job_locals.specs.Locals.{sizes, TablesAsked, TablesIn}
+use Rattle.job_locals.specs.Inner.{sizes, TablesAsked, TablesIn}
 
 module _ (insts operands crossings addresses ends : List ℕ) (v locals : ℕ) (lay : Lay) (p : Places) {w₀ w₁ : List ℕ} {n : ℕ} (T : TablesAsked insts operands addresses ends v locals lay p w₀)
     (R : Readied (codeOf v insts operands crossings addresses ends) lay (operandCount operands) locals n w₀ w₁) where

@@ -1,1 +1,1 @@
-pub mod Locals
+pub mod Inner

@@ -1,6 +1,6 @@
 // The locals of a job, from its records to their areas in the work space.
 ghost use Prim.Native.Nat.{_/_};
-ghost use Rattle.job_locals.specs.Locals.{TablesAsked, TablesIn, RowsAsked, RowsIn, Asked, LocalsIn};
+ghost use Rattle.job_locals.specs.Inner.{TablesAsked, TablesIn, RowsAsked, RowsIn, Asked, LocalsIn};
 use area_flow::Grid;
 use area_measure::Listing;
 use follow::Sizes;

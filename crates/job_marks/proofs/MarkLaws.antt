@@ -9,7 +9,7 @@ use Rattle.words.specs.Widths.{blockCount}
 use Rattle.ranges.specs.declared.Range.{Range}
 use Rattle.ranges.specs.Merged.{Permuted}
 use Rattle.graph.specs.Paths.{Edge}
-use Rattle.graph.specs.Work.{Within}
+use Rattle.graph.specs.Inner.Work.{Within}
 use Rattle.graph.proofs.Within.{within-trans, within-wider}
 use Rattle.carrying.specs.declared.Kind.{Kind}
 use Rattle.carrying.specs.declared.Kind.the-variants.{Unfollowed, Plain, Ending}
@@ -19,16 +19,15 @@ use Rattle.areas.proofs.PermuteLaws.{any-perm, touched-perm, leaves-perm}
 use Rattle.reach.specs.declared.Lay.{Lay}
 use Rattle.reach.specs.Prepared.{codeOf}
 use Rattle.follow.specs.declared.Sizes.{Sizes}
-use Rattle.spots.specs.Spots.{lineOf, touchesAt, endsAt}
+use Rattle.spots.specs.Spots.{lineOf}
+use Rattle.spots.specs.Inner.{touchesAt, endsAt}
 use Rattle.area_flow.specs.declared.Grid.{Grid}
 use Rattle.job_spots.specs.declared.Places.{Places}
 use Rattle.job_spots.specs.declared.JobLocal.{JobLocal}
-use Rattle.job_spots.specs.Fetch.{FetchedTo, FetchedAny}
-use Rattle.local_marks.specs.Marks.{isPlain, isEnding}
-use Rattle.local_marks.specs.Marking.{Marking, Standing}
+use Rattle.job_spots.specs.Inner.{FetchedTo, FetchedAny}
+use Rattle.local_marks.specs.Inner.{isPlain, isEnding, Marking, Standing}
 use Rattle.local_marks.proofs.BitLaws.{marking-since, marking-none, marking-sorted}
-use Rattle.job_marks.specs.Marks.{Ready}
-use Rattle.job_marks.specs.Inner.{MarkingOf, MarkedOne}
+use Rattle.job_marks.specs.Inner.{Ready, MarkingOf, MarkedOne}
 
 pub plain-followed : {k : Kind} → k ≡ Plain → k ≢ Unfollowed
 plain-followed e q = true≢false (ap isPlain (sym e ∙ q))

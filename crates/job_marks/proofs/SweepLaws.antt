@@ -6,20 +6,20 @@ use mathlib.Core.List.{List}
 use lib.ListN.{getD}
 use Rattle.words.specs.Widths.{blockCount}
 use Rattle.graph.specs.Paths.{Edge}
-use Rattle.graph.specs.Work.{Within}
+use Rattle.graph.specs.Inner.Work.{Within}
 use Rattle.graph.proofs.Within.{within-refl, within-trans, within-wider}
 use Rattle.carrying.specs.Carried.{Code, piecesOf, kindOf, touchesOf, endsOf}
 use Rattle.reach.specs.declared.Lay.{Lay}
-use Rattle.reach.specs.Prepared.{codeOf, Prepared}
+use Rattle.reach.specs.Prepared.{codeOf}
+use Rattle.reach.specs.Inner.{Prepared}
 use Rattle.follow.specs.declared.Sizes.{Sizes}
 use Rattle.spots.specs.Spots.{lineOf}
 use Rattle.area_flow.specs.declared.Grid.{Grid}
-use Rattle.area_flow.specs.Grid.{Unmarked}
+use Rattle.area_flow.specs.Inner.{Unmarked}
 use Rattle.job_spots.specs.declared.Places.{Places}
 use Rattle.job_spots.proofs.FetchLaws.{ready-since, prepared-kept}
 use Rattle.local_marks.proofs.SweepLaws.{MarkedTo, marked-start, marked-next, marked-done}
-use Rattle.job_marks.specs.Marks.{Ready, MarkedAll}
-use Rattle.job_marks.specs.Inner.{MarkedOne}
+use Rattle.job_marks.specs.Inner.{Ready, MarkedAll, MarkedOne}
 
 abbrev pub MarkedOf : List ℕ → List ℕ → Code → Grid → ℕ → List ℕ → List Edge → Type 0
 MarkedOf blocks pieces C g l w es = MarkedTo (lineOf blocks es) (kindOf C) (touchesOf C (piecesOf pieces)) (endsOf C) g (blockCount blocks) l w

@@ -1,7 +1,6 @@
 // The first pass over the locals of a job: the marks of every followed one in the rows of the places.
 ghost use Prim.Native.Nat.{_<_};
-ghost use Rattle.job_marks.specs.Marks.{Ready, MarkedAll};
-ghost use Rattle.job_marks.specs.Inner.{MarkedOne};
+ghost use Rattle.job_marks.specs.Inner.{Ready, MarkedAll, MarkedOne};
 use area_flow::Grid;
 use carrying::Kind;
 use follow::Sizes;

@@ -9,11 +9,11 @@ use Rattle.reach.specs.declared.Lay.{Lay}
 use Rattle.follow.specs.declared.Sizes.{Sizes}
 use Rattle.area_flow.specs.declared.Grid.{Grid}
 use Rattle.area_measure.specs.declared.Listing.{Listing}
-use Rattle.area_measure.specs.Locals.{wordOf}
+use Rattle.area_measure.specs.Inner.Locals.{wordOf}
 use Rattle.area_measure.proofs.ListLaws.{listed-none}
 use Rattle.job_spots.specs.declared.Places.{Places}
 use Rattle.job_spots.proofs.FetchLaws.{prepared-stays}
-use Rattle.job_measure.specs.Measure.{mostIn, Ready, Spared, Next, ListedTo, MeasuredLocals}
+use Rattle.job_measure.specs.Inner.{mostIn, Ready, Spared, Next, ListedTo, MeasuredLocals}
 use Rattle.job_measure.proofs.StepLaws.{rows-kept, ready-kept}
 
 module _ (blocks insts addresses ends pieces : List ℕ) (lay : Lay) (p : Places) (z : Sizes) (g : Grid) (mark : ℕ) (o : Listing) where

@@ -8,13 +8,13 @@ use mathlib.Core.Option.{Option, some, none}
 use mathlib.Core.List.{List}
 use lib.ListN.{length, getD, set, length-set}
 use Rattle.words.specs.Sort.{sortOf}
-use Rattle.words.specs.Regions.{part}
+use Rattle.words.specs.Inner.{part}
 use Rattle.words.specs.Widths.{blockCount, addressCount, endCount, pieceCount}
 use Rattle.words.proofs.Points.{stored}
 use Rattle.words.proofs.RegionLaws.{row-before}
 use Rattle.bits.specs.Bits.{bit, bitOf}
 use Rattle.ranges.specs.declared.Range.{Range}
-use Rattle.ranges.specs.Forms.{unpacked}
+use Rattle.ranges.specs.Inner.{unpacked}
 use Rattle.ranges.specs.Merged.{Permuted}
 use Rattle.graph.specs.Paths.{Edge}
 use Rattle.graph.specs.Rounds.{reachedRow, reachingRow, arrivingRow}
@@ -27,24 +27,27 @@ use Rattle.areas.specs.Pieces.{beforeRow, afterRow, arrivesRow}
 use Rattle.areas.specs.Job.{areaBy, rangesIn}
 use Rattle.areas.proofs.PermuteLaws.{any-perm, touched-perm, leaves-perm, plain-permuted, end-permuted}
 use Rattle.reach.specs.declared.Lay.{Lay}
-use Rattle.reach.specs.Prepared.{codeOf, Prepared}
+use Rattle.reach.specs.Prepared.{codeOf}
+use Rattle.reach.specs.Inner.{Prepared}
 use Rattle.follow.specs.declared.Sizes.{Sizes}
-use Rattle.spots.specs.Spots.{lineOf, touchesAt, endsAt}
+use Rattle.spots.specs.Spots.{lineOf}
+use Rattle.spots.specs.Inner.{touchesAt, endsAt}
 use Rattle.kind_numbers.specs.Numbers.{kindNumber, kindBy}
 use Rattle.kind_numbers.proofs.KindLaws.{kind-told, plain-number, ending-number}
 use Rattle.local_spots.proofs.OrderLaws.{arrives-sorted, ending-sorted}
 use Rattle.area_pieces.proofs.PushLaws.{set-other}
 use Rattle.area_flow.specs.declared.Grid.{Grid}
-use Rattle.area_flow.specs.Grid.{rowBit, blockBit}
+use Rattle.area_flow.specs.Inner.{rowBit, blockBit}
 use Rattle.area_measure.specs.declared.Listing.{Listing}
-use Rattle.area_measure.specs.Measure.{itemWord, RowsFor, Measurable, Listable, Measured}
-use Rattle.area_measure.specs.Locals.{listed, wordOf, localAt}
+use Rattle.area_measure.specs.Inner.Measure.{itemWord, RowsFor, Measurable, Listable, Measured}
+use Rattle.area_measure.specs.Locals.{listed}
+use Rattle.area_measure.specs.Inner.Locals.{wordOf, localAt}
 use Rattle.area_measure.proofs.ListLaws.{listed-more}
 use Rattle.job_spots.specs.declared.Places.{Places}
 use Rattle.job_spots.specs.declared.JobLocal.{JobLocal}
-use Rattle.job_spots.specs.Fetch.{isUnfollowed, FetchedTo, FetchedAny}
+use Rattle.job_spots.specs.Inner.{isUnfollowed, FetchedTo, FetchedAny}
 use Rattle.job_spots.proofs.FetchLaws.{prepared-stays, ready-stays, is-unfollowed}
-use Rattle.job_measure.specs.Measure.{mostIn, Fits, RowsOf, Ready, Spared, areaIn, Next}
+use Rattle.job_measure.specs.Inner.{mostIn, Fits, RowsOf, Ready, Spared, areaIn, Next}
 
 -- ---- kinds
 

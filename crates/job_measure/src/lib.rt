@@ -1,6 +1,6 @@
 // The areas of all locals of a job, one behind another in item order, and the table of their items.
 ghost use Prim.Native.Nat.{_+_, _*_, _≤_, _<_};
-ghost use Rattle.job_measure.specs.Measure.{mostIn, Ready, Next, MeasuredLocals};
+ghost use Rattle.job_measure.specs.Inner.{mostIn, Ready, Next, MeasuredLocals};
 use area_flow::Grid;
 use area_measure::Listing;
 use area_pieces::Local;

@@ -10,7 +10,8 @@ use borrow.Author.Tests.{lt-ltb, le-ltb, eq-eqb, ne-eqb}
 use Rattle.fitting.specs.declared.Terms.{Terms}
 use Rattle.job_space.specs.declared.Sizes.{Sizes}
 use Rattle.job_space.specs.Rows.{rowsOf}
-use Rattle.job_space.specs.Space.{sizesOf, spaceOf, Counted, Small, badShape}
+use Rattle.job_space.specs.Space.{sizesOf, spaceOf, Small, badShape}
+use Rattle.job_space.specs.Inner.{Counted}
 use Rattle.words.specs.Widths.{cellWidth, itemWidth}
 use Rattle.words.specs.Regions.{rowWords}
 

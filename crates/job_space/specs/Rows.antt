@@ -62,9 +62,3 @@ rowsOf points v blocks edges insts operands crossings locals slots addresses end
   assigned = assigned;
   moves = moves;
 }
-
--- the same, as a `requires` names the lists
-abbrev pub rowsAt : ℕ → ℕ → RefT (List ℕ) → RefT (List ℕ) → RefT (List ℕ) → RefT (List ℕ) → RefT (List ℕ) → RefT (List ℕ)
-    → RefT (List ℕ) → RefT (List ℕ) → RefT (List ℕ) → RefT (List ℕ) → RefT (List ℕ) → RefT (List ℕ) → Rows
-rowsAt points v blocks edges insts operands crossings locals slots addresses ends pieces assigned moves =
-    rowsOf points v (now blocks) (now edges) (now insts) (now operands) (now crossings) (now locals) (now slots) (now addresses) (now ends) (now pieces) (now assigned) (now moves)

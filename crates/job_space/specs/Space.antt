@@ -1,5 +1,5 @@
 -- Document 01: the counts of a job's records, W, and number 1 of what only fitting takes.
-use Prim.Native.Nat.{ℕ, _+_, _*_, _/_, _%_, _^_, _≤_, _<_}
+use Prim.Native.Nat.{ℕ, _+_, _*_, _/_, _%_, _≤_, _<_}
 use mathlib.Core.Bool.{Bool, not, _||_}
 use lib.ListN.{length}
 use lib.Dec.{ltb, eqb}
@@ -33,23 +33,6 @@ abbrev pub spaceOf : Sizes → ℕ
 spaceOf z =
     8 * (z .blocks + z .edges + z .insts + z .operands + z .crossings + z .locals + z .slots + z .addresses + z .ends + z .pieces + z .assigned + z .moves
     + z .blocks * rowWords (z .locals) + z .room + rowWords (z .v))
-
--- each number fits 32 bits: W of any such numbers is computed
-pub record Counted (z : Sizes) : Type 0 where
-  pub registers : z .v < 2 ^ 32
-  pub blocks : z .blocks < 2 ^ 32
-  pub edges : z .edges < 2 ^ 32
-  pub insts : z .insts < 2 ^ 32
-  pub operands : z .operands < 2 ^ 32
-  pub crossings : z .crossings < 2 ^ 32
-  pub locals : z .locals < 2 ^ 32
-  pub slots : z .slots < 2 ^ 32
-  pub addresses : z .addresses < 2 ^ 32
-  pub ends : z .ends < 2 ^ 32
-  pub pieces : z .pieces < 2 ^ 32
-  pub assigned : z .assigned < 2 ^ 32
-  pub moves : z .moves < 2 ^ 32
-  pub ranges : z .room < 2 ^ 32
 
 -- within the limits
 pub record Small (z : Sizes) : Type 0 where

@@ -1,6 +1,7 @@
 // The counts of a job's records as they are lent, W, and what only fitting takes.
 ghost use mathlib.Core.Path.{_≡_};
-ghost use Rattle.job_space.specs.Space.{spaceOf, Counted, badShape};
+ghost use Rattle.job_space.specs.Space.{spaceOf, badShape};
+ghost use Rattle.job_space.specs.Inner.{Counted};
 use fitting::Terms;
 use words::widths::cell;
 use words::widths::item;

@@ -6,13 +6,13 @@ use mathlib.Core.Logic.{inr}
 use mathlib.Core.Bool.{true, false, true≢false}
 use mathlib.Core.List.{List}
 use lib.ListN.{length, getD}
-use Rattle.words.specs.Regions.{part, Kept}
+use Rattle.words.specs.Inner.{part, Kept}
 use Rattle.words.specs.Sort.{Distinct}
 use Rattle.words.specs.Widths.{addressCount, endCount, pieceCount}
 use Rattle.words.proofs.RegionLaws.{kept-part-list}
-use Rattle.ranges.specs.Forms.{unpacked}
+use Rattle.ranges.specs.Inner.{unpacked}
 use Rattle.ranges.specs.Merged.{Permuted}
-use Rattle.graph.specs.Work.{Within}
+use Rattle.graph.specs.Inner.Work.{Within}
 use Rattle.graph.proofs.Within.{within-trans, within-wider}
 use Rattle.carrying.specs.declared.Kind.{Kind}
 use Rattle.carrying.specs.declared.Kind.the-variants.{Unfollowed, Plain, Ending}
@@ -20,21 +20,20 @@ use Rattle.carrying.proofs.CarryLaws.{carries-below}
 use Rattle.areas.proofs.PermuteLaws.{perm-is}
 use Rattle.insts.proofs.DealtLaws.{insts-length}
 use Rattle.reach.specs.declared.Lay.{Lay}
-use Rattle.reach.specs.Prepared.{latest, codeOf, Prepared}
-use Rattle.reach.specs.Steps.{rowLocal}
+use Rattle.reach.specs.Inner.{latest, Prepared, rowLocal}
+use Rattle.reach.specs.Prepared.{codeOf}
 use Rattle.reach.proofs.ReadyLaws.{mentions-count}
 use Rattle.follow.specs.declared.Sizes.{Sizes}
 use Rattle.follow.specs.declared.Followed.{Followed}
-use Rattle.follow.specs.Followed.{FollowedTo, FollowsAny}
-use Rattle.follow.specs.Followed as following
+use Rattle.follow.specs.Inner.{FollowedTo, FollowsAny}
+use Rattle.follow.specs.Inner as following
 use Rattle.follow.proofs.KeptLaws as follow-laws
 use Rattle.chains.proofs.ChainLaws.{chain-kept}
-use Rattle.live.specs.Live.{InOrder}
-use Rattle.touches.specs.Touches.{Linked}
+use Rattle.live.specs.Inner.{InOrder}
+use Rattle.touches.specs.Inner.{Linked}
 use Rattle.job_spots.specs.declared.Places.{Places}
 use Rattle.job_spots.specs.declared.JobLocal.{JobLocal}
-use Rattle.job_spots.specs.Spots.{TouchesIn, EndsIn}
-use Rattle.job_spots.specs.Fetch.{isUnfollowed, Laid, Ready, FetchedAny}
+use Rattle.job_spots.specs.Inner.{TouchesIn, EndsIn, isUnfollowed, Laid, Ready, FetchedAny}
 use Rattle.job_spots.proofs.FollowLaws.{once, touches-are, ends-are}
 
 pub is-unfollowed : (k : Kind) → isUnfollowed k ≡ true → k ≡ Unfollowed

@@ -7,13 +7,13 @@ use mathlib.Core.Bool.{Bool, true}
 use mathlib.Core.List.{List, List·Memᴰ}
 use lib.ListN.{length, getD}
 use Rattle.words.specs.Rows.{tabulate}
-use Rattle.words.specs.Regions.{part}
+use Rattle.words.specs.Inner.{part}
 use Rattle.words.specs.Sort.{sortOf, Distinct}
 use Rattle.words.specs.Widths.{instCount, mentionWidth, addressCount, endCount}
 use Rattle.words.proofs.RowLaws.{length-tabulate, getD-tabulate}
 use Rattle.words.proofs.RegionLaws.{length-part, getD-part, part-is}
 use Rattle.sorting.proofs.RankLaws.{distinct-tabulate}
-use Rattle.ranges.specs.Forms.{unpacked}
+use Rattle.ranges.specs.Inner.{unpacked}
 use Rattle.ranges.specs.Merged.{Permuted}
 use Rattle.graph.proofs.Line.{mem-at, at-mem}
 use Rattle.carrying.specs.declared.Kind.the-variants.{Unfollowed}
@@ -23,10 +23,10 @@ use Rattle.reach.specs.declared.Lay.{Lay}
 use Rattle.reach.specs.Prepared.{codeOf}
 use Rattle.follow.specs.declared.Sizes.{Sizes}
 use Rattle.follow.specs.declared.Followed.{Followed}
-use Rattle.queue.specs.Walk.{queued}
-use Rattle.follow.specs.Followed.{FollowedTo}
+use Rattle.queue.specs.Inner.{queued}
+use Rattle.follow.specs.Inner.{FollowedTo}
 use Rattle.touches.proofs.TouchLaws.{touches-permuted, ends-sorted}
-use Rattle.job_spots.specs.Spots.{TouchesIn, EndsIn}
+use Rattle.job_spots.specs.Inner.{TouchesIn, EndsIn}
 
 module _ (lay : Lay) (w : List ℕ) (n : ℕ) (fits : lay .queue + n ≤ length w) where
   abbrev registers : List ℕ

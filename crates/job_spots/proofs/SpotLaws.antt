@@ -4,20 +4,20 @@ use native.Mathlib.Omega.{arith}
 use mathlib.Core.Path.{_≡_, refl, sym, ap, _∙_}
 use mathlib.Core.List.{List, _++_}
 use lib.ListN.{length, getD}
-use Rattle.words.specs.Regions.{Region, part}
+use Rattle.words.specs.Inner.{Region, part}
 use Rattle.words.specs.Sort.{sortOf}
 use Rattle.words.specs.Widths.{addressCount, endCount, pieceCount}
 use Rattle.words.proofs.RegionLaws.{part-is, length-part, getD-part}
 use Rattle.words.proofs.SortLaws.{length-sort, sorted-rising}
 use Rattle.ranges.specs.declared.Range.{Range}
-use Rattle.ranges.specs.Forms.{unpack, unpacked}
+use Rattle.ranges.specs.Inner.{unpack, unpacked}
 use Rattle.ranges.proofs.FormLaws.{map-append}
 use Rattle.graph.proofs.Within.{within-trans, within-wider, region-within}
 use Rattle.carrying.specs.Lists.{gather}
 use Rattle.carrying.specs.Carried.{piecesOf, livePieces}
-use Rattle.touches.specs.Touches.{entryAt, endAt, Linked, Gathered, Listed}
+use Rattle.touches.specs.Inner.{entryAt, endAt, Linked, Gathered, Listed}
 use Rattle.touches.proofs.RegisterLaws.{part-two}
-use Rattle.job_spots.specs.Spots.{TouchesIn, EndsIn}
+use Rattle.job_spots.specs.Inner.{TouchesIn, EndsIn}
 
 module _ (insts addresses pieces : List ℕ) (from count heads nexts l to : ℕ) {w₀ w₁ : List ℕ} {n : ℕ} (L : Linked insts addresses heads nexts l to w₀) (room : to + pieceCount pieces + addressCount addresses ≤ length w₀) (G : Gathered pieces from count to w₀ w₁ n) where
   -- the entries' chain stands as before

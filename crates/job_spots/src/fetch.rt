@@ -1,7 +1,7 @@
 // One local of a job at a time: followed, and its touches and ends put into the work space.
 ghost use mathlib.Core.Path.{_≡_};
 ghost use Prim.Native.Nat.{_<_};
-ghost use Rattle.job_spots.specs.Fetch.{isUnfollowed, Ready, FetchedAny};
+ghost use Rattle.job_spots.specs.Inner.{isUnfollowed, Ready, FetchedAny};
 use crate::JobLocal;
 use crate::Places;
 use carrying::Kind;

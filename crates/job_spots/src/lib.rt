@@ -2,11 +2,11 @@
 ghost use Prim.Native.Nat.{ℕ, _+_, _^_, _≤_, _<_};
 ghost use lib.ListN.{length, getD};
 ghost use Rattle.words.specs.Sort.{Distinct};
-ghost use Rattle.words.specs.Regions.{part};
+ghost use Rattle.words.specs.Inner.{part};
 ghost use Rattle.words.specs.Widths.{addressCount, pieceCount};
-ghost use Rattle.live.specs.Live.{InOrder};
-ghost use Rattle.touches.specs.Touches.{Linked};
-ghost use Rattle.job_spots.specs.Spots.{TouchesIn, EndsIn};
+ghost use Rattle.live.specs.Inner.{InOrder};
+ghost use Rattle.touches.specs.Inner.{Linked};
+ghost use Rattle.job_spots.specs.Inner.{TouchesIn, EndsIn};
 use carrying::Kind;
 use reach::Lay;
 use spots::Spots;

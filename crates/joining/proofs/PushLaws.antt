@@ -7,16 +7,16 @@ use native.Mathlib.Omega.{arith}
 use native.Mathlib.Numerals.{add-one}
 use lib.ListN.{length, getD, take, drop, set, length-set, length-drop}
 use lib.Seq.{take-suc-set, take-set-lt, drop-set-add}
-use Rattle.words.specs.Regions.{part}
+use Rattle.words.specs.Inner.{part}
 use Rattle.words.proofs.Points.{stored}
 use Rattle.words.proofs.RegionLaws.{length-part, getD-part}
 use Rattle.ranges.specs.declared.Range.{Range}
 use Rattle.ranges.specs.Points.{range, rangeAt}
 use Rattle.ranges.specs.Merged.{joined}
-use Rattle.ranges.specs.Forms.{pack, unpack, unpacked}
+use Rattle.ranges.specs.Inner.{pack, unpack, unpacked}
 use Rattle.ranges.proofs.FormLaws.{map-set, map-append, unpacked-at, unpacked-length, unpack-pack}
 use Rattle.ranges.proofs.TakeLaws.{joined-first, joined-longer, joined-next}
-use Rattle.joining.specs.Joined.{Listed, JoinedIn}
+use Rattle.joining.specs.Inner.{Listed, JoinedIn}
 
 -- ---- one word stored
 

@@ -4,8 +4,8 @@ ghost use mathlib.Core.Bool.{cond};
 ghost use Prim.Native.Nat.{_+_, _<_};
 ghost use lib.ListN.{length};
 ghost use Rattle.ranges.specs.Points.{range};
-ghost use Rattle.ranges.specs.Forms.{unpack};
-ghost use Rattle.joining.specs.Joined.{JoinedIn};
+ghost use Rattle.ranges.specs.Inner.{unpack};
+ghost use Rattle.joining.specs.Inner.{JoinedIn};
 
 // Puts a range to the k ranges from `at` on: the last is lengthened where the new one starts at its end plus 1, else it is appended.
 pub fn join(work: &mut [u64], at: usize, k: usize, x: u64) -> usize

@@ -7,23 +7,23 @@ use mathlib.Core.Bool.{Bool, true, _&&_, _||_}
 use mathlib.Core.List.{List, []}
 use lib.ListN.{length, getD}
 use lib.Dec.{eqb, leb, ltb}
-use Rattle.words.specs.Sort.{Rising}
+use Rattle.words.specs.Inner.{Rising}
 use Rattle.words.specs.Widths.{blockCount, blockEnd}
 use Rattle.words.proofs.RegionLaws.{kept-part-list}
 use Rattle.ranges.specs.declared.Range.{Range}
 use Rattle.ranges.specs.Points.{range}
 use Rattle.graph.specs.Paths.{Edge}
 use Rattle.graph.specs.Line.{blocksOf}
-use Rattle.graph.specs.Work.{Within}
+use Rattle.graph.specs.Inner.Work.{Within}
 use Rattle.graph.proofs.Line.{end-is}
 use Rattle.carrying.specs.Lists.{any}
 use Rattle.areas.specs.Blocks.{Graph, bottom, blockOf, bounds, between, until, cover, leaves}
 use Rattle.areas.proofs.BlockLaws.{bounds-cases, bounds-first, bounds-last, between-cases, between-test}
 use Rattle.spots.specs.declared.Spots.{Spots}
-use Rattle.spots.specs.Spots.{lineOf, touchesAt, endsAt, Stand}
+use Rattle.spots.specs.Spots.{lineOf}
+use Rattle.spots.specs.Inner.{touchesAt, endsAt, Stand}
 use Rattle.area_rows.specs.declared.Column.{Column}
-use Rattle.area_rows.specs.Marks.{marked, Marked, TouchesReady, EndsReady}
-use Rattle.area_rows.specs.Inner.{Put, leavesBy}
+use Rattle.area_rows.specs.Inner.{marked, Marked, TouchesReady, EndsReady, Put, leavesBy}
 use Rattle.area_rows.proofs.PutLaws.{put-then, put-as}
 -- two tests that hold together are one
 use Rattle.area_rows.proofs.MarkLaws.{any-same, marked-as, beside, kept-beside}

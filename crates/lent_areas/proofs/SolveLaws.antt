@@ -10,7 +10,8 @@ use mathlib.Core.Bool.{Bool, true, false}
 use mathlib.Core.List.{List, []}
 use lib.ListN.{length, getD}
 use Rattle.words.specs.Rows.{tabulate}
-use Rattle.words.specs.Widths.{blockCount, edgeCount, touchCount, stopCount, rangeWidth}
+use Rattle.words.specs.Widths.{blockCount, edgeCount, rangeWidth}
+use Rattle.words.specs.Inner.{touchCount, stopCount}
 use Rattle.words.proofs.RowLaws.{mem-tabulate}
 use Rattle.bits.specs.Bits.{bitOf}
 use Rattle.bits.proofs.DigitLaws.{bit-zero}
@@ -21,22 +22,27 @@ use Rattle.carrying.proofs.ListLaws.{any-false}
 use Rattle.areas.specs.Blocks.{Graph, inverted}
 use Rattle.spots.specs.Spots.{lineOf}
 use Rattle.area_flow.specs.declared.Grid.{Grid}
-use Rattle.area_flow.specs.Grid.{Laid as GridLaid}
+use Rattle.area_flow.specs.Inner.{Laid as GridLaid}
 use Rattle.local_spots.specs.declared.Places.{Places}
-use Rattle.local_spots.specs.Locals.{kindFor, touchesFor, endsFor, Laid, Chained}
-use Rattle.local_marks.specs.Marks.{invertedIn, someInverted, MarkedAll, Ready as MarkReady}
-use Rattle.local_marks.specs.Rows.{RowsBy}
+use Rattle.local_spots.specs.Locals.{kindFor, touchesFor, endsFor}
+use Rattle.local_spots.specs.Inner.{Laid, Chained}
+use Rattle.local_marks.specs.Marks.{invertedIn, someInverted}
+use Rattle.local_marks.specs.Inner.{MarkedAll, Ready as MarkReady, RowsBy}
 use Rattle.local_marks.proofs.RowLaws.{rows-by}
 use Rattle.local_marks.proofs.BitLaws.{inverted-followed}
 use Rattle.kind_numbers.proofs.KindLaws.{plain-kind, ending-kind}
-use Rattle.area_measure.specs.Locals.{areaFor, wordOf, Fits, Ready, RowsOf, MeasuredAll}
+use Rattle.area_measure.specs.Locals.{areaFor}
+use Rattle.area_measure.specs.Inner.Locals.{wordOf, Fits, Ready, RowsOf, MeasuredAll}
 use Rattle.area_measure.proofs.ListLaws.{listed-none}
 use Rattle.area_measure.proofs.LocalLaws.{chains-kept}
 use Rattle.area_layout.specs.declared.Sizes.{Sizes}
 use Rattle.lent_areas.specs.declared.Found.the-variants.{Inverted, Ranges}
-use Rattle.area_layout.specs.Layout.{spaceFor, Small, Placed, Gridded, markOf}
-use Rattle.area_checks.specs.Checks.{sizesOf, Lent}
-use Rattle.lent_areas.specs.Areas.{graphFor, listing, Markable, Marking, Rowed, Solved}
+use Rattle.area_layout.specs.Layout.{spaceFor}
+use Rattle.area_layout.specs.Inner.{Small, Placed, Gridded, markOf}
+use Rattle.area_checks.specs.Checks.{sizesOf}
+use Rattle.area_checks.specs.Inner.{Lent}
+use Rattle.lent_areas.specs.Areas.{graphFor}
+use Rattle.lent_areas.specs.Inner.{listing, Markable, Marking, Rowed, Solved}
 use Rattle.words.proofs.FitLaws.{rows-few}
 use Rattle.area_layout.proofs.FitLaws.{layout-fits}
 

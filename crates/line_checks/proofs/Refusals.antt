@@ -16,14 +16,17 @@ use Rattle.refusals.specs.declared.Refusal.{Refusal}
 use Rattle.refusals.specs.declared.Refusal.the-variants.{Count, Space}
 use Rattle.refusals.specs.Verdicts.{inOrder}
 use Rattle.refusals.proofs.Laws.{first-fine, first-bad, first-left, first-right, check-last}
-use Rattle.bits.specs.Bits.{bit, bitOf, PutBit}
+use Rattle.bits.specs.Bits.{bit, bitOf}
+use Rattle.bits.specs.Inner.{PutBit}
 use Rattle.bits.proofs.DigitLaws.{bit-zero}
 use Rattle.words.proofs.Points.{cut, same}
 use Rattle.words.proofs.Bools.{or-cond}
 use Rattle.graph.specs.Line.{Stretch, blocksOf, jumpsOf, blockAt, usedBefore, gapAt, badBlock, lineVerdict, badEdge, edgeVerdict, Sound}
-use Rattle.graph.specs.Checks.{badCount, countVerdict, badSpan, graphVerdict, rowsVerdict, spaceOf, spaceVerdict}
+use Rattle.graph.specs.Checks.{badCount, countVerdict, graphVerdict, rowsVerdict, spaceOf, spaceVerdict}
+use Rattle.graph.specs.Inner.Checks.{badSpan}
 use Rattle.graph.proofs.Line.{blocks-length, from-is, to-is, line-sound}
-use Rattle.words.specs.Widths.{blockWidth, blockCount, edgeWidth, edgeCount, edgeInto}
+use Rattle.words.specs.Widths.{blockWidth, blockCount, edgeWidth, edgeCount}
+use Rattle.words.specs.Inner.{edgeInto}
 
 -- ---- number 1
 

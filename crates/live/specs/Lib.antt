@@ -1,1 +1,1 @@
-pub mod Live
+pub mod Inner

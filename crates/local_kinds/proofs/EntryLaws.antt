@@ -11,22 +11,24 @@ use Rattle.words.specs.Regions.{cleared, rowWords}
 use Rattle.words.specs.Widths.{instCount, operandCount, localCount, addressCount}
 use Rattle.words.proofs.RowLaws.{length-tabulate}
 use Rattle.words.proofs.RegionLaws.{Done, done-start, done-more, done-all, region-front}
-use Rattle.graph.specs.Work.{Within}
+use Rattle.graph.specs.Inner.Work.{Within}
 use Rattle.graph.proofs.Within.{within-refl, within-trans, within-wider}
 use Rattle.carrying.specs.Carried.{kindOf}
 use Rattle.insts.proofs.DealtLaws.{insts-length}
 use Rattle.reach.specs.declared.Lay.{Lay}
 use Rattle.reach.proofs.ReadyLaws.{mentions-count}
-use Rattle.reach.specs.Prepared.{Laid, codeOf, Prepared, Readied}
+use Rattle.reach.specs.Inner.{Laid, Prepared, Readied}
+use Rattle.reach.specs.Prepared.{codeOf}
 use Rattle.follow.specs.declared.Sizes.{Sizes}
 use Rattle.follow.specs.declared.Followed.{Followed}
-use Rattle.follow.specs.Followed.{FollowsAny, Ready}
+use Rattle.follow.specs.Inner.{FollowsAny, Ready}
 use Rattle.follow.proofs.KeptLaws.{prepared-kept, ready-kept}
 use Rattle.carry_checks.proofs.LayoutLaws.{cleared-all}
 use Rattle.local_kinds.specs.declared.Answer.the-variants.{Given, Refused}
 use Rattle.carry_checks.specs.Checks.{carrySpace, carryVerdict}
-use Rattle.local_kinds.specs.Entry.{kindNumber, kindsOf, Kinds, Measured, ReachTo}
-use Rattle.carry_checks.specs.Layout.{usedOf, Checked}
+use Rattle.local_kinds.specs.Entry.{kindNumber, kindsOf, ReachTo}
+use Rattle.local_kinds.specs.Inner.{Kinds, Measured}
+use Rattle.carry_checks.specs.Inner.{usedOf, Checked}
 
 -- ---- the kinds of the first l locals
 

@@ -1,5 +1,5 @@
 -- What the entry `reach` answers.
-use Prim.Native.Nat.{ℕ, _+_}
+use Prim.Native.Nat.{ℕ}
 use mathlib.Core.Path.{_≡_}
 use mathlib.Core.List.{List}
 use lib.ListN.{length, replicate}
@@ -7,13 +7,9 @@ use Rattle.refusals.specs.declared.Verdict.{Verdict}
 use Rattle.refusals.specs.Verdicts.{numberOf}
 use Rattle.refusals.specs.Outcomes.{Outcome, given, refused, unless, after}
 use Rattle.words.specs.Rows.{tabulate}
-use Rattle.words.specs.Regions.{Region}
 use Rattle.words.specs.Widths.{localCount}
-use Rattle.graph.specs.Work.{Within}
 use Rattle.carrying.specs.Carried.{Code, kindOf}
-use Rattle.reach.specs.declared.Lay.{Lay}
-use Rattle.reach.specs.Prepared.{codeOf, Prepared}
-use Rattle.follow.specs.declared.Sizes.{Sizes}
+use Rattle.reach.specs.Prepared.{codeOf}
 use Rattle.local_kinds.specs.declared.Answer.{Answer}
 use Rattle.local_kinds.specs.declared.Answer.the-variants.{Given, Refused}
 use Rattle.carry_checks.specs.Checks.{carryChecks, carryVerdict, carrySpace}
@@ -27,18 +23,6 @@ answered (Refused r i) = refused (numberOf r) i
 -- the kinds of the first n locals
 abbrev pub kindsOf : Code → ℕ → List ℕ
 kindsOf C n = tabulate n (λ l. kindNumber (kindOf C l))
-
--- the kinds of all locals are in the answer list, and only the queue has changed
-pub record Kinds (insts addresses : List ℕ) (lay : Lay) (z : Sizes) (answer₀ answer w₀ w : List ℕ) : Type 0 where
-  pub kept : Within (lay .queue) (lay .queue + z .insts) w₀ w
-  pub len : length answer ≡ length answer₀
-  pub kinds : (operands crossings ends : List ℕ) → Prepared (codeOf (z .v) insts operands crossings addresses ends) lay w₀ (z .locals) (z .edges)
-      → Region answer₀ answer 0 (z .locals) (λ l. kindNumber (kindOf (codeOf (z .v) insts operands crossings addresses ends) l))
-
--- the kinds of the l locals, with changes in the first words of the work space only
-pub record Measured (C : Code) (l used : ℕ) (answer₀ answer w₀ w : List ℕ) : Type 0 where
-  pub kept : Within 0 used w₀ w
-  pub kinds : Region answer₀ answer 0 l (λ m. kindNumber (kindOf C m))
 
 -- the checks of `reach` in their order: numbers 1, 2, 4, 5 and 7, the last of them for an answer list shorter than the locals or work space under W
 abbrev pub reachChecks : ℕ → ℕ → List ℕ → List ℕ → List ℕ → List ℕ → List ℕ → List ℕ → List ℕ → List ℕ → List ℕ → List Verdict

@@ -2,9 +2,10 @@
 ghost use Prim.Native.Nat.{_+_, _/_, _≤_, _<_};
 ghost use lib.ListN.{length};
 ghost use Rattle.reach.specs.Prepared.{codeOf};
-ghost use Rattle.follow.specs.Followed.{Ready};
-ghost use Rattle.local_kinds.specs.Entry.{Kinds, Measured, ReachTo};
-ghost use Rattle.carry_checks.specs.Layout.{usedOf, Checked};
+ghost use Rattle.follow.specs.Inner.{Ready};
+ghost use Rattle.local_kinds.specs.Inner.{Kinds, Measured};
+ghost use Rattle.local_kinds.specs.Entry.{ReachTo};
+ghost use Rattle.carry_checks.specs.Inner.{usedOf, Checked};
 ghost use Rattle.words.specs.Widths.{instCount, operandCount, localCount, addressCount};
 ghost use Rattle.words.specs.Regions.{rowWords};
 use carry_checks::checks;

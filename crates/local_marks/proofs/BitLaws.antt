@@ -9,29 +9,30 @@ use lib.ListN.{length}
 use lib.Dec.{eqb}
 use borrow.Author.Tests.{eq-eqb, ne-eqb}
 use Rattle.words.specs.Sort.{sortOf}
-use Rattle.words.specs.Regions.{Kept}
+use Rattle.words.specs.Inner.{Kept}
 use Rattle.words.specs.Widths.{blockCount}
 use Rattle.words.proofs.RegionLaws.{row-before, kept-part-list}
 use Rattle.bits.specs.Bits.{bitOf}
 use Rattle.ranges.specs.declared.Range.{Range}
 use Rattle.graph.specs.Paths.{Edge}
-use Rattle.graph.specs.Work.{Within}
+use Rattle.graph.specs.Inner.Work.{Within}
 use Rattle.graph.proofs.Within.{within-refl, within-trans, within-wider}
 use Rattle.carrying.specs.Lists.{any}
 use Rattle.kind_numbers.specs.Numbers.{kindBy}
 use Rattle.areas.specs.Blocks.{Graph, inverted, touched, leaves, passes}
 use Rattle.spots.specs.declared.Spots.{Spots}
-use Rattle.spots.specs.Spots.{lineOf, touchesAt, endsAt}
+use Rattle.spots.specs.Spots.{lineOf}
+use Rattle.spots.specs.Inner.{touchesAt, endsAt}
 use Rattle.area_rows.specs.declared.Column.{Column}
-use Rattle.area_rows.specs.Marks.{Marked, TouchesReady, EndsReady}
+use Rattle.area_rows.specs.Inner.{Marked, TouchesReady, EndsReady}
 use Rattle.area_flow.specs.declared.Grid.{Grid}
-use Rattle.area_flow.specs.Grid.{rowBit}
+use Rattle.area_flow.specs.Inner.{rowBit}
 use Rattle.local_spots.specs.declared.Places.{Places}
-use Rattle.local_spots.specs.Locals.{touchesFor, endsFor, Fetched}
+use Rattle.local_spots.specs.Locals.{touchesFor, endsFor}
+use Rattle.local_spots.specs.Inner.{Fetched}
 use Rattle.local_spots.proofs.OrderLaws.{passes-sorted, leaves-sorted}
-use Rattle.local_marks.specs.Marks.{isPlain, isEnding, invertedIn, Ready}
-use Rattle.local_marks.specs.Marking.{Bits, Marking, Standing}
-use Rattle.local_marks.specs.Inner.{MarkedOne}
+use Rattle.local_marks.specs.Inner.{isPlain, isEnding, Ready, Bits, Marking, Standing, MarkedOne}
+use Rattle.local_marks.specs.Marks.{invertedIn}
 
 -- local l in the rows from `from` on
 abbrev pub columnAt : Grid → ℕ → ℕ → ℕ → Column

@@ -18,10 +18,9 @@ use Rattle.areas.specs.Blocks.{Graph, touched, leaves, passes}
 use Rattle.areas.specs.Pieces.{beforeRow, afterRow, arrivesRow}
 use Rattle.spots.specs.Spots.{lineOf}
 use Rattle.area_flow.specs.declared.Grid.{Grid}
-use Rattle.area_flow.specs.Grid.{rowBit, blockBit, Laid, AreaRows}
+use Rattle.area_flow.specs.Inner.{rowBit, blockBit, Laid, AreaRows}
 use Rattle.area_flow.proofs.BlockRows.{by-line, plain-written, plain-read, plain-blocks, ending-blocks}
-use Rattle.local_marks.specs.Marks.{isPlain, isEnding, Marks}
-use Rattle.local_marks.specs.Rows.{RowsBy}
+use Rattle.local_marks.specs.Inner.{isPlain, isEnding, Marks, RowsBy}
 
 -- the rows made from the marks w₀ have stood since
 module _ (blocks w : List ℕ) {es : List Edge} {K : ℕ → Kind} {T : ℕ → List Range} {E : ℕ → List ℕ} {g : Grid} {e : ℕ} {w₀ w₁ : List ℕ}

@@ -12,7 +12,7 @@ use Rattle.words.proofs.Points.{same}
 use Rattle.bits.specs.Bits.{bit}
 use Rattle.ranges.specs.declared.Range.{Range}
 use Rattle.graph.specs.Paths.{Edge}
-use Rattle.graph.specs.Work.{Within}
+use Rattle.graph.specs.Inner.Work.{Within}
 use Rattle.graph.proofs.Within.{within-refl, within-trans, within-wider}
 use Rattle.carrying.specs.declared.Kind.{Kind}
 use Rattle.carrying.proofs.ListLaws.{any-true, false-any}
@@ -20,13 +20,12 @@ use Rattle.areas.specs.Blocks.{Graph, touched, leaves, passes}
 use Rattle.spots.specs.Spots.{lineOf}
 use Rattle.area_rows.proofs.ColumnLaws.{Columns}
 use Rattle.area_flow.specs.declared.Grid.{Grid}
-use Rattle.area_flow.specs.Grid.{Unmarked}
+use Rattle.area_flow.specs.Inner.{Unmarked}
 use Rattle.local_spots.specs.declared.Places.{Places}
 use Rattle.local_spots.specs.Locals.{kindFor, touchesFor, endsFor}
 use Rattle.local_spots.proofs.ChainLaws.{chains-kept}
-use Rattle.local_marks.specs.Marks.{isPlain, isEnding, invertedIn, Ready, Marks, MarkedAll}
-use Rattle.local_marks.specs.Marking.{Bits, Marking}
-use Rattle.local_marks.specs.Inner.{MarkedOne}
+use Rattle.local_marks.specs.Inner.{isPlain, isEnding, Ready, Marks, MarkedAll, Bits, Marking, MarkedOne}
+use Rattle.local_marks.specs.Marks.{invertedIn}
 
 -- a change behind the chains
 pub ready-kept : {p : Places} {g : Grid} {blocks touches ends w w' : List ℕ} {hi : ℕ} → Ready p g blocks touches ends w → Within (p .at) hi w w' → Ready p g blocks touches ends w'

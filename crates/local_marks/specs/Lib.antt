@@ -1,4 +1,2 @@
 pub mod Marks
-pub mod Marking
 pub mod Inner
-pub mod Rows

@@ -8,10 +8,10 @@ use mir.Val.{Fits}
 use native.Mathlib.Omega.{arith}
 use lib.ListN.{length}
 use Rattle.words.proofs.FitLaws.{Word, word, small}
-use Rattle.chains.specs.Chains.{Walkable}
+use Rattle.chains.specs.Inner.{Walkable}
 use Rattle.chains.proofs.WalkLaws.{Walking}
 use Rattle.local_spots.specs.declared.Places.{Places}
-use Rattle.local_spots.specs.Locals.{Laid}
+use Rattle.local_spots.specs.Inner.{Laid}
 
 -- where the chain begins
 pub head-at : {f : ℕ → ℕ} {n l heads nexts top : ℕ} {w : List ℕ} → Walkable f n l heads nexts top w → length w * 8 < 2 ^ 63 → Word (heads + l) (length w)

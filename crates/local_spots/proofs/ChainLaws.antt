@@ -5,12 +5,11 @@ use mathlib.Core.Path.{_≡_, refl, _∙_}
 use mathlib.Core.Logic.{inl, inr}
 use mathlib.Core.List.{List}
 use lib.ListN.{getD}
-use Rattle.words.specs.Regions.{Region}
-use Rattle.words.specs.Widths.{touchCount, touchLocal, stopCount, stopLocal}
-use Rattle.chains.specs.Chains.{Linked}
+use Rattle.words.specs.Inner.{Region, touchCount, touchLocal, stopCount, stopLocal}
+use Rattle.chains.specs.Inner.{Linked}
 use Rattle.chains.proofs.ChainLaws.{chain-kept}
 use Rattle.local_spots.specs.declared.Places.{Places}
-use Rattle.local_spots.specs.Locals.{Laid, Chains, Chained}
+use Rattle.local_spots.specs.Inner.{Laid, Chains, Chained}
 
 -- both chains, where all of the heads and of what stands before has stayed
 pub chains-kept : {p : Places} {touches ends : List ℕ} {w w' : List ℕ} → p .heads + p .locals + p .locals ≤ p .nexts

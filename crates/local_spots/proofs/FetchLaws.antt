@@ -8,23 +8,22 @@ use lib.ListN.{length, getD}
 use lib.Dec.{eqb}
 use Rattle.words.specs.Sort.{sortOf}
 use Rattle.words.specs.Rows.{tabulate, field}
-use Rattle.words.specs.Regions.{Region, part, Kept}
-use Rattle.words.specs.Widths.{touchWidth, touchCount, touchLocal, stopWidth, stopCount, stopLocal}
+use Rattle.words.specs.Inner.{Region, part, Kept, touchCount, touchLocal, stopCount, stopLocal}
+use Rattle.words.specs.Widths.{touchWidth, stopWidth}
 use Rattle.words.proofs.RegionLaws.{length-part, part-is, kept-part-list}
 use Rattle.words.proofs.SortLaws.{length-sort, sorted-rising}
 use Rattle.ranges.specs.declared.Range.{Range}
 use Rattle.ranges.specs.Points.{range}
-use Rattle.ranges.specs.Forms.{pack, unpack, unpacked}
+use Rattle.ranges.specs.Inner.{pack, unpack, unpacked}
 use Rattle.ranges.proofs.FormLaws.{unpack-pack}
-use Rattle.graph.specs.Work.{Within}
+use Rattle.graph.specs.Inner.Work.{Within}
 use Rattle.graph.proofs.Within.{within-trans, within-wider, region-within}
 use Rattle.carrying.specs.Lists.{gather}
-use Rattle.reach.specs.Prepared.{latest}
-use Rattle.chains.specs.Chains.{Walkable, Walked}
+use Rattle.reach.specs.Inner.{latest}
+use Rattle.chains.specs.Inner.{Walkable, Walked}
 use Rattle.chains.proofs.WalkLaws.{words-are}
 use Rattle.local_spots.specs.declared.Places.{Places}
-use Rattle.local_spots.specs.Locals.{Laid, Chains, Fetched}
-use Rattle.local_spots.specs.Inner.{wordOf, wordFor, wordsFor}
+use Rattle.local_spots.specs.Inner.{Laid, Chains, Fetched, wordOf, wordFor, wordsFor}
 use Rattle.local_spots.proofs.ChainLaws.{chains-kept}
 
 -- the words of touches are the touches

@@ -6,9 +6,10 @@ use mathlib.Core.Logic.{_≢_, _⊎_, inl, inr}
 use mathlib.Core.List.{List}
 use lib.ListN.{length, getD}
 use Rattle.words.specs.Rows.{rowCount, field}
-use Rattle.words.specs.Widths.{touchWidth, touchCount, touchStart, touchEnd, stopWidth, stopCount, stopPoint}
+use Rattle.words.specs.Widths.{touchWidth, stopWidth}
+use Rattle.words.specs.Inner.{touchCount, touchStart, touchEnd, stopCount, stopPoint}
 use Rattle.ranges.specs.Points.{range}
-use Rattle.ranges.specs.Forms.{pack}
+use Rattle.ranges.specs.Inner.{pack}
 use Rattle.local_spots.specs.Inner.{wordOf}
 
 -- a row as one word

@@ -13,7 +13,7 @@ use borrow.Author.Tests.{eq-eqb, ne-eqb}
 use Rattle.words.specs.Widths.{itemWidth, itemRowCount, itemCell}
 use Rattle.words.proofs.Points.{stored}
 use Rattle.words.proofs.RegionLaws.{push}
-use Rattle.members.specs.Members.{members, Counted, picks, crowdedSlot, Picked}
+use Rattle.members.specs.Inner.{members, Counted, picks, crowdedSlot, Picked}
 
 -- ---- one item more
 

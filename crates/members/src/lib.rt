@@ -3,7 +3,7 @@ ghost use mathlib.Core.Path.{_≡_};
 ghost use Prim.Native.Nat.{ℕ, _+_, _-_, _≤_, _<_};
 ghost use lib.ListN.{length, getD};
 ghost use Rattle.words.specs.Widths.{itemRowCount, itemCell};
-ghost use Rattle.members.specs.Members.{membersIn, Counted, crowdedSlots, Picked};
+ghost use Rattle.members.specs.Inner.{membersIn, Counted, crowdedSlots, Picked};
 use words::widths::item;
 
 // How many items are in a cell.

@@ -6,13 +6,13 @@ use native.Mathlib.Omega.{arith}
 use native.Mathlib.Nat.{zero-add}
 use lib.ListN.{length, getD, take, drop}
 use lib.Seq.{ext-getD, getD-take, length-take-le}
-use Rattle.words.specs.Regions.{Region, part}
+use Rattle.words.specs.Inner.{Region, part}
 use Rattle.words.proofs.RegionLaws.{length-part, getD-part, drop-same}
-use Rattle.packed.specs.Work.{MergedIn}
+use Rattle.packed.specs.Inner.{MergedIn}
 use Rattle.ranges.specs.Points.{range}
 use Rattle.ranges.specs.Merged.{merged}
-use Rattle.ranges.specs.Forms.{columns, pack, unpack, unpacked}
-use Rattle.ranges.specs.Inner.{Listing}
+use Rattle.ranges.specs.Forms.{columns}
+use Rattle.ranges.specs.Inner.{pack, unpack, unpacked, Listing}
 use Rattle.ranges.proofs.FormLaws.{columns-length, columns-at, columns-drop, unpacked-at, unpacked-length, unpack-pack}
 
 module _ (ss es : List ℕ) (even : length ss ≡ length es) (small : (i : ℕ) → getD es i 0 < 2 ^ 32) where

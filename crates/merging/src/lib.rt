@@ -2,11 +2,11 @@
 ghost use mathlib.Core.Path.{_≡_};
 ghost use Prim.Native.Nat.{_/_, _%_, _^_, _≤_};
 ghost use lib.ListN.{length, getD};
-ghost use Rattle.words.specs.Regions.{Region};
+ghost use Rattle.words.specs.Inner.{Region};
 ghost use Rattle.ranges.specs.Points.{range};
 ghost use Rattle.ranges.specs.Merged.{merged};
-ghost use Rattle.ranges.specs.Forms.{columns, pack};
-ghost use Rattle.ranges.specs.Inner.{Listing};
+ghost use Rattle.ranges.specs.Forms.{columns};
+ghost use Rattle.ranges.specs.Inner.{pack, Listing};
 use packed::end_of;
 use packed::pack;
 use packed::start_of;

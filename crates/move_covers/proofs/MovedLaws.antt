@@ -11,7 +11,8 @@ use Rattle.words.proofs.RowLaws.{tabulate-suc}
 use Rattle.words.proofs.RegionLaws.{push}
 use Rattle.ranges.specs.declared.Range.{Range}
 use Rattle.carrying.specs.Lists.{gather}
-use Rattle.move_covers.specs.Wrote.{rowsOf, Wrote}
+use Rattle.move_covers.specs.Wrote.{rowsOf}
+use Rattle.move_covers.specs.Inner.{Wrote}
 
 -- ---- ranges appended
 

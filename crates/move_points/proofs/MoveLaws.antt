@@ -11,22 +11,24 @@ use borrow.Author.Tests.{eq-eqb, ne-eqb, leb-false}
 use Rattle.refusals.specs.declared.Verdict.the-variants.{Fine}
 use Rattle.refusals.specs.declared.Refusal.the-variants.{Stray as StrayWord}
 use Rattle.refusals.proofs.Laws.{scan-fine}
-use Rattle.words.specs.Widths.{blockCount, blockStart, blockEnd, instCount, instEarly, instLate, moveCount, moveKind, moveNumber}
+use Rattle.words.specs.Widths.{blockCount, blockStart, blockEnd, instCount, moveCount}
+use Rattle.words.specs.Inner.{instEarly, instLate, moveKind, moveNumber}
 use Rattle.words.proofs.Bools.{or-neither}
 use Rattle.ranges.specs.declared.Range.{Range}
 use Rattle.graph.specs.declared.Block.{Block}
 use Rattle.graph.specs.declared.Place.{Place}
-use Rattle.graph.specs.Line.{Stretch, blocksOf, blockAt, placeIn, placeOf, Sound}
+use Rattle.graph.specs.Line.{Stretch, blocksOf, blockAt, placeIn, Sound}
+use Rattle.graph.specs.Inner.Line.{placeOf}
 use Rattle.graph.proofs.Line.{blocks-length, place-lt, start-is, end-is}
 use Rattle.carrying.specs.Insts.{Inst, instsOf, instAt, isSet}
 use Rattle.carrying.specs.Checks.{absent}
 use Rattle.insts.proofs.DealtLaws.{insts-length, early-is, late-is}
 use Rattle.areas.specs.Slots.{Move, movesOf, around, position, covering, badMove, moveAt, moveVerdict}
 use Rattle.move_points.specs.declared.Spot.the-variants.{At, Nowhere}
-use Rattle.move_points.specs.Moves.{positionAt}
+use Rattle.move_points.specs.Inner.{positionAt}
 use Rattle.spill_checks.specs.declared.Position.{Position}
 use Rattle.spill_checks.specs.declared.Position.the-variants.{Early, Late, Start, End, Stray}
-use Rattle.spill_checks.specs.Positions.{positionOf}
+use Rattle.spill_checks.specs.Inner.{positionOf}
 use Rattle.spill_checks.proofs.CheckLaws.{kind-0, kind-1, kind-2, kind-3, move-at, moves-length}
 use Rattle.spill_checks.proofs.PositionLaws.{told, stray-told}
 

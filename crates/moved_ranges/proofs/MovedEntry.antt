@@ -20,7 +20,7 @@ use Rattle.words.proofs.Points.{cut}
 use Rattle.words.proofs.RegionLaws.{drop-same}
 use Rattle.ranges.specs.declared.Range.{Range}
 use Rattle.graph.specs.Line.{blocksOf, lineVerdict, Sound}
-use Rattle.graph.specs.Work.{Within}
+use Rattle.graph.specs.Inner.Work.{Within}
 use Rattle.graph.proofs.Line.{blocks-length, line-sound}
 use Rattle.carrying.specs.Insts.{instsOf}
 use Rattle.carrying.specs.Checks.{instVerdict}

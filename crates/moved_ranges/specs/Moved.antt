@@ -18,7 +18,7 @@ use Rattle.carrying.specs.Checks.{instVerdict}
 use Rattle.insts.specs.Counts.{rowsVerdict, mostVerdict, blockCounts, instCounts}
 use Rattle.areas.specs.Slots.{movesOf, moved, moveVerdict}
 unfoldable pub use Rattle.move_covers.specs.Wrote.{rowsOf}
-pub use Rattle.move_covers.specs.Wrote.{Wrote}
+pub use Rattle.move_covers.specs.Inner.{Wrote}
 use Rattle.spill_checks.specs.declared.Answer.{Answer}
 use Rattle.spill_checks.specs.Answer.{answered}
 

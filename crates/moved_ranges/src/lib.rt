@@ -9,7 +9,7 @@ ghost use Rattle.refusals.specs.declared.Refusal.the-variants.{Count};
 ghost use Rattle.refusals.specs.Verdicts.{check};
 ghost use Rattle.refusals.specs.declared.Verdict.the-variants.{Fine};
 ghost use Rattle.graph.specs.Line.{blocksOf, Sound};
-ghost use Rattle.graph.specs.Work.{Table};
+ghost use Rattle.graph.specs.Inner.Work.{Table};
 ghost use Rattle.carrying.specs.Insts.{instsOf};
 ghost use Rattle.areas.specs.Slots.{movesOf, moveVerdict, moved};
 ghost use Rattle.moved_ranges.specs.Moved.{Wrote, movedCounts, movedWords, movedSpace, movedVerdict, MovedTo};

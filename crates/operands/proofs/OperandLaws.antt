@@ -16,7 +16,7 @@ use Rattle.words.specs.Rows.{tabulate}
 use Rattle.words.proofs.RowLaws.{tabulate-suc, length-tabulate, getD-tabulate}
 use Rattle.carrying.specs.Lists.{keep}
 use Rattle.carrying.specs.Insts.{Operand, Inst, isSet, onlyOne, isUse, addressPosition, eachAddress}
-use Rattle.operands.specs.Numbers.{defNumber, addressing}
+use Rattle.operands.specs.Inner.{defNumber, addressing}
 
 -- ---- the registers that operands define
 

@@ -5,8 +5,8 @@ ghost use Prim.Native.Nat.{_+_, _/_, _≤_, _<_};
 ghost use lib.ListN.{length};
 ghost use Rattle.carrying.specs.Lists.{keep};
 ghost use Rattle.carrying.specs.Insts.{isSet, onlyOne, isUse, addressPosition, eachAddress};
-ghost use Rattle.insts.specs.Rows.{operandAt, operandsFrom};
-ghost use Rattle.operands.specs.Numbers.{defNumber, addressing};
+ghost use Rattle.insts.specs.Inner.{operandAt, operandsFrom};
+ghost use Rattle.operands.specs.Inner.{defNumber, addressing};
 ghost use Rattle.words.specs.Widths.{operandCount};
 use words::widths::operand;
 

@@ -6,15 +6,14 @@ use native.Mathlib.Omega.{arith}
 use lib.ListN.{length, getD, take, drop, set, length-drop, length-take, drop-of-length-le}
 use lib.Seq.{getD-drop, getD-take, drop-set-add, length-take-le}
 use Rattle.words.specs.Sort.{sortOf}
-use Rattle.words.specs.Regions.{Region, part}
+use Rattle.words.specs.Inner.{Region, part}
 use Rattle.words.proofs.Points.{stored}
 use Rattle.words.proofs.RegionLaws.{part-is, length-part}
 use Rattle.words.proofs.SortLaws.{length-sort}
 use Rattle.ranges.specs.declared.Range.{Range}
 use Rattle.ranges.specs.Points.{range, rangeAt}
-use Rattle.ranges.specs.Forms.{pack, unpack, unpacked}
-use Rattle.ranges.specs.Inner.{Listing, TakenUp}
-use Rattle.packed.specs.Work.{TakenIn, MergedIn}
+use Rattle.ranges.specs.Inner.{pack, unpack, unpacked, Listing, TakenUp}
+use Rattle.packed.specs.Inner.{TakenIn, MergedIn}
 use Rattle.ranges.proofs.FormLaws.{map-set, unpacked-length, unpack-pack}
 use Rattle.ranges.proofs.WordLaws.{unpacked-sort, word-at, part-unpacked}
 use Rattle.ranges.proofs.TakeLaws.{onto, onto-start, onto-none, onto-more}

@@ -3,8 +3,8 @@ ghost use mathlib.Core.Path.{_≡_};
 ghost use Prim.Native.Nat.{_+_, _/_, _%_, _^_, _<_, _≤_};
 ghost use lib.ListN.{length};
 ghost use Rattle.ranges.specs.Points.{range};
-ghost use Rattle.ranges.specs.Forms.{pack};
-ghost use Rattle.packed.specs.Work.{TakenIn, MergedIn};
+ghost use Rattle.ranges.specs.Inner.{pack};
+ghost use Rattle.packed.specs.Inner.{TakenIn, MergedIn};
 use words::HALF;
 
 // A range in one word: the start above, the end in the low 32 bits.

@@ -6,13 +6,12 @@ use mathlib.Core.List.{List}
 use Prim.Native.Nat.{ℕ, _+_, _-_, _/_, _%_, _^_, _≤_, _<_}
 use native.Mathlib.Omega.{arith}
 use lib.ListN.{length, getD, drop, length-drop}
-use Rattle.words.specs.Regions.{part}
+use Rattle.words.specs.Inner.{part}
 use Rattle.words.proofs.RegionLaws.{kept-part-list}
 use Rattle.ranges.specs.Points.{Apart}
-use Rattle.ranges.specs.Forms.{unpack, unpacked}
-use Rattle.ranges.specs.Inner.{oneFirst}
-use Rattle.packed.specs.Work.{TakenIn, Clear}
-use Rattle.packed_pairs.specs.Pairs.{UnitedIn}
+use Rattle.ranges.specs.Inner.{unpack, unpacked, oneFirst}
+use Rattle.packed.specs.Inner.{TakenIn, Clear}
+use Rattle.packed_pairs.specs.Inner.{UnitedIn}
 use Rattle.ranges.proofs.FormLaws.{View, part-view, unpacked-length, map-take}
 use Rattle.ranges.proofs.UnionLaws.{Uniting, unite-start, read-one-in, read-two-in, read-room, read-one, read-two, read-done}
 

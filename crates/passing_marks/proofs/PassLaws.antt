@@ -17,11 +17,11 @@ use Rattle.carrying.proofs.ListLaws.{any-true, any-entry}
 use Rattle.areas.specs.Blocks.{InBlock, top, bottom, passes}
 use Rattle.areas.proofs.BlockLaws.{block-is}
 use Rattle.spots.specs.declared.Spots.{Spots}
-use Rattle.spots.specs.Spots.{lineOf, endsAt, Held}
+use Rattle.spots.specs.Spots.{lineOf}
+use Rattle.spots.specs.Inner.{endsAt, Held}
 use Rattle.spots.proofs.SpotLaws.{end-in, end-of}
 use Rattle.area_rows.specs.declared.Column.{Column}
-use Rattle.area_rows.specs.Marks.{marked, Fits, Marked, EndsReady}
-use Rattle.area_rows.specs.Inner.{Put, Stopped}
+use Rattle.area_rows.specs.Inner.{marked, Fits, Marked, EndsReady, Put, Stopped}
 use Rattle.area_rows.proofs.PutLaws.{put-none, put-then, put-as, put-fits, put-unset}
 -- two tests that hold together are one
 use Rattle.area_rows.proofs.MarkLaws.{beside}

@@ -4,7 +4,7 @@ ghost use mathlib.Core.Path.{_≡_};
 ghost use Prim.Native.Nat.{_*_, _≤_};
 ghost use lib.ListN.{length};
 ghost use Rattle.text_grammar.specs.Groups.{groupCount, rowNumbers};
-ghost use Rattle.planning.specs.Groups.{Few};
+ghost use Rattle.planning.specs.Inner.{Few};
 ghost use Rattle.words.specs.Widths.{cellWidth, itemWidth};
 use drawing::Axis;
 use drawing::axis_of;

@@ -15,7 +15,7 @@ use Rattle.refusals.specs.Verdicts.{numberOf, first}
 use Rattle.refusals.specs.Outcomes.{Outcome, given, refused, unless, after}
 use Rattle.refusals.proofs.Laws.{first-left, first-right}
 use Rattle.refusals.proofs.Numbers.{numbered-same}
-use Rattle.words.specs.Regions.{part}
+use Rattle.words.specs.Inner.{part}
 use Rattle.words.specs.Widths.{localWidth, cellWidth, itemWidth}
 use Rattle.words.proofs.RowLaws.{length-records}
 use Rattle.words.proofs.RegionLaws.{length-part}
@@ -33,20 +33,19 @@ use Rattle.text_grammar.specs.Lines.{linesOf}
 use Rattle.text_grammar.specs.Text.{linesVerdict, readVerdict}
 use Rattle.text_grammar.proofs.TableLaws.{room-most}
 use Rattle.text_lines.specs.declared.job_rows.Reader.{Reader}
-use Rattle.text_lines.specs.Read.{Ready, Records, Finishes, Finished}
+use Rattle.text_lines.specs.Inner.{Ready, Records, Finishes, Finished}
 use Rattle.text_lines.proofs.EndLaws.{head-counted, accepted-few}
 use Rattle.text_lines.proofs.WholeLaws.{text-fine}
 use Rattle.text_plan.specs.declared.plan_text.Written.{Written}
 use Rattle.text_plan.specs.declared.plan_text.Written.the-variants.{Bytes, Refused as WrittenRefused}
 use Rattle.text_plan.specs.Printed.{printed, refusalText, inRoom, writtenOf, PrintedTo, planText}
 use Rattle.text_plan.proofs.PlanLaws.{room-told, plan-in-room}
-use Rattle.planning.specs.Groups.{termsFor, job, lentFor, verdictFor, numbersAt, Few, SharedFor}
-use Rattle.planning.specs.Program.{told, jobText, refusal, printedFor, numbersIn, programText}
-use Rattle.planning.specs.Program.{cellNumbers, itemNumbers, areaNumbers, workWords}
+use Rattle.planning.specs.Groups.{termsFor, job, lentFor, verdictFor, SharedFor}
+use Rattle.planning.specs.Inner.{numbersAt, Few, Read, Stands, Answers}
+use Rattle.planning.specs.Program.{told, jobText, refusal, printedFor, numbersIn, programText, cellNumbers, itemNumbers, areaNumbers, workWords}
 use Rattle.wants.proofs.TallyLaws.{not-refused}
 use Rattle.wants.proofs.SeenLaws.{cells-long}
 use Rattle.job_answers.proofs.SeenLaws.{items-long}
-use Rattle.planning.specs.Answer.{Read, Stands, Answers}
 use Rattle.planning.proofs.GroupLaws.{same-printed}
 use Rattle.planning.proofs.PrintLaws.{Printable, plan-fine, text-before, printed-same}
 use Rattle.planning.proofs.JobLaws.{job-printable}

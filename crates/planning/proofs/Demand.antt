@@ -24,15 +24,15 @@ use Rattle.wants.specs.Entry.{cellRow, cellRows}
 use Rattle.area_tables.specs.Tables.{areaRows}
 use Rattle.item_lists.specs.Lists.{itemRow}
 use Rattle.item_lists.proofs.TableLaws.{row-long}
-use Rattle.soundness.specs.Walks.{Step, Legal, Separate}
+use Rattle.soundness.specs.Walks.{Step, Legal}
+use Rattle.soundness.specs.Inner.{Separate}
 use Rattle.soundness.specs.Demand.{wantsOf, frameOf, jobPlan}
 use Rattle.soundness.proofs.Demand.{job-order, separate, uses, any-cells, demand-3}
 use Rattle.job_answers.specs.Answers.{itemRows}
 use Rattle.text_grammar.specs.Text.{readVerdict}
 use Rattle.text_plan.specs.Lines.{lineText}
 use Rattle.planning.specs.Groups.{termsFor, job, lentFor}
-use Rattle.planning.specs.Program.{told, textOf, jobText, refusal, printedFor, numbersIn, programText}
-use Rattle.planning.specs.Program.{cellNumbers, itemNumbers, areaNumbers, workWords}
+use Rattle.planning.specs.Program.{told, textOf, jobText, refusal, printedFor, numbersIn, programText, cellNumbers, itemNumbers, areaNumbers, workWords}
 use Rattle.planning.specs.Named.{Listed, Named, ReadsThrough}
 use Rattle.wants.proofs.SeenLaws.{cells-long}
 use Rattle.job_answers.proofs.SeenLaws.{items-long}

@@ -9,17 +9,17 @@ use lib.ListN.{length, getD, take, drop, replicate, length-replicate}
 use lib.Dec.{leb, leb→le}
 use Rattle.refusals.specs.declared.Verdict.{Verdict}
 use Rattle.refusals.specs.declared.Verdict.the-variants.{Fine}
-use Rattle.words.specs.Regions.{part}
+use Rattle.words.specs.Inner.{part}
 use Rattle.words.proofs.RegionLaws.{getD-part, lent-part}
 use Rattle.areas.specs.Job.{Checked}
 use Rattle.job_answers.specs.declared.Shared.{Shared}
 use Rattle.job.specs.Entry.{SharedAs}
 use Rattle.job.proofs.CheckLaws.{granted}
-use Rattle.text_grammar.specs.Groups.{groupAt, baseAt, groupCount, allowed, rowNumbers, headGroup, blockGroup, edgeGroup, instGroup, operandGroup, crossingGroup}
-use Rattle.text_grammar.specs.Groups.{localGroup, slotGroup, addressGroup, endGroup, pieceGroup, assignedGroup, moveGroup}
+use Rattle.text_grammar.specs.Groups.{groupAt, baseAt, groupCount, allowed, rowNumbers, headGroup, blockGroup, edgeGroup, instGroup, operandGroup, crossingGroup, localGroup, slotGroup, addressGroup, endGroup, pieceGroup, assignedGroup, moveGroup}
 use Rattle.text_grammar.proofs.TableLaws.{at}
 use Rattle.job_space.specs.Rows.{rowsOf}
-use Rattle.planning.specs.Groups.{rowsFor, termsFor, job, lentFor, SharedFor, numbersAt, Few}
+use Rattle.planning.specs.Groups.{rowsFor, termsFor, job, lentFor, SharedFor}
+use Rattle.planning.specs.Inner.{numbersAt, Few}
 use Rattle.planning.specs.Program.{printedFor}
 
 -- ---- in the reader's list

@@ -18,7 +18,7 @@ use Rattle.fitting.specs.Queries.{slotsOf, shared}
 use Rattle.text_grammar.specs.Numerals.{decimal, digit, digits, valueFrom}
 use Rattle.text_grammar.specs.Lines.{newline, linesOf}
 use Rattle.text_grammar.proofs.RoundTrip.{decimal-digits, decimal-value}
-use Rattle.text_lines.specs.Read.{unbroken}
+use Rattle.text_lines.specs.Inner.{unbroken}
 use Rattle.text_lines.proofs.ByteLaws.{lines-end}
 use Rattle.text_plan.specs.Lines.{fieldsText, lineText}
 use Rattle.text_plan.specs.Printed.{cellLine, itemLine, rangeLine, areaLines, sharedLines, totalLine, printed}

@@ -25,7 +25,8 @@ use Rattle.text_plan.specs.Printed.{writtenOf}
 use Rattle.text_plan.proofs.LineLaws.{line-length}
 use Rattle.planning.specs.Groups.{termsFor, job}
 use Rattle.planning.specs.Program.{told, jobText, refusal, printedFor, numbersIn, programText}
-use Rattle.planning.specs.Answer.{Read, Tells, Answers, roomFor}
+use Rattle.planning.specs.Inner.{Read, Tells, Answers}
+use Rattle.planning.specs.Answer.{roomFor}
 use Rattle.planning.proofs.PrintLaws.{Printable, text-short}
 use Rattle.planning.proofs.JobLaws.{job-printable}
 use Rattle.planning.proofs.AnswerLaws.{makeLocal, room-given, stands-of}

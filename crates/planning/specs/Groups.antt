@@ -1,17 +1,15 @@
 -- The records of each group by the group's name, and the whole job of them.
-use Prim.Native.Nat.{ℕ, _*_, _≤_, _<_}
+use Prim.Native.Nat.{ℕ}
 use mathlib.Core.List.{List}
 use lib.ListN.{getD}
 use Rattle.refusals.specs.declared.Verdict.{Verdict}
-use Rattle.words.specs.Regions.{part}
 use Rattle.areas.specs.Job.{Job}
 use Rattle.fitting.specs.declared.Terms.{Terms}
 use Rattle.job_space.specs.Rows.{Rows, rowsOf}
 use Rattle.job_checks.specs.Job.{jobOf}
 use Rattle.job_answers.specs.declared.Shared.{Shared}
 use Rattle.job.specs.Entry.{lentVerdict, verdictOf, SharedAs}
-use Rattle.text_grammar.specs.Groups.{groupAt, baseAt, groupCount, allowed, headGroup, blockGroup, edgeGroup, instGroup, operandGroup, crossingGroup}
-use Rattle.text_grammar.specs.Groups.{localGroup, slotGroup, addressGroup, endGroup, pieceGroup, assignedGroup, moveGroup}
+use Rattle.text_grammar.specs.Groups.{headGroup, blockGroup, edgeGroup, instGroup, operandGroup, crossingGroup, localGroup, slotGroup, addressGroup, endGroup, pieceGroup, assignedGroup, moveGroup}
 
 -- the numbers of the records of each group
 module _ (group : ℕ → List ℕ) where
@@ -38,12 +36,3 @@ module _ (group : ℕ → List ℕ) where
   -- what the whole job answers
   abbrev pub SharedFor : List ℕ → List ℕ → List ℕ → List ℕ → Shared → List ℕ → List ℕ → List ℕ → List ℕ → Type 0
   SharedFor = SharedAs rowsFor termsFor
-
--- the numbers of a group's records in the reader's lists
-abbrev pub numbersAt : List ℕ → List ℕ → ℕ → List ℕ
-numbersAt rows counts k = part (baseAt k) (groupAt k .width * getD counts k 0) rows
-
--- there is a head, and of each group no more than the program allows
-pub record Few (counts : List ℕ) : Type 0 where
-  pub head : 0 < getD counts headGroup 0
-  pub few : (k : ℕ) → k < groupCount → getD counts k 0 ≤ allowed

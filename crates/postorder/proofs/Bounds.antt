@@ -7,9 +7,7 @@ use mir.Val.{Fits}
 use native.Mathlib.Omega.{arith}
 use lib.ListN.{length, getD}
 use Rattle.words.proofs.FitLaws.{Word, word, small}
-use Rattle.postorder.specs.Walk.{ends}
-use Rattle.postorder.specs.Settling.{Walkable}
-use Rattle.postorder.specs.Space.{Ready}
+use Rattle.postorder.specs.Inner.{ends, Walkable, Ready}
 use Rattle.postorder.proofs.Turns.{topOf, nextOf, leadsTo, Top, top, v-ok}
 use Rattle.postorder.proofs.Roots.{Roots}
 

@@ -7,11 +7,10 @@ use lib.ListN.{length, getD, set, length-set}
 use lib.Seq.{getD-set-same, getD-set-other}
 use Rattle.words.proofs.Points.{same}
 use Rattle.graph.specs.Paths.{Edge, Between}
-use Rattle.graph.specs.Work.{Within, EdgeRows}
+use Rattle.graph.specs.Inner.Work.{Within, EdgeRows}
 use Rattle.graph.proofs.Within.{within-refl, within-set, rows-kept}
-use Rattle.tarjan.specs.Moves.{left as sumLeft}
-use Rattle.postorder.specs.Walk.{State, ends, Walks}
-use Rattle.postorder.specs.Space.{view, Held, toCome, pushList}
+use Rattle.tarjan.specs.Inner.Moves.{left as sumLeft}
+use Rattle.postorder.specs.Inner.{State, ends, Walks, view, Held, toCome, pushList}
 use Rattle.postorder.proofs.Steps.{Pushed, Looked, Left}
 
 -- ---- what the stores leave

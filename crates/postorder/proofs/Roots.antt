@@ -5,12 +5,11 @@ use mathlib.Core.List.{List}
 use native.Mathlib.Omega.{arith}
 use lib.ListN.{getD}
 use Rattle.words.proofs.Points.{same}
-use Rattle.words.specs.Regions.{Region}
+use Rattle.words.specs.Inner.{Region}
 use Rattle.graph.specs.Paths.{Edge, Between}
-use Rattle.graph.specs.Work.{Within, EdgeRows}
+use Rattle.graph.specs.Inner.Work.{Within, EdgeRows}
 use Rattle.graph.proofs.Within.{within-refl, within-trans, within-wider, region-within}
-use Rattle.postorder.specs.Settling.{Walkable, Ordered}
-use Rattle.postorder.specs.Space.{view, Held, Ready, Still, pushList, Turned, Walked}
+use Rattle.postorder.specs.Inner.{Walkable, Ordered, view, Held, Ready, Still, pushList, Turned, Walked}
 use Rattle.postorder.proofs.Steps.{Pushed, push-walks, start-walks, last-settling, last-ranks}
 use Rattle.postorder.proofs.Lists.{push-is, push-kept, held-from, held-on}
 

@@ -6,13 +6,13 @@ use mathlib.Core.List.{List}
 use native.Mathlib.Omega.{arith}
 use Rattle.words.proofs.Points.{same}
 use Rattle.graph.specs.Paths.{Edge, Link, Route, one, Between}
-use Rattle.graph.specs.Work.{EdgeRows}
-use Rattle.tarjan.specs.Walk.{seen}
-use Rattle.tarjan.specs.Moves.{upd}
+use Rattle.graph.specs.Inner.Work.{EdgeRows}
+use Rattle.tarjan.specs.Inner.Walk.{seen}
+use Rattle.tarjan.specs.Inner.Moves.{upd}
 use Rattle.tarjan.proofs.Tools.{upd-case, seen-same, seen-upd, seen-le, seen-lt}
 use Rattle.tarjan.proofs.Whole.{zero-seen, all-seen}
 use Rattle.postorder.specs.Settling.{Settling}
-use Rattle.postorder.specs.Walk.{State, begins, ends, target, Ranked, Walks}
+use Rattle.postorder.specs.Inner.{State, begins, ends, target, Ranked, Walks}
 
 -- ---- the steps, by what they leave of the n numbers of each region
 

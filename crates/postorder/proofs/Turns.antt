@@ -6,10 +6,9 @@ use native.Mathlib.Omega.{arith}
 use lib.ListN.{length, getD, set}
 use Rattle.words.proofs.Points.{same}
 use Rattle.graph.specs.Paths.{Edge, Link, Route, one, more}
-use Rattle.graph.specs.Work.{Within}
+use Rattle.graph.specs.Inner.Work.{Within}
 use Rattle.graph.proofs.Within.{within-trans}
-use Rattle.postorder.specs.Walk.{ends, target}
-use Rattle.postorder.specs.Space.{view, Held, Ready, pushList, Turned}
+use Rattle.postorder.specs.Inner.{ends, target, view, Held, Ready, pushList, Turned}
 use Rattle.postorder.proofs.Steps.{Pushed, depth-le, depth-lt, push-walks, look-walks, leave-walks}
 use Rattle.postorder.proofs.Lists.{push-is, look-is, leave-is, push-kept, look-kept, leave-kept, held-on, push-falls, look-falls, leave-falls}
 

@@ -1,3 +1,2 @@
 pub mod Settling
-pub mod Walk
-pub mod Space
+pub mod Inner

@@ -3,8 +3,7 @@
 ghost use mathlib.Core.Path.{_≡_};
 ghost use Prim.Native.Nat.{_+_, _≤_, _<_};
 ghost use lib.ListN.{length, getD};
-ghost use Rattle.postorder.specs.Settling.{Walkable, Ordered};
-ghost use Rattle.postorder.specs.Space.{Ready, pushList, Turned, Walked};
+ghost use Rattle.postorder.specs.Inner.{Walkable, Ordered, Ready, pushList, Turned, Walked};
 
 // How many places the walk is in, and how many numbers of the order are still to be filled.
 pub struct Counts {

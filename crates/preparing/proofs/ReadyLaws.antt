@@ -10,8 +10,9 @@ use lib.ListN.{length, getD}
 use lib.Dec.{eqb, ltb}
 use Rattle.words.specs.Rows.{tabulate}
 use Rattle.words.specs.Sort.{sortOf}
-use Rattle.words.specs.Regions.{Region, part, rowWords}
-use Rattle.words.specs.Widths.{instCount, operandCount, mentionWidth, addressCount, endCount, mentionInst, mentionLocal}
+use Rattle.words.specs.Inner.{Region, part, mentionInst, mentionLocal}
+use Rattle.words.specs.Regions.{rowWords}
+use Rattle.words.specs.Widths.{instCount, operandCount, mentionWidth, addressCount, endCount}
 use Rattle.words.proofs.RowLaws.{tabulate-getD}
 use Rattle.words.proofs.SortLaws.{sorted-rising, mem-sort, mem-of-sort, length-sort}
 use Rattle.words.proofs.RegionLaws.{length-part, getD-part}
@@ -25,12 +26,11 @@ use Rattle.carrying.specs.Carried.{Code, mentionsOf, mentions, mentioned, isNon
 use Rattle.insts.specs.Rows.{AddsUp}
 use Rattle.insts.proofs.DealtLaws.{insts-length, placed-is}
 use Rattle.reach.specs.declared.Lay.{Lay}
-use Rattle.operands.specs.Numbers.{defNumber}
-use Rattle.reach.specs.Prepared.{codeOf, Laid, latest, localOf, leaReader, Tables, Sorted, Registered, Readied}
-use Rattle.reach.specs.Scan.{Marked, strayReader, Scanning, Blank}
-use Rattle.reach.specs.Steps.{rowLocal}
-use Rattle.chains.specs.Chains.{Linked}
-use Rattle.preparing.specs.Steps.{Indexed, placedEnd, Ends, Cleared, Emptied, ByLocal}
+use Rattle.operands.specs.Inner.{defNumber}
+use Rattle.reach.specs.Prepared.{codeOf}
+use Rattle.reach.specs.Inner.{Laid, latest, localOf, leaReader, Tables, Sorted, Registered, Readied, Marked, strayReader, Scanning, Blank, rowLocal}
+use Rattle.chains.specs.Inner.{Linked}
+use Rattle.preparing.specs.Inner.{Indexed, placedEnd, Ends, Cleared, Emptied, ByLocal}
 use Rattle.reach.proofs.UseLaws.{Some}
 use Rattle.reach.proofs.StepLaws.{splits-same}
 use Rattle.reach.proofs.ReadyLaws.{def-small, latest-same, local-is, mentions-count, empty-keep, any-keep, any-rows}

@@ -10,15 +10,14 @@ use lib.ListN.{length, getD, set}
 use lib.Seq.{getD-set-same, getD-set-other}
 use lib.Dec.{eqb, ltb}
 use borrow.Author.Tests.{eqb-true, eq-eqb, ne-eqb, lt-ltb}
-use Rattle.words.specs.Sort.{Rising, sortOf}
-use Rattle.words.specs.Search.{Splits}
-use Rattle.words.specs.Regions.{Region, part}
-use Rattle.words.specs.Widths.{instWidth, instPlaced, mentionWidth, mentionCount}
+use Rattle.words.specs.Inner.{Rising, Splits, Region, part, instPlaced, mentionCount}
+use Rattle.words.specs.Sort.{sortOf}
+use Rattle.words.specs.Widths.{instWidth, mentionWidth}
 use Rattle.words.proofs.SortLaws.{sorted-rising}
 use Rattle.words.proofs.Points.{same, stored}
 use Rattle.words.proofs.RegionLaws.{length-part}
 use Rattle.words.proofs.Bools.{and-both, and-pair, both-ways}
-use Rattle.graph.specs.Work.{Within}
+use Rattle.graph.specs.Inner.Work.{Within}
 use Rattle.graph.proofs.Within.{within-refl, within-set, within-trans, within-wider, region-within}
 use Rattle.graph.proofs.Line.{mem-at, at-mem}
 use Rattle.carrying.specs.Lists.{any}
@@ -26,8 +25,8 @@ use Rattle.carrying.specs.Insts.{isSet}
 use Rattle.carrying.proofs.ListLaws.{any-true, any-entry}
 use Rattle.insts.proofs.DealtLaws.{any-none, any-next}
 use Rattle.reach.specs.declared.Lay.{Lay}
-use Rattle.reach.specs.Steps.{rowLocal}
-use Rattle.preparing.specs.Steps.{Firsts, Indexed, placedEnd, Ends}
+use Rattle.reach.specs.Inner.{rowLocal}
+use Rattle.preparing.specs.Inner.{Firsts, Indexed, placedEnd, Ends}
 use Rattle.reach.proofs.UseLaws.{Some, some-at, some-index}
 use Rattle.reach.proofs.StepLaws.{splits-same}
 

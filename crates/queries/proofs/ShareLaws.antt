@@ -22,7 +22,7 @@ use Rattle.queries.specs.declared.Crowd.the-variants.{Slots as SlotsGive
 use Rattle.query_checks.specs.Checks.{sharedVerdict, crowdedVerdict}
 use Rattle.queries.specs.Shares.{Stretch, shareOf, partNamed, sharedPart, sharedOf, rangesOf, areaOf, crowdedOf, CrowdedBy}
 use Rattle.query_checks.proofs.CheckLaws.{crowd-passed, Sound, sound, shared-sound, part-inside}
-use Rattle.members.specs.Members.{membersIn, crowdedSlots, Picked}
+use Rattle.members.specs.Inner.{membersIn, crowdedSlots, Picked}
 use Rattle.queries.proofs.QueryLaws.{there, not-there, itemAt, locals-are}
 use Rattle.queries.proofs.MemberLaws.{crowd-is, crowded-is}
 

@@ -10,11 +10,12 @@ use lib.Seq.{getD-set-same, getD-set-other}
 use lib.Dec.{eqb}
 use borrow.Author.Tests.{eq-eqb, ne-eqb}
 use Rattle.words.proofs.Points.{cut, same}
-use Rattle.bits.specs.Bits.{bit, PutBit}
+use Rattle.bits.specs.Bits.{bit}
+use Rattle.bits.specs.Inner.{PutBit}
 use Rattle.graph.proofs.Counting.{all-taken}
 use Rattle.reach.specs.declared.Lay.{Lay}
 use Rattle.reach.proofs.ScanLaws.{same-bit}
-use Rattle.queue.specs.Walk.{defAt, queued, Held, Listed, Grew, Joined}
+use Rattle.queue.specs.Inner.{defAt, queued, Held, Listed, Grew, Joined}
 use Rattle.words.specs.Regions.{rowWords}
 
 module _ {v m : ℕ} {lay : Lay} {w : List ℕ} {n : ℕ} (h : Held v m lay w n) where

@@ -1,6 +1,6 @@
 // The queue of a walk: instructions whose defs are carried, each def once.
 ghost use Prim.Native.Nat.{_+_, _<_};
-ghost use Rattle.queue.specs.Walk.{defAt, Held, Joined};
+ghost use Rattle.queue.specs.Inner.{defAt, Held, Joined};
 use reach::Lay;
 
 // Puts instruction `i` of `m`, which has a def of `v` registers, behind the `n` in the queue, unless its def is seen; how many stand there then.

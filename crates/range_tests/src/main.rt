@@ -8,7 +8,7 @@
 // one, where ranges are skipped; refusals.
 ghost use mathlib.Core.Path.{_≡_};
 ghost use lib.ListN.{length};
-ghost use Rattle.cases.specs.Cuts.{Ordered};
+ghost use Rattle.cases.specs.Inner.{Ordered};
 use cases::Cuts;
 use range_entries::Clash;
 use range_entries::Counted;

@@ -8,7 +8,8 @@ use native.Mathlib.Omega.{arith}
 use borrow.Author.Tests.{leb-true, le-leb}
 use Rattle.words.proofs.Bools.{or-right, and-both, or-cases}
 use Rattle.ranges.specs.declared.Range.{Range}
-use Rattle.ranges.specs.Points.{Within, Point, overlaps, Upright, Common}
+use Rattle.ranges.specs.Inner.{Within}
+use Rattle.ranges.specs.Points.{Point, overlaps, Upright, Common}
 use Rattle.ranges.specs.Merged.{meets, clashes}
 use Rattle.ranges.proofs.PointLaws.{point-head, point-tail, point-none, point-cases, upright-head, upright-tail}
 

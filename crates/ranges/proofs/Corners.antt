@@ -7,7 +7,8 @@ use Rattle.refusals.specs.declared.Refusal.the-variants.{Want}
 use Rattle.refusals.specs.Verdicts.{first, scan}
 use Rattle.ranges.specs.Points.{range, within, inside, overlaps}
 use Rattle.ranges.specs.Merged.{notAfter, insert, sort, join, merged, joined}
-use Rattle.ranges.specs.Forms.{columns, starts, ends, pack, unpack}
+use Rattle.ranges.specs.Forms.{columns, starts, ends}
+use Rattle.ranges.specs.Inner.{pack, unpack}
 use Rattle.ranges.specs.Lent.{listVerdict, faulty}
 
 -- "a reversed range": of one point, reversed by one; "unsorted or overlapping itself" gives the later range: at the end before, one past it; only a list that is to be in order is asked it

@@ -4,11 +4,12 @@ use mathlib.Core.List.{List, [], _∷_, _++_, map}
 use Prim.Native.Nat.{ℕ, zero, suc, _+_, _*_, _/_, _%_, _^_, _≤_, _<_}
 use native.Mathlib.Omega.{arith}
 use lib.ListN.{length, getD, take, drop, set, length-map}
-use Rattle.words.specs.Regions.{part}
+use Rattle.words.specs.Inner.{part}
 use Rattle.words.proofs.RegionLaws.{length-part, getD-part}
 use Rattle.ranges.specs.declared.Range.{Range}
 use Rattle.ranges.specs.Points.{range, rangeAt}
-use Rattle.ranges.specs.Forms.{columns, starts, ends, pack, unpack, unpacked}
+use Rattle.ranges.specs.Forms.{columns, starts, ends}
+use Rattle.ranges.specs.Inner.{pack, unpack, unpacked}
 
 -- ---- columns
 

@@ -6,7 +6,7 @@ use Prim.Native.Nat.{ℕ, _-_, _*_, _/_, _≤_, _<_}
 use native.Mathlib.Omega.{arith}
 use lib.Dec.{ltb}
 use borrow.Author.Tests.{lt-ltb, le-ltb}
-use Rattle.words.specs.Sort.{Rising}
+use Rattle.words.specs.Inner.{Rising}
 use Rattle.words.proofs.SortLaws.{rising-le}
 use Rattle.words.proofs.SearchLaws.{Between, front-lt}
 use Rattle.ranges.specs.Inner.{Galloped}

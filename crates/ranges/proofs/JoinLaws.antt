@@ -8,7 +8,8 @@ use native.Mathlib.Omega.{arith}
 use lib.Dec.{leb, eqb}
 use borrow.Author.Tests.{leb-true, leb-false, eqb-true}
 use Rattle.ranges.specs.declared.Range.{Range}
-use Rattle.ranges.specs.Points.{range, Within, Point, Upright}
+use Rattle.ranges.specs.Points.{range, Point, Upright}
+use Rattle.ranges.specs.Inner.{Within}
 use Rattle.ranges.specs.Merged.{joined}
 use Rattle.ranges.proofs.PointLaws.{point-head, point-tail, point-none, point-cases, upright-head, upright-tail, upright-cons}
 

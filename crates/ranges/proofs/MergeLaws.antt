@@ -8,7 +8,8 @@ use native.Mathlib.Omega.{arith}
 use lib.Dec.{leb}
 use borrow.Author.Tests.{leb-true, leb-false, le-leb, lt-leb}
 use Rattle.ranges.specs.declared.Range.{Range}
-use Rattle.ranges.specs.Points.{range, Within, Point, Upright, Past, Apart}
+use Rattle.ranges.specs.Points.{range, Point, Upright, Past, Apart}
+use Rattle.ranges.specs.Inner.{Within}
 use Rattle.ranges.specs.Merged.{insert, sort, join, joinAll, merged, union, Permuted}
 use Rattle.ranges.proofs.PointLaws.{point-head, point-tail, point-cases, point-left, point-right, point-split, upright-head, upright-tail, apart-upright}
 use Rattle.ranges.proofs.SortLaws.{From, Sorted, sort-sorted, sort-member, member-sort, insert-swap}

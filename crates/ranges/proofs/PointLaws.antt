@@ -8,7 +8,8 @@ use native.Mathlib.Omega.{arith}
 use borrow.Author.Tests.{leb-true, le-leb}
 use Rattle.words.proofs.Bools.{or-right, and-both, or-cases}
 use Rattle.ranges.specs.declared.Range.{Range}
-use Rattle.ranges.specs.Points.{Within, Point, within, inside, Upright, Past, Apart}
+use Rattle.ranges.specs.Inner.{Within}
+use Rattle.ranges.specs.Points.{Point, within, inside, Upright, Past, Apart}
 
 -- ---- tests
 

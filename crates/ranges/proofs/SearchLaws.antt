@@ -6,8 +6,7 @@ use Prim.Native.Nat.{ℕ, zero, suc, _+_, _-_, _≤_, _<_}
 use native.Mathlib.Omega.{arith}
 use lib.Dec.{ltb}
 use borrow.Author.Tests.{le-leb, lt-ltb, ltb-true}
-use Rattle.words.specs.Sort.{Rising}
-use Rattle.words.specs.Search.{Splits}
+use Rattle.words.specs.Inner.{Rising, Splits}
 use Rattle.words.proofs.Points.{cut}
 use Rattle.ranges.specs.declared.Range.{Range}
 use Rattle.ranges.specs.Points.{range, overlaps, Apart}

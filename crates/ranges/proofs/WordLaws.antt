@@ -9,15 +9,14 @@ use lib.ListN.{getD, take, drop}
 use lib.Seq.{getD-drop}
 use lib.Dec.{leb}
 use borrow.Author.Tests.{le-leb, lt-leb}
-use Rattle.words.specs.Sort.{sortOf}
-use Rattle.words.specs.Sort.{insert as insertNumber}
-use Rattle.words.specs.Regions.{part}
+use Rattle.words.specs.Sort.{sortOf, insert as insertNumber}
+use Rattle.words.specs.Inner.{part}
 use Rattle.words.proofs.Points.{cut}
 use Rattle.words.proofs.SortLaws.{insert-le, insert-gt, insert-nil}
 use Rattle.ranges.specs.declared.Range.{Range}
 use Rattle.ranges.specs.Points.{rangeAt}
 use Rattle.ranges.specs.Merged.{notAfter, insert, sort}
-use Rattle.ranges.specs.Forms.{unpack, unpacked}
+use Rattle.ranges.specs.Inner.{unpack, unpacked}
 use Rattle.ranges.proofs.FormLaws.{map-take, unpacked-at}
 use Rattle.ranges.proofs.SortLaws.{Le, is-not-after, not-after, insert-front, insert-later, insert-none}
 

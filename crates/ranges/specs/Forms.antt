@@ -1,5 +1,5 @@
 -- The two forms in which lists of ranges are lent: two columns of numbers, and words that hold a range each.
-use Prim.Native.Nat.{ℕ, _+_, _*_, _/_, _%_, _^_}
+use Prim.Native.Nat.{ℕ}
 use mathlib.Core.List.{List, [], _∷_, map}
 use Rattle.ranges.specs.declared.Range.{Range}
 use Rattle.ranges.specs.Points.{range}
@@ -15,17 +15,3 @@ starts rs = map (λ r. r .start) rs
 
 abbrev pub ends : List Range → List ℕ
 ends rs = map (λ r. r .end) rs
-
--- a range in one word: the start above, the end in the low 32 bits
-abbrev pub pack : Range → ℕ
-pack r = r .start * 2 ^ 32 + r .end
-
-abbrev pub unpack : ℕ → Range
-unpack x = range (x / 2 ^ 32) (x % 2 ^ 32)
-
--- the ranges of a list of words
-abbrev pub unpacked : List ℕ → List Range
-unpacked w = map unpack w
-
-abbrev pub packed : List Range → List ℕ
-packed rs = map pack rs

@@ -1,9 +1,9 @@
 -- What private functions promise each other. No entry's promise names these.
-use Prim.Native.Nat.{ℕ, _+_, _/_, _≤_, _<_, max}
+use Prim.Native.Nat.{ℕ, _+_, _/_, _≤_, _<_, max, _*_, _%_, _^_}
 use mathlib.Core.Logic.{_⊎_}
 use mathlib.Core.Path.{_≡_}
 use mathlib.Core.Bool.{Bool, true, false, cond}
-use mathlib.Core.List.{List, [], _∷_}
+use mathlib.Core.List.{List, [], _∷_, map}
 use lib.ListN.{length, take, drop}
 use lib.Dec.{leb}
 use Rattle.ranges.specs.declared.Range.{Range}
@@ -39,3 +39,21 @@ pub record Galloped (f : ℕ → ℕ) (n point bound : ℕ) : Type 0 where
   pub some : 0 < bound
   pub passed : (bound / 2 ≡ 0) ⊎ ((bound / 2 < n) × (f (bound / 2) < point))
   pub stops : bound < n → point ≤ f bound
+
+-- a range in one word: the start above, the end in the low 32 bits
+abbrev pub pack : Range → ℕ
+pack r = r .start * 2 ^ 32 + r .end
+
+abbrev pub unpack : ℕ → Range
+unpack x = range (x / 2 ^ 32) (x % 2 ^ 32)
+
+-- the ranges of a list of words
+abbrev pub unpacked : List ℕ → List Range
+unpacked w = map unpack w
+
+abbrev pub packed : List Range → List ℕ
+packed rs = map pack rs
+
+-- "both ends included"
+abbrev pub Within : Range → ℕ → Type 0
+Within r x = (r .start ≤ x) × (x ≤ r .end)

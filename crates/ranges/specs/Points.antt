@@ -13,10 +13,6 @@ range s e = record { start = s; end = e }
 abbrev pub rangeAt : List Range → ℕ → Range
 rangeAt rs i = getD rs i (range 0 0)
 
--- "both ends included"
-abbrev pub Within : Range → ℕ → Type 0
-Within r x = (r .start ≤ x) × (x ≤ r .end)
-
 -- x is a point of some range of the list
 abbrev pub Point : List Range → ℕ → Type 0
 Point rs x = (r : Range) × List·Memᴰ r rs × (r .start ≤ x) × (x ≤ r .end)

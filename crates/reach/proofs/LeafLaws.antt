@@ -9,7 +9,7 @@ use lib.ListN.{getD}
 use lib.Dec.{ltb}
 use borrow.Author.Tests.{eq-eqb, ne-eqb, lt-ltb, le-ltb}
 use Rattle.carrying.specs.Insts.{isSet}
-use Rattle.insts.specs.Rows.{operandAt}
+use Rattle.insts.specs.Inner.{operandAt}
 use Rattle.words.specs.Widths.{operandWidth}
 
 module _ (s : List ℕ) (i v : ℕ) where

@@ -8,12 +8,12 @@ use lib.ListN.{length, getD, set}
 use lib.Dec.{eqb}
 use Rattle.words.proofs.Points.{same, stored}
 use Rattle.words.proofs.Bools.{or-cond}
-use Rattle.bits.specs.Bits.{bit, PutBit}
-use Rattle.graph.specs.Work.{Within}
+use Rattle.bits.specs.Bits.{bit}
+use Rattle.bits.specs.Inner.{PutBit}
+use Rattle.graph.specs.Inner.Work.{Within}
 use Rattle.graph.proofs.Within.{within-refl, within-set, within-trans, within-wider}
 use Rattle.insts.proofs.DealtLaws.{any-none, any-next}
-use Rattle.reach.specs.Prepared.{key}
-use Rattle.reach.specs.Scan.{Marked, Linked}
+use Rattle.reach.specs.Inner.{key, Marked, Linked}
 use Rattle.reach.proofs.UseLaws.{Some}
 use Rattle.words.specs.Regions.{rowWords}
 

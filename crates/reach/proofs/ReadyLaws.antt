@@ -7,16 +7,16 @@ use mathlib.Core.Option.{Option, some, none}
 use mathlib.Core.List.{List, [], _∷_}
 use lib.ListN.{length}
 use lib.Dec.{eqb}
-use Rattle.words.specs.Widths.{mentionWidth, mentionCount, mentionInst, mentionLocal}
+use Rattle.words.specs.Widths.{mentionWidth}
+use Rattle.words.specs.Inner.{mentionCount, mentionInst, mentionLocal}
 use Rattle.words.proofs.RowLaws.{length-records, getD-records}
 use Rattle.words.proofs.Bools.{both-ways}
 use Rattle.carrying.specs.Lists.{any, keep}
 use Rattle.carrying.specs.Insts.{Inst, defOf}
 use Rattle.carrying.specs.Carried.{Mention, mentionsOf, empty}
 use Rattle.carrying.proofs.CarryLaws.{def-below}
-use Rattle.operands.specs.Numbers.{defNumber}
-use Rattle.reach.specs.Prepared.{latest, localOf}
-use Rattle.reach.specs.Steps.{rowLocal}
+use Rattle.operands.specs.Inner.{defNumber}
+use Rattle.reach.specs.Inner.{latest, localOf, rowLocal}
 use Rattle.reach.proofs.UseLaws.{Some, some-at, some-index, entry-index, index-entry}
 
 pub def-small : (v : ℕ) (x : Inst) → defNumber (defOf v x) ≤ v

@@ -10,7 +10,8 @@ use lib.ListN.{length, getD, set, length-set}
 use lib.Seq.{getD-set-same, getD-set-other}
 use borrow.Author.Tests.{not-true, not-false}
 use Rattle.words.specs.Rows.{field}
-use Rattle.words.specs.Widths.{instWidth, instCount, instPlaced, instLea, instMem, instBase, instIndex, instOperands, operandCount}
+use Rattle.words.specs.Widths.{instWidth, instCount, instOperands, operandCount}
+use Rattle.words.specs.Inner.{instPlaced, instLea, instMem, instBase, instIndex}
 use Rattle.words.specs.Regions.{rowWords}
 use Rattle.words.proofs.Points.{cut, same}
 use Rattle.bits.specs.Bits.{bit, bitOf}
@@ -20,12 +21,12 @@ use Rattle.carrying.specs.Lists.{any}
 use Rattle.carrying.specs.Insts.{Operand, Inst, instOf, instsOf, instAt, defOf, isSet, isUse, addressPosition, eachAddress}
 use Rattle.carrying.specs.Carried.{isNone}
 use Rattle.insts.specs.Counts.{offset}
-use Rattle.insts.specs.Rows.{operandsFrom, AddsUp}
+use Rattle.insts.specs.Inner.{operandsFrom}
+use Rattle.insts.specs.Rows.{AddsUp}
 use Rattle.insts.proofs.DealtLaws.{any-none, any-next, inst-at, insts-length, operands-within}
 use Rattle.reach.specs.declared.Lay.{Lay}
-use Rattle.operands.specs.Numbers.{defNumber, addressing}
-use Rattle.reach.specs.Prepared.{key, leaReader, Hands}
-use Rattle.reach.specs.Scan.{Marked, Linked, escapesIn, handsIn, rowOf, strayReader, Handing, Added, Scanning, Blank}
+use Rattle.operands.specs.Inner.{defNumber, addressing}
+use Rattle.reach.specs.Inner.{key, leaReader, Hands, Marked, Linked, escapesIn, handsIn, rowOf, strayReader, Handing, Added, Scanning, Blank}
 
 pub none-number : (o : Option ℕ) → defNumber o ≡ 0 → isNone o ≡ true
 none-number none e = refl

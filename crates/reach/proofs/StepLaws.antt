@@ -6,8 +6,8 @@ use mathlib.Core.Path.{_≡_, refl, sym, ap, _∙_}
 use mathlib.Core.Logic.{_≢_}
 use mathlib.Core.Bool.{Bool, cond}
 use borrow.Author.Tests.{eq-eqb, ne-eqb}
-use Rattle.words.specs.Search.{Splits}
-use Rattle.reach.specs.Prepared.{latest}
+use Rattle.words.specs.Inner.{Splits}
+use Rattle.reach.specs.Inner.{latest}
 
 pub splits-same : {t u : ℕ → Bool} {n r : ℕ} → Splits t n r → ((k : ℕ) → k < n → u k ≡ t k) → Splits u n r
 splits-same s e = record {

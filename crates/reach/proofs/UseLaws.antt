@@ -14,8 +14,8 @@ use Rattle.words.proofs.Bools.{and-both, or-cases, and-pair, both-ways}
 use Rattle.carrying.specs.Lists.{any}
 use Rattle.carrying.specs.Insts.{Operand, Inst, isSet, isUse, addressPosition, eachAddress}
 use Rattle.carrying.proofs.ListLaws.{any-true, any-entry, any-false}
-use Rattle.operands.specs.Numbers.{addressing}
-use Rattle.reach.specs.Scan.{escapesIn, handsIn}
+use Rattle.operands.specs.Inner.{addressing}
+use Rattle.reach.specs.Inner.{escapesIn, handsIn}
 
 -- the same with a proof by cases kept
 pub by-bool : {A : Type 0} (t : Bool) → (t ≡ true → A) → (t ≡ false → A) → A

@@ -1,3 +1,2 @@
 pub mod Prepared
-pub mod Scan
-pub mod Steps
+pub mod Inner

@@ -2,7 +2,7 @@
 ghost use mathlib.Core.Path.{_≡_};
 ghost use lib.ListN.{length};
 ghost use Rattle.text_grammar.specs.Groups.{groupCount, rowNumbers};
-ghost use Rattle.planning.specs.Answer.{Read};
+ghost use Rattle.planning.specs.Inner.{Read};
 use refusals::Verdict;
 use text_grammar::MOST_FIELDS;
 use text_lines::text::feed;

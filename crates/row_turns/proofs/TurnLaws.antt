@@ -11,16 +11,16 @@ use borrow.Author.Tests.{eq-eqb, ne-eqb}
 use Rattle.words.proofs.Points.{cut, same}
 use Rattle.words.proofs.RegionLaws.{row-before}
 use Rattle.words.proofs.Bools.{not-both}
-use Rattle.bits.specs.Bits.{bit, bitOf, Lowest, Without}
+use Rattle.bits.specs.Bits.{bit, bitOf}
+use Rattle.bits.specs.Inner.{Lowest, Without}
 use Rattle.bits.proofs.DigitLaws.{bit-and, bit-zero}
 use Rattle.bits.proofs.BitLaws.{bit-at}
-use Rattle.graph.specs.Work.{Within}
+use Rattle.graph.specs.Inner.Work.{Within}
 use Rattle.graph.proofs.Within.{within-refl, within-trans}
 use Rattle.area_rows.specs.declared.Column.{Column}
 use Rattle.row_turns.specs.declared.Turn.{Turn}
-use Rattle.area_rows.specs.Marks.{marked, Fits, Marked}
-use Rattle.area_rows.specs.Inner.{Put}
-use Rattle.row_turns.specs.Turns.{both, columnOf, Turnable, Turned}
+use Rattle.area_rows.specs.Inner.{marked, Fits, Marked, Put}
+use Rattle.row_turns.specs.Inner.{both, columnOf, Turnable, Turned}
 use Rattle.area_rows.proofs.PutLaws.{put-none, put-then, put-as, put-fits, put-set}
 
 -- ---- a word's bits

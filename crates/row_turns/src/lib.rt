@@ -3,9 +3,8 @@ ghost use mathlib.Core.Path.{_≡_};
 ghost use mathlib.Core.Bool.{true};
 ghost use Prim.Native.Nat.{ℕ, _+_, _*_, _<_};
 ghost use Rattle.bits.specs.Bits.{bitOf};
-ghost use Rattle.area_rows.specs.Marks.{Fits};
-ghost use Rattle.area_rows.specs.Inner.{Put};
-ghost use Rattle.row_turns.specs.Turns.{columnOf, both, Turnable, Turned};
+ghost use Rattle.area_rows.specs.Inner.{Fits, Put};
+ghost use Rattle.row_turns.specs.Inner.{columnOf, both, Turnable, Turned};
 use area_rows::Column;
 use area_rows::marks;
 

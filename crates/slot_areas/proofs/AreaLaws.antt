@@ -5,28 +5,28 @@ use mathlib.Core.Path.{_≡_, refl, sym, ap, subst, _∙_}
 use mathlib.Core.Option.{some, none}
 use mathlib.Core.List.{List, [], _∷_, _++_}
 use lib.ListN.{length}
-use Rattle.words.specs.Regions.{part, Kept}
+use Rattle.words.specs.Inner.{part, Kept}
 use Rattle.words.specs.Widths.{blockCount, pieceCount, moveCount}
 use Rattle.words.proofs.RegionLaws.{length-part, kept-part-list}
 use Rattle.ranges.specs.declared.Range.{Range}
 use Rattle.ranges.specs.Merged.{merged, Permuted}
-use Rattle.ranges.specs.Forms.{unpacked}
+use Rattle.ranges.specs.Inner.{unpacked}
 use Rattle.ranges.proofs.MergeLaws.{merged-permuted}
 use Rattle.ranges.proofs.FormLaws.{unpacked-length}
-use Rattle.packed.specs.Work.{MergedIn}
+use Rattle.packed.specs.Inner.{MergedIn}
 use Rattle.graph.specs.Line.{blocksOf}
-use Rattle.graph.specs.Work.{Table}
+use Rattle.graph.specs.Inner.Work.{Table}
 use Rattle.graph.proofs.Within.{within-trans, within-wider}
 use Rattle.carrying.specs.Insts.{instsOf}
 use Rattle.carrying.specs.Carried.{Piece, piecesOf, livePieces}
 use Rattle.areas.specs.Slots.{movesOf, moved, slotArea, liveArea}
 use Rattle.areas.proofs.PermuteLaws.{perm-refl, perm-append, perm-turn}
-use Rattle.slot_spots.specs.Slots.{Laid, Chains, Fetched}
+use Rattle.slot_spots.specs.Inner.{Laid, Chains, Fetched}
 use Rattle.slot_spots.proofs.MoveLaws.{moved-permuted, table-kept, chains-kept}
 use Rattle.slot_spots.specs.declared.Places.{Places}
-use Rattle.live.specs.Live.{Fetched as LiveFetched}
+use Rattle.live.specs.Inner.{Fetched as LiveFetched}
 use Rattle.area_pieces.proofs.AreaLaws.{unpacked-both}
-use Rattle.slot_areas.specs.Areas.{MovedIn, HeldIn}
+use Rattle.slot_areas.specs.Inner.{MovedIn, HeldIn}
 
 -- as many ranges in another order
 perm-length : {rs ss : List Range} → Permuted rs ss → length rs ≡ length ss

@@ -5,13 +5,13 @@ ghost use Prim.Native.Nat.{_+_, _/_, _≤_, _<_};
 ghost use lib.ListN.{length};
 ghost use Rattle.refusals.specs.declared.Verdict.the-variants.{Fine};
 ghost use Rattle.graph.specs.Line.{blocksOf, Sound};
-ghost use Rattle.graph.specs.Work.{Table};
+ghost use Rattle.graph.specs.Inner.Work.{Table};
 ghost use Rattle.carrying.specs.Insts.{instsOf};
 ghost use Rattle.areas.specs.Slots.{movesOf, moveVerdict};
 ghost use Rattle.words.specs.Widths.{blockCount, pieceCount, moveCount};
-ghost use Rattle.live.specs.Live.{InOrder};
-ghost use Rattle.slot_spots.specs.Slots.{Laid, Chains};
-ghost use Rattle.slot_areas.specs.Areas.{MovedIn, HeldIn};
+ghost use Rattle.live.specs.Inner.{InOrder};
+ghost use Rattle.slot_spots.specs.Inner.{Laid, Chains};
+ghost use Rattle.slot_areas.specs.Inner.{MovedIn, HeldIn};
 use slot_spots::Places;
 use words::widths::moving;
 

@@ -15,10 +15,10 @@ use Rattle.slot_spots.specs.declared.Places.{Places}
 use Rattle.slot_spots.proofs.MoveLaws.{chains-kept}
 use Rattle.slot_areas.specs.declared.Found.{Found}
 use Rattle.area_measure.specs.declared.Listing.{Listing}
-use Rattle.area_measure.specs.Locals.{listed, wordOf, ListedBy}
+use Rattle.area_measure.specs.Locals.{listed}
+use Rattle.area_measure.specs.Inner.Locals.{wordOf, ListedBy}
 use Rattle.area_measure.proofs.ListLaws.{listed-more}
-use Rattle.slot_measure.specs.Slots.{SlotIn, Placeable, Placed}
-use Rattle.slot_measure.specs.All.{mostFor, Ready, Spared, Next, AreasBy, HeldBy, MeasuredSlots}
+use Rattle.slot_measure.specs.Inner.{SlotIn, Placeable, Placed, mostFor, Ready, Spared, Next, AreasBy, HeldBy, MeasuredSlots}
 
 module _ (points : ℕ) (blocks insts moves pieces : List ℕ) (p : Places) (keys held : ℕ) (o : Listing) (first : ℕ) where
   -- what stands, where nothing was changed that is read

@@ -6,29 +6,30 @@ use mathlib.Core.Logic.{_⊎_, inl, inr, ⊎-elim}
 use mathlib.Core.Option.{Option, some, none}
 use mathlib.Core.List.{List, []}
 use lib.ListN.{length, getD, set, length-set}
-use Rattle.words.specs.Regions.{part}
+use Rattle.words.specs.Inner.{part}
 use Rattle.words.specs.Widths.{pieceCount, moveCount}
 use Rattle.words.proofs.Points.{cut, stored}
 use Rattle.words.proofs.RegionLaws.{kept-store, kept-part-list, length-part}
 use Rattle.ranges.specs.declared.Range.{Range}
-use Rattle.ranges.specs.Forms.{unpacked}
+use Rattle.ranges.specs.Inner.{unpacked}
 use Rattle.ranges.proofs.FormLaws.{unpacked-length}
-use Rattle.packed.specs.Work.{Clear}
+use Rattle.packed.specs.Inner.{Clear}
 use Rattle.graph.specs.Line.{blocksOf}
 use Rattle.graph.proofs.Within.{within-wider}
 use Rattle.carrying.specs.Insts.{instsOf}
 use Rattle.carrying.specs.Carried.{piecesOf}
 use Rattle.areas.specs.Slots.{movesOf, moved, slotArea}
 use Rattle.areas.specs.Job.{rangesIn}
-use Rattle.slot_spots.specs.Slots.{heldWord}
+use Rattle.slot_spots.specs.Inner.{heldWord}
 use Rattle.slot_areas.specs.declared.Found.{Found}
-use Rattle.slot_areas.specs.Areas.{Stands, MovedIn, HeldIn}
-use Rattle.area_pieces.specs.Local.{Appended}
+use Rattle.slot_areas.specs.Inner.{Stands, MovedIn, HeldIn}
+use Rattle.area_pieces.specs.Inner.{Appended}
 use Rattle.area_pieces.proofs.PushLaws.{set-other}
 use Rattle.area_measure.specs.declared.Listing.{Listing}
-use Rattle.area_measure.specs.Measure.{itemWord}
-use Rattle.area_measure.specs.Locals.{listed, wordOf}
-use Rattle.slot_measure.specs.Slots.{SlotIn, Placeable, Placed}
+use Rattle.area_measure.specs.Inner.Measure.{itemWord}
+use Rattle.area_measure.specs.Locals.{listed}
+use Rattle.area_measure.specs.Inner.Locals.{wordOf}
+use Rattle.slot_measure.specs.Inner.{SlotIn, Placeable, Placed}
 
 -- ---- by the word of the slot
 

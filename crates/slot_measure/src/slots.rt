@@ -1,6 +1,6 @@
 // The areas of all slots of a job, one behind another in item order.
 ghost use Prim.Native.Nat.{_+_, _*_, _^_, _<_};
-ghost use Rattle.slot_measure.specs.All.{mostFor, Ready, Next, MeasuredSlots};
+ghost use Rattle.slot_measure.specs.Inner.{mostFor, Ready, Next, MeasuredSlots};
 use area_measure::Listing;
 use slot_spots::Places;
 

@@ -6,11 +6,11 @@ use mathlib.Core.List.{List}
 use lib.ListN.{length, getD, set, length-set}
 use lib.Seq.{getD-set-other}
 use Rattle.words.specs.Rows.{tabulate}
-use Rattle.words.specs.Regions.{Region}
+use Rattle.words.specs.Inner.{Region}
 use Rattle.words.proofs.Points.{stored}
 use Rattle.areas.specs.Slots.{Assigned, spilled}
 use Rattle.spill_checks.proofs.AssignedLaws.{next-same, next-other}
-use Rattle.slot_registers.specs.Held.{heldWord}
+use Rattle.slot_registers.specs.Inner.{heldWord}
 
 module _ (g : ℕ → Assigned) (at n : ℕ) where
   -- the words after some assignments

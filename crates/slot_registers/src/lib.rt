@@ -2,9 +2,9 @@
 ghost use mathlib.Core.Path.{_≡_};
 ghost use Prim.Native.Nat.{ℕ, _+_, _≤_, _<_};
 ghost use lib.ListN.{length, getD};
-ghost use Rattle.words.specs.Regions.{Region};
+ghost use Rattle.words.specs.Inner.{Region};
 ghost use Rattle.areas.specs.Slots.{assignedOf, spilled};
-ghost use Rattle.slot_registers.specs.Held.{heldWord};
+ghost use Rattle.slot_registers.specs.Inner.{heldWord};
 use words::widths::assigned;
 
 // The last register assigned to each of `slots` slots plus 1, where there is one.

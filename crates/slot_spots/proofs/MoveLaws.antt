@@ -9,31 +9,31 @@ use lib.ListN.{getD, take, drop}
 use lib.Seq.{take-add, drop-drop}
 use lib.Dec.{eqb}
 use Rattle.words.specs.Rows.{tabulate}
-use Rattle.words.specs.Regions.{Region, part, Kept}
-use Rattle.words.specs.Widths.{blockCount, moveCount, moveTo, moveFrom}
+use Rattle.words.specs.Inner.{Region, part, Kept, moveTo, moveFrom}
+use Rattle.words.specs.Widths.{blockCount, moveCount}
 use Rattle.words.proofs.RegionLaws.{kept-part-list}
 use Rattle.ranges.specs.declared.Range.{Range}
 use Rattle.ranges.specs.Points.{range}
-use Rattle.ranges.specs.Forms.{pack, unpack, unpacked}
+use Rattle.ranges.specs.Inner.{pack, unpack, unpacked}
 use Rattle.ranges.proofs.FormLaws.{map-append, unpack-pack}
 use Rattle.ranges.specs.Merged.{Permuted}
 use Rattle.graph.specs.Line.{Stretch, blocksOf}
-use Rattle.graph.specs.Work.{Within, Table}
+use Rattle.graph.specs.Inner.Work.{Within, Table}
 use Rattle.graph.proofs.Line.{blocks-length}
 use Rattle.graph.proofs.Within.{within-trans, within-wider}
 use Rattle.carrying.specs.Lists.{gather}
 use Rattle.carrying.specs.Insts.{Inst, instsOf}
 use Rattle.areas.specs.Slots.{Move, movesOf, moved, badMove}
 use Rattle.areas.proofs.PermuteLaws.{perm-refl, perm-front, perm-exchange}
-use Rattle.reach.specs.Prepared.{latest}
+use Rattle.reach.specs.Inner.{latest}
 use Rattle.move_points.specs.declared.Spot.the-variants.{At}
-use Rattle.move_points.specs.Moves.{positionAt, moveRow}
+use Rattle.move_points.specs.Inner.{positionAt, moveRow}
 use Rattle.move_points.proofs.MoveLaws.{point-is}
-use Rattle.chains.specs.Chains.{Linked, Walkable, wordsOf, Walked}
+use Rattle.chains.specs.Inner.{Linked, Walkable, wordsOf, Walked}
 use Rattle.chains.proofs.ChainLaws.{chain-kept}
 use Rattle.chains.proofs.WalkLaws.{words-are}
 use Rattle.slot_spots.specs.declared.Places.{Places}
-use Rattle.slot_spots.specs.Slots.{coverOf, movedTo, movedFrom, Laid, Chains, Chained, Fetched}
+use Rattle.slot_spots.specs.Inner.{coverOf, movedTo, movedFrom, Laid, Chains, Chained, Fetched}
 
 -- ---- the chains
 

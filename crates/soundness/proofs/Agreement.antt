@@ -11,7 +11,8 @@ use native.Mathlib.Omega.{arith}
 use native.Mathlib.Decide.{ℕ-discrete}
 use Rattle.ranges.specs.declared.Range.{Range}
 use Rattle.ranges.specs.Points.{Point}
-use Rattle.soundness.specs.Walks.{Frame, Step, read, write, wrote, point, Permits, Uses, Legal, empties, private, shared, Kept, Unwritten, Alike, Disjoint, Separate}
+use Rattle.soundness.specs.Walks.{Frame, Step, read, write, wrote, point, Permits, Uses, Legal, empties, private, shared, Kept, Unwritten, Alike}
+use Rattle.soundness.specs.Inner.{Disjoint, Separate}
 use Rattle.soundness.proofs.MarkLaws.{Last, mark-last, last-mark, mark-there, mark-none, wrote-true, wrote-it, wrote-own}
 
 module _ (F : Frame) (first : ℕ) (w : List Step) where

@@ -20,7 +20,8 @@ use Rattle.fitting.specs.Wants.{Want, wantAt, orderOf, Names}
 use Rattle.fitting.specs.Plan.{Plan, cellAt, planOf}
 use Rattle.fitting.proofs.OrderLaws.{ordered-names}
 use Rattle.fitting.proofs.PlanLaws.{Facts, facts}
-use Rattle.soundness.specs.Walks.{slot, Frame, Step, read, write, Uses, Legal, Alike, Separate}
+use Rattle.soundness.specs.Walks.{slot, Frame, Step, read, write, Uses, Legal, Alike}
+use Rattle.soundness.specs.Inner.{Separate}
 use Rattle.soundness.specs.Machine.{RunsAlike}
 use Rattle.soundness.specs.Demand.{accessBy, wantOf, wantsOf, frameOf, jobPlan, AsPrivate}
 use Rattle.soundness.proofs.Holding.{Covers, Covering, reads-alike}

@@ -25,7 +25,8 @@ use Rattle.areas.specs.Blocks.{Graph, top, bottom, InBlock, bounds, between, cl
 use Rattle.areas.specs.Areas.{Started, Stopping, PlainAt, both, part, UpTo, EndAt, covered, arrived, PlainPoint, EndPoint}
 use Rattle.areas.proofs.BlockLaws.{seen, touched-bound, touched-between}
 use Rattle.areas.proofs.EndLaws.{until-has}
-use Rattle.soundness.specs.Walks.{Access, unfollowed, plain, ending, slot, Frame, Step, next, over, read, write, goes, emptied, source, target, moved, at, point, place, Permits, Crosses, LegalStep, Legal, Alike, Separate}
+use Rattle.soundness.specs.Walks.{Access, unfollowed, plain, ending, slot, Frame, Step, next, over, read, write, goes, emptied, source, target, moved, at, point, place, Permits, Crosses, LegalStep, Legal, Alike}
+use Rattle.soundness.specs.Inner.{Separate}
 use Rattle.soundness.proofs.Agreement.{Held, alike}
 
 -- what the areas supply: an unfollowed local has none, and an area has at least the points that paths give

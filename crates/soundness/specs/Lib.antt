@@ -1,3 +1,4 @@
 pub mod Walks
 pub mod Machine
 pub mod Demand
+pub mod Inner

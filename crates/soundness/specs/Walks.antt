@@ -161,14 +161,3 @@ module _ (F : Frame) (first : ℕ) (w : List Step) where
     Alike =
         (n i b : ℕ) → getElem? w n ≡ some (read i b)
         → (private n i b ≡ shared n (cell i) b) ↔ (Kept n i b ⊎ Unwritten n (cell i) b)
-
--- all that is asked of the cells: two different items of one cell have areas, without a common point
-pub record Disjoint (F : Frame) (i j : ℕ) : Type 0 where
-  pub one : List Range
-  pub two : List Range
-  pub one-is : F .area i ≡ some one
-  pub two-is : F .area j ≡ some two
-  pub no-common : (x : ℕ) → Point one x → Point two x → ⊥
-
-abbrev pub Separate : Frame → (ℕ → ℕ) → Type 0
-Separate F cell = (i j : ℕ) → i < F .items → j < F .items → i ≢ j → cell i ≡ cell j → Disjoint F i j

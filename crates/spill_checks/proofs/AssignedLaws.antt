@@ -9,7 +9,7 @@ use mathlib.Core.List.{List, [], _∷_, _++_}
 use lib.Dec.{eqb}
 use borrow.Author.Tests.{eq-eqb, ne-eqb}
 use Rattle.words.specs.Rows.{tabulate}
-use Rattle.words.specs.Widths.{assignedRegister, assignedSlot}
+use Rattle.words.specs.Inner.{assignedRegister, assignedSlot}
 use Rattle.words.proofs.RowLaws.{tabulate-suc}
 use Rattle.areas.specs.Slots.{Assigned, orElse, spilled}
 

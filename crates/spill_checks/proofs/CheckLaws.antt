@@ -10,7 +10,8 @@ use lib.Dec.{leb}
 use borrow.Author.Tests.{lt-ltb, le-ltb}
 use Rattle.refusals.specs.declared.Refusal.the-variants.{Piece as PieceWord}
 use Rattle.refusals.specs.Verdicts.{scan}
-use Rattle.words.specs.Widths.{blockCount, blockEnd, pieceWidth, pieceCount, assignedWidth, assignedCount, assignedRegister, moveWidth, moveCount, moveKind, moveNumber, moveTo, moveFrom}
+use Rattle.words.specs.Widths.{blockCount, blockEnd, pieceWidth, pieceCount, assignedWidth, assignedCount, moveWidth, moveCount}
+use Rattle.words.specs.Inner.{assignedRegister, moveKind, moveNumber, moveTo, moveFrom}
 use Rattle.words.proofs.RowLaws.{length-records, getD-records}
 use Rattle.graph.specs.Line.{Stretch, blocksOf, blockAt}
 use Rattle.graph.proofs.Line.{blocks-length, start-is, end-is}
@@ -19,7 +20,7 @@ use Rattle.carrying.specs.Carried.{Piece, piecesOf}
 use Rattle.carrying.specs.Checks.{absent}
 use Rattle.areas.specs.Slots.{Assigned, Move, assignedOf, movesOf, badMove, moveAt, badPiece, assignedVerdict}
 use Rattle.insts.proofs.DealtLaws.{scan-same}
-use Rattle.spill_checks.specs.Rows.{pieceAt}
+use Rattle.spill_checks.specs.Inner.{pieceAt}
 
 -- ---- moves
 

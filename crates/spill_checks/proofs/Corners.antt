@@ -5,7 +5,7 @@ use mathlib.Core.List.{[], _∷_}
 use Rattle.carrying.specs.Insts.{Inst}
 use Rattle.spill_checks.specs.declared.Position.{Position}
 use Rattle.spill_checks.specs.declared.Position.the-variants.{Early, Late, Start, End, Stray}
-use Rattle.spill_checks.specs.Positions.{positionOf}
+use Rattle.spill_checks.specs.Inner.{positionOf}
 
 -- an instruction that is placed for flag 1
 abbrev inst : ℕ → Inst

@@ -9,7 +9,7 @@ use Rattle.carrying.specs.Insts.{Inst}
 use Rattle.areas.specs.Slots.{badMove}
 use Rattle.spill_checks.specs.declared.Position.{Position}
 use Rattle.spill_checks.specs.declared.Position.the-variants.{Early, Late, Start, End, Stray}
-use Rattle.spill_checks.specs.Positions.{chosen, positionOf}
+use Rattle.spill_checks.specs.Inner.{chosen, positionOf}
 use Rattle.spill_checks.proofs.CheckLaws.{kind-over}
 
 -- the kind of a position, and the number of its instruction or block

@@ -1,3 +1,2 @@
-pub mod Rows
 pub mod Answer
-pub mod Positions
+pub mod Inner

@@ -4,7 +4,7 @@
 // the slot, the lengths of the answer list and of the work space; blocks, instructions, operands, moves.
 ghost use mathlib.Core.Path.{_≡_};
 ghost use lib.ListN.{length};
-ghost use Rattle.cases.specs.Cuts.{Ordered};
+ghost use Rattle.cases.specs.Inner.{Ordered};
 use cases::Cuts;
 use spill_checks::Answer;
 

@@ -12,7 +12,8 @@ use Rattle.refusals.specs.Verdicts.{first, inOrder}
 use Rattle.refusals.specs.Outcomes.{after}
 use Rattle.refusals.proofs.Laws.{first-fine, first-bad, first-left, first-right, bad-fine, check-last}
 use Rattle.words.specs.Rows.{tabulate}
-use Rattle.words.specs.Regions.{Region, cleared}
+use Rattle.words.specs.Inner.{Region}
+use Rattle.words.specs.Regions.{cleared}
 use Rattle.words.specs.Widths.{assignedWidth, assignedCount}
 use Rattle.words.proofs.RowLaws.{length-tabulate}
 use Rattle.words.proofs.Points.{cut, same}

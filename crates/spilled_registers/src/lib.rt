@@ -2,7 +2,7 @@
 ghost use mathlib.Core.Path.{_≡_};
 ghost use Prim.Native.Nat.{_/_, _≤_};
 ghost use lib.ListN.{length, getD};
-ghost use Rattle.words.specs.Regions.{Region};
+ghost use Rattle.words.specs.Inner.{Region};
 ghost use Rattle.words.specs.Widths.{assignedCount};
 ghost use Rattle.areas.specs.Slots.{assignedOf, spilled};
 ghost use Rattle.spilled_registers.specs.Spilled.{registerOr, spilledCounts, spilledWords, spilledSpace, spilledVerdict, SpilledTo};

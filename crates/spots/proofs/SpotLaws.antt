@@ -8,9 +8,7 @@ use mathlib.Core.List.{List, [], List·Memᴰ}
 use lib.ListN.{length, getD}
 use lib.Dec.{leb, ltb}
 use borrow.Author.Tests.{ltb-true, ltb-false}
-use Rattle.words.specs.Sort.{Rising}
-use Rattle.words.specs.Search.{Splits}
-use Rattle.words.specs.Regions.{part}
+use Rattle.words.specs.Inner.{Rising, Splits, part}
 use Rattle.words.specs.Widths.{blockCount, blockStart, blockEnd}
 use Rattle.words.proofs.SortLaws.{rising-le}
 use Rattle.words.proofs.Points.{cut}
@@ -18,7 +16,7 @@ use Rattle.words.proofs.RegionLaws.{length-part, getD-part}
 use Rattle.words.proofs.Bools.{or-left}
 use Rattle.ranges.specs.declared.Range.{Range}
 use Rattle.ranges.specs.Points.{range}
-use Rattle.ranges.specs.Forms.{unpack, unpacked}
+use Rattle.ranges.specs.Inner.{unpack, unpacked}
 use Rattle.ranges.proofs.FormLaws.{unpacked-at, unpacked-length}
 use Rattle.graph.specs.Paths.{Edge}
 use Rattle.graph.specs.Line.{blocksOf, blockAt, Sound}
@@ -29,7 +27,8 @@ use Rattle.areas.specs.Blocks.{Graph, top, bottom, holding, blockOf, clip, reve
 use Rattle.areas.specs.Areas.{UpTo}
 use Rattle.areas.proofs.BlockLaws.{block-below}
 use Rattle.areas.proofs.EndLaws.{until-has, until-only}
-use Rattle.spots.specs.Spots.{lineOf, Held}
+use Rattle.spots.specs.Spots.{lineOf}
+use Rattle.spots.specs.Inner.{Held}
 
 -- ---- the block of a point
 

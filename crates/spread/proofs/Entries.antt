@@ -17,7 +17,8 @@ use Rattle.refusals.specs.Verdicts.{numberOf, first, inOrder}
 use Rattle.refusals.specs.Orders.{Ordered}
 use Rattle.refusals.proofs.Laws.{first-fine, first-bad, first-left, first-right, bad-fine}
 use Rattle.refusals.proofs.Orders.{check-gives}
-use Rattle.words.specs.Regions.{Region, cleared}
+use Rattle.words.specs.Inner.{Region}
+use Rattle.words.specs.Regions.{cleared}
 use Rattle.words.specs.Widths.{blockCount, edgeCount}
 use Rattle.words.proofs.Bools.{both-ways}
 use Rattle.words.proofs.RegionLaws.{row-before}
@@ -28,20 +29,23 @@ use Rattle.graph.specs.Line.{blocksOf, jumpsOf}
 use Rattle.graph.specs.Flow.{Arrives}
 use Rattle.graph.specs.Rounds.{arrivingRow}
 use Rattle.graph.specs.Checks.{rowsVerdict, spaceOf}
-use Rattle.graph.specs.Work.{EdgeRows, Neighbours}
+use Rattle.graph.specs.Inner.Work.{EdgeRows, Neighbours}
 use Rattle.graph.proofs.Line.{blocks-length, edges-between}
 use Rattle.graph.proofs.RoundLaws.{arriving}
 use Rattle.graph.proofs.Within.{within-trans, within-wider, region-within, rows-moved}
 use Rattle.line_checks.proofs.Refusals.{rows-told}
 use Rattle.components.specs.Entry.{edgesIn, verdictOf as orderVerdict}
 use Rattle.components.proofs.Entries.{cleared-same}
-use Rattle.postorder.specs.Settling.{Settling, Walkable, Ordered as InOrder}
-use Rattle.flow.specs.Entry.{rowBit, baseOf, verdictOf as rowVerdict}
+use Rattle.postorder.specs.Settling.{Settling}
+use Rattle.postorder.specs.Inner.{Walkable, Ordered as InOrder}
+use Rattle.flow.specs.Entry.{rowBit, verdictOf as rowVerdict}
+use Rattle.flow.specs.Inner.{baseOf}
 use Rattle.flow.proofs.Entries.{flowed-ordered, Known as RowsKnown, known as rows-known}
 use Rattle.spread_rows.specs.declared.Layout.{Layout}
 use Rattle.spread.specs.declared.Answer.the-variants.{Given, Refused}
-use Rattle.spread_rows.specs.Spread.{leaveBit, passBit, Laid, Arrived}
-use Rattle.spread.specs.Entry.{Turned, Settled, spreadChecks, verdictOf, Answered, Prepared, Solved}
+use Rattle.spread_rows.specs.Inner.{leaveBit, passBit, Laid, Arrived}
+use Rattle.spread.specs.Entry.{Turned, Settled, spreadChecks, verdictOf, Answered}
+use Rattle.spread.specs.Inner.{Prepared, Solved}
 use Rattle.spread_rows.proofs.Turns.{arrives-as}
 
 same-bad : (r : Refusal) (i : ℕ) (list work : List ℕ) (k : Refusal) (j : ℕ) → Bad r i ≡ Bad k j → Turned k j list work (Refused r i) list work

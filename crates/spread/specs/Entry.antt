@@ -1,5 +1,5 @@
 -- The entries `settling` and `spread`: what they answer, refuse and leave, for every input.
-use Prim.Native.Nat.{ℕ, _+_, _*_, _/_, _≤_, _<_}
+use Prim.Native.Nat.{ℕ, _*_, _≤_, _<_}
 use mathlib.Core.Path.{_≡_}
 use mathlib.Core.Logic.{_↔_}
 use mathlib.Core.Bool.{true}
@@ -12,15 +12,12 @@ use Rattle.refusals.specs.Verdicts.{numberOf, inOrder}
 use Rattle.refusals.specs.Outcomes.{Outcome, given, refused, after}
 use Rattle.words.specs.Regions.{cleared}
 use Rattle.words.specs.Widths.{blockCount, edgeCount}
-use Rattle.bits.specs.Bits.{bit}
 use Rattle.bits.specs.Words.{rowsOf}
-use Rattle.graph.specs.Paths.{Between}
 use Rattle.graph.specs.Flow.{Arrives}
 use Rattle.graph.specs.Rounds.{arrivingRow}
 use Rattle.graph.specs.Checks.{rowsVerdict, spaceOf}
-use Rattle.graph.specs.Work.{Within, EdgeRows}
 use Rattle.components.specs.Entry.{edgesIn, verdictOf as orderVerdict}
-use Rattle.flow.specs.Entry.{rowBit, baseOf, flowedChecks}
+use Rattle.flow.specs.Entry.{rowBit, flowedChecks}
 use Rattle.postorder.specs.Settling.{Settling}
 use Rattle.spread.specs.declared.Answer.{Answer}
 use Rattle.spread.specs.declared.Answer.the-variants.{Given, Refused}
@@ -74,22 +71,3 @@ pub record Filled (blocks edges leaves passes : List ℕ) (words : ℕ) (out₀ 
 pub record Answered (blocks edges : List ℕ) (points : ℕ) (leaves passes : List ℕ) (words : ℕ) (out₀ work₀ : List ℕ) (r : Answer) (out work : List ℕ) : Type 0 where
   pub answered : verdictOf blocks edges points (length leaves) (length passes) words (length out₀) (length work₀) ≡ Fine → Filled blocks edges leaves passes words out₀ work₀ r out work
   pub turned-back : (k : Refusal) (i : ℕ) → verdictOf blocks edges points (length leaves) (length passes) words (length out₀) (length work₀) ≡ Bad k i → Turned k i out₀ work₀ r out work
-
--- ---- what the inner steps leave
-
--- the successors' rows, and behind them the order, from `at` on, and the ranks
-pub record Prepared (blocks edges : List ℕ) (at : ℕ) (w₀ w : List ℕ) : Type 0 where
-  pub at-is : at ≡ baseOf blocks edges
-  pub kept : Within 0 (baseOf blocks edges + blockCount blocks + blockCount blocks + blockCount blocks + blockCount blocks) w₀ w
-  pub count : length (edgesIn blocks edges) ≡ edgeCount edges
-  pub between : Between (blockCount blocks) (edgesIn blocks edges)
-  pub rows : EdgeRows (edgesIn blocks edges) (blockCount blocks) (edgeCount edges + edgeCount edges) w
-  pub settling : Settling (edgesIn blocks edges) (blockCount blocks) (λ i. getD w (at + i) 0)
-  pub ranks : (i : ℕ) → i < blockCount blocks → getD w (at + blockCount blocks + getD w (at + i) 0) 0 ≡ i
-
--- what `solve` leaves: the answer's rows from `at` on, within W
-pub record Solved (blocks edges leaves passes : List ℕ) (words at : ℕ) (w₀ w : List ℕ) : Type 0 where
-  pub kept : Within 0 (spaceOf (blockCount blocks) (edgeCount edges) (length leaves)) w₀ w
-  pub inside : at + length leaves ≤ spaceOf (blockCount blocks) (edgeCount edges) (length leaves)
-  pub bits : (v b : ℕ) → v < blockCount blocks → b < words * 64
-      → (bit w (at + v * words) b ≡ true) ↔ Arrives (edgesIn blocks edges) (λ k. rowBit leaves words k b) (λ k. rowBit passes words k b) v

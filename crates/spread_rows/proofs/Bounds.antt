@@ -10,7 +10,7 @@ use lib.ListN.{length}
 use Rattle.words.proofs.FitLaws.{Word, word, small, as-long}
 use Rattle.words.proofs.RegionLaws.{row-before}
 use Rattle.spread_rows.specs.declared.Layout.{Layout}
-use Rattle.spread_rows.specs.Spread.{Laid, ends, target, rankOf}
+use Rattle.spread_rows.specs.Inner.{Laid, ends, target, rankOf}
 use Rattle.spread_rows.proofs.Pushes.{Passed, Pushing, push-laid, push-rank, target-lt}
 use Rattle.spread_rows.proofs.Turns.{Beginning, Spreading, spread-laid}
 

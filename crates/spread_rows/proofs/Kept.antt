@@ -5,16 +5,16 @@ use mathlib.Core.Logic.{_≢_}
 use mathlib.Core.List.{List}
 use native.Mathlib.Omega.{arith}
 use lib.ListN.{length, getD}
-use Rattle.bits.specs.Bits.{Aligned, apart}
+use Rattle.bits.specs.Inner.{Aligned, apart}
 use Rattle.bits.proofs.BitLaws.{bit-kept}
-use Rattle.words.specs.Regions.{above}
+use Rattle.words.specs.Inner.{above}
 use Rattle.words.proofs.Points.{cut}
 use Rattle.words.proofs.RegionLaws.{row-before}
 use Rattle.graph.specs.Paths.{Edge, Link, Between}
-use Rattle.graph.specs.Work.{Within, EdgeRows}
+use Rattle.graph.specs.Inner.Work.{Within, EdgeRows}
 use Rattle.graph.proofs.Within.{within-wider}
 use Rattle.spread_rows.specs.declared.Layout.{Layout}
-use Rattle.spread_rows.specs.Spread.{begins, ends, target, orderAt, rankOf, outOf, leaveBit, passBit, outBit, waits, Laid}
+use Rattle.spread_rows.specs.Inner.{begins, ends, target, orderAt, rankOf, outOf, leaveBit, passBit, outBit, waits, Laid}
 
 module _ {s : Layout} {w₀ w : List ℕ} (L : Laid s w₀) (K : Within (s .wait) (outOf s + s .n * s .words) w₀ w) where
   pub begins-kept : (u : ℕ) → u < s .n → begins s w u ≡ begins s w₀ u

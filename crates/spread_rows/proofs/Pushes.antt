@@ -8,13 +8,14 @@ use native.Mathlib.Omega.{arith}
 use borrow.Author.Tests.{eq-eqb, ne-eqb}
 use Rattle.words.proofs.Points.{same}
 use Rattle.words.proofs.Bools.{and-pair, or-right, and-both, or-left, or-cases}
-use Rattle.bits.specs.Bits.{bit, Grown, PutBit}
+use Rattle.bits.specs.Bits.{bit}
+use Rattle.bits.specs.Inner.{Grown, PutBit}
 use Rattle.graph.specs.Paths.{Edge, Link}
 use Rattle.graph.specs.Flow.{Arrives, left, passed}
-use Rattle.graph.specs.Work.{Within, EdgeRows}
+use Rattle.graph.specs.Inner.Work.{Within, EdgeRows}
 use Rattle.graph.proofs.Within.{within-refl, within-trans}
 use Rattle.spread_rows.specs.declared.Layout.{Layout}
-use Rattle.spread_rows.specs.Spread.{begins, ends, target, rankOf, outOf, leaveBit, passBit, outBit, waits, Laid, Sends, Sound, missing, Pushed}
+use Rattle.spread_rows.specs.Inner.{begins, ends, target, rankOf, outOf, leaveBit, passBit, outBit, waits, Laid, Sends, Sound, missing, Pushed}
 use Rattle.spread_rows.proofs.Sums.{sum-le, sum-lt, not-le, not-lt}
 use Rattle.spread_rows.proofs.Kept.{target-kept, rank-kept, leave-kept, pass-kept, laid-kept, row-wide, other-row, waits-kept, rank-in, out-kept, word-within}
 

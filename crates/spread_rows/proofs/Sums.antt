@@ -4,7 +4,8 @@ use mathlib.Core.Path.{_≡_, refl}
 use mathlib.Core.Bool.{Bool, true, false, not}
 use native.Mathlib.Omega.{arith}
 use Rattle.words.proofs.Points.{same}
-use Rattle.graph.specs.Work.{one, sumOf}
+use Rattle.graph.specs.Inner.Work.{one}
+use Rattle.graph.specs.Work.{sumOf}
 use Rattle.graph.proofs.Sums.{one-most}
 
 pub sum-le : (f g : ℕ → ℕ) (k : ℕ) → ((i : ℕ) → i < k → f i ≤ g i) → sumOf f k ≤ sumOf g k

@@ -8,19 +8,20 @@ use native.Mathlib.Nat.{mul-le-mul-right}
 use native.Mathlib.Omega.{arith}
 use lib.ListN.{length, getD}
 use borrow.Author.Tests.{eq-eqb}
-use Rattle.bits.specs.Bits.{bit, bitOf, PutBit, FirstSet}
-use Rattle.words.specs.Regions.{Region}
+use Rattle.bits.specs.Bits.{bit, bitOf}
+use Rattle.bits.specs.Inner.{PutBit, FirstSet}
+use Rattle.words.specs.Inner.{Region}
 use Rattle.words.proofs.Points.{cut, same}
 use Rattle.words.proofs.RegionLaws.{row-before}
 use Rattle.bits.proofs.DigitLaws.{bit-zero}
 use Rattle.graph.specs.Paths.{Edge, Between}
 use Rattle.graph.specs.Flow.{Arrives, left, passed}
-use Rattle.graph.specs.Work.{Within, EdgeRows, one}
+use Rattle.graph.specs.Inner.Work.{Within, EdgeRows, one}
 use Rattle.graph.proofs.Within.{within-refl, within-trans, within-wider, region-within}
 use Rattle.words.proofs.Bools.{not-both}
 use Rattle.graph.proofs.Sums.{one-most}
 use Rattle.spread_rows.specs.declared.Layout.{Layout}
-use Rattle.spread_rows.specs.Spread.{begins, ends, target, orderAt, rankOf, outOf, leaveBit, passBit, outBit, waits, Laid, Sends, Sound, missing, waiting, Pushed, Begun, Arrived}
+use Rattle.spread_rows.specs.Inner.{begins, ends, target, orderAt, rankOf, outOf, leaveBit, passBit, outBit, waits, Laid, Sends, Sound, missing, waiting, Pushed, Begun, Arrived}
 use Rattle.spread_rows.proofs.Sums.{sum-lt, sum-most, one-le, one-lt}
 use Rattle.spread_rows.proofs.Kept.{begins-kept, ends-kept, target-kept, order-kept, rank-kept, leave-kept, pass-kept, laid-kept, rank-in, out-kept, word-within, rows-kept}
 use Rattle.spread_rows.proofs.Pushes.{put-set, put-other, put-keeps, missing-le}

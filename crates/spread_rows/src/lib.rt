@@ -1,6 +1,6 @@
 // `spread` in the work space: a place is looked at again only when its row grew, the lowest rank first.
 ghost use Prim.Native.Nat.{_+_, _*_, _/_, _<_};
-ghost use Rattle.spread_rows.specs.Spread.{Laid, Pushed, Begun, Arrived};
+ghost use Rattle.spread_rows.specs.Inner.{Laid, Pushed, Begun, Arrived};
 
 // Where `spread` finds and puts things in the work space, of n places: the edge rows from `at` on, the order in which places are looked at
 // from `order` on and each place's rank in it from `rank` on; rows of `words` words, the leaving bits from `leaves` on and the passing ones

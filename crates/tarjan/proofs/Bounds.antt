@@ -7,8 +7,8 @@ use mir.Val.{Fits}
 use native.Mathlib.Omega.{arith}
 use lib.ListN.{length, getD}
 use Rattle.words.proofs.FitLaws.{Word, word, small}
-use Rattle.tarjan.specs.Space.{Pl, Nd, Ready, Looking, Leaving, Closes, Closed}
-use Rattle.tarjan.specs.Components.{Walkable}
+use Rattle.tarjan.specs.Inner.Space.{Pl, Nd, Ready, Looking, Leaving, Closes, Closed}
+use Rattle.tarjan.specs.Inner.Components.{Walkable}
 use Rattle.tarjan.proofs.Laws.{top, v-ok, room-for, under, closes}
 use Rattle.tarjan.proofs.Lists.{close-node}
 use Rattle.tarjan.proofs.Roots.{Roots}

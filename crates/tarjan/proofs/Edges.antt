@@ -5,10 +5,11 @@ use mathlib.Core.Logic.{_⊎_, inl, inr}
 use mathlib.Core.List.{List}
 use native.Mathlib.Omega.{arith}
 use Rattle.graph.specs.Paths.{Edge as Jump, Link, Route, one, more, Together, same as alone, loop, Between}
-use Rattle.graph.specs.Work.{EdgeRows}
-use Rattle.tarjan.specs.Graph.{Edge, Reach, here, step, ComponentsOf}
-use Rattle.tarjan.specs.Space.{graph, rowsOf, Given, Pieced}
-use Rattle.tarjan.specs.Components.{Components, Walkable, Found}
+use Rattle.graph.specs.Inner.Work.{EdgeRows}
+use Rattle.tarjan.specs.Inner.Graph.{Edge, Reach, here, step, ComponentsOf}
+use Rattle.tarjan.specs.Inner.Space.{graph, rowsOf, Given, Pieced}
+use Rattle.tarjan.specs.Components.{Components}
+use Rattle.tarjan.specs.Inner.Components.{Walkable, Found}
 
 -- what the walk asks, of the rows of any graph
 pub rows-given : {n at base : ℕ} {w : List ℕ} → Walkable n at base w → Given n at (at + n + 1) base w

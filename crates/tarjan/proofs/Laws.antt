@@ -7,9 +7,9 @@ use native.Mathlib.Omega.{arith}
 use lib.ListN.{length, getD, set, length-set}
 use lib.Seq.{getD-set-other}
 use Rattle.words.proofs.Points.{stored}
-use Rattle.tarjan.specs.Walk.{State, Walks}
-use Rattle.tarjan.specs.Moves.{upd, shutAt, view, Agree, pushed, advanced, lowered, retired, closed}
-use Rattle.tarjan.specs.Space.{Rows, graph, Reads, Held, Ready, Kept, leftOf, pushList, Closes, Closed, Turned, Pl, Nd, Ed}
+use Rattle.tarjan.specs.Inner.Walk.{State, Walks}
+use Rattle.tarjan.specs.Inner.Moves.{upd, shutAt, view, Agree, pushed, advanced, lowered, retired, closed}
+use Rattle.tarjan.specs.Inner.Space.{Rows, graph, Reads, Held, Ready, Kept, leftOf, pushList, Closes, Closed, Turned, Pl, Nd, Ed}
 use Rattle.tarjan.proofs.Tools.{upd-case, upd-at, upd-off, shut-case, seen-le}
 use Rattle.tarjan.proofs.Steps.{s-le, d-le, s-lt}
 use Rattle.tarjan.proofs.Whole.{agree-walks, left-same, left-falls}

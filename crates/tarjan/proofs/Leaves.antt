@@ -3,9 +3,9 @@ use mathlib.Core.Path.{_≡_, refl, sym, ap, _∙_}
 use Prim.Native.Nat.{ℕ, zero, suc, _+_, _-_, _≤_, _<_, min}
 use native.Mathlib.Omega.{arith}
 use Rattle.words.proofs.Points.{cut, same}
-use Rattle.tarjan.specs.Graph.{Graph, Sound, Edge, Reach}
-use Rattle.tarjan.specs.Walk.{State, Bound, Fwd, Inv, Order}
-use Rattle.tarjan.specs.Moves.{retired, closed}
+use Rattle.tarjan.specs.Inner.Graph.{Graph, Sound, Edge, Reach}
+use Rattle.tarjan.specs.Inner.Walk.{State, Bound, Fwd, Inv, Order}
+use Rattle.tarjan.specs.Inner.Moves.{retired, closed}
 use Rattle.tarjan.proofs.Tools.{pasted-old, pasted-new, seen-same, upd-case, upd-at, shut-case, seen-mono}
 use Rattle.tarjan.proofs.Steps.{edge-node, s-le, bound-top}
 

@@ -8,8 +8,8 @@ use native.Mathlib.Omega.{arith}
 use lib.ListN.{length, getD, set, length-set}
 use lib.Seq.{getD-set-other}
 use Rattle.words.proofs.Points.{stored}
-use Rattle.tarjan.specs.Moves.{shutAt, pasted}
-use Rattle.tarjan.specs.Space.{Kept, Begun, Numbered, Closes, Closed}
+use Rattle.tarjan.specs.Inner.Moves.{shutAt, pasted}
+use Rattle.tarjan.specs.Inner.Space.{Kept, Begun, Numbered, Closes, Closed}
 use Rattle.tarjan.proofs.Tools.{shut-case, pasted-old, pasted-new}
 
 -- after two

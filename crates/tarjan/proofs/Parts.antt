@@ -4,7 +4,7 @@ use mathlib.Core.Path.{_≡_, refl}
 use mathlib.Core.List.{List}
 use native.Mathlib.Omega.{arith}
 use lib.ListN.{getD, set}
-use Rattle.tarjan.specs.Space.{pushList, Closed, Pl, Looking, Looked, Leaving, Left}
+use Rattle.tarjan.specs.Inner.Space.{pushList, Closed, Pl, Looking, Looked, Leaving, Left}
 use Rattle.tarjan.proofs.Laws.{turn-new, turn-held, turn-shut, under, turn-left, turn-closed}
 
 -- an edge is looked at: its target was not seen, is held, or is closed

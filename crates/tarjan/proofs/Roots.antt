@@ -6,9 +6,9 @@ use Prim.Native.Nat.{ℕ, _+_, _-_, _≤_, _<_}
 use native.Mathlib.Omega.{arith}
 use lib.ListN.{length, getD}
 use Rattle.words.proofs.Points.{same}
-use Rattle.tarjan.specs.Graph.{Sound}
-use Rattle.tarjan.specs.Moves.{view, Agree, pushed}
-use Rattle.tarjan.specs.Space.{Rows, graph, rowsOf, Held, Ready, Kept, Still, pushList, Turned, Walked, Given, Pieced, Begun, Numbered}
+use Rattle.tarjan.specs.Inner.Graph.{Sound}
+use Rattle.tarjan.specs.Inner.Moves.{view, Agree, pushed}
+use Rattle.tarjan.specs.Inner.Space.{Rows, graph, rowsOf, Held, Ready, Kept, Still, pushList, Turned, Walked, Given, Pieced, Begun, Numbered}
 use Rattle.tarjan.proofs.Tools.{upd-case, upd-at, seen-le}
 use Rattle.tarjan.proofs.Whole.{start-walks, last-pieces, last-listed, shut-all}
 use Rattle.tarjan.proofs.Lists.{kept-refl, kept-trans}

@@ -4,9 +4,9 @@ use mathlib.Core.Logic.{_⊎_, inl, inr}
 use Prim.Native.Nat.{ℕ, zero, suc, _+_, _≤_, _<_, min}
 use native.Mathlib.Omega.{arith}
 use Rattle.words.proofs.Points.{cut, same}
-use Rattle.tarjan.specs.Graph.{Graph, Sound, Edge, Reach, here, step}
-use Rattle.tarjan.specs.Walk.{State, Bound, Fwd, Inv, Order}
-use Rattle.tarjan.specs.Moves.{pushed, advanced, lowered}
+use Rattle.tarjan.specs.Inner.Graph.{Graph, Sound, Edge, Reach, here, step}
+use Rattle.tarjan.specs.Inner.Walk.{State, Bound, Fwd, Inv, Order}
+use Rattle.tarjan.specs.Inner.Moves.{pushed, advanced, lowered}
 use Rattle.tarjan.proofs.Tools.{seen-upd, upd-case, upd-at, upd-off, seen-more, seen-le, seen-lt}
 
 pub trans : {G : Graph} {u v w : ℕ} → Reach G u v → Reach G v w → Reach G u w

@@ -7,8 +7,8 @@ use native.Mathlib.Nat.{lt-of-not-le}
 use native.Mathlib.Decide.{decLe, ℕ-discrete}
 use native.Mathlib.Omega.{arith}
 use Rattle.words.proofs.Points.{same}
-use Rattle.tarjan.specs.Walk.{one, seen}
-use Rattle.tarjan.specs.Moves.{pick, upd, shutAt, pasted}
+use Rattle.tarjan.specs.Inner.Walk.{one, seen}
+use Rattle.tarjan.specs.Inner.Moves.{pick, upd, shutAt, pasted}
 
 pub upd-case : (P : ℕ → Type 0) (f : ℕ → ℕ) (i x j : ℕ) → (j ≡ i → P x) → (j ≢ i → P (f j)) → P (upd f i x j)
 unfolding upd

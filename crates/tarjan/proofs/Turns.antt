@@ -4,9 +4,9 @@ use mathlib.Core.Path.{_≡_, refl, sym, ap, _∙_, subst}
 use Prim.Native.Nat.{ℕ, suc, _-_, _≤_, _<_}
 use native.Mathlib.Omega.{arith}
 use Rattle.words.proofs.Points.{same}
-use Rattle.tarjan.specs.Graph.{Graph, Sound, Edge, Reach, step}
-use Rattle.tarjan.specs.Walk.{State, Fwd, Inv, Walks}
-use Rattle.tarjan.specs.Moves.{pushed, advanced, lowered, retired, closed}
+use Rattle.tarjan.specs.Inner.Graph.{Graph, Sound, Edge, Reach, step}
+use Rattle.tarjan.specs.Inner.Walk.{State, Fwd, Inv, Walks}
+use Rattle.tarjan.specs.Inner.Moves.{pushed, advanced, lowered, retired, closed}
 use Rattle.tarjan.proofs.Tools.{upd-at, upd-off}
 use Rattle.tarjan.proofs.Steps.{edge-node, bound-lt, to-top, push-inv, push-order, advance-inv, lower-inv, lower-fwd}
 use Rattle.tarjan.proofs.Leaves.{retire-inv, close-inv, close-order}

@@ -5,9 +5,9 @@ use mathlib.Core.Logic.{_≢_}
 use Prim.Native.Nat.{ℕ, zero, suc, _+_, _-_, _≤_, _<_}
 use native.Mathlib.Omega.{arith}
 use Rattle.words.proofs.Points.{cut, same}
-use Rattle.tarjan.specs.Graph.{Graph, Sound, Reach, here, step, ComponentsOf, Listed}
-use Rattle.tarjan.specs.Walk.{State, Bound, one, seen, Inv, Order, Walks}
-use Rattle.tarjan.specs.Moves.{Agree, left}
+use Rattle.tarjan.specs.Inner.Graph.{Graph, Sound, Reach, here, step, ComponentsOf, Listed}
+use Rattle.tarjan.specs.Inner.Walk.{State, Bound, one, seen, Inv, Order, Walks}
+use Rattle.tarjan.specs.Inner.Moves.{Agree, left}
 use Rattle.tarjan.proofs.Tools.{seen-mono, seen-same, seen-le, one-pos}
 use Rattle.tarjan.proofs.Steps.{s-le, d-le, looked, edge-node}
 

@@ -1,5 +1,2 @@
-pub mod Graph
-pub mod Walk
-pub mod Moves
-pub mod Space
 pub mod Components
+pub mod Inner

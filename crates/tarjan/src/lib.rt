@@ -4,8 +4,8 @@
 ghost use mathlib.Core.Path.{_≡_};
 ghost use Prim.Native.Nat.{ℕ, _+_, _-_, _≤_, _<_, min};
 ghost use lib.ListN.{length, getD, set};
-ghost use Rattle.tarjan.specs.Space.{Ready, Turned, Walked, Begun, Numbered, Closes, Closed, pushList, Looking, Looked, Leaving, Left};
-ghost use Rattle.tarjan.specs.Components.{Walkable, Found};
+ghost use Rattle.tarjan.specs.Inner.Space.{Ready, Turned, Walked, Begun, Numbered, Closes, Closed, pushList, Looking, Looked, Leaving, Left};
+ghost use Rattle.tarjan.specs.Inner.Components.{Walkable, Found};
 
 // The counts of a walk: held nodes, frames, pieces, closed nodes.
 pub struct Counts {

@@ -12,8 +12,8 @@ use lib.ListN.{length, getD, drop, drop-of-length-le, List·getD-map}
 use lib.Seq.{drop-cons}
 use borrow.Author.Tests.{eq-eqb, ne-eqb, eqb-true, leb-true}
 use Rattle.text_grammar.specs.Numerals.{dash}
-use Rattle.text_grammar.specs.Groups.{Group, groups, groupAt, baseAt, noGroup, groupCount, rowNumbers, mostFields, allowed, indexOf}
-use Rattle.text_grammar.specs.Groups.{unplaced, noPosition, noSlot, instGroup, operandGroup, assignedGroup, moveGroup}
+use Rattle.text_grammar.specs.Groups.{Group, groups, groupAt, baseAt, noGroup, groupCount, rowNumbers, allowed, indexOf, unplaced, noPosition, noSlot, instGroup, operandGroup, assignedGroup, moveGroup}
+use Rattle.text_grammar.specs.Inner.{mostFields}
 
 -- ---- a test that holds at each number below n, computed
 

@@ -141,9 +141,6 @@ baseAt k = roomBefore k groups
 abbrev pub rowNumbers : ℕ
 rowNumbers = baseAt groupCount
 
-abbrev pub mostFields : ℕ
-mostFields = 7
-
 -- the place of an element, or the list's length
 unfoldable pub indexOf : ℕ → List ℕ → ℕ
 indexOf x [] = 0

@@ -2,4 +2,4 @@ pub mod Numerals
 pub mod Groups
 pub mod Lines
 pub mod Text
-pub mod Table
+pub mod Inner

@@ -62,17 +62,11 @@ abbrev pub countOf : ℕ → List (List ℕ) → ℕ
 countOf k ls = length (rowsIn k ls)
 
 -- `H`'s fields
-abbrev headField : ℕ → List (List ℕ) → ℕ
+abbrev pub headField : ℕ → List (List ℕ) → ℕ
 headField j ls = getD (getD (rowsIn headGroup ls) 0 []) j 0
-
-abbrev pub points : List (List ℕ) → ℕ
-points ls = headField 0 ls
 
 abbrev pub registers : List (List ℕ) → ℕ
 registers ls = headField 1 ls
-
-abbrev pub budget : List (List ℕ) → ℕ
-budget ls = headField 2 ls
 
 -- ---- number 1: "the program allows 64 of each and V ≤ 64"
 

@@ -3,7 +3,7 @@ ghost use mathlib.Core.Path.{_≡_};
 ghost use Prim.Native.Nat.{_<_};
 ghost use lib.ListN.{length, getD};
 ghost use Rattle.text_grammar.specs.Groups.{groupCount, groupAt, letters, indexOf};
-ghost use Rattle.text_grammar.specs.Table.{Tabled};
+ghost use Rattle.text_grammar.specs.Inner.{Tabled};
 
 // A group's numbers: how many fields its lines have, its place in the order and the places that the line before may have, the width and the
 // number of its rows, and where the first one stands.

@@ -15,7 +15,7 @@ use Rattle.text_grammar.specs.Lines.{comma, newline, parts, groupOf, fieldsOf, 
 use Rattle.text_grammar.proofs.PartLaws.{index-within, parts-split, parts-last, parts-more, fits-fewer}
 use Rattle.text_grammar.proofs.TableLaws.{at}
 use Rattle.words.proofs.Bools.{and-not}
-use Rattle.text_lines.specs.LineRead.{onFront, fieldsIn, FieldsRead, BodyRead, LineRead}
+use Rattle.text_lines.specs.Inner.{onFront, fieldsIn, FieldsRead, BodyRead, LineRead}
 
 some-entry : ℕ → Bool
 some-entry k = ltb 0 (length (groupAt k .dashes))

@@ -14,15 +14,14 @@ use Rattle.refusals.specs.declared.Verdict.the-variants.{Fine, Bad}
 use Rattle.refusals.specs.declared.Refusal.the-variants.{Text as TextRefused}
 use Rattle.refusals.specs.Verdicts.{scan}
 use Rattle.words.specs.Rows.{flat}
-use Rattle.words.specs.Regions.{part}
+use Rattle.words.specs.Inner.{part}
 use Rattle.words.proofs.Bools.{never}
 use Rattle.text_grammar.specs.Groups.{groupAt, baseAt, groupCount, rowNumbers}
 use Rattle.text_grammar.specs.Text.{rowsIn}
 use Rattle.text_grammar.specs.Lines.{newline, onto, linesOf, groupOf, ended, body, formed, wellFormed, lineGroup}
 use Rattle.text_lines.specs.declared.job_rows.Reader.{Reader}
-use Rattle.text_lines.specs.Taken.{Stored, Taken, Takes, Refuses, accepts}
+use Rattle.text_lines.specs.Inner.{Stored, Taken, Takes, Refuses, accepts, unbroken, Held, Reading}
 use Rattle.text_lines.proofs.ReaderLaws.{taken-malformed}
-use Rattle.text_lines.specs.Read.{unbroken, Held, Reading}
 
 -- ---- lines of bytes without a newline
 

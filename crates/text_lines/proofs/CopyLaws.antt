@@ -10,13 +10,13 @@ use lib.ListN.{length, getD, take, drop, set, length-append, length-take, List·
 use lib.Seq.{take-at, drop-append-add, drop-drop}
 use lib.Dec.{eqb, eqb→eq}
 use Rattle.words.specs.Rows.{tabulate, flat}
-use Rattle.words.specs.Regions.{Region, part}
+use Rattle.words.specs.Inner.{Region, part}
 use Rattle.words.proofs.RowLaws.{length-tabulate, tabulate-suc}
 use Rattle.words.proofs.RegionLaws.{Done, done-start, done-more, done-all, getD-part, region-list, region-front}
 use Rattle.text_grammar.specs.Groups.{groupAt, baseAt, groupCount, rowNumbers}
 use Rattle.text_grammar.proofs.TableLaws.{at, end-within}
 use Rattle.text_lines.proofs.TakeLaws.{flat-append, flat-one}
-use Rattle.text_lines.specs.Read.{padded, Copyable, Copied}
+use Rattle.text_lines.specs.Inner.{padded, Copyable, Copied}
 
 -- ---- where the groups begin
 

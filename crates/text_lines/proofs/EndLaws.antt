@@ -17,7 +17,7 @@ use Rattle.refusals.specs.declared.Refusal.the-variants.{Count, Text as TextRef
 use Rattle.refusals.specs.Verdicts.{first, scan, check}
 use Rattle.refusals.proofs.Laws.{scan-fine, first-right, check-told}
 use Rattle.words.specs.Rows.{flat}
-use Rattle.words.specs.Regions.{part}
+use Rattle.words.specs.Inner.{part}
 use Rattle.words.proofs.RegionLaws.{getD-part}
 use Rattle.words.proofs.Points.{cut}
 use Rattle.words.proofs.Bools.{or-right, or-neither, never}
@@ -29,8 +29,7 @@ use Rattle.text_grammar.proofs.OrderLaws.{soFar, far-bad, far-found, verdict-no
 use Rattle.text_grammar.proofs.OpenLaws.{follows-of}
 use Rattle.text_grammar.proofs.TableLaws.{at}
 use Rattle.text_lines.specs.declared.job_rows.Reader.{Reader}
-use Rattle.text_lines.specs.Taken.{Stored}
-use Rattle.text_lines.specs.Read.{unbroken, Reading, Ready, Records, Feeds}
+use Rattle.text_lines.specs.Inner.{Stored, unbroken, Reading, Ready, Records, Feeds}
 use Rattle.text_lines.proofs.ByteLaws.{lines-open}
 
 -- ---- a piece, byte by byte

@@ -15,7 +15,7 @@ use Rattle.text_grammar.specs.Numerals.{fieldOf, limit}
 use Rattle.text_grammar.specs.Groups.{indexOf, groupAt}
 use Rattle.text_grammar.specs.Lines.{comma, parts, meant, fits}
 use Rattle.text_grammar.proofs.PartLaws.{index-within, partsAfter, parts-split, fits-head, fits-not, fits-none, fits-more, fits-fewer, getD-step}
-use Rattle.text_lines.specs.LineRead.{onFront, fieldsIn, FieldsRead}
+use Rattle.text_lines.specs.Inner.{onFront, fieldsIn, FieldsRead}
 
 -- ---- a list that is filled from its front
 

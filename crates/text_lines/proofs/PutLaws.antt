@@ -10,7 +10,7 @@ use lib.Seq.{getD-append-seam}
 use lib.Dec.{T, eqb, ltb, eqb→eq}
 use native.Mathlib.Numerals.{add-one}
 use borrow.Author.Tests.{eq-eqb, ne-eqb, ltb-true}
-use Rattle.words.specs.Regions.{Region}
+use Rattle.words.specs.Inner.{Region}
 use Rattle.words.proofs.Points.{cut, same, stored}
 use Rattle.words.proofs.Bools.{and-both, never}
 use Rattle.text_grammar.specs.Numerals.{dash, limit}
@@ -19,7 +19,7 @@ use Rattle.text_grammar.specs.Lines.{meant, fits, lineGroup, lineFields}
 use Rattle.text_grammar.specs.Text.{numbers, placed, rowWith}
 use Rattle.text_grammar.proofs.RowLaws.{group-fits, length-numbers}
 use Rattle.text_grammar.proofs.TableLaws.{at}
-use Rattle.text_lines.specs.Put.{Meant}
+use Rattle.text_lines.specs.Inner.{Meant}
 
 pub numbers-at : (ds fs : List ℕ) (j : ℕ) → j < length ds → length ds ≤ length fs → getD (numbers ds fs) j 0 ≡ meant (getD ds j 0) (getD fs j 0)
 unfolding numbers

@@ -17,10 +17,8 @@ use Rattle.text_grammar.proofs.RowLaws.{count-more}
 use Rattle.text_grammar.proofs.OrderLaws.{soFar, far-bad, far-fine, far-found, length-more, place-last}
 use Rattle.text_grammar.proofs.OperandLaws.{opens}
 use Rattle.text_grammar.proofs.OpenLaws.{operand-opens}
-use Rattle.text_lines.specs.LineRead.{onFront}
+use Rattle.text_lines.specs.Inner.{onFront, Meant, Storable, Put, Stored, Over, Taken, Reads, Takes, Refuses, accepts, crowds}
 use Rattle.text_lines.specs.declared.job_rows.Reader.{Reader}
-use Rattle.text_lines.specs.Put.{Meant, Storable, Put}
-use Rattle.text_lines.specs.Taken.{Stored, Over, Taken, Reads, Takes, Refuses, accepts, crowds}
 use Rattle.text_lines.proofs.PutLaws.{front-meant, front-row}
 use Rattle.text_lines.proofs.TakeLaws.{storable, stored-more, lengths-more}
 

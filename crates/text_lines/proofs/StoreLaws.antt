@@ -8,11 +8,11 @@ use mathlib.Core.List.{List}
 use lib.ListN.{length, getD, set}
 use lib.Dec.{leb, ltb}
 use borrow.Author.Tests.{lt-ltb, le-ltb, le-leb, lt-leb}
-use Rattle.words.specs.Regions.{Region}
+use Rattle.words.specs.Inner.{Region}
 use Rattle.text_grammar.specs.Groups.{groupAt, baseAt, groupCount, rowNumbers, allowed, mayFollow, instGroup, operandGroup}
 use Rattle.text_grammar.specs.Text.{rowWith}
 use Rattle.text_grammar.proofs.TableLaws.{row-within, end-within, room-most}
-use Rattle.text_lines.specs.Put.{Storable, Put, countAt}
+use Rattle.text_lines.specs.Inner.{Storable, Put, countAt}
 
 -- ---- whether a line may follow
 

@@ -12,7 +12,7 @@ use lib.Seq.{getD-set-same, getD-set-other, take-add, drop-drop, getD-append-sea
 use lib.Dec.{lit<}
 use borrow.Author.Tests.{eq-eqb, ne-eqb}
 use Rattle.words.specs.Rows.{flat, tabulate}
-use Rattle.words.specs.Regions.{Region, Kept, part}
+use Rattle.words.specs.Inner.{Region, Kept, part}
 use Rattle.words.proofs.Points.{cut, same, stored}
 use Rattle.words.proofs.RegionLaws.{kept-before, kept-after, kept-part, kept-part-list, kept-then, kept-store, region-part, length-part, getD-part, part-is}
 use Rattle.words.proofs.RowLaws.{tabulate-getD}
@@ -22,8 +22,7 @@ use Rattle.text_grammar.specs.Text.{rowWith, rowsIn, countOf}
 use Rattle.text_grammar.proofs.TableLaws.{regionEnd, end-within, regions-apart, row-within}
 use Rattle.text_grammar.proofs.RowLaws.{group-fits, length-row, count-more, rows-more, row-of, row-none}
 use Rattle.text_grammar.proofs.OperandLaws.{opens, Raised, raised}
-use Rattle.text_lines.specs.Put.{Meant, Storable, Put, countAt}
-use Rattle.text_lines.specs.Taken.{Stored}
+use Rattle.text_lines.specs.Inner.{Meant, Storable, Put, countAt, Stored}
 
 -- ---- parts of the rows
 

@@ -20,14 +20,15 @@ use Rattle.refusals.proofs.Laws.{first-fine, first-assoc, first-left, first-rig
 use Rattle.refusals.proofs.Orders.{check-gives, scan-gives, lowest-wins}
 use Rattle.refusals.proofs.Numbers.{numbered-same}
 use Rattle.words.specs.Rows.{tabulate, flat}
-use Rattle.words.specs.Regions.{part}
+use Rattle.words.specs.Inner.{part}
 use Rattle.words.proofs.Bools.{or-left, or-right, or-neither}
 use Rattle.words.proofs.RowLaws.{length-tabulate, getD-tabulate, tabulate-eq, tabulate-add, tabulate-getD, tabulate-replicate}
 use Rattle.text_grammar.specs.Groups.{groupAt, baseAt, groupCount, rowNumbers}
 use Rattle.text_grammar.specs.Lines.{linesOf}
 use Rattle.text_grammar.specs.Text.{badLine, rowsIn, countOf, textVerdict, tooMany, readVerdict}
 use Rattle.text_grammar.proofs.RowLaws.{length-rows}
-use Rattle.text_lines.specs.Read.{Records, Finished, readChecks, groupRows, rowsFor, countsFor, TextRead, padded, Copyable, Copied}
+use Rattle.text_lines.specs.Inner.{Records, Finished, padded, Copyable, Copied}
+use Rattle.text_lines.specs.Read.{readChecks, groupRows, rowsFor, countsFor, TextRead}
 use Rattle.text_lines.proofs.EndLaws.{accepted-few}
 use Rattle.text_lines.proofs.CopyLaws.{starts, before-all, flat-before}
 

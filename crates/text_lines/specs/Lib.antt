@@ -1,4 +1,2 @@
-pub mod LineRead
-pub mod Taken
-pub mod Put
 pub mod Read
+pub mod Inner

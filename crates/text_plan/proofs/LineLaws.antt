@@ -6,7 +6,7 @@ use mathlib.Core.Path.{_≡_, ap, subst, _∙_}
 use mathlib.Core.List.{List, [], _∷_}
 use lib.ListN.{length, length-append}
 use Rattle.words.specs.Rows.{tabulate, flat}
-use Rattle.text_plan.specs.Puts.{Puts}
+use Rattle.text_plan.specs.Inner.{Puts}
 use Rattle.text_plan.specs.Lines.{fieldsText, lineText}
 use Rattle.text_plan.proofs.PutLaws.{fields-length, rows-none, rows-more, puts-as}
 use native.Mathlib.Numerals.{add-one}

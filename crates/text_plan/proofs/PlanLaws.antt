@@ -27,9 +27,9 @@ use Rattle.query_checks.specs.Checks.{badCount, badAreas, badItem, partsVerdict
 use Rattle.queries.specs.declared.Share.{Share}
 use Rattle.queries.specs.declared.Share.the-variants.{Part, Absent, Refused}
 use Rattle.query_checks.proofs.CheckLaws.{parts-count, shared-sound}
-use Rattle.text_plan.specs.Puts.{Puts}
+use Rattle.text_plan.specs.Inner.{Puts, Alike}
 use Rattle.text_plan.specs.declared.plan_text.Written.the-variants.{Bytes, Refused as WrittenRefused}
-use Rattle.text_plan.specs.Printed.{cellLine, cellLines, itemLine, itemLines, printed, refusalText, roomChecks, inRoom, planChecks, printVerdict, printRank, Alike, PrintedTo, planText, noText}
+use Rattle.text_plan.specs.Printed.{cellLine, cellLines, itemLine, itemLines, printed, refusalText, roomChecks, inRoom, planChecks, printVerdict, printRank, PrintedTo, planText, noText}
 use Rattle.text_plan.proofs.LineLaws.{line-length, rows-length}
 
 -- ---- a plan that is not refused

@@ -13,7 +13,7 @@ use borrow.Author.Tests.{lt-ltb, le-ltb}
 use Rattle.words.specs.Rows.{tabulate, flat}
 use Rattle.words.proofs.RowLaws.{tabulate-suc}
 use Rattle.text_grammar.specs.Numerals.{digitsOf, decimal}
-use Rattle.text_plan.specs.Puts.{Puts}
+use Rattle.text_plan.specs.Inner.{Puts}
 use Rattle.text_plan.specs.Lines.{fieldsText, lineText}
 
 -- ---- one after another

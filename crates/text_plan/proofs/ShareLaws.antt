@@ -20,7 +20,8 @@ use Rattle.query_checks.proofs.CheckLaws.{shared-sound}
 use Rattle.query_checks.specs.Checks.{sharedVerdict}
 use Rattle.queries.specs.declared.Share.{Share}
 use Rattle.queries.specs.declared.Share.the-variants.{Part, Absent, Refused}
-use Rattle.text_plan.specs.Printed.{rangeLine, rowLine, areaLines}
+use Rattle.text_plan.specs.Printed.{rangeLine, areaLines}
+use Rattle.text_plan.specs.Inner.{rowLine}
 
 -- a part of the area list, row by row
 part-lines : (areas : List ℕ) (i start n : ℕ) → start + n ≤ rangeCount areas → flat (map (rangeLine i) (take n (drop start (areasOf areas)))) ≡ flat (tabulate n (λ j. rowLine areas i (start + j)))

@@ -1,3 +1,3 @@
 pub mod Lines
-pub mod Puts
 pub mod Printed
+pub mod Inner

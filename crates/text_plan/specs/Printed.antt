@@ -12,7 +12,7 @@ use Rattle.refusals.specs.declared.Verdict.{Verdict}
 use Rattle.refusals.specs.declared.Refusal.{Refusal}
 use Rattle.refusals.specs.declared.Refusal.the-variants.{Count, Line, Edge, Inst, Stray, Piece, Space, Inverted, List as ListFull, Want, Text}
 use Rattle.words.specs.Rows.{tabulate, flat}
-use Rattle.words.specs.Widths.{cellCount, cellSize, cellAlign, itemRowCount, itemCell, rangeCount, rangeStart, rangeEnd}
+use Rattle.words.specs.Widths.{cellCount, cellSize, cellAlign, itemRowCount, itemCell, rangeCount}
 use Rattle.ranges.specs.declared.Range.{Range}
 use Rattle.fitting.specs.Queries.{slotsOf, shared}
 use Rattle.query_checks.specs.Checks.{badCount, badAreas, partsVerdict, surplus}
@@ -37,10 +37,6 @@ itemLines letter items base n = flat (tabulate n (itemLine letter items base))
 -- `G`: shared local, start, end, for each range of its area
 abbrev pub rangeLine : ℕ → Range → List ℕ
 rangeLine i r = lineText 71 (i ∷ r .start ∷ r .end ∷ [])
-
--- the line of a row of the area list
-abbrev pub rowLine : List ℕ → ℕ → ℕ → List ℕ
-rowLine areas i j = lineText 71 (i ∷ rangeStart areas j ∷ rangeEnd areas j ∷ [])
 
 abbrev pub areaLines : ℕ → Option (List Range) → List ℕ
 areaLines i none = []
@@ -93,10 +89,6 @@ printRank Piece = 4
 printRank Inverted = 4
 printRank ListFull = 4
 printRank Text = 4
-
--- two verdicts that refuse by the same number and index, or neither does
-pub record Alike (v w : Verdict) : Type 0 where
-  pub outcome : (l : List ℕ) → unless v l ≡ unless w l
 
 abbrev pub writtenOf : Written → Outcome ℕ
 writtenOf (Bytes n) = given n

@@ -4,7 +4,7 @@ ghost use mathlib.Core.List.{_∷_};
 ghost use Prim.Native.Nat.{_+_, _≤_, _<_, _^_};
 ghost use lib.ListN.{length, drop};
 ghost use Rattle.text_grammar.specs.Numerals.{decimal};
-ghost use Rattle.text_plan.specs.Puts.{Puts};
+ghost use Rattle.text_plan.specs.Inner.{Puts};
 ghost use Rattle.text_plan.specs.Lines.{lineText};
 
 // The decimal digits of a number, in the last bytes of a list of 20; answers where they start.

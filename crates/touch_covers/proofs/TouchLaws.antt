@@ -7,7 +7,7 @@ use mathlib.Core.List.{List, [], _∷_}
 use lib.ListN.{length, getD}
 use lib.Dec.{leb}
 use Rattle.ranges.specs.Points.{range}
-use Rattle.ranges.specs.Forms.{pack, unpack}
+use Rattle.ranges.specs.Inner.{pack, unpack}
 use Rattle.ranges.proofs.FormLaws.{unpack-pack}
 use Rattle.graph.proofs.Line.{start-is, end-is}
 use Rattle.areas.specs.Blocks.{until, cover}

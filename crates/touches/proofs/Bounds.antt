@@ -7,10 +7,11 @@ use mir.Syntax.{w64}
 use mir.Val.{Fits}
 use native.Mathlib.Omega.{arith}
 use lib.ListN.{length, getD}
-use Rattle.words.specs.Widths.{instWidth, mentionWidth, mentionCount}
+use Rattle.words.specs.Widths.{instWidth, mentionWidth}
+use Rattle.words.specs.Inner.{mentionCount}
 use Rattle.words.proofs.FitLaws.{Word, word}
 use Rattle.words.proofs.RowLaws.{rows-within}
-use Rattle.touches.specs.Touches.{Linked}
+use Rattle.touches.specs.Inner.{Linked}
 use Rattle.touches.proofs.EntryLaws.{Walking, turn}
 
 -- number a of n is read

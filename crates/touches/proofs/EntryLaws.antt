@@ -8,15 +8,14 @@ use native.Mathlib.Omega.{arith}
 use lib.ListN.{getD, set}
 use lib.Dec.{eqb}
 use borrow.Author.Tests.{eq-eqb, ne-eqb}
-use Rattle.words.specs.Regions.{part}
-use Rattle.words.specs.Widths.{instWidth, instCount, instPlaced, instEarly, mentionWidth, mentionCount}
-use Rattle.graph.specs.Work.{Within}
+use Rattle.words.specs.Inner.{part, instPlaced, instEarly, mentionCount}
+use Rattle.words.specs.Widths.{instWidth, instCount, mentionWidth}
+use Rattle.graph.specs.Inner.Work.{Within}
 use Rattle.graph.proofs.Within.{within-refl, within-wider, within-set}
-use Rattle.reach.specs.Prepared.{latest}
-use Rattle.reach.specs.Steps.{rowLocal}
+use Rattle.reach.specs.Inner.{latest, rowLocal}
 use Rattle.follow.proofs.BeginLaws.{latest-le, latest-is}
 use Rattle.area_pieces.proofs.PushLaws.{part-push, set-other}
-use Rattle.touches.specs.Touches.{downBy, endAt, Linked, Listed}
+use Rattle.touches.specs.Inner.{downBy, endAt, Linked, Listed}
 
 module _ (insts rows : List ℕ) (g : ℕ → List ℕ) (l : ℕ) where
   abbrev f : ℕ → ℕ

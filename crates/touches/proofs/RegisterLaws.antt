@@ -11,22 +11,22 @@ use lib.Seq.{take-all, take-suc, getD-append-add}
 use lib.Dec.{eqb}
 use borrow.Author.Tests.{eqb-true}
 use Rattle.words.specs.Sort.{Distinct}
-use Rattle.words.specs.Regions.{part}
+use Rattle.words.specs.Inner.{part}
 use Rattle.words.specs.Widths.{pieceWidth, pieceCount}
 use Rattle.words.proofs.RegionLaws.{length-part, getD-part, part-is}
 use Rattle.words.proofs.Points.{cut}
 use Rattle.words.proofs.RowLaws.{length-records}
 use Rattle.ranges.specs.declared.Range.{Range}
 use Rattle.ranges.specs.Points.{range}
-use Rattle.ranges.specs.Forms.{unpack, unpacked}
+use Rattle.ranges.specs.Inner.{unpack, unpacked}
 use Rattle.ranges.proofs.FormLaws.{map-append, unpacked-length}
-use Rattle.graph.specs.Work.{Within}
+use Rattle.graph.specs.Inner.Work.{Within}
 use Rattle.graph.proofs.Within.{within-refl, within-trans, within-wider}
 use Rattle.carrying.specs.Lists.{keep, gather}
 use Rattle.carrying.specs.Carried.{Piece, piecesOf, livePieces}
 use Rattle.area_pieces.proofs.HullLaws.{gather-append, gather-one, gather-none}
-use Rattle.live.specs.Live.{InOrder, Fetched}
-use Rattle.touches.specs.Touches.{Gathered}
+use Rattle.live.specs.Inner.{InOrder, Fetched}
+use Rattle.touches.specs.Inner.{Gathered}
 
 -- ---- counting
 

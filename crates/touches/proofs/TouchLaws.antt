@@ -9,13 +9,14 @@ use lib.ListN.{getD}
 use lib.Dec.{eqb}
 use Rattle.words.specs.Rows.{tabulate}
 use Rattle.words.specs.Sort.{sortOf, Distinct}
-use Rattle.words.specs.Widths.{instWidth, instCount, instPlaced, instEarly, mentionWidth, addressCount, endCount, mentionInst, mentionLocal}
+use Rattle.words.specs.Widths.{instWidth, instCount, mentionWidth, addressCount, endCount}
+use Rattle.words.specs.Inner.{instPlaced, instEarly, mentionInst, mentionLocal}
 use Rattle.words.proofs.RowLaws.{tabulate-suc}
 use Rattle.words.proofs.SortLaws.{sort-append-comm, sort-append-left}
 use Rattle.ranges.specs.declared.Range.{Range}
 use Rattle.ranges.specs.Points.{range}
 use Rattle.ranges.specs.Merged.{Permuted}
-use Rattle.ranges.specs.Forms.{unpack, unpacked}
+use Rattle.ranges.specs.Inner.{unpack, unpacked}
 use Rattle.ranges.proofs.FormLaws.{map-append, unpack-pack}
 use Rattle.carrying.specs.Lists.{keep, gather, below}
 use Rattle.carrying.specs.Carried.{Mention, Code, Carries, mentioned, carried, carries, piecesOf, livePieces, touchesOf, endsOf}
@@ -27,8 +28,8 @@ use Rattle.areas.proofs.PermuteLaws.{perm-is, perm-front, perm-append, perm-exc
 use Rattle.area_pieces.proofs.HullLaws.{keep-append, gather-append}
 use Rattle.live.proofs.LiveLaws.{keep-one}
 use Rattle.reach.specs.Prepared.{codeOf}
-use Rattle.reach.specs.Steps.{rowLocal}
-use Rattle.touches.specs.Touches.{listedAt, downBy, entryAt, endAt}
+use Rattle.reach.specs.Inner.{rowLocal}
+use Rattle.touches.specs.Inner.{listedAt, downBy, entryAt, endAt}
 
 -- ---- lists that name the same numbers, each once
 

@@ -1,1 +1,1 @@
-pub mod Touches
+pub mod Inner

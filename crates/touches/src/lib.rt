@@ -2,10 +2,10 @@
 ghost use Prim.Native.Nat.{ℕ, _+_, _^_, _≤_, _<_};
 ghost use lib.ListN.{length, getD};
 ghost use Rattle.words.specs.Sort.{Distinct};
-ghost use Rattle.words.specs.Regions.{part};
+ghost use Rattle.words.specs.Inner.{part};
 ghost use Rattle.words.specs.Widths.{pieceCount};
-ghost use Rattle.live.specs.Live.{InOrder};
-ghost use Rattle.touches.specs.Touches.{Gathered, entryAt, endAt, Linked, Listed};
+ghost use Rattle.live.specs.Inner.{InOrder};
+ghost use Rattle.touches.specs.Inner.{Gathered, entryAt, endAt, Linked, Listed};
 use words::widths::inst;
 use words::widths::mention;
 

@@ -18,7 +18,8 @@ use Rattle.words.specs.Widths.{cellWidth, itemWidth, rangeWidth, rangeCount, wa
 use Rattle.words.proofs.Bools.{or-neither}
 use Rattle.ranges.specs.Lent.{faulty}
 use Rattle.fitting.specs.Queries.{areasOf}
-use Rattle.want_checks.specs.Checks.{badPart, badWant, wantsVerdict, overLimit, badCount, badSpace, spaceOf, verdict, Granted}
+use Rattle.want_checks.specs.Checks.{badPart, badWant, wantsVerdict, overLimit, badCount, badSpace, spaceOf, verdict}
+use Rattle.want_checks.specs.Inner.{Granted}
 use Rattle.want_checks.proofs.PartLaws.{part-present, areas-length}
 
 pub part-outside : (s : List ℕ) (present first count : ℕ) → (present ≡ 0 → ⊥) → rangeCount s < first + count → true ≡ badPart (areasOf s) present first count

@@ -1,6 +1,5 @@
 -- Document 01, "Fitting alone, over given wants": what the entry refuses (numbers 1, 7 and 10), and W.
-use Prim.Native.Nat.{ℕ, _+_, _-_, _*_, _/_, _%_, _≤_, _<_}
-use mathlib.Core.Path.{_≡_}
+use Prim.Native.Nat.{ℕ, _+_, _-_, _*_, _/_, _%_}
 use mathlib.Core.Bool.{Bool, false, cond, not, _||_}
 use mathlib.Core.List.{List, [], _∷_}
 use lib.ListN.{length, take, drop}
@@ -50,12 +49,3 @@ fitChecks wants areas locals budget cells items work =
 
 unfoldable pub verdict : List ℕ → List ℕ → ℕ → ℕ → ℕ → ℕ → ℕ → Verdict
 verdict wants areas locals budget cells items work = inOrder (fitChecks wants areas locals budget cells items work)
-
--- what holds where nothing is refused: the counts within their limits, room in the answer lists and the work space, each want's part proper
-pub record Granted (wants areas : List ℕ) (cells items work : ℕ) : Type 0 where
-  pub few : wantCount wants ≤ 4096
-  pub short : rangeCount areas ≤ 65536
-  pub space : 8 * (wantCount wants + rangeCount areas) ≤ work
-  pub in-cells : cellWidth * wantCount wants ≤ cells
-  pub in-items : itemWidth * wantCount wants ≤ items
-  pub fine : (i : ℕ) → i < wantCount wants → badWant (areasOf areas) wants i ≡ false

@@ -16,7 +16,8 @@ use Rattle.want_checks.specs.Checks.{badCount, badSpace, wantsVerdict, verdict}
 use Rattle.wants.specs.declared.Fitted.{Fitted}
 use Rattle.wants.specs.Entry.{Tally, answerOf, planFor, outcome, FittedAlone}
 use Rattle.codes.specs.Codes.{refusalCode, codeOf}
-use Rattle.want_codes.specs.Plans.{countsOf, fewCounts, codedOutcome, PlanTold, PlanCoded}
+use Rattle.want_codes.specs.Plans.{countsOf, fewCounts, codedOutcome, PlanCoded}
+use Rattle.want_codes.specs.Inner.{PlanTold}
 
 module _ {counts : List ℕ} {o : Outcome Tally} where
   pub plan-told : {counts′ : List ℕ} {c p d : ℕ} → o ≡ given (record { cells = c; probes = p; depth = d }) → counts′ ≡ c ∷ p ∷ d ∷ drop 3 counts → PlanTold counts o 0 counts′

@@ -17,11 +17,6 @@ use Rattle.codes.specs.Codes.{codeOf}
 abbrev pub countsOf : Tally → List ℕ
 countsOf t = t .cells ∷ t .probes ∷ t .depth ∷ []
 
--- the answer in one number, and the counts told
-pub record PlanTold (counts : List ℕ) (o : Outcome Tally) (r : ℕ) (counts′ : List ℕ) : Type 0 where
-  pub answer : r ≡ codeOf o
-  pub in-counts : counts′ ≡ after o countsOf counts
-
 -- `counts` is an answer list of three numbers: under them is one more cause of number 7
 abbrev pub fewCounts : ℕ → Bool
 fewCounts counts = ltb counts 3

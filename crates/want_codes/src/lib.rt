@@ -2,7 +2,8 @@
 ghost use Prim.Native.Nat.{_≤_};
 ghost use lib.ListN.{length};
 ghost use Rattle.wants.specs.Entry.{answerOf};
-ghost use Rattle.want_codes.specs.Plans.{PlanTold, codedOutcome, PlanCoded};
+ghost use Rattle.want_codes.specs.Inner.{PlanTold};
+ghost use Rattle.want_codes.specs.Plans.{codedOutcome, PlanCoded};
 use codes::refused;
 use codes::tell;
 use fitting::Terms;

@@ -19,13 +19,12 @@ use Rattle.fitting.specs.Plan.{Cell, cellAt, Plan, planOf, depthOf}
 use Rattle.fitting.specs.Queries.{areasOf}
 use Rattle.fitting.proofs.PlanLaws.{facts}
 use Rattle.fitting.proofs.OrderLaws.{order-names}
-use Rattle.fit_tables.specs.Keys.{sizeOf, alignOf}
+use Rattle.fit_tables.specs.Inner.{sizeOf, alignOf, cellTable, homeTable, wantIn, wantsIn, planIn, Shown, Fitted, Loaded, cellRowsIn, itemRowsIn}
 use Rattle.fit_tables.specs.declared.Counts.{Counts}
 use Rattle.fit_tables.specs.declared.Tables.{Tables}
-use Rattle.fit_tables.specs.Tables.{cellTable, homeTable, wantIn, wantsIn, planIn, Shown, Fitted}
 use Rattle.wants.specs.declared.Fitted.the-variants.{Plan as Planned, Refused}
 use Rattle.wants.specs.Entry.{wantsOf, planFor, tallied, cellRow, cellRows, itemRows, FittedAlone}
-use Rattle.fit_tables.specs.WantTables.{itemRow, Loaded, cellRowsIn, itemRowsIn}
+use Rattle.fit_tables.specs.WantTables.{itemRow}
 use Rattle.wants.specs.Inner.{tablesFor, Answered}
 use Rattle.fit_tables.proofs.WantLaws.{item-wide}
 use Rattle.words.proofs.FlatLaws.{flat-length}

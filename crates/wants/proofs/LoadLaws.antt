@@ -11,21 +11,19 @@ use mathlib.Core.List.{List}
 use lib.ListN.{length, getD, take, drop}
 use lib.Seq.{ext-getD}
 use borrow.Author.Tests.{eq-eqb, ne-eqb}
-use Rattle.words.specs.Regions.{part}
-use Rattle.words.specs.Widths.{cellWidth, rangeWidth, rangeCount, rangeEnd, wantWidth, wantCount, wantSize, wantAlign, wantPresent, wantFirst, wantRanges}
+use Rattle.words.specs.Inner.{part, wantSize, wantAlign}
+use Rattle.words.specs.Widths.{cellWidth, rangeWidth, rangeCount, rangeEnd, wantWidth, wantCount, wantPresent, wantFirst, wantRanges}
 use Rattle.words.proofs.RegionLaws.{length-part, getD-part}
 use Rattle.words.proofs.RowLaws.{tabulate-eq}
 use Rattle.ranges.specs.Points.{range, rangeAt, Apart}
-use Rattle.ranges.specs.Forms.{unpack, unpacked}
+use Rattle.ranges.specs.Inner.{unpack, unpacked}
 use Rattle.ranges.proofs.FormLaws.{unpacked-length, unpacked-at, unpack-pack}
 use Rattle.fitting.specs.Queries.{areasOf, partOf}
-use Rattle.fit_tables.specs.Keys.{sizeOf, alignOf}
-use Rattle.fit_tables.specs.Tables.{firstOf, countOf, rangesAt, areaIn, wantIn, wantsIn, Proper, Lent}
+use Rattle.fit_tables.specs.Inner.{sizeOf, alignOf, firstOf, countOf, rangesAt, areaIn, wantIn, wantsIn, Proper, Lent, itemWordAt, Loaded}
 use Rattle.wants.specs.Inner.{tablesFor}
 use Rattle.fit_tables.proofs.TableLaws.{area-none, area-some}
 use Rattle.wants.specs.Entry.{wantsOf}
 use Rattle.want_checks.specs.Checks.{badWant}
-use Rattle.fit_tables.specs.WantTables.{itemWordAt, Loaded}
 use Rattle.fit_tables.proofs.WantLaws.{word-none, word-some, area-word}
 use Rattle.want_checks.proofs.PartLaws.{part-length, part-at, part-fine, areas-length}
 

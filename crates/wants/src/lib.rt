@@ -1,7 +1,7 @@
 // Fitting alone: the lowest fitting cell for each of the wants that are lent.
 ghost use lib.ListN.{length};
 ghost use Rattle.wants.specs.Entry.{planFor, outcome, FittedAlone};
-ghost use Rattle.want_checks.specs.Checks.{Granted};
+ghost use Rattle.want_checks.specs.Inner.{Granted};
 ghost use Rattle.wants.specs.Inner.{Answered};
 use fit_tables::CELLS;
 use fit_tables::Counts;

@@ -6,7 +6,8 @@ use mathlib.Core.Path.{_≡_, ap, sym, _∙_, subst}
 use mathlib.Core.List.{List, [], _∷_, _++_}
 use lib.ListN.{length, getD, set, drop, length-append, List·getD-append}
 use lib.Seq.{getD-append-add, paste}
-use Rattle.words.specs.Rows.{tabulate, flat, rowPut}
+use Rattle.words.specs.Rows.{tabulate, flat}
+use Rattle.words.specs.Inner.{rowPut}
 use Rattle.words.proofs.PasteLaws.{Filling, fill-start, fill-more, fill-done, paste-front}
 
 module _ (wide : ℕ) where

@@ -9,7 +9,8 @@ use lib.ListN.{length, take, drop, getD, set, length-set, length-append, length-
 use lib.Seq.{ext-getD, getD-take, getD-drop, getD-append-add, length-take-le, drop-cons, set-at}
 use native.Mathlib.Numerals.{add-one}
 use Rattle.words.specs.Rows.{tabulate}
-use Rattle.words.specs.Regions.{Region, part, Kept, Disjoint, below, above, cleared}
+use Rattle.words.specs.Inner.{Region, part, Kept, Disjoint, below, above}
+use Rattle.words.specs.Regions.{cleared}
 use Rattle.words.proofs.Points.{cut, stored}
 use Rattle.words.proofs.RowLaws.{length-tabulate, getD-tabulate, tabulate-replicate}
 

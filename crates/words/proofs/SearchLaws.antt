@@ -5,8 +5,7 @@ use Prim.Native.Nat.{ℕ, _+_, _-_, _*_, _/_, _^_, _≤_, _<_}
 use native.Mathlib.Omega.{arith}
 use lib.Dec.{leb, ltb}
 use borrow.Author.Tests.{ltb-true, leb-true, leb-false, le-leb, lt-ltb}
-use Rattle.words.specs.Sort.{Rising}
-use Rattle.words.specs.Search.{Splits}
+use Rattle.words.specs.Inner.{Rising, Splits}
 use Rattle.words.proofs.Points.{cut}
 use Rattle.words.proofs.SortLaws.{rising-le}
 

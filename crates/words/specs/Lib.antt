@@ -2,4 +2,4 @@ pub mod Rows
 pub mod Widths
 pub mod Sort
 pub mod Regions
-pub mod Search
+pub mod Inner

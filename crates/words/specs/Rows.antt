@@ -2,7 +2,7 @@
 use Prim.Native.Nat.{ℕ, zero, suc, _+_, _*_, _/_, _%_}
 use mathlib.Core.Bool.{Bool}
 use mathlib.Core.List.{List, [], _∷_, _++_}
-use lib.ListN.{length, getD, set}
+use lib.ListN.{length, getD}
 use lib.Dec.{eqb}
 
 -- f's values at 0 to n - 1
@@ -29,7 +29,3 @@ records w make s = tabulate (rowCount w s) (λ i. make (field w s i))
 unfoldable pub flat : List (List ℕ) → List ℕ
 flat [] = []
 flat (r ∷ rs) = r ++ flat rs
-
--- a row of four numbers stored
-abbrev pub rowPut : List ℕ → ℕ → ℕ → ℕ → ℕ → ℕ → List ℕ
-rowPut l at a b c d = set (set (set (set l at a) (at + 1) b) (at + 2) c) (at + 3) d

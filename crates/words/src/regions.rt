@@ -2,7 +2,8 @@
 ghost use mathlib.Core.Path.{_≡_};
 ghost use Prim.Native.Nat.{ℕ, _+_, _≤_, _<_, _^_};
 ghost use lib.ListN.{length, getD};
-ghost use Rattle.words.specs.Regions.{Region, Disjoint, cleared};
+ghost use Rattle.words.specs.Inner.{Region, Disjoint};
+ghost use Rattle.words.specs.Regions.{cleared};
 
 // `v` in the `n` places from `at` on.
 pub fn fill(w: &mut [u64], at: usize, n: usize, v: u64)

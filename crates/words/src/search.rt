@@ -4,8 +4,7 @@ ghost use mathlib.Core.Bool.{cond};
 ghost use Prim.Native.Nat.{_+_, _*_, _≤_, _<_};
 ghost use lib.Dec.{leb, ltb};
 ghost use lib.ListN.{length, getD};
-ghost use Rattle.words.specs.Sort.{Rising};
-ghost use Rattle.words.specs.Search.{Splits};
+ghost use Rattle.words.specs.Inner.{Rising, Splits};
 ghost use Rattle.words.specs.Rows.{field};
 
 // How many of the `n` numbers from `base` on are below `point`.

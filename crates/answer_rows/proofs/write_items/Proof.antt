@@ -9,7 +9,7 @@ use borrow.Author.Needs.{needs}
 use Rattle.words.proofs.PasteLaws.{Filling}
 use Rattle.words.proofs.FlatLaws.{flat-start, flat-done}
 use Rattle.answer_rows.specs.declared.Item.{Item}
-use Rattle.answer_rows.specs.Tables.{rowOf, rowsOf}
+use Rattle.answer_rows.specs.Inner.{rowOf, rowsOf}
 use Rattle.answer_rows.proofs.RowLaws.{three-more}
 use Rattle.answer_rows.proofs.write_items.Statement.{statement}
 use Rattle.answer_rows.proofs.write_items.Tie as tie

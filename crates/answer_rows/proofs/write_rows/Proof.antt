@@ -6,7 +6,7 @@ use lib.ListN.{getD, length-set}
 use denote.Ref.{now}
 use Rattle.words.proofs.PasteLaws.{Filling}
 use Rattle.words.proofs.FlatLaws.{flat-start, flat-done, two-more}
-use Rattle.answer_rows.specs.Rows.{halves, rowsIn}
+use Rattle.answer_rows.specs.Inner.{halves, rowsIn}
 use Rattle.answer_rows.proofs.write_rows.Statement.{statement}
 use Rattle.answer_rows.proofs.write_rows.Tie as tie
 use Rattle.words.specs.Widths.{rangeWidth}

@@ -6,7 +6,7 @@ use mathlib.Core.List.{List}
 use Rattle.words.specs.Widths.{localCount, slotCount}
 use Rattle.words.proofs.PasteLaws.{Filling}
 use Rattle.words.proofs.FlatLaws.{flat-start, flat-done, two-more}
-use Rattle.apart.specs.Apart.{ownCell, ownCells}
+use Rattle.apart.specs.Inner.{ownCell, ownCells}
 use native.Mathlib.Omega.{arith}
 use Prim.Native.Nat.{ℕ, _+_, _-_, _*_, _≤_}
 use mathlib.Core.Path.{sym, ap, _∙_}

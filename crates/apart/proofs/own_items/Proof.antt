@@ -3,7 +3,7 @@ use denote.Ref.{now}
 use mathlib.Core.List.{[], _∷_}
 use Rattle.words.proofs.PasteLaws.{Filling}
 use Rattle.words.proofs.FlatLaws.{flat-start, flat-done, four-more}
-use Rattle.apart.specs.Apart.{ownItems}
+use Rattle.apart.specs.Inner.{ownItems}
 use native.Mathlib.Omega.{arith}
 use Prim.Native.Nat.{_-_, _*_, _≤_}
 use mathlib.Core.Path.{refl}

@@ -3,7 +3,7 @@ use native.Mathlib.Omega.{arith}
 use Prim.Native.Nat.{_+_, _-_, _*_}
 use denote.Ref.{now}
 use borrow.Author.Needs.{needs}
-use Rattle.spots.specs.Spots.{endsAt}
+use Rattle.spots.specs.Inner.{endsAt}
 use Rattle.area_ends.proofs.CoverLaws.{arrival-is}
 use Rattle.area_ends.proofs.arrival.Statement.{statement}
 use Rattle.area_ends.proofs.arrival.Tie as tie

@@ -3,7 +3,7 @@ use native.Mathlib.Omega.{arith}
 use Prim.Native.Nat.{_-_}
 use denote.Ref.{now}
 use borrow.Author.Needs.{needs}
-use Rattle.words.specs.Regions.{above}
+use Rattle.words.specs.Inner.{above}
 use Rattle.area_ends.proofs.ArriveLaws.{copied-asked, copied-arrived}
 use Rattle.area_ends.proofs.arrived.Statement.{statement}
 use Rattle.area_ends.proofs.arrived.Tie as tie

@@ -5,9 +5,10 @@ use mathlib.Core.Path.{ap, _∙_}
 use denote.Ref.{now}
 use borrow.Author.Needs.{needs}
 use mathlib.Core.List.{List}
-use Rattle.ranges.specs.Forms.{unpack}
+use Rattle.ranges.specs.Inner.{unpack}
 use Rattle.areas.specs.Blocks.{blockOf, cover}
-use Rattle.spots.specs.Spots.{lineOf, endsAt}
+use Rattle.spots.specs.Spots.{lineOf}
+use Rattle.spots.specs.Inner.{endsAt}
 use lib.ListN.{length-set}
 use Rattle.area_ends.proofs.CoverLaws.{ends-set, stand-set, covered-one, covered-two, covered-three}
 use Rattle.area_ends.proofs.cover_touch.Statement.{statement}

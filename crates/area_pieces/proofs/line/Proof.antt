@@ -3,8 +3,8 @@ use native.Mathlib.Omega.{arith}
 use Prim.Native.Nat.{_-_}
 use denote.Ref.{now}
 use borrow.Author.Needs.{needs}
-use Rattle.words.specs.Regions.{above}
-use Rattle.bits.specs.Bits.{apart}
+use Rattle.words.specs.Inner.{above}
+use Rattle.bits.specs.Inner.{apart}
 use Rattle.area_pieces.proofs.LineLaws.{both-asked, both-covered, both-lined}
 use Rattle.area_pieces.proofs.line.Statement.{statement}
 use Rattle.area_pieces.proofs.line.Tie as tie

@@ -3,7 +3,7 @@ use native.Mathlib.Omega.{arith}
 use Prim.Native.Nat.{_-_, _^_, _≤_, _<_}
 use mathlib.Core.Path.{_≡_, refl}
 use lib.ListN.{length, length-set}
-use Rattle.cases.specs.Columns.{RisingTo}
+use Rattle.cases.specs.Inner.{RisingTo}
 use Rattle.cases.proofs.ColumnLaws.{rising-none, rising-more, rising-within}
 use Rattle.cases.proofs.read.Statement.{statement}
 use Rattle.cases.proofs.read.Tie as tie

@@ -3,7 +3,7 @@ use native.Mathlib.Omega.{arith}
 use Prim.Native.Nat.{_-_, _≤_}
 use mathlib.Core.Path.{_≡_, refl, subst}
 use lib.ListN.{length, length-set}
-use Rattle.cases.specs.Columns.{RisingTo}
+use Rattle.cases.specs.Inner.{RisingTo}
 use Rattle.cases.proofs.ColumnLaws.{rising-more}
 use Rattle.cases.proofs.rest.Statement.{statement}
 use Rattle.cases.proofs.rest.Tie as tie

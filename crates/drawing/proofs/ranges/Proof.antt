@@ -1,5 +1,5 @@
 use Rattle.drawing.proofs.AxisLaws.{ranges-none, ranges-more}
-use Rattle.drawing.specs.Axis.{rangesIn}
+use Rattle.drawing.specs.Inner.{rangesIn}
 use Rattle.words.specs.Widths.{itemWidth, itemRowCount}
 use denote.Ref.{now}
 use Prim.Native.Nat.{min}

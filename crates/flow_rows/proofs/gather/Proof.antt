@@ -5,7 +5,7 @@ use mathlib.Core.Path.{_≡_, refl}
 use Rattle.flow_rows.proofs.gather.Statement.{statement}
 use Rattle.bits.proofs.BitLaws.{aligned-rows}
 use Rattle.flow_rows.proofs.GatherLaws.{Gathering, before-edges, gather-start, gather-stay, gather-go, gather-done, at-edge, touched-apart}
-use Rattle.flow_rows.specs.Flowed.{ends}
+use Rattle.flow_rows.specs.Inner.{ends}
 use Rattle.flow_rows.proofs.gather.Tie as tie
 
 abbrev Inv-loop : tie.InvT-loop

@@ -6,7 +6,8 @@ use denote.Ref.{now}
 use borrow.Author.Needs.{needs}
 use Rattle.refusals.specs.declared.Verdict.{Verdict}
 use Rattle.refusals.specs.declared.Verdict.the-variants.{Fine}
-use Rattle.job_space.specs.Rows.{Rows, rowsAt}
+use Rattle.job_space.specs.Rows.{Rows}
+use Rattle.job_space.specs.Inner.{rowsAt}
 use Rattle.job_space.specs.Space.{Small, spaceOf}
 use Rattle.job_space.proofs.SpaceLaws.{small-counted}
 use Rattle.job.specs.Entry.{lentVerdict}

@@ -5,7 +5,7 @@ use mathlib.Core.Path.{refl}
 use lib.ListN.{length}
 use denote.Ref.{now}
 use borrow.Author.Needs.{needs}
-use Rattle.job_fit.specs.Wants.{countOf, planFor}
+use Rattle.job_fit.specs.Inner.{countOf, planFor}
 use Rattle.job_answers.proofs.TableLaws.{refused-list, ready, listable, answered-list}
 use Rattle.job_answers.proofs.answer.Statement.{statement}
 use Rattle.job_answers.proofs.answer.Tie as tie

@@ -1,6 +1,7 @@
 -- `measure_locals` meets its contract: where there are locals, their regions fit and their areas are measured.
 use native.Mathlib.Omega.{arith}
-use Rattle.job_space.specs.Rows.{Rows, rowsAt}
+use Rattle.job_space.specs.Rows.{Rows}
+use Rattle.job_space.specs.Inner.{rowsAt}
 use Rattle.job_space.specs.Space.{Small}
 use Rattle.job_layout.proofs.FitLaws.{free-small, base-small, columns-small, to-small}
 use Rattle.job_areas.proofs.LocalLaws.{small-for, none-for, asked-for, done-for}

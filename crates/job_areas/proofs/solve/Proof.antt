@@ -1,7 +1,8 @@
 -- `solve` meets its contract: live pieces in order, the locals' phase, the slots' phase.
 use mathlib.Core.Path.{sym, subst}
 use borrow.Author.Needs.{needs}
-use Rattle.job_space.specs.Rows.{Rows, rowsAt}
+use Rattle.job_space.specs.Rows.{Rows}
+use Rattle.job_space.specs.Inner.{rowsAt}
 use Rattle.job_space.specs.Space.{Small}
 use Rattle.job_areas.proofs.SolveLaws.{lent-after, keys-room, due-for, solved-for}
 use Rattle.job_areas.proofs.solve.Statement.{statement}

@@ -2,7 +2,8 @@
 use native.Mathlib.Omega.{arith}
 use denote.Ref.{now}
 use borrow.Author.Needs.{needs}
-use Rattle.job_space.specs.Rows.{Rows, rowsAt}
+use Rattle.job_space.specs.Rows.{Rows}
+use Rattle.job_space.specs.Inner.{rowsAt}
 use Rattle.job_codes.proofs.JobLaws.{job-coded, job-short}
 use Rattle.job_codes.proofs.share.Statement.{statement}
 use Rattle.job_codes.proofs.share.Tie as tie

@@ -2,7 +2,8 @@
 use Prim.Native.Nat.{_-_}
 use mathlib.Core.Path.{sym, _∙_}
 use borrow.Author.Needs.{needs}
-use Rattle.job_space.specs.Rows.{Rows, rowsAt}
+use Rattle.job_space.specs.Rows.{Rows}
+use Rattle.job_space.specs.Inner.{rowsAt}
 use Rattle.job_codes.proofs.JobLaws.{short-lent, short-space}
 use Rattle.job_codes.proofs.short.Statement.{statement}
 use Rattle.job_codes.proofs.short.Tie as tie

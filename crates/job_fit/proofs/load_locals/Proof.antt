@@ -4,7 +4,7 @@ use Prim.Native.Nat.{_+_, _-_, _*_}
 use mathlib.Core.Path.{refl}
 use denote.Ref.{now}
 use Rattle.words.proofs.RegionLaws.{Done, done-start, done-more, done-all}
-use Rattle.job_fit.specs.Wants.{localWord}
+use Rattle.job_fit.specs.Inner.{localWord}
 use Rattle.job_fit.proofs.FitLaws.{local-word}
 use Rattle.job_fit.proofs.load_locals.Statement.{statement}
 use Rattle.job_fit.proofs.load_locals.Tie as tie

@@ -3,7 +3,7 @@ use native.Mathlib.Omega.{arith}
 use Prim.Native.Nat.{_-_}
 use mathlib.Core.Path.{refl}
 use Rattle.words.proofs.RegionLaws.{Done, done-start, done-more, done-all}
-use Rattle.job_fit.specs.Wants.{slotWord}
+use Rattle.job_fit.specs.Inner.{slotWord}
 use Rattle.job_fit.proofs.load_slots.Statement.{statement}
 use Rattle.job_fit.proofs.load_slots.Tie as tie
 

@@ -3,7 +3,7 @@ use native.Mathlib.Omega.{arith}
 use mathlib.Core.Path.{ap}
 use lib.ListN.{length-set}
 use denote.Ref.{now}
-use Rattle.words.specs.Rows.{rowPut}
+use Rattle.words.specs.Inner.{rowPut}
 use Rattle.answer_rows.specs.declared.Item.{Item}
 use borrow.Author.Needs.{needs}
 use Rattle.job_tables.proofs.put_item.Statement.{statement}

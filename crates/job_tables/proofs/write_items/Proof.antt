@@ -6,7 +6,7 @@ use lib.ListN.{getD}
 use denote.Ref.{now}
 use Rattle.words.proofs.PasteLaws.{Filling}
 use Rattle.words.proofs.FlatLaws.{flat-start, flat-done, four-more}
-use Rattle.job_tables.specs.Tables.{rowOf, rowsOf}
+use Rattle.job_tables.specs.Inner.{rowOf, rowsOf}
 use Rattle.job_tables.proofs.write_items.Statement.{statement}
 use Rattle.job_tables.proofs.write_items.Tie as tie
 use Rattle.words.specs.Widths.{itemWidth}

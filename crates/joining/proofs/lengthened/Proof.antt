@@ -2,7 +2,7 @@
 use native.Mathlib.Omega.{arith}
 use mathlib.Core.Path.{sym, ap, _∙_}
 use borrow.Author.Needs.{needs}
-use Rattle.ranges.specs.Forms.{unpack}
+use Rattle.ranges.specs.Inner.{unpack}
 use Rattle.joining.proofs.PushLaws.{lengthened-is}
 use Rattle.joining.proofs.lengthened.Statement.{statement}
 use Rattle.joining.proofs.lengthened.Tie as tie

@@ -1,5 +1,5 @@
 -- `area_rows::marks::covers_bottom` meets its contract.
-use Rattle.spots.specs.Spots.{endsAt}
+use Rattle.spots.specs.Inner.{endsAt}
 use Rattle.leaving_marks.proofs.LeaveLaws.{covers-is}
 use borrow.Author.Needs.{needs}
 use Rattle.leaving_marks.proofs.covers_bottom.Statement.{statement}

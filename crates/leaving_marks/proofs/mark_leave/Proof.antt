@@ -1,5 +1,6 @@
 -- `area_rows::marks::mark_leave` meets its contract.
-use Rattle.spots.specs.Spots.{lineOf, endsAt}
+use Rattle.spots.specs.Spots.{lineOf}
+use Rattle.spots.specs.Inner.{endsAt}
 use Rattle.ranges.specs.Points.{range}
 use mathlib.Core.List.{[]}
 use Rattle.area_rows.proofs.PutLaws.{put-fits}

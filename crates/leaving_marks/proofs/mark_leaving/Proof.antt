@@ -1,7 +1,8 @@
 use Rattle.ranges.specs.Points.{range}
 -- `area_rows::marks::mark_leaving` meets its contract: the touches before i are marked.
 use Rattle.area_rows.specs.Inner.{leavesBy}
-use Rattle.spots.specs.Spots.{lineOf, endsAt}
+use Rattle.spots.specs.Spots.{lineOf}
+use Rattle.spots.specs.Inner.{endsAt}
 use mathlib.Core.List.{[]}
 use Rattle.area_rows.proofs.MarkLaws.{Sweeping, sweep-start, sweep-more, sweep-done}
 use Rattle.leaving_marks.proofs.LeaveLaws.{still-stand, leave-as, leaves-done}

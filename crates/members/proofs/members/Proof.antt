@@ -1,7 +1,7 @@
 -- `members` meets its contract: m of the first i items are in the cell.
 use Rattle.members.proofs.MemberLaws.{members-none, members-le, members-hit, members-miss}
 use denote.Ref.{now}
-use Rattle.members.specs.Members.{members}
+use Rattle.members.specs.Inner.{members}
 use Rattle.words.specs.Widths.{itemRowCount}
 use native.Mathlib.Omega.{arith}
 use Prim.Native.Nat.{ℕ, _+_, _-_, _≤_}

@@ -3,7 +3,7 @@ use Rattle.members.proofs.MemberLaws.{Picking, picking-start, picking-h
 use denote.Ref.{now}
 use borrow.Author.Tests.{lt-ltb, le-ltb}
 use Rattle.words.specs.Widths.{itemWidth, itemRowCount}
-use Rattle.members.specs.Members.{crowdedSlot}
+use Rattle.members.specs.Inner.{crowdedSlot}
 use native.Mathlib.Omega.{arith}
 use Prim.Native.Nat.{_+_, _-_, _*_}
 use mathlib.Core.Path.{_≡_, sym, _∙_}

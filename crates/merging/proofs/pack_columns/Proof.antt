@@ -4,7 +4,7 @@ use native.Mathlib.Omega.{arith}
 use lib.ListN.{length, getD}
 use Rattle.words.proofs.RegionLaws.{Done, done-start, done-more, done-all}
 use Rattle.ranges.specs.Points.{range}
-use Rattle.ranges.specs.Forms.{pack}
+use Rattle.ranges.specs.Inner.{pack}
 use Rattle.merging.proofs.pack_columns.Statement.{statement}
 use Rattle.merging.proofs.pack_columns.Tie as tie
 

@@ -12,10 +12,11 @@ use mathlib.Core.List.{[], _∷_, _++_}
 use Rattle.ranges.specs.declared.Range.{Range}
 use Rattle.graph.specs.Line.{blocksOf}
 use Rattle.carrying.specs.Insts.{instsOf}
-use Rattle.move_points.specs.Moves.{positionAt, moveRow}
+use Rattle.move_points.specs.Inner.{positionAt, moveRow}
 use Rattle.move_covers.proofs.covers.Statement.{statement}
 use Rattle.move_covers.proofs.covers.Tie as tie
-use Rattle.words.specs.Widths.{moveWidth, moveNumber}
+use Rattle.words.specs.Widths.{moveWidth}
+use Rattle.words.specs.Inner.{moveNumber}
 
 mul-position : tie.Need-mul-position
 mul-position c = omega arith

@@ -14,7 +14,7 @@ use Rattle.graph.specs.Line.{blocksOf}
 use Rattle.carrying.specs.Insts.{instsOf}
 use Rattle.areas.specs.Slots.{covering}
 use Rattle.moved_ranges.specs.Moved.{Wrote}
-use Rattle.move_points.specs.Moves.{moveRow}
+use Rattle.move_points.specs.Inner.{moveRow}
 use Rattle.moved_ranges.proofs.all.Statement.{statement}
 use Rattle.moved_ranges.proofs.all.Tie as tie
 

@@ -4,8 +4,8 @@ use Prim.Native.Nat.{_+_, _-_, _≤_}
 use mathlib.Core.Path.{_≡_, refl, sym, ap, _∙_}
 use denote.Ref.{now}
 use Rattle.operands.proofs.OperandLaws.{From, each-pass, each-fail, each-end}
-use Rattle.insts.specs.Rows.{operandAt}
-use Rattle.operands.specs.Numbers.{addressing}
+use Rattle.insts.specs.Inner.{operandAt}
+use Rattle.operands.specs.Inner.{addressing}
 use Rattle.operands.proofs.addressed.Statement.{statement}
 use Rattle.operands.proofs.addressed.Tie as tie
 

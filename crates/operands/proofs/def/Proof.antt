@@ -7,10 +7,11 @@ use denote.Ref.{now}
 use Rattle.operands.proofs.OperandLaws.{defs, found-none, found-def, found-use, def-two, def-none, def-one, def-physical}
 use native.Mathlib.Nat.{add-zero}
 use mathlib.Core.List.{[], _∷_}
-use Rattle.insts.specs.Rows.{operandAt}
+use Rattle.insts.specs.Inner.{operandAt}
 use Rattle.operands.proofs.def.Statement.{statement}
 use Rattle.operands.proofs.def.Tie as tie
-use Rattle.words.specs.Widths.{operandWidth, operandDef}
+use Rattle.words.specs.Widths.{operandWidth}
+use Rattle.words.specs.Inner.{operandDef}
 
 abbrev Inv-loop : tie.InvT-loop
 Inv-loop operands from n v count₀ register₀ p₀ count register p = (p ≤ n) × (count ≤ 1) × (count ≡ 0 → defs (λ q. operandAt operands (from + q)) p ≡ []) × (count ≡ 1 → defs (λ q. operandAt operands (from + q)) p ≡ register ∷ [])

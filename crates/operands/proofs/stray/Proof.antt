@@ -8,11 +8,12 @@ use Rattle.operands.proofs.OperandLaws.{stray-other, stray-def, stray-u
 use native.Mathlib.Nat.{add-zero}
 use mathlib.Core.Bool.{not}
 use Rattle.carrying.specs.Insts.{addressPosition}
-use Rattle.insts.specs.Rows.{operandAt}
-use Rattle.operands.specs.Numbers.{addressing}
+use Rattle.insts.specs.Inner.{operandAt}
+use Rattle.operands.specs.Inner.{addressing}
 use Rattle.operands.proofs.stray.Statement.{statement}
 use Rattle.operands.proofs.stray.Tie as tie
-use Rattle.words.specs.Widths.{operandWidth, operandDef}
+use Rattle.words.specs.Widths.{operandWidth}
+use Rattle.words.specs.Inner.{operandDef}
 
 mul-if1 : tie.Need-mul-if1
 mul-if1 c = omega arith

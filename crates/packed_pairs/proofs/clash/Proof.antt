@@ -5,7 +5,7 @@ use mathlib.Core.Path.{sym, _∙_}
 use native.Mathlib.Omega.{arith}
 use lib.ListN.{length, getD}
 use denote.Ref.{now}
-use Rattle.ranges.specs.Forms.{unpacked}
+use Rattle.ranges.specs.Inner.{unpacked}
 use Rattle.ranges.proofs.FormLaws.{word-view}
 use Rattle.ranges.proofs.SkipLaws.{Searching, search-start}
 use Rattle.ranges.proofs.SearchLaws.{ends-first, ends-last, ends-rising, splits-some, one-upright, two-upright, hit, skip-to-one, skip-to-two, over-one, over-two}

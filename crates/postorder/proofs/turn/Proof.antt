@@ -3,7 +3,7 @@ use native.Mathlib.Omega.{arith}
 use Prim.Native.Nat.{_-_, _≤_}
 use mathlib.Core.Path.{refl}
 use lib.ListN.{length-set}
-use Rattle.postorder.specs.Walk.{ends}
+use Rattle.postorder.specs.Inner.{ends}
 use Rattle.postorder.proofs.Turns.{topOf, nextOf, top, v-ok, first-ok, room-for, turn-seen, turn-new, turn-left}
 use Rattle.postorder.proofs.Bounds.{Turning, AtEdge, turning, edge, deeper, few}
 use Rattle.postorder.proofs.turn.Statement.{statement}

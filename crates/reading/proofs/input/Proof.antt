@@ -6,7 +6,7 @@ use mathlib.Core.Path.{_≡_, refl, sym, _∙_}
 use lib.ListN.{length, length-take}
 use lib.Dec.{lit≤}
 use Rattle.text_lines.proofs.EndLaws.{ready-start, ready-less, ready-fed}
-use Rattle.text_lines.specs.Read.{Ready}
+use Rattle.text_lines.specs.Inner.{Ready}
 use Rattle.planning.proofs.AnswerLaws.{read-of}
 use Rattle.reading.proofs.input.Statement.{statement}
 use Rattle.reading.proofs.input.Tie as tie

@@ -7,12 +7,13 @@ use lib.ListN.{getD}
 use borrow.Author.Needs.{needs}
 use Rattle.graph.specs.Line.{blocksOf}
 use Rattle.carrying.specs.Insts.{instsOf}
-use Rattle.move_points.specs.Moves.{positionAt, moveRow}
+use Rattle.move_points.specs.Inner.{positionAt, moveRow}
 use Rattle.move_points.proofs.MoveLaws.{move-fine, not-nowhere}
 use Rattle.slot_spots.proofs.MoveLaws.{cover-is}
 use Rattle.slot_spots.proofs.cover.Statement.{statement}
 use Rattle.slot_spots.proofs.cover.Tie as tie
-use Rattle.words.specs.Widths.{moveWidth, moveNumber}
+use Rattle.words.specs.Widths.{moveWidth}
+use Rattle.words.specs.Inner.{moveNumber}
 
 mul-position : tie.Need-mul-position
 mul-position c = search needs

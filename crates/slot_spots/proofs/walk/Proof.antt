@@ -6,12 +6,12 @@ use mathlib.Core.List.{[]}
 use lib.ListN.{length-set}
 use Rattle.words.specs.Rows.{field}
 use Rattle.words.specs.Widths.{moveWidth, moveCount}
-use Rattle.ranges.specs.Forms.{pack}
+use Rattle.ranges.specs.Inner.{pack}
 use Rattle.graph.specs.Line.{blocksOf}
 use Rattle.carrying.specs.Insts.{instsOf}
-use Rattle.move_points.specs.Moves.{moveRow}
+use Rattle.move_points.specs.Inner.{moveRow}
 use Rattle.chains.proofs.WalkLaws.{Walking, walk-start, walk-row, walk-back, walk-less, walk-more, walk-done}
-use Rattle.slot_spots.specs.Slots.{coverOf}
+use Rattle.slot_spots.specs.Inner.{coverOf}
 use Rattle.slot_spots.proofs.MoveLaws.{table-kept}
 use Rattle.slot_spots.proofs.walk.Statement.{statement}
 use Rattle.slot_spots.proofs.walk.Tie as tie

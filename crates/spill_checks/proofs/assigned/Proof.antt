@@ -5,7 +5,8 @@ use mathlib.Core.Path.{ap, _∙_}
 use denote.Ref.{now}
 use Rattle.refusals.specs.Verdicts.{scan}
 use Rattle.refusals.specs.declared.Refusal.the-variants.{Piece as PieceWord}
-use Rattle.words.specs.Widths.{assignedCount, assignedRegister}
+use Rattle.words.specs.Widths.{assignedCount}
+use Rattle.words.specs.Inner.{assignedRegister}
 use Rattle.spill_checks.proofs.CheckLaws.{assigned-is}
 use lib.Dec.{leb}
 use Rattle.spill_checks.proofs.assigned.Statement.{statement}

@@ -8,7 +8,7 @@ use Rattle.spill_checks.proofs.CheckLaws.{line-start, line-end, piece-1
 use native.Mathlib.Nat.{add-zero}
 use lib.Dec.{leb}
 use Rattle.graph.specs.Line.{blocksOf}
-use Rattle.spill_checks.specs.Rows.{pieceAt}
+use Rattle.spill_checks.specs.Inner.{pieceAt}
 use Rattle.spill_checks.proofs.bad_piece.Statement.{statement}
 use Rattle.spill_checks.proofs.bad_piece.Tie as tie
 use Rattle.words.specs.Widths.{pieceWidth}

@@ -1,7 +1,7 @@
 -- `spots::any_inverted` meets its contract: no touch before i is inverted.
 use Rattle.spots.specs.Spots.{lineOf}
 use Rattle.areas.specs.Blocks.{inverted}
-use Rattle.ranges.specs.Forms.{unpack}
+use Rattle.ranges.specs.Inner.{unpack}
 use Rattle.graph.specs.Paths.{Edge}
 use mathlib.Core.List.{List}
 use mathlib.Core.Bool.{false}

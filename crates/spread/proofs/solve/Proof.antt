@@ -7,7 +7,7 @@ use Rattle.spread.proofs.solve.Statement.{statement}
 use denote.Ref.{now}
 use Rattle.graph.proofs.Line.{blocks-length}
 use Rattle.spread.proofs.Entries.{RankSums, rank-sums, fewer-rows, both, leaves-in, passes-in, laid, solved}
-use Rattle.flow.specs.Entry.{baseOf}
+use Rattle.flow.specs.Inner.{baseOf}
 use Rattle.flow.proofs.Entries.{copied}
 use Rattle.spread.proofs.solve.Tie as tie
 use Rattle.words.specs.Widths.{blockCount, edgeCount}

@@ -4,7 +4,7 @@ use Prim.Native.Nat.{ℕ, _-_, _≤_, _<_}
 use mathlib.Core.Path.{_≡_, refl}
 use Rattle.spread_rows.proofs.push.Statement.{statement}
 use Rattle.bits.proofs.BitLaws.{aligned-rows}
-use Rattle.spread_rows.specs.Spread.{ends}
+use Rattle.spread_rows.specs.Inner.{ends}
 use Rattle.spread_rows.proofs.Pushes.{Pushing, push-start, push-same, push-grew, push-done, push-laid, target-lt}
 use Rattle.spread_rows.proofs.Kept.{below-aligned}
 use Rattle.spread_rows.proofs.Bounds.{before-edges, rows-of, target-rows, own-rows, at-edge, ranks-in, wait-at}

@@ -2,11 +2,11 @@
 use Prim.Native.Nat.{_+_, _-_, _*_, _/_}
 use mathlib.Core.Path.{refl, _∙_}
 use Rattle.spread_rows.proofs.spread.Statement.{statement}
-use Rattle.spread_rows.specs.Spread.{missing, waiting}
+use Rattle.spread_rows.specs.Inner.{missing, waiting}
 use Rattle.spread_rows.proofs.Turns.{Spreading, spread-start, spread-more, spread-falls, spread-done, arrived-from, laid₁, node}
 use Rattle.words.proofs.FitLaws.{as-long}
 use Rattle.spread_rows.proofs.Bounds.{filled, waits-again, spread-word, order-at}
-use Rattle.bits.specs.Bits.{FirstSet}
+use Rattle.bits.specs.Inner.{FirstSet}
 use Rattle.spread_rows.proofs.spread.Tie as tie
 
 abbrev Inv-loop : tie.InvT-loop

@@ -1,4 +1,4 @@
-use Rattle.tarjan.specs.Space.{Begun}
+use Rattle.tarjan.specs.Inner.Space.{Begun}
 use Rattle.tarjan.proofs.Lists.{begin-start, begin-more}
 use native.Mathlib.Omega.{arith}
 use Prim.Native.Nat.{_-_, _≤_}

@@ -1,7 +1,7 @@
 -- `tarjan::close` meets its contract: the places from p up to i are closed.
 use Prim.Native.Nat.{_-_, _≤_}
 use lib.ListN.{length-set}
-use Rattle.tarjan.specs.Space.{Closed}
+use Rattle.tarjan.specs.Inner.Space.{Closed}
 use Rattle.tarjan.proofs.Lists.{close-start, close-more}
 use Rattle.tarjan.proofs.Bounds.{le-refl, step-le, both-le, at-close, at-held}
 use Rattle.tarjan.proofs.close.Statement.{statement}

@@ -1,4 +1,4 @@
-use Rattle.tarjan.specs.Space.{Numbered}
+use Rattle.tarjan.specs.Inner.Space.{Numbered}
 use Rattle.tarjan.proofs.Lists.{number-start, number-more}
 use native.Mathlib.Omega.{arith}
 use Prim.Native.Nat.{_+_, _-_, _≤_}

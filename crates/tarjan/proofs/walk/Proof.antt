@@ -1,4 +1,4 @@
-use Rattle.tarjan.specs.Space.{Ready, leftOf}
+use Rattle.tarjan.specs.Inner.Space.{Ready, leftOf}
 use Rattle.tarjan.proofs.Roots.{Going, going-start, going-more, ready-more, root-ready, walk-done}
 use native.Mathlib.Omega.{arith}
 use Prim.Native.Nat.{_+_, _-_}

@@ -5,7 +5,7 @@ use mathlib.Core.Path.{_≡_, refl, sym, _∙_}
 use mathlib.Core.List.{List}
 use lib.ListN.{length, take, drop, length-take}
 use Rattle.text_lines.proofs.EndLaws.{ready-start, ready-less, ready-fed}
-use Rattle.text_lines.specs.Read.{Ready}
+use Rattle.text_lines.specs.Inner.{Ready}
 use Rattle.text_tests.proofs.pieces.Statement.{statement}
 use Rattle.text_tests.proofs.pieces.Tie as tie
 

@@ -3,7 +3,7 @@ use native.Mathlib.Omega.{arith}
 use Prim.Native.Nat.{_+_, _-_, _*_}
 use denote.Ref.{now}
 use borrow.Author.Needs.{needs}
-use Rattle.spots.specs.Spots.{endsAt}
+use Rattle.spots.specs.Inner.{endsAt}
 use Rattle.touch_covers.proofs.TouchLaws.{cover-is}
 use Rattle.touch_covers.proofs.cover.Statement.{statement}
 use Rattle.touch_covers.proofs.cover.Tie as tie

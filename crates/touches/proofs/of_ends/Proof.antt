@@ -4,7 +4,7 @@ use Prim.Native.Nat.{_+_, _-_, _*_, _^_, _<_}
 use mathlib.Core.Path.{refl}
 use lib.ListN.{length, getD}
 use Rattle.words.proofs.FitLaws.{not-none}
-use Rattle.touches.specs.Touches.{endAt}
+use Rattle.touches.specs.Inner.{endAt}
 use Rattle.touches.proofs.EntryLaws.{Walking, walk-start, turn, walk-skip, walk-more, walk-less, walk-done, end-given, end-none}
 use Rattle.touches.proofs.Bounds.{head-at, bounds}
 use Rattle.touches.proofs.of_ends.Statement.{statement}

@@ -5,7 +5,7 @@ use mathlib.Core.Path.{refl, sym, ap}
 use mathlib.Core.List.{_∷_, []}
 use lib.ListN.{length, length-set}
 use Rattle.words.proofs.FitLaws.{not-none}
-use Rattle.touches.specs.Touches.{entryAt}
+use Rattle.touches.specs.Inner.{entryAt}
 use Rattle.touches.proofs.EntryLaws.{Walking, walk-start, turn, link-stays, walk-more, walk-less, walk-done}
 use Rattle.touches.proofs.Bounds.{head-at, bounds}
 use Rattle.touches.proofs.of_entries.Statement.{statement}

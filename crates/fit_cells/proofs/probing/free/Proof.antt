@@ -1,7 +1,6 @@
 -- `free` meets its contract: the clash test of two parts of the work space.
 use Rattle.fit_tables.proofs.CodeLaws.{part-apart, absent, tested}
-use Rattle.fit_tables.specs.Inner.{rangesOf}
-use Rattle.fit_tables.specs.Tables.{firstOf, countOf}
+use Rattle.fit_tables.specs.Inner.{rangesOf, firstOf, countOf}
 use denote.Ref.{now}
 use native.Mathlib.Omega.{arith}
 use Prim.Native.Nat.{_+_}

@@ -1,7 +1,7 @@
 -- `points` meets its contract: a bit is set where the point is between the ends of a range.
 use denote.Ref.{now}
-use Rattle.words.specs.Regions.{part}
-use Rattle.ranges.specs.Forms.{unpacked}
+use Rattle.words.specs.Inner.{part}
+use Rattle.ranges.specs.Inner.{unpacked}
 use Rattle.fit_tables.specs.Inner.{Pointed}
 use Rattle.fit_tables.proofs.DrawLaws.{pointed-start, pointed-more, point-at, pointed-range, product-fits, product-small}
 use native.Mathlib.Omega.{arith}

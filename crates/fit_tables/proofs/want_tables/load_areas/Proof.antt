@@ -1,6 +1,6 @@
 -- `load_areas` meets its contract: a turn keeps `Done`.
 use Rattle.words.proofs.RegionLaws.{Done, done-start, done-more, done-all}
-use Rattle.fit_tables.specs.WantTables.{areaWordAt}
+use Rattle.fit_tables.specs.Inner.{areaWordAt}
 use Rattle.fit_tables.proofs.WantLaws.{area-word}
 use denote.Ref.{now}
 use native.Mathlib.Omega.{arith}

@@ -1,6 +1,6 @@
 -- `load_items` meets its contract: a turn keeps `Done`.
 use Rattle.words.proofs.RegionLaws.{Done, done-start, done-more, done-all}
-use Rattle.fit_tables.specs.WantTables.{itemWordAt}
+use Rattle.fit_tables.specs.Inner.{itemWordAt}
 use native.Mathlib.Omega.{arith}
 use Prim.Native.Nat.{_-_}
 use mathlib.Core.Path.{refl}

@@ -1,6 +1,6 @@
 -- `load_wants` meets its contract: a turn keeps `Done`.
 use Rattle.words.proofs.RegionLaws.{Done, done-start, done-more, done-all}
-use Rattle.fit_tables.specs.WantTables.{wantWordAt}
+use Rattle.fit_tables.specs.Inner.{wantWordAt}
 use Rattle.fit_tables.proofs.WantLaws.{want-word}
 use denote.Ref.{now}
 use native.Mathlib.Omega.{arith}

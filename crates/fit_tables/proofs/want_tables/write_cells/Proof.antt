@@ -1,7 +1,6 @@
 -- `write_cells` meets its contract: a row more is written each turn.
 use Rattle.words.proofs.PasteLaws.{Filling}
-use Rattle.fit_tables.specs.Keys.{sizeOf, alignOf}
-use Rattle.fit_tables.specs.WantTables.{cellRowsIn}
+use Rattle.fit_tables.specs.Inner.{sizeOf, alignOf, cellRowsIn}
 use Rattle.words.proofs.FlatLaws.{flat-start, flat-done, two-more}
 use mathlib.Core.List.{[], _∷_}
 use denote.Ref.{now}

@@ -2,7 +2,7 @@
 use Rattle.words.proofs.PasteLaws.{Filling}
 use Rattle.words.specs.Widths.{wantPresent, wantFirst, wantRanges}
 use Rattle.fit_tables.specs.WantTables.{itemRow}
-use Rattle.fit_tables.specs.WantTables.{itemRowsIn}
+use Rattle.fit_tables.specs.Inner.{itemRowsIn}
 use Rattle.words.proofs.FlatLaws.{flat-start, flat-done, four-more}
 use Rattle.fit_tables.proofs.WantLaws.{item-row-wide, row-absent, row-present}
 use denote.Ref.{now}

@@ -1,7 +1,7 @@
 -- `follow::walks::walk` meets its contract: the first h of the queue were looked at.
 use Prim.Native.Nat.{_-_}
 use mathlib.Core.Path.{sym, _∙_}
-use Rattle.follow.specs.Steps.{Walkable, Walking}
+use Rattle.follow.specs.Inner.{Walkable, Walking}
 use Rattle.follow.proofs.WalkLaws.{walk-start, walk-tables, walk-more, walk-done, walk-stop}
 use Rattle.follow.proofs.PlaceLaws.{more-in, less-in}
 use Rattle.follow.proofs.walks.walk.Statement.{statement}

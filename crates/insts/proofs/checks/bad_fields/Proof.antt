@@ -5,7 +5,8 @@ use mathlib.Core.Path.{_≡_, ap}
 use lib.ListN.{getD}
 use denote.Ref.{now}
 use Rattle.insts.proofs.CheckLaws.{fields-1, fields-2, fields-3, fields-4, fields-5}
-use Rattle.words.specs.Widths.{instWidth, instPlaced, instLea, instMem, instBase, instIndex}
+use Rattle.words.specs.Widths.{instWidth}
+use Rattle.words.specs.Inner.{instPlaced, instLea, instMem, instBase, instIndex}
 use native.Mathlib.Nat.{add-zero}
 use Rattle.insts.proofs.checks.bad_fields.Statement.{statement}
 use Rattle.insts.proofs.checks.bad_fields.Tie as tie

@@ -8,7 +8,7 @@ use Rattle.graph.specs.Line.{blocksOf}
 use Rattle.carrying.specs.Lists.{any}
 use Rattle.carrying.specs.Checks.{badOperand}
 use Rattle.insts.specs.Counts.{offset}
-use Rattle.insts.specs.Rows.{operandsFrom}
+use Rattle.insts.specs.Inner.{operandsFrom}
 use Rattle.insts.proofs.DealtLaws.{operands-within}
 use Rattle.insts.proofs.checks.bad_inst.Statement.{statement}
 use Rattle.insts.proofs.checks.bad_inst.Tie as tie

@@ -5,7 +5,7 @@ use mathlib.Core.Path.{_≡_, sym, ap, _∙_}
 use mathlib.Core.Bool.{false}
 use Rattle.carrying.specs.Lists.{any}
 use Rattle.carrying.specs.Checks.{badOperand}
-use Rattle.insts.specs.Rows.{operandAt, operandsFrom}
+use Rattle.insts.specs.Inner.{operandAt, operandsFrom}
 use Rattle.insts.proofs.DealtLaws.{any-none, any-miss, any-hit}
 use Rattle.insts.proofs.checks.bad_operands.Statement.{statement}
 use Rattle.insts.proofs.checks.bad_operands.Tie as tie

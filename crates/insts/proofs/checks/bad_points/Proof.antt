@@ -5,11 +5,12 @@ use mathlib.Core.Path.{_≡_, ap}
 use lib.ListN.{getD}
 use denote.Ref.{now}
 use Rattle.insts.proofs.CheckLaws.{points-1, points-2, points-3}
-use Rattle.words.specs.Widths.{instWidth, instPlaced, instEarly, instLate}
+use Rattle.words.specs.Widths.{instWidth}
+use Rattle.words.specs.Inner.{instPlaced, instEarly, instLate}
 use native.Mathlib.Nat.{add-zero}
 use Rattle.graph.specs.Line.{blocksOf}
 use Rattle.carrying.specs.Checks.{misplaced}
-use Rattle.insts.specs.Rows.{rowInst}
+use Rattle.insts.specs.Inner.{rowInst}
 use Rattle.insts.proofs.checks.bad_points.Statement.{statement}
 use Rattle.insts.proofs.checks.bad_points.Tie as tie
 

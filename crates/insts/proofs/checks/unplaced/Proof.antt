@@ -9,7 +9,8 @@ use native.Mathlib.Nat.{add-zero}
 use Rattle.carrying.specs.Insts.{isSet}
 use mathlib.Core.Bool.{not, _||_}
 use lib.Dec.{leb, eqb}
-use Rattle.words.specs.Widths.{instWidth, instCount, instPlaced}
+use Rattle.words.specs.Widths.{instWidth, instCount}
+use Rattle.words.specs.Inner.{instPlaced}
 use Rattle.insts.proofs.checks.unplaced.Statement.{statement}
 use Rattle.insts.proofs.checks.unplaced.Tie as tie
 

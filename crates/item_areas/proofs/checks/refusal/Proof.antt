@@ -3,7 +3,8 @@ use Prim.Native.Nat.{_-_}
 use mathlib.Core.Path.{_≡_, sym, subst, _∙_}
 use borrow.Author.Needs.{needs}
 use Rattle.refusals.specs.declared.Verdict.the-variants.{Fine}
-use Rattle.job_space.specs.Rows.{Rows, rowsAt}
+use Rattle.job_space.specs.Rows.{Rows}
+use Rattle.job_space.specs.Inner.{rowsAt}
 use Rattle.job_space.specs.Space.{Small}
 use Rattle.job_checks.specs.Job.{countVerdict}
 use Rattle.job_checks.proofs.CheckLaws.{Told, told}

@@ -1,7 +1,7 @@
 -- `job_checks::checks::counts` meets its contract: each check, the first that refuses.
 use Prim.Native.Nat.{_-_}
 use borrow.Author.Needs.{needs}
-use Rattle.job_space.specs.Rows.{rowsAt}
+use Rattle.job_space.specs.Inner.{rowsAt}
 use Rattle.job_checks.proofs.CheckLaws.{counts-chain}
 use Rattle.job_checks.proofs.checks.counts.Statement.{statement}
 use Rattle.job_checks.proofs.checks.counts.Tie as tie

@@ -2,7 +2,7 @@
 use lib.Dec.{lit<}
 use denote.Ref.{now}
 use borrow.Author.Needs.{needs}
-use Rattle.planning.specs.Groups.{numbersAt}
+use Rattle.planning.specs.Inner.{numbersAt}
 use Rattle.planning.proofs.GroupLaws.{head-at, reads-in, shared-for}
 use Rattle.planning.proofs.row_plans.planned.Statement.{statement}
 use Rattle.planning.proofs.row_plans.planned.Tie as tie

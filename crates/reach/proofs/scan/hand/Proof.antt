@@ -2,7 +2,7 @@
 use native.Mathlib.Omega.{arith}
 use mathlib.Core.Path.{sym, _∙_}
 use Rattle.carrying.specs.Insts.{defOf}
-use Rattle.reach.specs.Scan.{rowOf}
+use Rattle.reach.specs.Inner.{rowOf}
 use Rattle.reach.proofs.ScanLaws.{no-lea, placed-lea, none-number, some-number, hand-none, hand-stuck, hand-linked}
 use Rattle.reach.proofs.scan.hand.Statement.{statement}
 use Rattle.reach.proofs.scan.hand.Tie as tie

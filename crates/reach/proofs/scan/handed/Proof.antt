@@ -4,8 +4,8 @@ use Prim.Native.Nat.{_+_, _-_}
 use mathlib.Core.Path.{sym, _∙_}
 use mathlib.Core.Bool.{_&&_}
 use Rattle.carrying.specs.Insts.{addressPosition, eachAddress}
-use Rattle.insts.specs.Rows.{operandAt, operandsFrom}
-use Rattle.operands.specs.Numbers.{addressing}
+use Rattle.insts.specs.Inner.{operandAt, operandsFrom}
+use Rattle.operands.specs.Inner.{addressing}
 use Rattle.reach.proofs.LeafLaws.{test-def, test-physical, test-use, both-of, neither-of}
 use Rattle.reach.proofs.scan.handed.Statement.{statement}
 use Rattle.reach.proofs.scan.handed.Tie as tie

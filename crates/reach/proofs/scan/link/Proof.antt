@@ -3,7 +3,7 @@ use native.Mathlib.Omega.{arith}
 use Prim.Native.Nat.{_+_, _-_, _*_, _^_, _<_}
 use mathlib.Core.Path.{refl, sym, _∙_}
 use lib.ListN.{length}
-use Rattle.insts.specs.Rows.{operandAt}
+use Rattle.insts.specs.Inner.{operandAt}
 use Rattle.reach.proofs.Bounds.{operand-at, key-fits, put-at, put-more}
 use Rattle.reach.proofs.UseLaws.{handing, handing-reads, reads-handing}
 use Rattle.reach.proofs.MarkLaws.{Linking, link-start, link-skip, link-put, link-done}

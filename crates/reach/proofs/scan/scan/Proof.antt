@@ -8,7 +8,7 @@ use Rattle.graph.proofs.Sums.{sum-start, sum-next}
 use Rattle.reach.proofs.Bounds.{count-at}
 use Rattle.reach.proofs.ScanLaws.{scan-start, scan-more}
 use Rattle.carrying.specs.Insts.{instsOf}
-use Rattle.reach.specs.Scan.{Scanning}
+use Rattle.reach.specs.Inner.{Scanning}
 use Rattle.insts.specs.Counts.{offset}
 use Rattle.insts.proofs.DealtLaws.{operands-within}
 use Prim.Native.Nat.{_/_}

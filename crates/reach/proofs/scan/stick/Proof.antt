@@ -3,7 +3,7 @@ use native.Mathlib.Omega.{arith}
 use Prim.Native.Nat.{_+_, _-_, _*_, _^_, _<_}
 use mathlib.Core.Path.{sym, _∙_}
 use lib.ListN.{length, set}
-use Rattle.insts.specs.Rows.{operandAt}
+use Rattle.insts.specs.Inner.{operandAt}
 use Rattle.reach.proofs.Bounds.{operand-at}
 use Rattle.reach.proofs.UseLaws.{handing, handing-found, handing-reads}
 use Rattle.reach.proofs.MarkLaws.{Marking, mark-start, mark-skip, mark-put, mark-done}

@@ -4,7 +4,7 @@ use Prim.Native.Nat.{_-_}
 use mathlib.Core.Path.{ap}
 use mathlib.Core.Bool.{not, _&&_}
 use Rattle.carrying.specs.Insts.{isSet, addressPosition}
-use Rattle.operands.specs.Numbers.{addressing}
+use Rattle.operands.specs.Inner.{addressing}
 use Rattle.reach.proofs.LeafLaws.{test-def, test-physical, test-use, not-memory, in-memory}
 use Rattle.reach.proofs.scan.strays.Statement.{statement}
 use Rattle.reach.proofs.scan.strays.Tie as tie

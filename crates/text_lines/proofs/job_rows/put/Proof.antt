@@ -5,7 +5,7 @@ use Prim.Native.Nat.{ℕ, _+_, _≤_}
 use mathlib.Core.Path.{_≡_}
 use lib.ListN.{length}
 use Rattle.text_lines.proofs.PutLaws.{plain-row, inst-is, plain-is}
-use Rattle.text_lines.specs.Put.{Meant}
+use Rattle.text_lines.specs.Inner.{Meant}
 use Rattle.text_grammar.specs.Groups.{groupAt, instGroup}
 use Rattle.text_lines.proofs.job_rows.put.Statement.{statement}
 use Rattle.text_lines.proofs.job_rows.put.Tie as tie

@@ -8,7 +8,7 @@ use lib.Seq.{take-all}
 use Rattle.words.proofs.Points.{cut}
 use Rattle.text_lines.proofs.BodyLaws.{group-within, group-not, group-is, fields-none, fields-are, body-without, body-alone, body-refused, body-read}
 use Rattle.text_grammar.proofs.PartLaws.{index-within}
-use Rattle.text_lines.specs.LineRead.{fieldsIn}
+use Rattle.text_lines.specs.Inner.{fieldsIn}
 use Rattle.text_lines.proofs.lines.body.Statement.{statement}
 use Rattle.text_lines.proofs.lines.body.Tie as tie
 

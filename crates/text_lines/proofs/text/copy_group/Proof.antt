@@ -4,7 +4,7 @@ use denote.Ref.{now}
 use Prim.Native.Nat.{_-_}
 use mathlib.Core.Path.{refl}
 use lib.ListN.{getD}
-use Rattle.words.specs.Regions.{part}
+use Rattle.words.specs.Inner.{part}
 use Rattle.words.proofs.RegionLaws.{Done, done-start, done-more, done-all}
 use Rattle.text_lines.proofs.CopyLaws.{group-held, group-past}
 use Rattle.text_lines.proofs.text.copy_group.Statement.{statement}

@@ -4,7 +4,7 @@ use denote.Ref.{now}
 use Prim.Native.Nat.{_-_, _≤_}
 use lib.ListN.{length, take}
 use Rattle.text_lines.proofs.EndLaws.{fed-none, fed-more, ready-more, fed-all}
-use Rattle.text_lines.specs.Read.{Feeds}
+use Rattle.text_lines.specs.Inner.{Feeds}
 use Rattle.text_lines.proofs.text.feed.Statement.{statement}
 use Rattle.text_lines.proofs.text.feed.Tie as tie
 

@@ -9,7 +9,7 @@ use lib.Dec.{lit≤}
 use mathlib.Core.List.{[], _∷_}
 use native.Mathlib.Nat.{add-zero}
 use Rattle.text_plan.proofs.LineLaws.{Lines, lines-start, lines-near, lines-more, lines-all, line-length}
-use Rattle.text_plan.specs.Printed.{rowLine}
+use Rattle.text_plan.specs.Inner.{rowLine}
 use Rattle.text_plan.proofs.PutLaws.{puts-as, puts-length}
 use Rattle.text_plan.specs.Lines.{lineText}
 use Rattle.text_plan.proofs.plan_text.put_area.Statement.{statement}

@@ -4,7 +4,7 @@ use denote.Ref.{now}
 use Prim.Native.Nat.{_+_, _-_, _≤_}
 use lib.ListN.{length, take}
 use Rattle.text_plan.proofs.PutLaws.{bytes-start, byte-in, byte-out, bytes-all, puts-length}
-use Rattle.text_plan.specs.Puts.{Puts}
+use Rattle.text_plan.specs.Inner.{Puts}
 use Rattle.text_plan.proofs.printing.put.Statement.{statement}
 use Rattle.text_plan.proofs.printing.put.Tie as tie
 

@@ -6,7 +6,7 @@ use Prim.Native.Nat.{_-_, _≤_}
 use mathlib.Core.Path.{_∙_}
 use lib.ListN.{length, take}
 use Rattle.text_plan.proofs.PutLaws.{puts-length, fields-start, fields-more, fields-near, line-put}
-use Rattle.text_plan.specs.Puts.{Puts}
+use Rattle.text_plan.specs.Inner.{Puts}
 use Rattle.text_plan.specs.Lines.{fieldsText}
 use Rattle.text_plan.proofs.printing.put_line.Statement.{statement}
 use Rattle.text_plan.proofs.printing.put_line.Tie as tie

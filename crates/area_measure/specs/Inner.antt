@@ -1,0 +1,3 @@
+-- What the functions here promise each other. No public promise names these.
+pub mod Locals
+pub mod Measure

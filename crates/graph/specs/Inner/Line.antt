@@ -1,0 +1,11 @@
+-- What the functions here promise each other. No public promise names these.
+use mathlib.Core.List.{List}
+use Rattle.graph.specs.declared.Block.{Block}
+use Rattle.graph.specs.declared.Place.{Place}
+use Rattle.graph.specs.Line.{Stretch, blockAt, placeIn}
+
+abbrev pub placeOf : List Stretch → Block → Place
+placeOf bs b = record { 0 = placeIn bs (b .0) }
+
+abbrev pub numberAt : List Stretch → Place → Block
+numberAt bs p = record { 0 = blockAt bs (p .0) .number }

@@ -1,0 +1,17 @@
+-- What the functions here promise each other. No public promise names these.
+use Prim.Native.Nat.{ℕ, _+_, _*_, _≤_, _<_}
+use mathlib.Core.Path.{_≡_}
+use mathlib.Core.Bool.{false}
+use mathlib.Core.List.{List}
+use Rattle.words.specs.Widths.{cellWidth, itemWidth, rangeCount, wantCount}
+use Rattle.fitting.specs.Queries.{areasOf}
+use Rattle.want_checks.specs.Checks.{badWant}
+
+-- what holds where nothing is refused: the counts within their limits, room in the answer lists and the work space, each want's part proper
+pub record Granted (wants areas : List ℕ) (cells items work : ℕ) : Type 0 where
+  pub few : wantCount wants ≤ 4096
+  pub short : rangeCount areas ≤ 65536
+  pub space : 8 * (wantCount wants + rangeCount areas) ≤ work
+  pub in-cells : cellWidth * wantCount wants ≤ cells
+  pub in-items : itemWidth * wantCount wants ≤ items
+  pub fine : (i : ℕ) → i < wantCount wants → badWant (areasOf areas) wants i ≡ false
