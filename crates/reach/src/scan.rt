@@ -215,7 +215,8 @@ fn one(
     count: usize,
 ) -> usize
     requires { ⌜ (i < instCount (now insts)) × (from + instOperands (now insts) i ≤ operandCount (now operands)) × (i < 65536) × (v ≤ 65535) ⌝ }
-    requires { ⌜ (lay .escapes + rowWords v ≤ lay .dead) × (lay .dead + rowWords v ≤ lay .defs) × (lay .defs + i < lay .edges) × (lay .edges + count + instOperands (now insts) i ≤ length (now work)) ⌝ }
+    requires { ⌜ (lay .escapes + rowWords v ≤ lay .dead) × (lay .dead + rowWords v ≤ lay .defs) × (lay .defs + i < lay .edges)
+        × (lay .edges + count + instOperands (now insts) i ≤ length (now work)) ⌝ }
     ensures { λ r. ⌜ Added (now (work .entry)) (now (work .exit)) lay v (rowOf (now (insts .entry)) (now (operands .entry)) i from) i (instOperands (now (insts .entry)) i) count r ⌝ }
 {
     let n = wide(insts[inst::WIDTH * i + inst::OPERANDS]);

@@ -76,7 +76,13 @@ loop-less : tie.Need-loop-less Inv-loop μ-loop
 loop-less c = omega arith
 
 loop-again : tie.Need-loop-again Inv-loop μ-loop
-loop-again c = let a = (c .before .before .before .before .before .before .args) in (omega arith, three-more (a .n) (λ j. rowOf (getD (now (a .w)) (a .from + j) 0)) _ _ ((c .before .before .before .loop) .i) (omega arith) (λ j h. refl) ((c .before .before .before .loop) .inv .1) _ _ _ (sym (ap (λ (t : Item). t .present ∷ t .first ∷ t .count ∷ []) ((c .part) .ensures))))
+loop-again c =
+    let s = c .before .before .before in
+    let a = (s .before .before .before .args) in (
+      omega arith,
+      three-more (a .n) (λ j. rowOf (getD (now (a .w)) (a .from + j) 0)) _ _ (s .loop .i) (omega arith) (λ j h. refl) (s .loop .inv .1) _ _ _
+          (sym (ap (λ (t : Item). t .present ∷ t .first ∷ t .count ∷ []) (c .part .ensures))),
+    )
 
 same-length : tie.Need-same-length Inv-loop μ-loop
 same-length c = (c .before .loop) .inv .1 .len

@@ -22,13 +22,21 @@ enum-told : tie.Need-enum-told
 enum-told c = omega arith
 
 own-cells-requires : tie.Need-own-cells-requires
-own-cells-requires c κs = let a = (c .before .before .before .before .before .before .before .before .args) in let s = apart-passed (now (a .locals)) (now (a .slots)) (length (now (a .cells))) (length (now (a .items))) (sym ((c .before .before .before .apart) .ensures) ∙ (c .before .enum-told) .given .1) in (s .in-cells, s .few)
+own-cells-requires c κs =
+    let a = (c .before .before .before .before .before .before .before .before .args) in
+    let s = apart-passed (now (a .locals)) (now (a .slots)) (length (now (a .cells))) (length (now (a .items)))
+    (sym ((c .before .before .before .apart) .ensures) ∙ (c .before .enum-told) .given .1) in
+    (s .in-cells, s .few)
 
 add-own-items : tie.Need-add-own-items
 add-own-items c = omega arith
 
 own-items-requires : tie.Need-own-items-requires
-own-items-requires c κs = let a = (c .before .before .before .before .before .before .before .before .before .before .before .before .args) in let s = apart-passed (now (a .locals)) (now (a .slots)) (length (now (a .cells))) (length (now (a .items))) (sym ((c .before .before .before .before .before .before .before .apart) .ensures) ∙ (c .before .before .before .before .before .enum-told) .given .1) in (s .in-items, s .few)
+own-items-requires c κs =
+    let a = (c .before .before .before .before .before .before .before .before .before .before .before .before .args) in
+    let s = apart-passed (now (a .locals)) (now (a .slots)) (length (now (a .cells))) (length (now (a .items)))
+    (sym ((c .before .before .before .before .before .before .before .apart) .ensures) ∙ (c .before .before .before .before .before .enum-told) .given .1) in
+    (s .in-items, s .few)
 
 same-length : tie.Need-same-length
 same-length c = omega arith
@@ -37,7 +45,12 @@ same-length-2 : tie.Need-same-length-2
 same-length-2 c = omega arith
 
 returns-2 : tie.Need-returns-2
-returns-2 c = let a = (c .before .before .before .before .before .before .before .before .before .before .before .before .before .before .before .args) in apart-told (now (a .locals)) (now (a .slots)) (now (a .cells)) (now (a .items)) _ _ (sym ((c .before .before .before .before .before .before .before .before .before .before .apart) .ensures) ∙ (c .before .before .before .before .before .before .before .before .enum-told) .given .1) ((c .before .before .before .before .before .before .own-cells) .ensures) ((c .before .before .own-items) .ensures)
+returns-2 c =
+    let a = (c .before .before .before .before .before .before .before .before .before .before .before .before .before .before .before .args) in
+    apart-told (now (a .locals)) (now (a .slots)) (now (a .cells)) (now (a .items)) _ _ (sym
+    ((c .before .before .before .before .before .before .before .before .before .before .apart) .ensures) ∙
+    (c .before .before .before .before .before .before .before .before .enum-told) .given .1) ((c .before .before .before .before .before .before .own-cells) .ensures)
+    ((c .before .before .own-items) .ensures)
 
 pub apart-spec : {M : Type 1} → statement M
 apart-spec =

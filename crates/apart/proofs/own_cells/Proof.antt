@@ -75,7 +75,15 @@ loop-less : tie.Need-loop-less Inv-loop μ-loop
 loop-less c = omega arith
 
 loop-again : tie.Need-loop-again Inv-loop μ-loop
-loop-again c = let a = (c .before .before .before .before .before .args) in (omega arith, two-more (localCount (now (a .locals)) + slotCount (now (a .slots))) (ownCell (now (a .locals)) (now (a .slots))) _ _ ((c .before .before .before .before .loop) .i) (omega arith) (cell-wide (now (a .locals)) (now (a .slots))) ((c .before .before .before .before .loop) .inv .1) _ _ (ap (λ (k : ℕ). getD (now (a .locals)) k 0) (sym (add-zero (2 * (c .before .before .before .before .loop) .i))) ∙ sym (ap (λ (l : List ℕ). getD l 0 0) (own-local (now (a .locals)) (now (a .slots)) ((c .before .before .before .before .loop) .i) (omega arith)))) (sym (ap (λ (l : List ℕ). getD l 1 0) (own-local (now (a .locals)) (now (a .slots)) ((c .before .before .before .before .loop) .i) (omega arith)))))
+loop-again c =
+    let s = c .before .before .before .before in
+    let a = (s .before .args) in (
+      omega arith,
+      two-more (localCount (now (a .locals)) + slotCount (now (a .slots))) (ownCell (now (a .locals)) (now (a .slots))) _ _ (s .loop .i) (omega arith) (cell-wide
+          (now (a .locals)) (now (a .slots))) (s .loop .inv .1) _ _ (ap (λ (k : ℕ). getD (now (a .locals)) k 0) (sym (add-zero (2 * (s .loop) .i))) ∙ sym
+          (ap (λ (l : List ℕ). getD l 0 0) (own-local (now (a .locals)) (now (a .slots)) (s .loop .i) (omega arith)))) (sym
+          (ap (λ (l : List ℕ). getD l 1 0) (own-local (now (a .locals)) (now (a .slots)) (s .loop .i) (omega arith)))),
+    )
 
 mul-width : tie.Need-mul-width Inv-loop μ-loop
 mul-width c = omega arith
@@ -111,7 +119,15 @@ loop-less-2 : tie.Need-loop-less-2 Inv-loop μ-loop
 loop-less-2 c = omega arith
 
 loop-again-2 : tie.Need-loop-again-2 Inv-loop μ-loop
-loop-again-2 c = let a = (c .before .before .before .before .args) in (omega arith, two-more (localCount (now (a .locals)) + slotCount (now (a .slots))) (ownCell (now (a .locals)) (now (a .slots))) _ _ ((c .before .before .before .loop) .i) (omega arith) (cell-wide (now (a .locals)) (now (a .slots))) ((c .before .before .before .loop) .inv .1) _ _ (sym (ap (λ (l : List ℕ). getD l 0 0) (own-slot (now (a .locals)) (now (a .slots)) ((c .before .before .before .loop) .i) (omega arith)))) (sym (ap (λ (l : List ℕ). getD l 1 0) (own-slot (now (a .locals)) (now (a .slots)) ((c .before .before .before .loop) .i) (omega arith)))))
+loop-again-2 c =
+    let s = c .before .before .before in
+    let a = (s .before .args) in (
+      omega arith,
+      two-more (localCount (now (a .locals)) + slotCount (now (a .slots))) (ownCell (now (a .locals)) (now (a .slots))) _ _ (s .loop .i) (omega arith)
+          (cell-wide (now (a .locals)) (now (a .slots))) (s .loop .inv .1) _ _
+          (sym (ap (λ (l : List ℕ). getD l 0 0) (own-slot (now (a .locals)) (now (a .slots)) (s .loop .i) (omega arith))))
+          (sym (ap (λ (l : List ℕ). getD l 1 0) (own-slot (now (a .locals)) (now (a .slots)) (s .loop .i) (omega arith)))),
+    )
 
 same-length : tie.Need-same-length Inv-loop μ-loop
 same-length c = (c .before .loop) .inv .1 .len

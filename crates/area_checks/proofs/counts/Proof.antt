@@ -33,7 +33,12 @@ earlier-requires-4 : tie.Need-earlier-requires-4
 earlier-requires-4 c κs = search needs
 
 returns : tie.Need-returns
-returns c = counts-chain ((c .before .before .before .before .before .before .before .before .before .args) .kinds) ((c .before .before .before .before .before .before .before .before .before .args) .touches) ((c .before .before .before .before .before .before .before .before .before .args) .ends) ((c .before .before .before .before .before .before .before .before .before .args) .areas) ((c .before .before .before .before .before .before .before .before .before .args) .items) ((c .before .before .before .before .before .before .before .before .most) .ensures) ((c .before .before .before .before .before .before .before .rows) .ensures) ((c .before .before .before .before .before .before .rows2) .ensures) ((c .before .before .before .before .before .rows3) .ensures) ((c .before .before .before .before .rows4) .ensures) ((c .before .before .before .earlier) .ensures) ((c .before .before .earlier2) .ensures) ((c .before .earlier3) .ensures) ((c .earlier4) .ensures)
+returns c =
+    let s = c .before .before .before .before .before .before .before .before .before in
+    counts-chain (s .args .kinds) (s .args .touches) (s .args .ends) (s .args .areas) (s .args .items)
+    (c .before .before .before .before .before .before .before .before .most .ensures) (c .before .before .before .before .before .before .before .rows .ensures)
+    (c .before .before .before .before .before .before .rows2 .ensures) (c .before .before .before .before .before .rows3 .ensures) (c .before .before .before .before .rows4 .ensures)
+    (c .before .before .before .earlier .ensures) (c .before .before .earlier2 .ensures) (c .before .earlier3 .ensures) (c .earlier4 .ensures)
 
 pub counts-spec : {M : Type 1} → statement M
 counts-spec = tie.close (tie.spec most-requires rows-requires rows-requires-2 rows-requires-3 rows-requires-4 earlier-requires earlier-requires-2 earlier-requires-3 earlier-requires-4 returns)

@@ -39,7 +39,10 @@ pack-requires : tie.Need-pack-requires
 pack-requires c κs = search needs
 
 returns : tie.Need-returns
-returns c = arrival-is (now ((c .before .before .before .before .before .before .args) .blocks)) (endsAt ((c .before .before .before .before .before .before .args) .t) (now ((c .before .before .before .before .before .before .args) .work))) ((c .before .before .before .before .before .before .args) .k) _ ((c .before .before .before .before .before .before .pre) .0) (omega (arith, (c .before .before .before .shared-slice-known3) .given (3 * (c .before .before .before .before .before .before .args) .k + 2))) _ ((c .before .until) .ensures) ((c .pack) .ensures)
+returns c =
+    let s = c .before .before .before .before .before .before in
+    arrival-is (now (s .args .blocks)) (endsAt (s .args .t) (now (s .args .work))) (s .args .k) _ (s .pre .0)
+    (omega (arith, c .before .before .before .shared-slice-known3 .given (3 * (s .args) .k + 2))) _ (c .before .until .ensures) (c .pack .ensures)
 
 pub arrival-spec : {M : Type 1} → statement M
 arrival-spec =

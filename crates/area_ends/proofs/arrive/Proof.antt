@@ -29,28 +29,53 @@ arrival-requires : tie.Need-arrival-requires Inv-loop μ-loop
 arrival-requires c κs = (sweep-in ((c .before .before .loop) .inv .1 .sweep) (omega arith), march-stand ((c .before .before .loop) .inv .1))
 
 add-work : tie.Need-add-work Inv-loop μ-loop
-add-work c = let a = (c .before .before .before .loop) .inv .1 .asked .swept in let b = (c .before .before .before .loop) .inv .1 .sweep .r-le in omega (arith, sweep-in ((c .before .before .before .loop) .inv .1 .sweep) (omega arith), (c .before .before .before .loop) .inv .1 .sweep .len)
+add-work c =
+    let s = c .before .before .before in
+    let a = s .loop .inv .1 .asked .swept in let b = s .loop .inv .1 .sweep .r-le in omega (arith, sweep-in (s .loop .inv .1 .sweep) (omega arith), s .loop .inv .1 .sweep .len)
 
 mul-work : tie.Need-mul-work Inv-loop μ-loop
-mul-work c = let a = (c .before .before .before .loop) .inv .1 .asked .swept in let b = (c .before .before .before .loop) .inv .1 .sweep .r-le in omega (arith, sweep-in ((c .before .before .before .loop) .inv .1 .sweep) (omega arith), (c .before .before .before .loop) .inv .1 .sweep .len)
+mul-work c =
+    let s = c .before .before .before in
+    let a = s .loop .inv .1 .asked .swept in let b = s .loop .inv .1 .sweep .r-le in omega (arith, sweep-in (s .loop .inv .1 .sweep) (omega arith), s .loop .inv .1 .sweep .len)
 
 slice-write-work : tie.Need-slice-write-work Inv-loop μ-loop
-slice-write-work c = let a = (c .before .before .before .loop) .inv .1 .asked .swept in let b = (c .before .before .before .loop) .inv .1 .sweep .r-le in omega (arith, sweep-in ((c .before .before .before .loop) .inv .1 .sweep) (omega arith), (c .before .before .before .loop) .inv .1 .sweep .len)
+slice-write-work c =
+    let s = c .before .before .before in
+    let a = s .loop .inv .1 .asked .swept in let b = s .loop .inv .1 .sweep .r-le in omega (arith, sweep-in (s .loop .inv .1 .sweep) (omega arith), s .loop .inv .1 .sweep .len)
 
 add-n : tie.Need-add-n Inv-loop μ-loop
-add-n c = let a = (c .before .before .before .loop) .inv .1 .asked .swept in let b = (c .before .before .before .loop) .inv .1 .sweep .r-le in omega (arith, sweep-in ((c .before .before .before .loop) .inv .1 .sweep) (omega arith), (c .before .before .before .loop) .inv .1 .sweep .len)
+add-n c =
+    let s = c .before .before .before in
+    let a = s .loop .inv .1 .asked .swept in let b = s .loop .inv .1 .sweep .r-le in omega (arith, sweep-in (s .loop .inv .1 .sweep) (omega arith), s .loop .inv .1 .sweep .len)
 
 unset-requires : tie.Need-unset-requires Inv-loop μ-loop
-unset-requires c κs = let a = (c .before .before .before .before .loop) .inv .1 .asked .swept in let e = (c .before .before .before .before .loop) .inv .1 .sweep .len in simp length-set (omega arith)
+unset-requires c κs =
+    let s = c .before .before .before .before in
+    let a = s .loop .inv .1 .asked .swept in let e = s .loop .inv .1 .sweep .len in simp length-set (omega arith)
 
 first-from-requires-2 : tie.Need-first-from-requires-2 Inv-loop μ-loop
-first-from-requires-2 c κs = let a = (c .before .before .before .before .before .before .before .before .loop) .inv .1 .asked .swept in let e = (c .before .before .before .before .before .before .before .before .loop) .inv .1 .sweep .len in let u = simp length-set at ((c .before .before .before .unset) .ensures .len) in (omega arith, omega arith, omega arith)
+first-from-requires-2 c κs =
+    let s = c .before .before .before .before .before .before .before .before in
+    let a = s .loop .inv .1 .asked .swept in
+    let e = s .loop .inv .1 .sweep .len in
+    let u = simp length-set at (c .before .before .before .unset .ensures .len) in
+    (omega arith, omega arith, omega arith)
 
 loop-less : tie.Need-loop-less Inv-loop μ-loop
-loop-less c = omega (arith, march-next ((c .before .before .before .before .before .before .before .before .before .loop) .inv .1) _ (omega arith) ((c .before .before .before .before .before .before .arrival) .ensures) ((c .before .before .before .before .unset) .ensures) ((c .first-from2) .ensures))
+loop-less c =
+    omega (
+      arith,
+      march-next ((c .before .before .before .before .before .before .before .before .before .loop) .inv .1) _ (omega arith)
+          ((c .before .before .before .before .before .before .arrival) .ensures) ((c .before .before .before .before .unset) .ensures) ((c .first-from2) .ensures),
+    )
 
 loop-again : tie.Need-loop-again Inv-loop μ-loop
-loop-again c = ((c .before .before .before .before .before .before .before .before .before .loop) .inv .0, march-more ((c .before .before .before .before .before .before .before .before .before .loop) .inv .1) _ (omega arith) ((c .before .before .before .before .before .before .arrival) .ensures) ((c .before .before .before .before .unset) .ensures) ((c .first-from2) .ensures))
+loop-again c =
+    let s = c .before .before .before .before .before .before .before .before .before in (
+      s .loop .inv .0,
+      march-more (s .loop .inv .1) _ (omega arith) (c .before .before .before .before .before .before .arrival .ensures)
+          (c .before .before .before .before .unset .ensures) (c .first-from2 .ensures),
+    )
 
 same-length : tie.Need-same-length Inv-loop μ-loop
 same-length c = (c .before .loop) .inv .1 .sweep .len

@@ -12,13 +12,17 @@ copy-requires : tie.Need-copy-requires
 copy-requires c κs = (omega arith, omega arith, above ((c .before .before .before .pre) .row-fits))
 
 arrive-requires : tie.Need-arrive-requires
-arrive-requires c κs = copied-asked (now ((c .before .before .before .before .before .before .before .args) .blocks)) (c .before .before .before .before .before .before .before .pre) ((c .before .before .before .copy) .ensures)
+arrive-requires c κs =
+    let s = c .before .before .before .before .before .before .before in
+    copied-asked (now (s .args .blocks)) (s .pre) (c .before .before .before .copy .ensures)
 
 same-length : tie.Need-same-length
 same-length c = search needs
 
 returns : tie.Need-returns
-returns c = copied-arrived (now ((c .before .before .before .before .before .before .before .before .before .before .args) .blocks)) (c .before .before .before .before .before .before .before .before .before .before .pre) ((c .before .before .before .before .before .before .copy) .ensures) ((c .before .before .arrive) .ensures)
+returns c =
+    let s = c .before .before .before .before .before .before .before .before .before .before in
+    copied-arrived (now (s .args .blocks)) (s .pre) (c .before .before .before .before .before .before .copy .ensures) (c .before .before .arrive .ensures)
 
 pub arrived-spec : {M : Type 1} → statement M
 arrived-spec = tie.close (tie.spec copy-requires arrive-requires same-length returns)

@@ -45,22 +45,39 @@ same-length : tie.Need-same-length
 same-length c = search needs
 
 returns : tie.Need-returns
-returns c = λ es. covered-one (lineOf (now ((c .before .before .before .before .before .before .before .before .before .before .args) .blocks)) es) ((c .before .before .before .before .before .before .before .before .before .before .pre) .0 .0) (endsAt ((c .before .before .before .before .before .before .before .before .before .before .args) .t) (now ((c .before .before .before .before .before .before .before .before .before .before .args) .work))) ((c .before .before .before .before .before .before .before .before .before .before .args) .s) ((c .before .before .before .before .before .before .before .before .before .before .args) .x) ((c .before .before .before .before .before .before .before .before .before .before .args) .m) ((c .before .before .before .before .before .before .before .before .before .before .pre) .0 .2 es) _ _ ((c .before .before .before .before .before .before .holding) .ensures .is es ∙ ap (λ (y : ℕ). blockOf (lineOf (now ((c .before .before .before .before .before .before .before .before .before .before .args) .blocks)) es) y) ((c .before .before .before .before .before .before .before .start-of) .ensures)) ((c .before .before .before .before .holding2) .ensures .is es ∙ ap (λ (y : ℕ). blockOf (lineOf (now ((c .before .before .before .before .before .before .before .before .before .before .args) .blocks)) es) y) ((c .before .before .before .before .before .end-of) .ensures)) (now ((c .before .before .before .before .before .before .before .before .before .before .args) .work)) ((c .before .before .before .before .before .before .before .before .before .before .pre) .1 .2) _ ((c .before .before .cover) .ensures) (omega arith)
+returns c =
+    let u = c .before .before .before .before .before .before .before .before .before .before in
+    λ es. covered-one (lineOf (now (u .args .blocks)) es) (u .pre .0 .0) (endsAt (u .args .t) (now (u .args .work))) (u .args .s) (u .args .x) (u .args .m) (u .pre .0 .2 es) _ _
+    (c .before .before .before .before .before .before .holding .ensures .is es ∙ ap (λ (y : ℕ). blockOf (lineOf (now (u .args .blocks)) es) y)
+    (c .before .before .before .before .before .before .before .start-of .ensures)) (c .before .before .before .before .holding2 .ensures .is es ∙ ap
+    (λ (y : ℕ). blockOf (lineOf (now (u .args .blocks)) es) y) (c .before .before .before .before .before .end-of .ensures)) (now (u .args .work)) (u .pre .1 .2) _
+    (c .before .before .cover .ensures) (omega arith)
 
 cover-requires-2 : tie.Need-cover-requires-2
-cover-requires-2 c κs = ((c .before .before .before .before .before .holding2) .ensures .below, stand-set ((c .before .before .before .before .before .before .before .before .before .before .before .args) .t) ((c .before .before .before .before .before .before .before .before .before .before .before .args) .s .to) (now ((c .before .before .before .before .before .before .before .before .before .before .before .args) .work)) ((c .before .before .before .before .before .before .before .before .before .before .before .pre) .0 .1) ((c .before .before .before .before .before .before .before .before .before .before .before .pre) .1 .0) ((c .before .before .before .before .before .before .before .before .before .before .before .pre) .1 .1) ((c .before .before .before .before .before .before .before .before .before .before .before .args) .s .to + (c .before .before .before .before .before .before .before .before .before .before .before .args) .m) ((c .before .before .before .cover) .result) (omega arith) (omega arith))
+cover-requires-2 c κs =
+    let u = c .before .before .before .before .before .before .before .before .before .before .before in (
+      c .before .before .before .before .before .holding2 .ensures .below,
+      stand-set (u .args .t) (u .args .s .to) (now (u .args .work)) (u .pre .0 .1) (u .pre .1 .0) (u .pre .1 .1)
+          (u .args .s .to + (u .args) .m) (c .before .before .before .cover .result) (omega arith) (omega arith),
+    )
 
 add-work-2 : tie.Need-add-work-2
-add-work-2 c = omega (arith, (c .before .before .before .before .before .before .before .before .before .before .before .before .before .pre) .1 .2, (c .before .before .before .before .before .before .before .before .before .before .before .before .before .good))
+add-work-2 c =
+    let s = c .before .before .before .before .before .before .before .before .before .before .before .before .before in
+    omega (arith, s .pre .1 .2, (s .good))
 
 mul-work-2 : tie.Need-mul-work-2
-mul-work-2 c = omega (arith, (c .before .before .before .before .before .before .before .before .before .before .before .before .before .pre) .1 .2, (c .before .before .before .before .before .before .before .before .before .before .before .before .before .good))
+mul-work-2 c =
+    let s = c .before .before .before .before .before .before .before .before .before .before .before .before .before in
+    omega (arith, s .pre .1 .2, (s .good))
 
 slice-write-work-2 : tie.Need-slice-write-work-2
 slice-write-work-2 c = simp length-set (omega (arith, (c .before .before .before .before .before .before .before .before .before .before .before .before .before .pre) .1 .2))
 
 add-third : tie.Need-add-third
-add-third c = omega (arith, (c .before .before .before .before .before .before .before .before .before .before .before .before .before .pre) .1 .2, (c .before .before .before .before .before .before .before .before .before .before .before .before .before .good))
+add-third c =
+    let s = c .before .before .before .before .before .before .before .before .before .before .before .before .before in
+    omega (arith, s .pre .1 .2, (s .good))
 
 add-if2 : tie.Need-add-if2
 add-if2 c = search needs
@@ -69,28 +86,52 @@ same-length-2 : tie.Need-same-length-2
 same-length-2 c = search needs
 
 returns-2 : tie.Need-returns-2
-returns-2 c = λ es. covered-two (lineOf (now ((c .before .before .before .before .before .before .before .before .before .before .before .before .before .before .args) .blocks)) es) ((c .before .before .before .before .before .before .before .before .before .before .before .before .before .before .pre) .0 .0) (endsAt ((c .before .before .before .before .before .before .before .before .before .before .before .before .before .before .args) .t) (now ((c .before .before .before .before .before .before .before .before .before .before .before .before .before .before .args) .work))) ((c .before .before .before .before .before .before .before .before .before .before .before .before .before .before .args) .s) ((c .before .before .before .before .before .before .before .before .before .before .before .before .before .before .args) .x) ((c .before .before .before .before .before .before .before .before .before .before .before .before .before .before .args) .m) ((c .before .before .before .before .before .before .before .before .before .before .before .before .before .before .pre) .0 .2 es) _ _ ((c .before .before .before .before .before .before .before .before .before .before .holding) .ensures .is es ∙ ap (λ (y : ℕ). blockOf (lineOf (now ((c .before .before .before .before .before .before .before .before .before .before .before .before .before .before .args) .blocks)) es) y) ((c .before .before .before .before .before .before .before .before .before .before .before .start-of) .ensures)) ((c .before .before .before .before .before .before .before .before .holding2) .ensures .is es ∙ ap (λ (y : ℕ). blockOf (lineOf (now ((c .before .before .before .before .before .before .before .before .before .before .before .before .before .before .args) .blocks)) es) y) ((c .before .before .before .before .before .before .before .before .before .end-of) .ensures)) (now ((c .before .before .before .before .before .before .before .before .before .before .before .before .before .before .args) .work)) ((c .before .before .before .before .before .before .before .before .before .before .before .before .before .before .pre) .1 .2) _ ((c .before .before .before .before .before .before .cover) .ensures) _ ((c .before .before .cover2) .ensures ∙ ap (λ (l : List ℕ). cover (lineOf (now ((c .before .before .before .before .before .before .before .before .before .before .before .before .before .before .args) .blocks)) es) l ((c .before .before .before .before .before .before .before .before .holding2) .result .0) (unpack ((c .before .before .before .before .before .before .before .before .before .before .before .before .before .before .args) .x))) (ends-set ((c .before .before .before .before .before .before .before .before .before .before .before .before .before .before .args) .t) ((c .before .before .before .before .before .before .before .before .before .before .before .before .before .before .args) .s .to) (now ((c .before .before .before .before .before .before .before .before .before .before .before .before .before .before .args) .work)) ((c .before .before .before .before .before .before .before .before .before .before .before .before .before .before .pre) .0 .1) ((c .before .before .before .before .before .before .before .before .before .before .before .before .before .before .pre) .1 .0) ((c .before .before .before .before .before .before .before .before .before .before .before .before .before .before .pre) .1 .1) ((c .before .before .before .before .before .before .before .before .before .before .before .before .before .before .args) .s .to + (c .before .before .before .before .before .before .before .before .before .before .before .before .before .before .args) .m) ((c .before .before .before .before .before .before .cover) .result) (omega (arith, (c .before .before .before .before .before .before .before .before .before .before .before .before .before .before .pre) .1 .2)) (omega (arith, (c .before .before .before .before .before .before .before .before .before .before .before .before .before .before .pre) .1 .2)))) (omega arith) (omega arith)
+returns-2 c =
+    let u = c .before .before .before .before .before .before in
+    let p = u .before .before in
+    let q = p .before .before .before .before .before .before in
+    λ es. covered-two (lineOf (now (q .args .blocks)) es) (q .pre .0 .0) (endsAt (q .args .t) (now (q .args .work))) (q .args .s) (q .args .x) (q .args .m) (q .pre .0 .2 es) _ _
+    (p .before .before .holding .ensures .is es ∙ ap (λ (y : ℕ). blockOf (lineOf (now (q .args .blocks)) es) y) (p .before .before .before .start-of .ensures))
+    (p .holding2 .ensures .is es ∙ ap (λ (y : ℕ). blockOf (lineOf (now (q .args .blocks)) es) y) (p .before .end-of .ensures)) (now (q .args .work)) (q .pre .1 .2) _
+    (u .cover .ensures) _ (c .before .before .cover2 .ensures ∙ ap (λ (l : List ℕ). cover (lineOf (now (q .args .blocks)) es) l (p .holding2 .result .0) (unpack (q .args .x)))
+    (ends-set (q .args .t) (q .args .s .to) (now (q .args .work)) (q .pre .0 .1) (q .pre .1 .0) (q .pre .1 .1) (q .args .s .to + (q .args) .m) (u .cover .result)
+    (omega (arith, q .pre .1 .2)) (omega (arith, q .pre .1 .2)))) (omega arith) (omega arith)
 
 between-requires : tie.Need-between-requires
 between-requires c κs = search needs
 
 add-work-3 : tie.Need-add-work-3
-add-work-3 c = omega (arith, (c .before .before .before .before .before .before .before .before .before .before .before .before .before .before .before .before .pre) .1 .2, (c .before .before .before .before .before .before .before .before .before .before .before .before .before .before .before .before .good))
+add-work-3 c =
+    let s = c .before .before .before .before .before .before .before .before .before .before .before .before .before .before .before .before in
+    omega (arith, s .pre .1 .2, (s .good))
 
 mul-work-3 : tie.Need-mul-work-3
-mul-work-3 c = omega (arith, (c .before .before .before .before .before .before .before .before .before .before .before .before .before .before .before .before .pre) .1 .2, (c .before .before .before .before .before .before .before .before .before .before .before .before .before .before .before .before .good))
+mul-work-3 c =
+    let s = c .before .before .before .before .before .before .before .before .before .before .before .before .before .before .before .before in
+    omega (arith, s .pre .1 .2, (s .good))
 
 slice-write-work-3 : tie.Need-slice-write-work-3
 slice-write-work-3 c = simp length-set (omega (arith, (c .before .before .before .before .before .before .before .before .before .before .before .before .before .before .before .before .pre) .1 .2))
 
 add-result : tie.Need-add-result
-add-result c = omega (arith, (c .before .before .before .before .before .before .before .before .before .before .before .before .before .before .before .before .pre) .1 .2, (c .before .before .before .before .before .before .before .before .before .before .before .before .before .before .before .before .good))
+add-result c =
+    let s = c .before .before .before .before .before .before .before .before .before .before .before .before .before .before .before .before in
+    omega (arith, s .pre .1 .2, (s .good))
 
 same-length-3 : tie.Need-same-length-3
 same-length-3 c = search needs
 
 returns-3 : tie.Need-returns-3
-returns-3 c = λ es. covered-three (lineOf (now ((c .before .before .before .before .before .before .before .before .before .before .before .before .before .before .before .before .args) .blocks)) es) ((c .before .before .before .before .before .before .before .before .before .before .before .before .before .before .before .before .pre) .0 .0) (endsAt ((c .before .before .before .before .before .before .before .before .before .before .before .before .before .before .before .before .args) .t) (now ((c .before .before .before .before .before .before .before .before .before .before .before .before .before .before .before .before .args) .work))) ((c .before .before .before .before .before .before .before .before .before .before .before .before .before .before .before .before .args) .s) ((c .before .before .before .before .before .before .before .before .before .before .before .before .before .before .before .before .args) .x) ((c .before .before .before .before .before .before .before .before .before .before .before .before .before .before .before .before .args) .m) ((c .before .before .before .before .before .before .before .before .before .before .before .before .before .before .before .before .pre) .0 .2 es) _ _ ((c .before .before .before .before .before .before .before .before .before .before .before .before .holding) .ensures .is es ∙ ap (λ (y : ℕ). blockOf (lineOf (now ((c .before .before .before .before .before .before .before .before .before .before .before .before .before .before .before .before .args) .blocks)) es) y) ((c .before .before .before .before .before .before .before .before .before .before .before .before .before .start-of) .ensures)) ((c .before .before .before .before .before .before .before .before .before .before .holding2) .ensures .is es ∙ ap (λ (y : ℕ). blockOf (lineOf (now ((c .before .before .before .before .before .before .before .before .before .before .before .before .before .before .before .before .args) .blocks)) es) y) ((c .before .before .before .before .before .before .before .before .before .before .before .end-of) .ensures)) (now ((c .before .before .before .before .before .before .before .before .before .before .before .before .before .before .before .before .args) .work)) ((c .before .before .before .before .before .before .before .before .before .before .before .before .before .before .before .before .pre) .1 .2) _ ((c .before .before .before .before .before .before .before .before .cover) .ensures) _ ((c .before .before .before .before .cover2) .ensures ∙ ap (λ (l : List ℕ). cover (lineOf (now ((c .before .before .before .before .before .before .before .before .before .before .before .before .before .before .before .before .args) .blocks)) es) l ((c .before .before .before .before .before .before .before .before .before .before .holding2) .result .0) (unpack ((c .before .before .before .before .before .before .before .before .before .before .before .before .before .before .before .before .args) .x))) (ends-set ((c .before .before .before .before .before .before .before .before .before .before .before .before .before .before .before .before .args) .t) ((c .before .before .before .before .before .before .before .before .before .before .before .before .before .before .before .before .args) .s .to) (now ((c .before .before .before .before .before .before .before .before .before .before .before .before .before .before .before .before .args) .work)) ((c .before .before .before .before .before .before .before .before .before .before .before .before .before .before .before .before .pre) .0 .1) ((c .before .before .before .before .before .before .before .before .before .before .before .before .before .before .before .before .pre) .1 .0) ((c .before .before .before .before .before .before .before .before .before .before .before .before .before .before .before .before .pre) .1 .1) ((c .before .before .before .before .before .before .before .before .before .before .before .before .before .before .before .before .args) .s .to + (c .before .before .before .before .before .before .before .before .before .before .before .before .before .before .before .before .args) .m) ((c .before .before .before .before .before .before .before .before .cover) .result) (omega (arith, (c .before .before .before .before .before .before .before .before .before .before .before .before .before .before .before .before .pre) .1 .2)) (omega (arith, (c .before .before .before .before .before .before .before .before .before .before .before .before .before .before .before .before .pre) .1 .2)))) _ ((c .before .between) .ensures) (omega arith)
+returns-3 c =
+    let u = c .before .before .before .before .before .before .before .before in
+    let p = u .before .before in
+    let q = p .before .before .before .before .before .before in
+    λ es. covered-three (lineOf (now (q .args .blocks)) es) (q .pre .0 .0) (endsAt (q .args .t) (now (q .args .work))) (q .args .s) (q .args .x) (q .args .m) (q .pre .0 .2 es) _ _
+    (p .before .before .holding .ensures .is es ∙ ap (λ (y : ℕ). blockOf (lineOf (now (q .args .blocks)) es) y) (p .before .before .before .start-of .ensures))
+    (p .holding2 .ensures .is es ∙ ap (λ (y : ℕ). blockOf (lineOf (now (q .args .blocks)) es) y) (p .before .end-of .ensures)) (now (q .args .work)) (q .pre .1 .2) _
+    (u .cover .ensures) _ (c .before .before .before .before .cover2 .ensures ∙ ap (λ (l : List ℕ). cover (lineOf (now (q .args .blocks)) es) l (p .holding2 .result .0)
+    (unpack (q .args .x))) (ends-set (q .args .t) (q .args .s .to) (now (q .args .work)) (q .pre .0 .1) (q .pre .1 .0) (q .pre .1 .1) (q .args .s .to + (q .args) .m) (u .cover .result)
+    (omega (arith, q .pre .1 .2)) (omega (arith, q .pre .1 .2)))) _ (c .before .between .ensures) (omega arith)
 
 pub cover-touch-spec : {M : Type 1} → statement M
 cover-touch-spec =

@@ -35,7 +35,22 @@ slice-read-x : tie.Need-slice-read-x Inv-loop μ-loop
 slice-read-x c = let p = cover-stand ((c .before .before .before .before .loop) .inv .1 []) in omega arith
 
 cover-touch-requires : tie.Need-cover-touch-requires Inv-loop μ-loop
-cover-touch-requires c κs = (((c .before .before .before .before .before .before .before .before .pre) .0, cover-stand ((c .before .before .before .before .before .loop) .inv .1 []), touch-upright (now ((c .before .before .before .before .before .before .before .before .args) .blocks)) ((c .before .before .before .before .before .before .before .before .args) .t) (now ((c .before .before .before .before .before .before .before .before .args) .work)) ((c .before .before .before .before .before .loop) .i) _ (omega (arith, (c .before .before .before .before .before .before .before .before .pre) .2)) ((c .before .before .before .before .before .loop) .inv .0) (omega arith) (cover-word ((c .before .before .before .before .before .loop) .inv .1 []) (omega arith))), (cover-fits ((c .before .before .before .before .before .loop) .inv .1 []) .0, cover-fits ((c .before .before .before .before .before .loop) .inv .1 []) .1, cover-room ((c .before .before .before .before .before .loop) .inv .1 []) (omega arith)))
+cover-touch-requires c κs =
+    let s = c .before .before .before .before .before in
+    let u = s .before .before .before in (
+      (
+        u .pre .0,
+        cover-stand (s .loop .inv .1 []),
+        touch-upright (now (u .args .blocks)) (u .args .t) (now (u .args .work)) (s .loop .i) _ (omega (arith, u .pre .2)) (s .loop .inv .0)
+            (omega arith) (cover-word (s .loop .inv .1 []) (omega arith)),
+      ),
+      (
+        cover-fits (s .loop .inv .1 []) .0,
+        cover-fits (s .loop .inv .1 []) .1,
+        cover-room (s .loop .inv .1 [])
+            (omega arith),
+      ),
+    )
 
 add-i : tie.Need-add-i Inv-loop μ-loop
 add-i c = omega arith
@@ -44,7 +59,9 @@ loop-less : tie.Need-loop-less Inv-loop μ-loop
 loop-less c = omega arith
 
 loop-again : tie.Need-loop-again Inv-loop μ-loop
-loop-again c = ((c .before .before .before .before .before .before .before .before .loop) .inv .0, λ es. cover-more ((c .before .before .before .before .before .before .before .before .loop) .inv .1 es) _ (omega arith) refl ((c .before .before .cover-touch) .ensures es))
+loop-again c =
+    let s = c .before .before .before .before .before .before .before .before in
+    (s .loop .inv .0, λ es. cover-more (s .loop .inv .1 es) _ (omega arith) refl (c .before .before .cover-touch .ensures es))
 
 same-length : tie.Need-same-length Inv-loop μ-loop
 same-length c = (c .before .before .loop) .inv .1 [] .listed .len

@@ -9,25 +9,45 @@ use Rattle.area_ends.proofs.ending.Statement.{statement}
 use Rattle.area_ends.proofs.ending.Tie as tie
 
 covers-requires : tie.Need-covers-requires
-covers-requires c κs = ((c .before .before .before .pre) .0 .0, laid-less _ ((c .before .before .before .pre) .0 .1) (omega arith), (c .before .before .before .pre) .0 .2, (c .before .before .before .pre) .1 .1)
+covers-requires c κs =
+    let s = c .before .before .before in
+    (s .pre .0 .0, laid-less _ (s .pre .0 .1) (omega arith), s .pre .0 .2, s .pre .1 .1)
 
 add-arrived : tie.Need-add-arrived
-add-arrived c = let a = ending-asked (now ((c .before .before .before .before .before .before .before .before .args) .blocks)) ((c .before .before .before .before .before .before .before .before .args) .t) ((c .before .before .before .before .before .before .before .before .args) .s) ((c .before .before .before .before .before .before .before .before .pre) .0 .1) ((c .before .before .before .before .before .before .before .before .pre) .0 .2) ((c .before .before .before .before .before .before .before .before .pre) .1 .0) ((c .before .before .before .before .covers) .ensures) in omega (arith, a .fits)
+add-arrived c =
+    let u = c .before .before .before .before .before .before .before .before in
+    let a = ending-asked (now (u .args .blocks)) (u .args .t) (u .args .s) (u .pre .0 .1) (u .pre .0 .2) (u .pre .1 .0) (c .before .before .before .before .covers .ensures) in
+    omega (arith, a .fits)
 
 arrived-requires : tie.Need-arrived-requires
-arrived-requires c κs = ending-asked (now ((c .before .before .before .before .before .before .before .before .args) .blocks)) ((c .before .before .before .before .before .before .before .before .args) .t) ((c .before .before .before .before .before .before .before .before .args) .s) ((c .before .before .before .before .before .before .before .before .pre) .0 .1) ((c .before .before .before .before .before .before .before .before .pre) .0 .2) ((c .before .before .before .before .before .before .before .before .pre) .1 .0) ((c .before .before .before .before .covers) .ensures)
+arrived-requires c κs =
+    let u = c .before .before .before .before .before .before .before .before in
+    ending-asked (now (u .args .blocks)) (u .args .t) (u .args .s) (u .pre .0 .1) (u .pre .0 .2) (u .pre .1 .0) (c .before .before .before .before .covers .ensures)
 
 add-merge : tie.Need-add-merge
-add-merge c = omega (arith, ending-room (now ((c .before .before .before .before .before .before .before .before .before .before .before .before .args) .blocks)) ((c .before .before .before .before .before .before .before .before .before .before .before .before .args) .t) ((c .before .before .before .before .before .before .before .before .before .before .before .before .args) .s) ((c .before .before .before .before .before .before .before .before .before .before .before .before .pre) .0 .1) ((c .before .before .before .before .before .before .before .before .before .before .before .before .pre) .0 .2) ((c .before .before .before .before .before .before .before .before .before .before .before .before .pre) .1 .0) ((c .before .before .before .before .before .before .before .before .covers) .ensures) ((c .before .before .before .arrived) .ensures))
+add-merge c =
+    let u = c .before .before .before .before .before .before .before .before .before .before .before .before in
+    omega (
+      arith,
+      ending-room (now (u .args .blocks)) (u .args .t) (u .args .s) (u .pre .0 .1) (u .pre .0 .2) (u .pre .1 .0)
+          (c .before .before .before .before .before .before .before .before .covers .ensures) (c .before .before .before .arrived .ensures),
+    )
 
 merge-requires : tie.Need-merge-requires
-merge-requires c κs = ending-room (now ((c .before .before .before .before .before .before .before .before .before .before .before .before .args) .blocks)) ((c .before .before .before .before .before .before .before .before .before .before .before .before .args) .t) ((c .before .before .before .before .before .before .before .before .before .before .before .before .args) .s) ((c .before .before .before .before .before .before .before .before .before .before .before .before .pre) .0 .1) ((c .before .before .before .before .before .before .before .before .before .before .before .before .pre) .0 .2) ((c .before .before .before .before .before .before .before .before .before .before .before .before .pre) .1 .0) ((c .before .before .before .before .before .before .before .before .covers) .ensures) ((c .before .before .before .arrived) .ensures)
+merge-requires c κs =
+    let u = c .before .before .before .before .before .before .before .before .before .before .before .before in
+    ending-room (now (u .args .blocks)) (u .args .t) (u .args .s) (u .pre .0 .1) (u .pre .0 .2) (u .pre .1 .0)
+    (c .before .before .before .before .before .before .before .before .covers .ensures) (c .before .before .before .arrived .ensures)
 
 same-length : tie.Need-same-length
 same-length c = search needs
 
 returns : tie.Need-returns
-returns c = ending-done (now ((c .before .before .before .before .before .before .before .before .before .before .before .before .before .before .before .args) .blocks)) ((c .before .before .before .before .before .before .before .before .before .before .before .before .before .before .before .args) .t) ((c .before .before .before .before .before .before .before .before .before .before .before .before .before .before .before .args) .s) ((c .before .before .before .before .before .before .before .before .before .before .before .before .before .before .before .pre) .0 .1) ((c .before .before .before .before .before .before .before .before .before .before .before .before .before .before .before .pre) .0 .2) ((c .before .before .before .before .before .before .before .before .before .before .before .before .before .before .before .pre) .1 .0) ((c .before .before .before .before .before .before .before .before .before .before .before .covers) .ensures) ((c .before .before .before .before .before .before .arrived) .ensures) ((c .before .before .before .before .before .before .before .before .before .before .before .before .before .before .before .pre) .0 .0) ((c .before .before .before .before .before .before .before .before .before .before .before .before .before .before .before .pre) .1 .1) (omega arith) ((c .before .before .merge) .ensures)
+returns c =
+    let u = c .before .before .before .before .before .before .before .before .before .before .before .before .before .before .before in
+    ending-done (now (u .args .blocks)) (u .args .t) (u .args .s) (u .pre .0 .1) (u .pre .0 .2) (u .pre .1 .0)
+    (c .before .before .before .before .before .before .before .before .before .before .before .covers .ensures) (c .before .before .before .before .before .before .arrived .ensures)
+    (u .pre .0 .0) (u .pre .1 .1) (omega arith) (c .before .before .merge .ensures)
 
 pub ending-spec : {M : Type 1} → statement M
 ending-spec =

@@ -17,13 +17,17 @@ add-t7 : tie.Need-add-t7
 add-t7 c = search needs
 
 spread-requires : tie.Need-spread-requires
-spread-requires c κs = spread-laid ((c .before .before .before .before .before .before .before .args) .g) _ _ _ ((c .before .before .before .before .before .before .before .pre) .0) ((c .before .before .before .before .before .before .before .pre) .1) ((c .before .before .before .order) .ensures)
+spread-requires c κs =
+    let s = c .before .before .before .before .before .before .before in
+    spread-laid (s .args .g) _ _ _ (s .pre .0) (s .pre .1) (c .before .before .before .order .ensures)
 
 same-length : tie.Need-same-length
 same-length c = search needs
 
 returns : tie.Need-returns
-returns c = arrived-at ((c .before .before .before .before .before .before .before .before .before .before .args) .g) _ _ _ ((c .before .before .before .before .before .before .before .before .before .before .pre) .0) ((c .before .before .before .before .before .before .before .before .before .before .pre) .1) ((c .before .before .before .before .before .before .order) .ensures) ((c .before .before .spread) .ensures)
+returns c =
+    let s = c .before .before .before .before .before .before .before .before .before .before in
+    arrived-at (s .args .g) _ _ _ (s .pre .0) (s .pre .1) (c .before .before .before .before .before .before .order .ensures) (c .before .before .spread .ensures)
 
 pub arrive-spec : {M : Type 1} → statement M
 arrive-spec = tie.close (tie.spec add-at add-at-2 order-requires add-t7 spread-requires same-length returns)

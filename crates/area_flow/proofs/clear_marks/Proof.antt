@@ -20,7 +20,10 @@ same-length : tie.Need-same-length
 same-length c = search needs
 
 returns : tie.Need-returns
-returns c = unmarked ((c .before .before .before .before .before .before .before .before .before .before .before .before .before .before .args) .g) ((c .before .before .before .before .before .before .before .before .before .before .before .before .before .before .args) .n) ((c .before .before .before .before .before .before .before .before .before .before .before .before .before .before .pre) .0) ((c .before .before .before .before .before .before .before .before .before .before .before .before .before .before .pre) .1) ((c .before .before .before .before .before .before .before .before .before .before .fill) .ensures) ((c .before .before .before .before .before .before .fill2) .ensures) ((c .before .before .fill3) .ensures)
+returns c =
+    let s = c .before .before .before .before .before .before .before .before .before .before .before .before .before .before in
+    unmarked (s .args .g) (s .args .n) (s .pre .0) (s .pre .1) (c .before .before .before .before .before .before .before .before .before .before .fill .ensures)
+    (c .before .before .before .before .before .before .fill2 .ensures) (c .before .before .fill3 .ensures)
 
 pub clear-marks-spec : {M : Type 1} → statement M
 clear-marks-spec =

@@ -13,19 +13,34 @@ add-at-2 : tie.Need-add-at-2
 add-at-2 c = search needs
 
 lay-requires : tie.Need-lay-requires
-lay-requires c κs = (((c .before .before .before .before .before .pre) .0 .0, (c .before .before .before .before .before .pre) .0 .1), omega (arith, (c .before .before .before .before .before .pre) .0 .2 .edges-fit, (c .before .before .before .before .before .pre) .0 .2 .tarjan-fits))
+lay-requires c κs =
+    let s = c .before .before .before .before .before in
+    ((s .pre .0 .0, s .pre .0 .1), omega (arith, s .pre .0 .2 .edges-fit, s .pre .0 .2 .tarjan-fits))
 
 components-requires : tie.Need-components-requires
-components-requires c κs = walkable ((c .before .before .before .before .before .before .before .before .before .args) .over) (edgesIn ((c .before .before .before .before .before .before .before .before .before .args) .blocks .now) ((c .before .before .before .before .before .before .before .before .before .args) .edges .now)) ((c .before .before .before .before .before .before .before .before .before .args) .g) _ _ ((c .before .before .before .before .before .before .before .before .before .args) .out) _ _ ((c .before .before .before .before .before .before .before .before .before .pre) .0 .2) ((c .before .before .before .before .before .before .before .before .before .pre) .1 .0) ((c .before .before .before .before .before .before .before .before .before .pre) .1 .1) ((c .before .before .before .lay) .ensures)
+components-requires c κs =
+    let s = c .before .before .before .before .before .before .before .before .before in
+    walkable (s .args .over) (edgesIn (s .args .blocks .now) (s .args .edges .now)) (s .args .g) _ _ (s .args .out) _ _ (s .pre .0 .2) (s .pre .1 .0) (s .pre .1 .1)
+    (c .before .before .before .lay .ensures)
 
 flowed-requires : tie.Need-flowed-requires
-flowed-requires c κs = (flow-laid ((c .before .before .before .before .before .before .before .before .before .before .before .before .before .args) .over) (edgesIn ((c .before .before .before .before .before .before .before .before .before .before .before .before .before .args) .blocks .now) ((c .before .before .before .before .before .before .before .before .before .before .before .before .before .args) .edges .now)) ((c .before .before .before .before .before .before .before .before .before .before .before .before .before .args) .g) _ _ ((c .before .before .before .before .before .before .before .before .before .before .before .before .before .args) .out) _ _ ((c .before .before .before .before .before .before .before .before .before .before .before .before .before .pre) .0 .2) ((c .before .before .before .before .before .before .before .before .before .before .before .before .before .pre) .1 .0) ((c .before .before .before .before .before .before .before .before .before .before .before .before .before .pre) .1 .1) ((c .before .before .before .before .before .before .before .lay) .ensures) ((c .before .before .before .components) .ensures), (c .before .before .before .components) .ensures .order)
+flowed-requires c κs =
+    let s = c .before .before .before in
+    let t = s .before .before .before .before .before .before .before .before .before .before in (
+      flow-laid (t .args .over) (edgesIn (t .args .blocks .now) (t .args .edges .now)) (t .args .g) _ _ (t .args .out) _ _ (t .pre .0 .2) (t .pre .1 .0) (t .pre .1 .1)
+          (s .before .before .before .before .lay .ensures) (s .components .ensures),
+      s .components .ensures .order,
+    )
 
 same-length : tie.Need-same-length
 same-length c = search needs
 
 returns : tie.Need-returns
-returns c = flowed-over ((c .before .before .before .before .before .before .before .before .before .before .before .before .before .before .before .before .args) .over) (edgesIn ((c .before .before .before .before .before .before .before .before .before .before .before .before .before .before .before .before .args) .blocks .now) ((c .before .before .before .before .before .before .before .before .before .before .before .before .before .before .before .before .args) .edges .now)) ((c .before .before .before .before .before .before .before .before .before .before .before .before .before .before .before .before .args) .g) _ _ ((c .before .before .before .before .before .before .before .before .before .before .before .before .before .before .before .before .args) .out) _ _ ((c .before .before .before .before .before .before .before .before .before .before .before .before .before .before .before .before .pre) .0 .2) ((c .before .before .before .before .before .before .before .before .before .before .before .before .before .before .before .before .pre) .1 .0) ((c .before .before .before .before .before .before .before .before .before .before .before .before .before .before .before .before .pre) .1 .1) ((c .before .before .before .before .before .before .before .before .before .before .lay) .ensures) ((c .before .before .before .before .before .before .components) .ensures) ((c .before .before .flowed) .ensures)
+returns c =
+    let s = c .before .before .before .before .before .before .before .before .before .before .before .before .before .before .before .before in
+    flowed-over (s .args .over) (edgesIn (s .args .blocks .now) (s .args .edges .now)) (s .args .g) _ _ (s .args .out) _ _ (s .pre .0 .2) (s .pre .1 .0) (s .pre .1 .1)
+    (c .before .before .before .before .before .before .before .before .before .before .lay .ensures) (c .before .before .before .before .before .before .components .ensures)
+    (c .before .before .flowed .ensures)
 
 pub flow-over-spec : {M : Type 1} → statement M
 flow-over-spec =

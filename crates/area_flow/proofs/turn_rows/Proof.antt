@@ -17,16 +17,23 @@ fill-requires : tie.Need-fill-requires
 fill-requires c κs = search needs
 
 by-local-requires : tie.Need-by-local-requires
-by-local-requires c κs = flows-turnable ((c .before .before .before .before .before .before .before .before .args) .g) ((c .before .before .before .before .before .before .before .before .args) .n) ((c .before .before .before .before .before .before .before .before .pre)) ((c .before .before .before .fill) .ensures)
+by-local-requires c κs =
+    let s = c .before .before .before .before .before .before .before .before in
+    flows-turnable (s .args .g) (s .args .n) ((s .pre)) (c .before .before .before .fill .ensures)
 
 by-local-requires-2 : tie.Need-by-local-requires-2
-by-local-requires-2 c κs = arrives-turnable ((c .before .before .before .before .before .before .before .before .before .before .before .before .args) .g) ((c .before .before .before .before .before .before .before .before .before .before .before .before .args) .n) ((c .before .before .before .before .before .before .before .before .before .before .before .before .pre)) ((c .before .before .before .before .before .before .before .fill) .ensures) ((c .before .before .before .by-local) .ensures)
+by-local-requires-2 c κs =
+    let s = c .before .before .before .before .before .before .before .before .before .before .before .before in
+    arrives-turnable (s .args .g) (s .args .n) ((s .pre)) (c .before .before .before .before .before .before .before .fill .ensures) (c .before .before .before .by-local .ensures)
 
 same-length : tie.Need-same-length
 same-length c = search needs
 
 returns : tie.Need-returns
-returns c = blocked ((c .before .before .before .before .before .before .before .before .before .before .before .before .before .before .before .args) .g) ((c .before .before .before .before .before .before .before .before .before .before .before .before .before .before .before .args) .n) ((c .before .before .before .before .before .before .before .before .before .before .before .before .before .before .before .pre)) ((c .before .before .before .before .before .before .before .before .before .before .fill) .ensures) ((c .before .before .before .before .before .before .by-local) .ensures) ((c .before .before .by-local2) .ensures)
+returns c =
+    let s = c .before .before .before .before .before .before .before .before .before .before .before .before .before .before .before in
+    blocked (s .args .g) (s .args .n) ((s .pre)) (c .before .before .before .before .before .before .before .before .before .before .fill .ensures)
+    (c .before .before .before .before .before .before .by-local .ensures) (c .before .before .by-local2 .ensures)
 
 pub turn-rows-spec : {M : Type 1} → statement M
 turn-rows-spec =

@@ -9,19 +9,29 @@ add-heads : tie.Need-add-heads
 add-heads c = omega (arith, (c .before .pre) .few-locals, (c .before .pre) .few-touches, (c .before .pre) .few-ends, (c .before .pre) .few-ranges)
 
 add-nexts : tie.Need-add-nexts
-add-nexts c = omega (arith, (c .before .before .pre) .few-locals, (c .before .before .pre) .few-touches, (c .before .before .pre) .few-ends, (c .before .before .pre) .few-ranges)
+add-nexts c =
+    let s = c .before .before in
+    omega (arith, s .pre .few-locals, s .pre .few-touches, s .pre .few-ends, s .pre .few-ranges)
 
 add-nexts-2 : tie.Need-add-nexts-2
-add-nexts-2 c = omega (arith, (c .before .before .before .pre) .few-locals, (c .before .before .before .pre) .few-touches, (c .before .before .before .pre) .few-ends, (c .before .before .before .pre) .few-ranges)
+add-nexts-2 c =
+    let s = c .before .before .before in
+    omega (arith, s .pre .few-locals, s .pre .few-touches, s .pre .few-ends, s .pre .few-ranges)
 
 add-at : tie.Need-add-at
-add-at c = omega (arith, (c .before .before .before .before .pre) .few-locals, (c .before .before .before .before .pre) .few-touches, (c .before .before .before .before .pre) .few-ends, (c .before .before .before .before .pre) .few-ranges)
+add-at c =
+    let s = c .before .before .before .before in
+    omega (arith, s .pre .few-locals, s .pre .few-touches, s .pre .few-ends, s .pre .few-ranges)
 
 add-at-2 : tie.Need-add-at-2
-add-at-2 c = omega (arith, (c .before .before .before .before .before .pre) .few-locals, (c .before .before .before .before .before .pre) .few-touches, (c .before .before .before .before .before .pre) .few-ends, (c .before .before .before .before .before .pre) .few-ranges)
+add-at-2 c =
+    let s = c .before .before .before .before .before in
+    omega (arith, s .pre .few-locals, s .pre .few-touches, s .pre .few-ends, s .pre .few-ranges)
 
 add-t5 : tie.Need-add-t5
-add-t5 c = omega (arith, (c .before .before .before .before .before .before .pre) .few-locals, (c .before .before .before .before .before .before .pre) .few-touches, (c .before .before .before .before .before .before .pre) .few-ends, (c .before .before .before .before .before .before .pre) .few-ranges)
+add-t5 c =
+    let s = c .before .before .before .before .before .before in
+    omega (arith, s .pre .few-locals, s .pre .few-touches, s .pre .few-ends, s .pre .few-ranges)
 
 returns : tie.Need-returns
 returns c = record { locals-are = refl; heads-at = refl; nexts-at = refl; touches-at = refl; ends-at = refl }

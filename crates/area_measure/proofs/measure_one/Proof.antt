@@ -21,19 +21,46 @@ add-work-2 : tie.Need-add-work-2
 add-work-2 c = omega (arith, (c .before .before .before .before .before .before .pre) .2 .small, ((c .before .before .area) .ensures) .count)
 
 add-work-3 : tie.Need-add-work-3
-add-work-3 c = omega (arith, slot-in (now ((c .before .before .before .before .before .before .before .before .args) .blocks)) ((c .before .before .before .before .before .before .before .before .args) .kind) ((c .before .before .before .before .before .before .before .before .args) .t) ((c .before .before .before .before .before .before .before .before .args) .s) ((c .before .before .before .before .before .before .before .before .args) .o) ((c .before .before .before .before .before .before .before .before .args) .total) ((c .before .before .before .before .before .before .before .before .pre) .1) ((c .before .before .before .before .before .before .before .before .pre) .2) ((c .before .before .before .before .area) .ensures))
+add-work-3 c =
+    let u = c .before .before .before .before .before .before .before .before in
+    omega (
+      arith,
+      slot-in (now (u .args .blocks)) (u .args .kind) (u .args .t) (u .args .s) (u .args .o) (u .args .total) (u .pre .1) (u .pre .2)
+          (c .before .before .before .before .area .ensures),
+    )
 
 mul-work-2 : tie.Need-mul-work-2
-mul-work-2 c = omega (arith, slot-in (now ((c .before .before .before .before .before .before .before .before .args) .blocks)) ((c .before .before .before .before .before .before .before .before .args) .kind) ((c .before .before .before .before .before .before .before .before .args) .t) ((c .before .before .before .before .before .before .before .before .args) .s) ((c .before .before .before .before .before .before .before .before .args) .o) ((c .before .before .before .before .before .before .before .before .args) .total) ((c .before .before .before .before .before .before .before .before .pre) .1) ((c .before .before .before .before .before .before .before .before .pre) .2) ((c .before .before .before .before .area) .ensures))
+mul-work-2 c =
+    let u = c .before .before .before .before .before .before .before .before in
+    omega (
+      arith,
+      slot-in (now (u .args .blocks)) (u .args .kind) (u .args .t) (u .args .s) (u .args .o) (u .args .total) (u .pre .1) (u .pre .2)
+          (c .before .before .before .before .area .ensures),
+    )
 
 slice-write-work : tie.Need-slice-write-work
-slice-write-work c = slot-in (now ((c .before .before .before .before .before .before .before .before .args) .blocks)) ((c .before .before .before .before .before .before .before .before .args) .kind) ((c .before .before .before .before .before .before .before .before .args) .t) ((c .before .before .before .before .before .before .before .before .args) .s) ((c .before .before .before .before .before .before .before .before .args) .o) ((c .before .before .before .before .before .before .before .before .args) .total) ((c .before .before .before .before .before .before .before .before .pre) .1) ((c .before .before .before .before .before .before .before .before .pre) .2) ((c .before .before .before .before .area) .ensures)
+slice-write-work c =
+    let u = c .before .before .before .before .before .before .before .before in
+    slot-in (now (u .args .blocks)) (u .args .kind) (u .args .t) (u .args .s) (u .args .o) (u .args .total) (u .pre .1) (u .pre .2) (c .before .before .before .before .area .ensures)
 
 append-requires : tie.Need-append-requires
-append-requires c κs = (omega (arith, (c .before .before .before .before .before .before .before .before .before .pre) .2 .small, ((c .before .before .before .before .before .area) .ensures) .count), simp length-set (areas-in (now ((c .before .before .before .before .before .before .before .before .before .args) .blocks)) ((c .before .before .before .before .before .before .before .before .before .args) .kind) ((c .before .before .before .before .before .before .before .before .before .args) .t) ((c .before .before .before .before .before .before .before .before .before .args) .s) ((c .before .before .before .before .before .before .before .before .before .args) .o) ((c .before .before .before .before .before .before .before .before .before .args) .total) ((c .before .before .before .before .before .before .before .before .before .pre) .1) ((c .before .before .before .before .before .before .before .before .before .pre) .2) ((c .before .before .before .before .before .area) .ensures)), simp length-set (area-in (now ((c .before .before .before .before .before .before .before .before .before .args) .blocks)) ((c .before .before .before .before .before .before .before .before .before .args) .kind) ((c .before .before .before .before .before .before .before .before .before .args) .t) ((c .before .before .before .before .before .before .before .before .before .args) .s) ((c .before .before .before .before .before .before .before .before .before .args) .o) ((c .before .before .before .before .before .before .before .before .before .args) .total) ((c .before .before .before .before .before .before .before .before .before .pre) .1) ((c .before .before .before .before .before .before .before .before .before .pre) .2) ((c .before .before .before .before .before .area) .ensures)), areas-clear (now ((c .before .before .before .before .before .before .before .before .before .args) .blocks)) ((c .before .before .before .before .before .before .before .before .before .args) .kind) ((c .before .before .before .before .before .before .before .before .before .args) .t) ((c .before .before .before .before .before .before .before .before .before .args) .s) ((c .before .before .before .before .before .before .before .before .before .args) .o) ((c .before .before .before .before .before .before .before .before .before .args) .total) ((c .before .before .before .before .before .before .before .before .before .pre) .1) ((c .before .before .before .before .before .before .before .before .before .pre) .2) ((c .before .before .before .before .before .area) .ensures))
+append-requires c κs =
+    let u = c .before .before .before .before .before in
+    let p = u .before .before .before .before in (
+      omega (arith, p .pre .2 .small, u .area .ensures .count),
+      simp length-set
+          (areas-in (now (p .args .blocks)) (p .args .kind) (p .args .t) (p .args .s) (p .args .o) (p .args .total) (p .pre .1) (p .pre .2) (u .area .ensures)),
+      simp length-set
+          (area-in (now (p .args .blocks)) (p .args .kind) (p .args .t) (p .args .s) (p .args .o) (p .args .total) (p .pre .1) (p .pre .2) (u .area .ensures)),
+      areas-clear
+          (now (p .args .blocks)) (p .args .kind) (p .args .t) (p .args .s) (p .args .o) (p .args .total) (p .pre .1) (p .pre .2) (u .area .ensures),
+    )
 
 returns : tie.Need-returns
-returns c = measured (now ((c .before .before .before .before .before .before .before .before .before .before .before .before .args) .blocks)) ((c .before .before .before .before .before .before .before .before .before .before .before .before .args) .kind) ((c .before .before .before .before .before .before .before .before .before .before .before .before .args) .t) ((c .before .before .before .before .before .before .before .before .before .before .before .before .args) .s) ((c .before .before .before .before .before .before .before .before .before .before .before .before .args) .o) ((c .before .before .before .before .before .before .before .before .before .before .before .before .args) .total) ((c .before .before .before .before .before .before .before .before .before .before .before .before .pre) .1) ((c .before .before .before .before .before .before .before .before .before .before .before .before .pre) .2) ((c .before .before .before .before .before .before .before .before .area) .ensures) refl ((c .before .before .append) .ensures)
+returns c =
+    let u = c .before .before .before .before .before .before .before .before .before .before .before .before in
+    measured (now (u .args .blocks)) (u .args .kind) (u .args .t) (u .args .s) (u .args .o) (u .args .total) (u .pre .1) (u .pre .2)
+    (c .before .before .before .before .before .before .before .before .area .ensures) refl (c .before .before .append .ensures)
 
 same-length : tie.Need-same-length
 same-length c = returns c .len

@@ -13,16 +13,22 @@ add-copy : tie.Need-add-copy
 add-copy c = search needs
 
 copy-requires : tie.Need-copy-requires
-copy-requires c κs = (omega arith, omega arith, append-clear ((c .before .before .before .args) .base) ((c .before .before .before .args) .room) ((c .before .before .before .args) .total) ((c .before .before .before .args) .from) ((c .before .before .before .args) .count) (omega arith) ((c .before .before .before .pre) .3))
+copy-requires c κs =
+    let s = c .before .before .before in
+    (omega arith, omega arith, append-clear (s .args .base) (s .args .room) (s .args .total) (s .args .from) (s .args .count) (omega arith) (s .pre .3))
 
 same-length : tie.Need-same-length
 same-length c = search needs
 
 returns : tie.Need-returns
-returns c = append-put ((c .before .before .before .before .before .before .args) .base) ((c .before .before .before .before .before .before .args) .room) ((c .before .before .before .before .before .before .args) .total) ((c .before .before .before .before .before .before .args) .from) ((c .before .before .before .before .before .before .args) .count) ((c .before .before .copy) .ensures) (omega arith) (omega arith) (omega arith)
+returns c =
+    let s = c .before .before .before .before .before .before in
+    append-put (s .args .base) (s .args .room) (s .args .total) (s .args .from) (s .args .count) (c .before .before .copy .ensures) (omega arith) (omega arith) (omega arith)
 
 returns-2 : tie.Need-returns-2
-returns-2 c = append-full ((c .before .before .args) .base) ((c .before .before .args) .room) ((c .before .before .args) .total) ((c .before .before .args) .from) ((c .before .before .args) .count) _ (omega arith)
+returns-2 c =
+    let s = c .before .before in
+    append-full (s .args .base) (s .args .room) (s .args .total) (s .args .from) (s .args .count) _ (omega arith)
 
 pub append-spec : {M : Type 1} → statement M
 append-spec = tie.close (tie.spec add-sum add-copy copy-requires same-length returns returns-2)

@@ -21,7 +21,9 @@ mul-pack-2 : tie.Need-mul-pack-2
 mul-pack-2 c = field ((c .before) .args .first + 1) 1 _ (inside _ _ _ ((c .before .pre) .0) ((c .before .pre) .1) ((c .before) .good .0 .1) .from) one-lt ((c .before) .good .0 .1) .in-bytes
 
 shared-slice-read-pack : tie.Need-shared-slice-read-pack
-shared-slice-read-pack c = field ((c .before .before) .args .first + 1) 1 _ (inside _ _ _ ((c .before .before .pre) .0) ((c .before .before .pre) .1) ((c .before .before) .good .0 .1) .from) one-lt ((c .before .before) .good .0 .1) .inside
+shared-slice-read-pack c =
+    let s = c .before .before in
+    field ((s) .args .first + 1) 1 _ (inside _ _ _ (s .pre .0) (s .pre .1) ((s) .good .0 .1) .from) one-lt ((s) .good .0 .1) .inside
 
 sub-pack : tie.Need-sub-pack
 sub-pack c = omega arith
@@ -42,7 +44,10 @@ pack-requires : tie.Need-pack-requires
 pack-requires c κs = tt
 
 returns : tie.Need-returns
-returns c = between-is (now ((c .before .before .before .before .args) .blocks)) ((c .before .before .before .before .args) .first) ((c .before .before .before .before .args) .last) _ (omega arith) (omega arith) (omega (arith, (c .before .before .shared-slice-known2) .given (blockWidth * ((c .before .before .before .before .args) .last - 1) + 2))) ((c .pack) .ensures)
+returns c =
+    let s = c .before .before .before .before in
+    between-is (now (s .args .blocks)) (s .args .first) (s .args .last) _ (omega arith) (omega arith)
+    (omega (arith, c .before .before .shared-slice-known2 .given (blockWidth * (s .args .last - 1) + 2))) (c .pack .ensures)
 
 pub between-spec : {M : Type 1} → statement M
 between-spec =

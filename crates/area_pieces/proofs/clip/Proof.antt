@@ -20,10 +20,14 @@ add-larger : tie.Need-add-larger
 add-larger c = field ((c .before .before .before) .args .k) 1 _ ((c .before .before .before .pre) .0) one-lt ((c .before .before .before) .good .0 .1) .at
 
 mul-larger-2 : tie.Need-mul-larger-2
-mul-larger-2 c = field ((c .before .before .before) .args .k) 1 _ ((c .before .before .before .pre) .0) one-lt ((c .before .before .before) .good .0 .1) .in-bytes
+mul-larger-2 c =
+    let s = c .before .before .before in
+    field ((s) .args .k) 1 _ (s .pre .0) one-lt ((s) .good .0 .1) .in-bytes
 
 shared-slice-read-larger : tie.Need-shared-slice-read-larger
-shared-slice-read-larger c = field ((c .before .before .before .before) .args .k) 1 _ ((c .before .before .before .before .pre) .0) one-lt ((c .before .before .before .before) .good .0 .1) .inside
+shared-slice-read-larger c =
+    let s = c .before .before .before .before in
+    field ((s) .args .k) 1 _ (s .pre .0) one-lt ((s) .good .0 .1) .inside
 
 larger-requires : tie.Need-larger-requires
 larger-requires c κs = tt
@@ -32,16 +36,24 @@ end-of-requires : tie.Need-end-of-requires
 end-of-requires c κs = tt
 
 mul-smaller : tie.Need-mul-smaller
-mul-smaller c = field ((c .before .before .before .before .before .before) .args .k) 2 _ ((c .before .before .before .before .before .before .pre) .0) two-lt ((c .before .before .before .before .before .before) .good .0 .1) .row
+mul-smaller c =
+    let s = c .before .before .before .before .before .before in
+    field ((s) .args .k) 2 _ (s .pre .0) two-lt ((s) .good .0 .1) .row
 
 add-smaller : tie.Need-add-smaller
-add-smaller c = field ((c .before .before .before .before .before .before) .args .k) 2 _ ((c .before .before .before .before .before .before .pre) .0) two-lt ((c .before .before .before .before .before .before) .good .0 .1) .at
+add-smaller c =
+    let s = c .before .before .before .before .before .before in
+    field ((s) .args .k) 2 _ (s .pre .0) two-lt ((s) .good .0 .1) .at
 
 mul-smaller-2 : tie.Need-mul-smaller-2
-mul-smaller-2 c = field ((c .before .before .before .before .before .before) .args .k) 2 _ ((c .before .before .before .before .before .before .pre) .0) two-lt ((c .before .before .before .before .before .before) .good .0 .1) .in-bytes
+mul-smaller-2 c =
+    let s = c .before .before .before .before .before .before in
+    field ((s) .args .k) 2 _ (s .pre .0) two-lt ((s) .good .0 .1) .in-bytes
 
 shared-slice-read-smaller : tie.Need-shared-slice-read-smaller
-shared-slice-read-smaller c = field ((c .before .before .before .before .before .before .before) .args .k) 2 _ ((c .before .before .before .before .before .before .before .pre) .0) two-lt ((c .before .before .before .before .before .before .before) .good .0 .1) .inside
+shared-slice-read-smaller c =
+    let s = c .before .before .before .before .before .before .before in
+    field ((s) .args .k) 2 _ (s .pre .0) two-lt ((s) .good .0 .1) .inside
 
 smaller-requires : tie.Need-smaller-requires
 smaller-requires c κs = tt
@@ -53,7 +65,12 @@ same-length : tie.Need-same-length
 same-length c = (c .before .before .widen) .ensures .len
 
 returns : tie.Need-returns
-returns c = subst (λ (r : Range). Widened ((c .before .before .before .before .before .before .before .before .before .before .before .before .args) .s) ((c .before .before .before .before .before .before .before .before .before .before .before .before .args) .k) r (now ((c .before .before .before .before .before .before .before .before .before .before .before .before .args) .work)) ((c .before .before .widen) .last .0)) (clipped (now ((c .before .before .before .before .before .before .before .before .before .before .before .before .args) .blocks)) ((c .before .before .before .before .before .before .before .before .before .before .before .before .args) .k) ((c .before .before .before .before .before .before .before .before .before .before .before .before .args) .x) _ _ _ _ (omega arith) ((c .before .before .before .before .before .before .before .before .before .start-of) .ensures) ((c .before .before .before .before .before .before .end-of) .ensures) ((c .before .before .before .before .before .before .before .larger) .ensures) ((c .before .before .before .before .smaller) .ensures)) ((c .before .before .widen) .ensures)
+returns c =
+    let t = c .before .before in
+    let u = t .before .before .before .before .before .before .before .before .before .before in
+    subst (λ (r : Range). Widened (u .args .s) (u .args .k) r (now (u .args .work)) (t .widen .last .0)) (clipped (now (u .args .blocks)) (u .args .k) (u .args .x) _ _ _ _
+    (omega arith) (t .before .before .before .before .before .before .before .start-of .ensures) (t .before .before .before .before .end-of .ensures)
+    (t .before .before .before .before .before .larger .ensures) (t .before .before .smaller .ensures)) (t .widen .ensures)
 
 pub clip-spec : {M : Type 1} → statement M
 clip-spec =

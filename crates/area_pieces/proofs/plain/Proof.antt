@@ -9,25 +9,50 @@ use Rattle.area_pieces.proofs.plain.Statement.{statement}
 use Rattle.area_pieces.proofs.plain.Tie as tie
 
 spans-requires : tie.Need-spans-requires
-spans-requires c κs = ((c .before .before .before .pre) .0 .0, laid-less _ ((c .before .before .before .pre) .0 .1) (omega arith), (c .before .before .before .pre) .1 .0, (c .before .before .before .pre) .1 .2)
+spans-requires c κs =
+    let s = c .before .before .before in
+    (s .pre .0 .0, laid-less _ (s .pre .0 .1) (omega arith), s .pre .1 .0, s .pre .1 .2)
 
 add-line : tie.Need-add-line
-add-line c = let a = plain-asked (now ((c .before .before .before .before .before .before .before .before .args) .blocks)) ((c .before .before .before .before .before .before .before .before .args) .t) ((c .before .before .before .before .before .before .before .before .args) .s) _ ((c .before .before .before .before .before .before .before .before .pre) .0 .1) ((c .before .before .before .before .before .before .before .before .pre) .0 .2) ((c .before .before .before .before .before .before .before .before .pre) .1 .1) ((c .before .before .before .before .spans) .ensures) in omega (arith, a .swept)
+add-line c =
+    let u = c .before .before .before .before .before .before .before .before in
+    let a = plain-asked (now (u .args .blocks)) (u .args .t) (u .args .s) _ (u .pre .0 .1) (u .pre .0 .2) (u .pre .1 .1) (c .before .before .before .before .spans .ensures) in
+    omega (arith, a .swept)
 
 line-requires : tie.Need-line-requires
-line-requires c κs = (plain-asked (now ((c .before .before .before .before .before .before .before .before .args) .blocks)) ((c .before .before .before .before .before .before .before .before .args) .t) ((c .before .before .before .before .before .before .before .before .args) .s) _ ((c .before .before .before .before .before .before .before .before .pre) .0 .1) ((c .before .before .before .before .before .before .before .before .pre) .0 .2) ((c .before .before .before .before .before .before .before .before .pre) .1 .1) ((c .before .before .before .before .spans) .ensures), plain-both (now ((c .before .before .before .before .before .before .before .before .args) .blocks)) ((c .before .before .before .before .before .before .before .before .args) .t) ((c .before .before .before .before .before .before .before .before .args) .s) _ ((c .before .before .before .before .before .before .before .before .pre) .0 .1) ((c .before .before .before .before .before .before .before .before .pre) .0 .2) ((c .before .before .before .before .before .before .before .before .pre) .1 .1) ((c .before .before .before .before .spans) .ensures), (c .before .before .before .before .before .before .before .before .pre) .0 .0)
+line-requires c κs =
+    let u = c .before .before .before .before in
+    let p = u .before .before .before .before in (
+      plain-asked (now (p .args .blocks)) (p .args .t) (p .args .s) _ (p .pre .0 .1) (p .pre .0 .2) (p .pre .1 .1) (u .spans .ensures),
+      plain-both (now (p .args .blocks)) (p .args .t)
+          (p .args .s) _ (p .pre .0 .1) (p .pre .0 .2) (p .pre .1 .1) (u .spans .ensures),
+      p .pre .0 .0,
+    )
 
 add-merge : tie.Need-add-merge
-add-merge c = omega (arith, plain-room (now ((c .before .before .before .before .before .before .before .before .before .before .before .before .args) .blocks)) ((c .before .before .before .before .before .before .before .before .before .before .before .before .args) .t) ((c .before .before .before .before .before .before .before .before .before .before .before .before .args) .s) _ ((c .before .before .before .before .before .before .before .before .before .before .before .before .pre) .0 .1) ((c .before .before .before .before .before .before .before .before .before .before .before .before .pre) .0 .2) ((c .before .before .before .before .before .before .before .before .before .before .before .before .pre) .1 .1) ((c .before .before .before .before .before .before .before .before .spans) .ensures) ((c .before .before .before .line) .ensures))
+add-merge c =
+    let u = c .before .before .before .before .before .before .before .before .before .before .before .before in
+    omega (
+      arith,
+      plain-room (now (u .args .blocks)) (u .args .t) (u .args .s) _ (u .pre .0 .1) (u .pre .0 .2) (u .pre .1 .1)
+          (c .before .before .before .before .before .before .before .before .spans .ensures) (c .before .before .before .line .ensures),
+    )
 
 merge-requires : tie.Need-merge-requires
-merge-requires c κs = plain-room (now ((c .before .before .before .before .before .before .before .before .before .before .before .before .args) .blocks)) ((c .before .before .before .before .before .before .before .before .before .before .before .before .args) .t) ((c .before .before .before .before .before .before .before .before .before .before .before .before .args) .s) _ ((c .before .before .before .before .before .before .before .before .before .before .before .before .pre) .0 .1) ((c .before .before .before .before .before .before .before .before .before .before .before .before .pre) .0 .2) ((c .before .before .before .before .before .before .before .before .before .before .before .before .pre) .1 .1) ((c .before .before .before .before .before .before .before .before .spans) .ensures) ((c .before .before .before .line) .ensures)
+merge-requires c κs =
+    let u = c .before .before .before .before .before .before .before .before .before .before .before .before in
+    plain-room (now (u .args .blocks)) (u .args .t) (u .args .s) _ (u .pre .0 .1) (u .pre .0 .2) (u .pre .1 .1)
+    (c .before .before .before .before .before .before .before .before .spans .ensures) (c .before .before .before .line .ensures)
 
 same-length : tie.Need-same-length
 same-length c = search needs
 
 returns : tie.Need-returns
-returns c = plain-done (now ((c .before .before .before .before .before .before .before .before .before .before .before .before .before .before .before .args) .blocks)) ((c .before .before .before .before .before .before .before .before .before .before .before .before .before .before .before .args) .t) ((c .before .before .before .before .before .before .before .before .before .before .before .before .before .before .before .args) .s) _ ((c .before .before .before .before .before .before .before .before .before .before .before .before .before .before .before .pre) .0 .1) ((c .before .before .before .before .before .before .before .before .before .before .before .before .before .before .before .pre) .0 .2) ((c .before .before .before .before .before .before .before .before .before .before .before .before .before .before .before .pre) .1 .1) ((c .before .before .before .before .before .before .before .before .before .before .before .spans) .ensures) ((c .before .before .before .before .before .before .line) .ensures) refl (omega arith) ((c .before .before .merge) .ensures)
+returns c =
+    let u = c .before .before .before .before .before .before .before .before .before .before .before .before .before .before .before in
+    plain-done (now (u .args .blocks)) (u .args .t) (u .args .s) _ (u .pre .0 .1) (u .pre .0 .2) (u .pre .1 .1)
+    (c .before .before .before .before .before .before .before .before .before .before .before .spans .ensures) (c .before .before .before .before .before .before .line .ensures) refl
+    (omega arith) (c .before .before .merge .ensures)
 
 pub plain-spec : {M : Type 1} → statement M
 plain-spec =

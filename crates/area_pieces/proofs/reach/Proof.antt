@@ -35,13 +35,26 @@ loop-less : tie.Need-loop-less Inv-loop μ-loop
 loop-less c = omega arith
 
 loop-again : tie.Need-loop-again Inv-loop μ-loop
-loop-again c = ((c .before .before .before .loop) .inv .0, omega arith, omega arith, owned-more ((c .before .before .before .before .before .args) .s) (now ((c .before .before .before .before .before .args) .work)) ((c .before .before .before .before .before .args) .k) ((c .before .before .before .loop) .e) ((c .before .before .before .loop) .inv .3) (sym ((c .before .test) .ensures) ∙ (c .if1) .taken))
+loop-again c =
+    let t = c .before .before .before in
+    let u = t .before .before in (
+      t .loop .inv .0,
+      omega arith,
+      omega arith,
+      owned-more (u .args .s) (now (u .args .work)) (u .args .k) (t .loop .e) (t .loop .inv .3)
+          (sym (c .before .test .ensures) ∙ c .if1 .taken),
+    )
 
 returns : tie.Need-returns Inv-loop μ-loop
-returns c = run-owned ((c .before .before .before .before .before .args) .s) (now ((c .before .before .before .before .before .args) .work)) ((c .before .before .before .before .before .args) .k) ((c .before .before .before .loop) .e) ((c .before .before .before .loop) .inv .1) (omega arith) ((c .before .before .before .loop) .inv .3)
+returns c =
+    let t = c .before .before .before in
+    let u = t .before .before in
+    run-owned (u .args .s) (now (u .args .work)) (u .args .k) (t .loop .e) (t .loop .inv .1) (omega arith) (t .loop .inv .3)
 
 returns-2 : tie.Need-returns-2 Inv-loop μ-loop
-returns-2 c = run-owned ((c .before .before .before .args) .s) (now ((c .before .before .before .args) .work)) ((c .before .before .before .args) .k) ((c .before .loop) .e) ((c .before .loop) .inv .1) (omega arith) ((c .before .loop) .inv .3)
+returns-2 c =
+    let t = c .before .before .before in
+    run-owned (t .args .s) (now (t .args .work)) (t .args .k) (c .before .loop .e) (c .before .loop .inv .1) (omega arith) (c .before .loop .inv .3)
 
 pub reach-spec : {M : Type 1} → statement M
 reach-spec =

@@ -23,13 +23,17 @@ add-result : tie.Need-add-result
 add-result c = omega arith
 
 returns : tie.Need-returns
-returns c = run-word ((c .before .before .before .before .args) .s) ((c .before .before .before .before .args) .k) (now ((c .before .before .before .before .args) .work)) ((c .if1) .taken)
+returns c =
+    let t = c .before .before .before .before in
+    run-word (t .args .s) (t .args .k) (now (t .args .work)) (c .if1 .taken)
 
 test-requires : tie.Need-test-requires
 test-requires c κs = omega arith
 
 reach-requires : tie.Need-reach-requires
-reach-requires c κs = ((c .before .before .before .before .before .before .pre) .0, (c .before .before .before .before .before .before .pre) .1, (c .before .before .before .before .before .before .pre) .2, sym ((c .before .test) .ensures) ∙ (c .if2) .taken)
+reach-requires c κs =
+    let s = c .before .before .before .before .before .before in
+    (s .pre .0, s .pre .1, s .pre .2, sym (c .before .test .ensures) ∙ c .if2 .taken)
 
 returns-2 : tie.Need-returns-2
 returns-2 c = (c .reach) .ensures
@@ -38,7 +42,9 @@ add-result-2 : tie.Need-add-result-2
 add-result-2 c = omega arith
 
 returns-3 : tie.Need-returns-3
-returns-3 c = run-one ((c .before .before .before .before .before .before .args) .s) ((c .before .before .before .before .before .before .args) .k) (now ((c .before .before .before .before .before .before .args) .work))
+returns-3 c =
+    let t = c .before .before .before .before .before .before in
+    run-one (t .args .s) (t .args .k) (now (t .args .work))
 
 pub run-spec : {M : Type 1} → statement M
 run-spec =

@@ -34,7 +34,14 @@ slice-read-x : tie.Need-slice-read-x Inv-loop μ-loop
 slice-read-x c = omega (arith, (c .before .before .before .before .loop) .inv .1 [])
 
 touch-requires : tie.Need-touch-requires Inv-loop μ-loop
-touch-requires c κs = ((c .before .before .before .before .before .before .before .before .pre) .0, span-free ((c .before .before .before .before .before .loop) .inv .1 []) (omega arith), touch-upright (now ((c .before .before .before .before .before .before .before .before .args) .blocks)) ((c .before .before .before .before .before .before .before .before .args) .t) (now ((c .before .before .before .before .before .before .before .before .args) .work)) ((c .before .before .before .before .before .loop) .i) _ (omega (arith, (c .before .before .before .before .before .loop) .inv .1 [])) ((c .before .before .before .before .before .loop) .inv .0) (omega arith) (span-word ((c .before .before .before .before .before .loop) .inv .1 []) (omega arith)))
+touch-requires c κs =
+    let s = c .before .before .before .before .before in
+    let u = s .before .before .before in (
+      u .pre .0,
+      span-free (s .loop .inv .1 []) (omega arith),
+      touch-upright (now (u .args .blocks)) (u .args .t) (now (u .args .work)) (s .loop .i) _
+          (omega (arith, s .loop .inv .1 [])) (s .loop .inv .0) (omega arith) (span-word (s .loop .inv .1 []) (omega arith)),
+    )
 
 add-i : tie.Need-add-i Inv-loop μ-loop
 add-i c = omega arith
@@ -43,7 +50,9 @@ loop-less : tie.Need-loop-less Inv-loop μ-loop
 loop-less c = omega arith
 
 loop-again : tie.Need-loop-again Inv-loop μ-loop
-loop-again c = ((c .before .before .before .before .before .before .before .before .loop) .inv .0, λ es. span-more ((c .before .before .before .before .before .before .before .before .loop) .inv .1 es) _ (omega arith) refl ((c .before .before .touch) .ensures es))
+loop-again c =
+    let s = c .before .before .before .before .before .before .before .before in
+    (s .loop .inv .0, λ es. span-more (s .loop .inv .1 es) _ (omega arith) refl (c .before .before .touch .ensures es))
 
 same-length : tie.Need-same-length Inv-loop μ-loop
 same-length c = (c .before .before .loop) .inv .1 [] .kept .len

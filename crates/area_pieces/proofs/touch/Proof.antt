@@ -24,43 +24,83 @@ holding-requires-2 : tie.Need-holding-requires-2
 holding-requires-2 c κs = (c .before .before .before .before .before .pre) .0
 
 clip-requires : tie.Need-clip-requires
-clip-requires c κs = ((c .before .before .before .holding) .ensures .below, spannable (c .before .before .before .before .before .before .before .args .m) ((c .before .before .before .before .before .before .before .pre) .1) _ _ ((c .before .before .before .holding) .ensures .below) refl)
+clip-requires c κs =
+    let s = c .before .before .before in
+    let t = s .before .before .before .before in
+    (s .holding .ensures .below, spannable (t .args .m) (t .pre .1) _ _ (s .holding .ensures .below) refl)
 
 same-length : tie.Need-same-length
 same-length c = (c .before .before .before .clip) .ensures .len
 
 returns : tie.Need-returns
-returns c = λ es. put-one (lineOf (now ((c .before .before .before .before .before .before .before .before .before .before .before .args) .blocks)) es) ((c .before .before .before .before .before .before .before .before .before .before .before .pre) .0) ((c .before .before .before .before .before .before .before .before .before .before .before .args) .s) ((c .before .before .before .before .before .before .before .before .before .before .before .args) .x) ((c .before .before .before .before .before .before .before .before .before .before .before .args) .m) ((c .before .before .before .before .before .before .before .before .before .before .before .pre) .2 es) _ _ _ ((c .before .before .before .before .before .before .before .holding) .ensures .is es ∙ ap (λ (y : ℕ). blockOf (lineOf (now ((c .before .before .before .before .before .before .before .before .before .before .before .args) .blocks)) es) y) ((c .before .before .before .before .before .before .before .before .start-of) .ensures)) ((c .before .before .before .before .before .holding2) .ensures .is es ∙ ap (λ (y : ℕ). blockOf (lineOf (now ((c .before .before .before .before .before .before .before .before .before .before .before .args) .blocks)) es) y) ((c .before .before .before .before .before .before .end-of) .ensures)) ((c .before .before .before .before .before .before .before .before .before .before .before .pre) .1 .wide) ((c .before .before .before .before .before .before .before .holding) .ensures .below) ((c .before .before .before .before .before .holding2) .ensures .below) ((c .before .before .before .before .before .before .before .before .before .before .before .pre) .1 .fits) (omega arith) ((c .before .before .before .clip) .ensures)
+returns c =
+    let t = c .before .before .before .before .before in
+    let u = t .before .before in
+    let p = u .before .before .before .before in
+    λ es. put-one (lineOf (now (p .args .blocks)) es) (p .pre .0) (p .args .s) (p .args .x) (p .args .m) (p .pre .2 es) _ _ _
+    (u .holding .ensures .is es ∙ ap (λ (y : ℕ). blockOf (lineOf (now (p .args .blocks)) es) y) (u .before .start-of .ensures))
+    (t .holding2 .ensures .is es ∙ ap (λ (y : ℕ). blockOf (lineOf (now (p .args .blocks)) es) y) (t .before .end-of .ensures)) (p .pre .1 .wide) (u .holding .ensures .below)
+    (t .holding2 .ensures .below) (p .pre .1 .fits) (omega arith) (c .before .before .before .clip .ensures)
 
 clip-requires-2 : tie.Need-clip-requires-2
-clip-requires-2 c κs = ((c .before .before .before .before .before .before .holding2) .ensures .below, spannable (c .before .before .before .before .before .before .before .before .before .before .before .before .args .m) ((c .before .before .before .before .before .before .before .before .before .before .before .before .pre) .1) _ _ ((c .before .before .before .before .before .before .holding2) .ensures .below) ((c .before .before .before .before .clip) .ensures .len))
+clip-requires-2 c κs =
+    let s = c .before .before .before .before .before .before in
+    let t = s .before .before .before .before .before .before in
+    (s .holding2 .ensures .below, spannable (t .args .m) (t .pre .1) _ _ (s .holding2 .ensures .below) (c .before .before .before .before .clip .ensures .len))
 
 add-if2 : tie.Need-add-if2
-add-if2 c = next-block (c .before .before .before .before .before .before .before .before .before .before .before .before .before .before .before .args .m) ((c .before .before .before .before .before .before .before .before .before .before .before .before .before .before .before .pre) .1) _ ((c .before .before .before .before .before .before .before .before .before .before .before .holding) .ensures .below) ((c .before .before .before .before .before .before .before .before .before .before .before .before .before .before .before) .good .1 .0 .1)
+add-if2 c =
+    let s = c .before .before .before .before .before .before .before .before .before .before .before .before .before .before .before in
+    next-block (s .args .m) (s .pre .1) _ (c .before .before .before .before .before .before .before .before .before .before .before .holding .ensures .below) ((s) .good .1 .0 .1)
 
 same-length-2 : tie.Need-same-length-2
 same-length-2 c = (c .before .before .before .clip2) .ensures .len ∙ (c .before .before .before .before .before .before .before .before .clip) .ensures .len
 
 returns-2 : tie.Need-returns-2
-returns-2 c = λ es. put-two (lineOf (now ((c .before .before .before .before .before .before .before .before .before .before .before .before .before .before .before .before .args) .blocks)) es) ((c .before .before .before .before .before .before .before .before .before .before .before .before .before .before .before .before .pre) .0) ((c .before .before .before .before .before .before .before .before .before .before .before .before .before .before .before .before .args) .s) ((c .before .before .before .before .before .before .before .before .before .before .before .before .before .before .before .before .args) .x) ((c .before .before .before .before .before .before .before .before .before .before .before .before .before .before .before .before .args) .m) ((c .before .before .before .before .before .before .before .before .before .before .before .before .before .before .before .before .pre) .2 es) _ _ _ ((c .before .before .before .before .before .before .before .before .before .before .before .before .holding) .ensures .is es ∙ ap (λ (y : ℕ). blockOf (lineOf (now ((c .before .before .before .before .before .before .before .before .before .before .before .before .before .before .before .before .args) .blocks)) es) y) ((c .before .before .before .before .before .before .before .before .before .before .before .before .before .start-of) .ensures)) ((c .before .before .before .before .before .before .before .before .before .before .holding2) .ensures .is es ∙ ap (λ (y : ℕ). blockOf (lineOf (now ((c .before .before .before .before .before .before .before .before .before .before .before .before .before .before .before .before .args) .blocks)) es) y) ((c .before .before .before .before .before .before .before .before .before .before .before .end-of) .ensures)) ((c .before .before .before .before .before .before .before .before .before .before .before .before .before .before .before .before .pre) .1 .wide) ((c .before .before .before .before .before .before .before .before .before .before .before .before .holding) .ensures .below) ((c .before .before .before .before .before .before .before .before .before .before .holding2) .ensures .below) ((c .before .before .before .before .before .before .before .before .before .before .before .before .before .before .before .before .pre) .1 .fits) (omega arith) (omega arith) ((c .before .before .before .before .before .before .before .before .clip) .ensures) ((c .before .before .before .clip2) .ensures)
+returns-2 c =
+    let t = c .before .before .before .before .before .before .before .before .before .before in
+    let u = t .before .before in
+    let p = u .before .before .before .before in
+    λ es. put-two (lineOf (now (p .args .blocks)) es) (p .pre .0) (p .args .s) (p .args .x) (p .args .m) (p .pre .2 es) _ _ _
+    (u .holding .ensures .is es ∙ ap (λ (y : ℕ). blockOf (lineOf (now (p .args .blocks)) es) y) (u .before .start-of .ensures))
+    (t .holding2 .ensures .is es ∙ ap (λ (y : ℕ). blockOf (lineOf (now (p .args .blocks)) es) y) (t .before .end-of .ensures)) (p .pre .1 .wide) (u .holding .ensures .below)
+    (t .holding2 .ensures .below) (p .pre .1 .fits) (omega arith) (omega arith) (c .before .before .before .before .before .before .before .before .clip .ensures)
+    (c .before .before .before .clip2 .ensures)
 
 between-requires : tie.Need-between-requires
 between-requires c κs = ((c .if2) .left, (c .before .before .before .before .before .before .before .before .before .before .holding2) .ensures .below)
 
 add-work : tie.Need-add-work
-add-work c = behind (c .before .before .before .before .before .before .before .before .before .before .before .before .before .before .before .before .before .before .args .m) ((c .before .before .before .before .before .before .before .before .before .before .before .before .before .before .before .before .before .before .pre) .1) ((c .before .before .before .before .before .before .before .before .before .before .before .before .before .before .before .before .before .before) .good .1 .0 .1) .fits
+add-work c =
+    let s = c .before .before .before .before .before .before .before .before .before .before .before .before .before .before .before .before .before .before in
+    behind (s .args .m) (s .pre .1) ((s) .good .1 .0 .1) .fits
 
 mul-work : tie.Need-mul-work
-mul-work c = behind (c .before .before .before .before .before .before .before .before .before .before .before .before .before .before .before .before .before .before .args .m) ((c .before .before .before .before .before .before .before .before .before .before .before .before .before .before .before .before .before .before .pre) .1) ((c .before .before .before .before .before .before .before .before .before .before .before .before .before .before .before .before .before .before) .good .1 .0 .1) .in-bytes
+mul-work c =
+    let s = c .before .before .before .before .before .before .before .before .before .before .before .before .before .before .before .before .before .before in
+    behind (s .args .m) (s .pre .1) ((s) .good .1 .0 .1) .in-bytes
 
 slice-write-work : tie.Need-slice-write-work
-slice-write-work c = rw ((c .before .before .before .before .before .clip2) .ensures .len, (c .before .before .before .before .before .before .before .before .before .before .clip) .ensures .len) (behind (c .before .before .before .before .before .before .before .before .before .before .before .before .before .before .before .before .before .before .args .m) ((c .before .before .before .before .before .before .before .before .before .before .before .before .before .before .before .before .before .before .pre) .1) ((c .before .before .before .before .before .before .before .before .before .before .before .before .before .before .before .before .before .before) .good .1 .0 .1) .inside)
+slice-write-work c =
+    let s = c .before .before .before .before .before .before .before .before .before .before .before .before .before .before .before .before .before .before in
+    rw (c .before .before .before .before .before .clip2 .ensures .len, c .before .before .before .before .before .before .before .before .before .before .clip .ensures .len)
+    (behind (s .args .m) (s .pre .1) ((s) .good .1 .0 .1) .inside)
 
 add-result : tie.Need-add-result
-add-result c = one-more (c .before .before .before .before .before .before .before .before .before .before .before .before .before .before .before .before .before .before .args .m) ((c .before .before .before .before .before .before .before .before .before .before .before .before .before .before .before .before .before .before .pre) .1) ((c .before .before .before .before .before .before .before .before .before .before .before .before .before .before .before .before .before .before) .good .1 .0 .1)
+add-result c =
+    let s = c .before .before .before .before .before .before .before .before .before .before .before .before .before .before .before .before .before .before in
+    one-more (s .args .m) (s .pre .1) ((s) .good .1 .0 .1)
 
 returns-3 : tie.Need-returns-3
-returns-3 c = λ es. put-three (lineOf (now ((c .before .before .before .before .before .before .before .before .before .before .before .before .before .before .before .before .before .before .args) .blocks)) es) ((c .before .before .before .before .before .before .before .before .before .before .before .before .before .before .before .before .before .before .pre) .0) ((c .before .before .before .before .before .before .before .before .before .before .before .before .before .before .before .before .before .before .args) .s) ((c .before .before .before .before .before .before .before .before .before .before .before .before .before .before .before .before .before .before .args) .x) ((c .before .before .before .before .before .before .before .before .before .before .before .before .before .before .before .before .before .before .args) .m) ((c .before .before .before .before .before .before .before .before .before .before .before .before .before .before .before .before .before .before .pre) .2 es) _ _ _ ((c .before .before .before .before .before .before .before .before .before .before .before .before .before .before .holding) .ensures .is es ∙ ap (λ (y : ℕ). blockOf (lineOf (now ((c .before .before .before .before .before .before .before .before .before .before .before .before .before .before .before .before .before .before .args) .blocks)) es) y) ((c .before .before .before .before .before .before .before .before .before .before .before .before .before .before .before .start-of) .ensures)) ((c .before .before .before .before .before .before .before .before .before .before .before .before .holding2) .ensures .is es ∙ ap (λ (y : ℕ). blockOf (lineOf (now ((c .before .before .before .before .before .before .before .before .before .before .before .before .before .before .before .before .before .before .args) .blocks)) es) y) ((c .before .before .before .before .before .before .before .before .before .before .before .before .before .end-of) .ensures)) ((c .before .before .before .before .before .before .before .before .before .before .before .before .before .before .before .before .before .before .pre) .1 .wide) ((c .before .before .before .before .before .before .before .before .before .before .before .before .before .before .holding) .ensures .below) ((c .before .before .before .before .before .before .before .before .before .before .before .before .holding2) .ensures .below) _ ((c .before .before .before .before .before .before .before .before .before .before .before .before .before .before .before .before .before .before .pre) .1 .mark-fits) ((c .before .before .before .before .before .before .before .before .before .before .before .before .before .before .before .before .before .before .pre) .1 .span-fits) ((c .before .before .before .before .before .before .before .before .before .before .before .before .before .before .before .before .before .before .pre) .1 .fits) (omega arith) ((c .before .between) .ensures) ((c .before .before .before .before .before .before .before .before .before .before .clip) .ensures) ((c .before .before .before .before .before .clip2) .ensures)
+returns-3 c =
+    let t = c .before .before .before .before .before .before .before .before .before .before .before .before in
+    let u = t .before .before in
+    let p = u .before .before .before .before in
+    λ es. put-three (lineOf (now (p .args .blocks)) es) (p .pre .0) (p .args .s) (p .args .x) (p .args .m) (p .pre .2 es) _ _ _
+    (u .holding .ensures .is es ∙ ap (λ (y : ℕ). blockOf (lineOf (now (p .args .blocks)) es) y) (u .before .start-of .ensures))
+    (t .holding2 .ensures .is es ∙ ap (λ (y : ℕ). blockOf (lineOf (now (p .args .blocks)) es) y) (t .before .end-of .ensures)) (p .pre .1 .wide) (u .holding .ensures .below)
+    (t .holding2 .ensures .below) _ (p .pre .1 .mark-fits) (p .pre .1 .span-fits) (p .pre .1 .fits) (omega arith) (c .before .between .ensures)
+    (c .before .before .before .before .before .before .before .before .before .before .clip .ensures) (c .before .before .before .before .before .clip2 .ensures)
 
 same-length-3 : tie.Need-same-length-3
 same-length-3 c = returns-3 c [] .len

@@ -24,7 +24,9 @@ slice-write-work : tie.Need-slice-write-work Inv-loop μ-loop
 slice-write-work c = omega arith
 
 same-length : tie.Need-same-length Inv-loop μ-loop
-same-length c = length-set ((c .before .before .before .args) .work .now) ((c .before .before .before .args) .s .mark + (c .before .before .before .args) .k / 64) 0
+same-length c =
+    let t = c .before .before .before in
+    length-set (t .args .work .now) (t .args .s .mark + (t .args) .k / 64) 0
 
 returns : tie.Need-returns Inv-loop μ-loop
 returns c = word-taken (now ((c .before .before .before .args) .work)) ((c .before .before .before .pre) .0) ((c .before .before .before .pre) .2) (omega arith)

@@ -24,28 +24,55 @@ first-from-requires : tie.Need-first-from-requires Inv-loop μ-loop
 first-from-requires c κs = omega (arith, ((c .before .before .before .before .pre)) .0 .swept)
 
 loop-holds : tie.Need-loop-holds Inv-loop μ-loop
-loop-holds c = (refl, line-begin _ _ _ _ ((c .before .before .before .before .before .pre) .0) ((c .before .before .before .before .before .pre) .1) ((c .before .before .before .before .before .pre) .2) (sym (blocks-length ((c .before .before .before .before .before .args) .blocks .now))) _ (c .first-from .ensures))
+loop-holds c =
+    let s = c .before .before .before .before .before in
+    (refl, line-begin _ _ _ _ (s .pre .0) (s .pre .1) (s .pre .2) (sym (blocks-length (s .args .blocks .now))) _ (c .first-from .ensures))
 
 run-requires : tie.Need-run-requires Inv-loop μ-loop
 run-requires c κs = run-asks ((c .before .before .loop) .inv .1) (within _ _ _ ((c .before .before .loop) .inv .0) ((c .before .loop-test) .taken))
 
 stretch-requires : tie.Need-stretch-requires Inv-loop μ-loop
-stretch-requires c κs = stretch-asks ((c .before .before .before .before .loop) .inv .1) (within _ _ _ ((c .before .before .before .before .loop) .inv .0) ((c .before .before .before .loop-test) .taken)) ((c .before .run) .ensures)
+stretch-requires c κs =
+    let s = c .before .before .before .before in
+    stretch-asks (s .loop .inv .1) (within _ _ _ (s .loop .inv .0) (c .before .before .before .loop-test .taken)) (c .before .run .ensures)
 
 join-requires : tie.Need-join-requires Inv-loop μ-loop
-join-requires c κs = join-asks ((c .before .before .before .before .before .before .loop) .inv .1) (within _ _ _ ((c .before .before .before .before .before .before .loop) .inv .0) ((c .before .before .before .before .before .loop-test) .taken))
+join-requires c κs =
+    let s = c .before .before .before .before .before .before in
+    join-asks (s .loop .inv .1) (within _ _ _ (s .loop .inv .0) (c .before .before .before .before .before .loop-test .taken))
 
 unmark-requires : tie.Need-unmark-requires Inv-loop μ-loop
-unmark-requires c κs = unmark-asks ((c .before .before .before .before .before .before .before .before .before .before .loop) .inv .1) (within _ _ _ ((c .before .before .before .before .before .before .before .before .before .before .loop) .inv .0) ((c .before .before .before .before .before .before .before .before .before .loop-test) .taken)) ((c .before .before .before .before .before .before .before .run) .ensures) ((c .before .before .before .join) .ensures .listed .len)
+unmark-requires c κs =
+    let s = c .before .before .before .before .before .before .before .before .before .before in
+    unmark-asks (s .loop .inv .1) (within _ _ _ (s .loop .inv .0) (c .before .before .before .before .before .before .before .before .before .loop-test .taken))
+    (c .before .before .before .before .before .before .before .run .ensures) (c .before .before .before .join .ensures .listed .len)
 
 first-from-requires-2 : tie.Need-first-from-requires-2 Inv-loop μ-loop
-first-from-requires-2 c κs = first-asks ((c .before .before .before .before .before .before .before .before .before .before .before .before .before .before .loop) .inv .1) (within _ _ _ ((c .before .before .before .before .before .before .before .before .before .before .before .before .before .before .loop) .inv .0) ((c .before .before .before .before .before .before .before .before .before .before .before .before .before .loop-test) .taken)) ((c .before .before .before .before .before .before .before .join) .ensures .listed .len) ((c .before .before .before .unmark) .ensures .len)
+first-from-requires-2 c κs =
+    let s = c .before .before .before .before .before .before .before .before .before .before .before .before .before .before in
+    first-asks (s .loop .inv .1)
+    (within _ _ _ (s .loop .inv .0) (c .before .before .before .before .before .before .before .before .before .before .before .before .before .loop-test .taken))
+    (c .before .before .before .before .before .before .before .join .ensures .listed .len) (c .before .before .before .unmark .ensures .len)
 
 loop-less : tie.Need-loop-less Inv-loop μ-loop
-loop-less c = nearer ((c .before .before .before .before .before .before .before .before .before .before .before .before .before .before .before .loop) .inv .0) ((c .before .before .before .before .before .before .before .before .before .before .before .before .before .before .loop-test) .taken) (line-next ((c .before .before .before .before .before .before .before .before .before .before .before .before .before .before .before .loop) .inv .1) (within _ _ _ ((c .before .before .before .before .before .before .before .before .before .before .before .before .before .before .before .loop) .inv .0) ((c .before .before .before .before .before .before .before .before .before .before .before .before .before .before .loop-test) .taken)) ((c .before .before .before .before .before .before .before .before .before .before .before .before .run) .ensures) ((c .before .before .before .before .before .before .before .before .before .before .stretch) .ensures) ((c .before .before .before .before .before .before .before .before .join) .ensures) ((c .before .before .before .before .unmark) .ensures) (c .first-from2 .ensures))
+loop-less c =
+    let s = c .before .before .before .before .before .before .before .before .before .before .before .before .before .before in
+    let t = s .before in
+    nearer (t .loop .inv .0) (s .loop-test .taken) (line-next (t .loop .inv .1) (within _ _ _ (t .loop .inv .0) (s .loop-test .taken))
+    (c .before .before .before .before .before .before .before .before .before .before .before .before .run .ensures)
+    (c .before .before .before .before .before .before .before .before .before .before .stretch .ensures)
+    (c .before .before .before .before .before .before .before .before .join .ensures) (c .before .before .before .before .unmark .ensures) (c .first-from2 .ensures))
 
 loop-again : tie.Need-loop-again Inv-loop μ-loop
-loop-again c = ((c .before .before .before .before .before .before .before .before .before .before .before .before .before .before .before .loop) .inv .0, line-more ((c .before .before .before .before .before .before .before .before .before .before .before .before .before .before .before .loop) .inv .1) (within _ _ _ ((c .before .before .before .before .before .before .before .before .before .before .before .before .before .before .before .loop) .inv .0) ((c .before .before .before .before .before .before .before .before .before .before .before .before .before .before .loop-test) .taken)) ((c .before .before .before .before .before .before .before .before .before .before .before .before .run) .ensures) ((c .before .before .before .before .before .before .before .before .before .before .stretch) .ensures) ((c .before .before .before .before .before .before .before .before .join) .ensures) ((c .before .before .before .before .unmark) .ensures) (c .first-from2 .ensures))
+loop-again c =
+    let s = c .before .before .before .before .before .before .before .before .before .before .before .before .before .before .before in (
+      s .loop .inv .0,
+      line-more (s .loop .inv .1)
+          (within _ _ _ (s .loop .inv .0) (c .before .before .before .before .before .before .before .before .before .before .before .before .before .before .loop-test .taken))
+          (c .before .before .before .before .before .before .before .before .before .before .before .before .run .ensures)
+          (c .before .before .before .before .before .before .before .before .before .before .stretch .ensures)
+          (c .before .before .before .before .before .before .before .before .join .ensures) (c .before .before .before .before .unmark .ensures) (c .first-from2 .ensures),
+    )
 
 same-length : tie.Need-same-length Inv-loop μ-loop
 same-length c = (c .before .loop) .inv .1 .sweep .len

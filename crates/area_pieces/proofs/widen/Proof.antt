@@ -20,7 +20,9 @@ mul-x : tie.Need-mul-x
 mul-x c = at-span (c .before .before .before .before .before .pre) ((c .before .before .before .before .before) .good .0 .1) .span .in-bytes
 
 slice-read-x : tie.Need-slice-read-x
-slice-read-x c = at-span (c .before .before .before .before .before .before .pre) ((c .before .before .before .before .before .before) .good .0 .1) .span .inside
+slice-read-x c =
+    let s = c .before .before .before .before .before .before in
+    at-span (s .pre) ((s) .good .0 .1) .span .inside
 
 start-of-requires : tie.Need-start-of-requires
 start-of-requires c κs = tt
@@ -38,16 +40,29 @@ pack-requires : tie.Need-pack-requires
 pack-requires c κs = tt
 
 mul-work : tie.Need-mul-work
-mul-work c = at-span (c .before .before .before .before .before .before .before .before .before .before .before .pre) ((c .before .before .before .before .before .before .before .before .before .before .before) .good .0 .1) .span .in-bytes
+mul-work c =
+    let s = c .before .before .before .before .before .before .before .before .before .before .before in
+    at-span (s .pre) ((s) .good .0 .1) .span .in-bytes
 
 slice-write-work : tie.Need-slice-write-work
-slice-write-work c = at-span (c .before .before .before .before .before .before .before .before .before .before .before .pre) ((c .before .before .before .before .before .before .before .before .before .before .before) .good .0 .1) .span .inside
+slice-write-work c =
+    let s = c .before .before .before .before .before .before .before .before .before .before .before in
+    at-span (s .pre) ((s) .good .0 .1) .span .inside
 
 same-length : tie.Need-same-length
 same-length c = simp length-set
 
 returns : tie.Need-returns
-returns c = rw ((c .pack) .ensures, (c .before .before .before .smaller) .ensures, (c .before .larger) .ensures, (c .before .before .before .before .start-of) .ensures, (c .before .before .end-of) .ensures) (widen-more ((c .before .before .before .before .before .before .before .before .before .before .before .args) .s) ((c .before .before .before .before .before .before .before .before .before .before .before .args) .k) (range ((c .before .before .before .before .before .before .before .before .before .before .before .args) .start) ((c .before .before .before .before .before .before .before .before .before .before .before .args) .end)) (omega arith) (now ((c .before .before .before .before .before .before .before .before .before .before .before .args) .work)) (c .before .before .before .before .before .before .before .before .before .before .before .pre) (sym ((c .before .before .before .before .before .before .before .test) .ensures) ∙ (c .before .before .before .before .before .before .if1) .taken) _ refl)
+returns c =
+    let t = c .before .before .before .before .before .before .before .before .before .before .before in
+    rw (
+      c .pack .ensures,
+      c .before .before .before .smaller .ensures,
+      c .before .larger .ensures,
+      c .before .before .before .before .start-of .ensures,
+      c .before .before .end-of .ensures,
+    ) (widen-more (t .args .s) (t .args .k) (range (t .args .start) (t .args .end)) (omega arith) (now (t .args .work)) (t .pre)
+    (sym (c .before .before .before .before .before .before .before .test .ensures) ∙ c .before .before .before .before .before .before .if1 .taken) _ refl)
 
 set-requires : tie.Need-set-requires
 set-requires c κs = at-span (c .before .before .before .before .before .before .pre) ((c .before .before .before .before .before .before) .good .0 .1) .mark
@@ -56,16 +71,23 @@ pack-requires-2 : tie.Need-pack-requires-2
 pack-requires-2 c κs = tt
 
 mul-work-2 : tie.Need-mul-work-2
-mul-work-2 c = at-span (c .before .before .before .before .before .before .before .before .before .before .pre) ((c .before .before .before .before .before .before .before .before .before .before) .good .0 .1) .span .in-bytes
+mul-work-2 c =
+    let s = c .before .before .before .before .before .before .before .before .before .before in
+    at-span (s .pre) ((s) .good .0 .1) .span .in-bytes
 
 slice-write-work-2 : tie.Need-slice-write-work-2
-slice-write-work-2 c = rw ((c .before .before .before .set) .ensures .len) (at-span (c .before .before .before .before .before .before .before .before .before .before .pre) ((c .before .before .before .before .before .before .before .before .before .before) .good .0 .1) .span .inside)
+slice-write-work-2 c =
+    let s = c .before .before .before .before .before .before .before .before .before .before in
+    rw (c .before .before .before .set .ensures .len) (at-span (s .pre) ((s) .good .0 .1) .span .inside)
 
 same-length-2 : tie.Need-same-length-2
 same-length-2 c = simp length-set ((c .before .before .before .set) .ensures .len)
 
 returns-2 : tie.Need-returns-2
-returns-2 c = rw ((c .pack2) .ensures) (widen-new ((c .before .before .before .before .before .before .before .before .before .before .args) .s) ((c .before .before .before .before .before .before .before .before .before .before .args) .k) (range ((c .before .before .before .before .before .before .before .before .before .before .args) .start) ((c .before .before .before .before .before .before .before .before .before .before .args) .end)) (omega arith) (now ((c .before .before .before .before .before .before .before .before .before .before .args) .work)) (c .before .before .before .before .before .before .before .before .before .before .pre) (sym ((c .before .before .before .before .before .before .test) .ensures) ∙ (c .before .before .before .before .before .if1) .left) ((c .before .before .before .set) .ensures))
+returns-2 c =
+    let t = c .before .before .before .before .before .before .before .before .before .before in
+    rw (c .pack2 .ensures) (widen-new (t .args .s) (t .args .k) (range (t .args .start) (t .args .end)) (omega arith) (now (t .args .work)) (t .pre)
+    (sym (c .before .before .before .before .before .before .test .ensures) ∙ c .before .before .before .before .before .if1 .left) (c .before .before .before .set .ensures))
 
 pub widen-spec : {M : Type 1} → statement M
 widen-spec =

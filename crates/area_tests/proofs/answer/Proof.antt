@@ -41,7 +41,9 @@ part-local-areas-start-3 : tie.Need-part-local-areas-start-3
 part-local-areas-start-3 c = (c .before .before .before .before .before .before .before .pre) .1 .in2 .0
 
 part-local-areas-end-3 : tie.Need-part-local-areas-end-3
-part-local-areas-end-3 c = stops ((c .before .before .before .before .before .before .before .pre) .0) ((c .before .before .before .before .before .before .before .pre) .1 .in2)
+part-local-areas-end-3 c =
+    let s = c .before .before .before .before .before .before .before in
+    stops (s .pre .0) (s .pre .1 .in2)
 
 mul-local-areas-4 : tie.Need-mul-local-areas-4
 mul-local-areas-4 c = begins ((c .before .before .before .before .before .before .before .before .pre) .1 .in3)
@@ -53,7 +55,9 @@ part-local-areas-start-4 : tie.Need-part-local-areas-start-4
 part-local-areas-start-4 c = (c .before .before .before .before .before .before .before .before .pre) .1 .in3 .0
 
 part-local-areas-end-4 : tie.Need-part-local-areas-end-4
-part-local-areas-end-4 c = stops ((c .before .before .before .before .before .before .before .before .pre) .0) ((c .before .before .before .before .before .before .before .before .pre) .1 .in3)
+part-local-areas-end-4 c =
+    let s = c .before .before .before .before .before .before .before .before in
+    stops (s .pre .0) (s .pre .1 .in3)
 
 mul-local-areas-5 : tie.Need-mul-local-areas-5
 mul-local-areas-5 c = begins ((c .before .before .before .before .before .before .before .before .before .pre) .1 .in4)
@@ -65,7 +69,9 @@ part-local-areas-start-5 : tie.Need-part-local-areas-start-5
 part-local-areas-start-5 c = (c .before .before .before .before .before .before .before .before .before .pre) .1 .in4 .0
 
 part-local-areas-end-5 : tie.Need-part-local-areas-end-5
-part-local-areas-end-5 c = stops ((c .before .before .before .before .before .before .before .before .before .pre) .0) ((c .before .before .before .before .before .before .before .before .before .pre) .1 .in4)
+part-local-areas-end-5 c =
+    let s = c .before .before .before .before .before .before .before .before .before in
+    stops (s .pre .0) (s .pre .1 .in4)
 
 local-areas-requires : tie.Need-local-areas-requires
 local-areas-requires c κs = tt

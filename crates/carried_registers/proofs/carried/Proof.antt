@@ -19,28 +19,65 @@ enum-known-verdict : tie.Need-enum-known-verdict
 enum-known-verdict c = search needs
 
 returns : tie.Need-returns
-returns c = carried-refused (((c .before .before .before .before .before .before .before .before .before .before .before .before .before .before .args)) .points) (((c .before .before .before .before .before .before .before .before .before .before .before .before .before .before .args)) .v) (((c .before .before .before .before .before .before .before .before .before .before .before .before .before .before .args)) .blocks .now) (((c .before .before .before .before .before .before .before .before .before .before .before .before .before .before .args)) .insts .now) (((c .before .before .before .before .before .before .before .before .before .before .before .before .before .before .args)) .operands .now) (((c .before .before .before .before .before .before .before .before .before .before .before .before .before .before .args)) .crossings .now) (((c .before .before .before .before .before .before .before .before .before .before .before .before .before .before .args)) .locals .now) (((c .before .before .before .before .before .before .before .before .before .before .before .before .before .before .args)) .addresses .now) (((c .before .before .before .before .before .before .before .before .before .before .before .before .before .before .args)) .ends .now) (((c .before .before .before .before .before .before .before .before .before .before .before .before .before .before .args)) .local) (((c .before .before .before .before .before .before .before .before .before .before .before .before .before .before .args)) .answer .now) (((c .before .before .before .before .before .before .before .before .before .before .before .before .before .before .args)) .work .now) (((c .before .before .before .before .least)) .result) (((c .before .before .before .before .least)) .ensures) _ _ (sym (((c .before .before .before .refusal)) .ensures) ∙ (((c .before .verdict))) .given .1)
+returns c =
+    let s = c .before .before .before .before in
+    let t = s .before .before .before .before .before .before .before .before .before .before in
+    carried-refused (((t .args)) .points) (((t .args)) .v) (((t .args)) .blocks .now) (((t .args)) .insts .now) (((t .args)) .operands .now) (((t .args)) .crossings .now)
+    (((t .args)) .locals .now) (((t .args)) .addresses .now) (((t .args)) .ends .now) (((t .args)) .local) (((t .args)) .answer .now) (((t .args)) .work .now) (((s .least)) .result)
+    (((s .least)) .ensures) _ _ (sym (((c .before .before .before .refusal)) .ensures) ∙ (((c .before .verdict))) .given .1)
 
 enum-told : tie.Need-enum-told
 enum-told c = search needs
 
 needed-requires : tie.Need-needed-requires
-needed-requires c κs = let k = (fit (((c .before .before .before .before .before .before .before .before .before .before .before .before .before .args)) .points) (((c .before .before .before .before .before .before .before .before .before .before .before .before .before .args)) .v) (((c .before .before .before .before .before .before .before .before .before .before .before .before .before .args)) .blocks .now) (((c .before .before .before .before .before .before .before .before .before .before .before .before .before .args)) .insts .now) (((c .before .before .before .before .before .before .before .before .before .before .before .before .before .args)) .operands .now) (((c .before .before .before .before .before .before .before .before .before .before .before .before .before .args)) .crossings .now) (((c .before .before .before .before .before .before .before .before .before .before .before .before .before .args)) .locals .now) (((c .before .before .before .before .before .before .before .before .before .before .before .before .before .args)) .addresses .now) (((c .before .before .before .before .before .before .before .before .before .before .before .before .before .args)) .ends .now) (length (((c .before .before .before .before .before .before .before .before .before .before .before .before .before .args)) .answer .now)) (((c .before .before .before .least)) .result) (length (((c .before .before .before .before .before .before .before .before .before .before .before .before .before .args)) .work .now)) (sym (((c .before .before .refusal)) .ensures) ∙ (((c .enum-told))) .given .1)) .counts in (k .few, k .few-insts, k .few-operands, k .few-crossings, k .few-locals, k .few-addresses, k .few-ends)
+needed-requires c κs =
+    let s = c .before .before .before .before .before .before .before .before .before .before .before .before .before in
+    let k = (fit (((s .args)) .points) (((s .args)) .v) (((s .args)) .blocks .now) (((s .args)) .insts .now) (((s .args)) .operands .now) (((s .args)) .crossings .now)
+    (((s .args)) .locals .now) (((s .args)) .addresses .now) (((s .args)) .ends .now) (length (((s .args)) .answer .now)) (((c .before .before .before .least)) .result)
+    (length (((s .args)) .work .now)) (sym (((c .before .before .refusal)) .ensures) ∙ (((c .enum-told))) .given .1)) .counts in
+    (k .few, k .few-insts, k .few-operands, k .few-crossings, k .few-locals, k .few-addresses, k .few-ends)
 
 clear-requires : tie.Need-clear-requires
-clear-requires c κs = let f = fit (((c .before .before .before .before .before .before .before .before .before .before .before .before .before .before .before .before .args)) .points) (((c .before .before .before .before .before .before .before .before .before .before .before .before .before .before .before .before .args)) .v) (((c .before .before .before .before .before .before .before .before .before .before .before .before .before .before .before .before .args)) .blocks .now) (((c .before .before .before .before .before .before .before .before .before .before .before .before .before .before .before .before .args)) .insts .now) (((c .before .before .before .before .before .before .before .before .before .before .before .before .before .before .before .before .args)) .operands .now) (((c .before .before .before .before .before .before .before .before .before .before .before .before .before .before .before .before .args)) .crossings .now) (((c .before .before .before .before .before .before .before .before .before .before .before .before .before .before .before .before .args)) .locals .now) (((c .before .before .before .before .before .before .before .before .before .before .before .before .before .before .before .before .args)) .addresses .now) (((c .before .before .before .before .before .before .before .before .before .before .before .before .before .before .before .before .args)) .ends .now) (length (((c .before .before .before .before .before .before .before .before .before .before .before .before .before .before .before .before .args)) .answer .now)) (((c .before .before .before .before .before .before .least)) .result) (length (((c .before .before .before .before .before .before .before .before .before .before .before .before .before .before .before .before .args)) .work .now)) (sym (((c .before .before .before .before .before .refusal)) .ensures) ∙ (((c .before .before .before .enum-told))) .given .1) in fits-as ((c .before .before .needed) .ensures) (f .space) refl
+clear-requires c κs =
+    let s = c .before .before .before .before .before .before .before .before .before .before .before .before .before .before .before .before in
+    let f = fit (((s .args)) .points) (((s .args)) .v) (((s .args)) .blocks .now) (((s .args)) .insts .now) (((s .args)) .operands .now) (((s .args)) .crossings .now)
+    (((s .args)) .locals .now) (((s .args)) .addresses .now) (((s .args)) .ends .now) (length (((s .args)) .answer .now))
+    (((c .before .before .before .before .before .before .least)) .result) (length (((s .args)) .work .now))
+    (sym (((c .before .before .before .before .before .refusal)) .ensures) ∙ (((c .before .before .before .enum-told))) .given .1) in
+    fits-as (c .before .before .needed .ensures) (f .space) refl
 
 same-length : tie.Need-same-length
 same-length c = search needs
 
 returns-2 : tie.Need-returns-2
-returns-2 c = carried-absent (((c .before .before .before .before .before .before .before .before .before .before .before .before .before .before .before .before .before .before .before .args)) .points) (((c .before .before .before .before .before .before .before .before .before .before .before .before .before .before .before .before .before .before .before .args)) .v) (((c .before .before .before .before .before .before .before .before .before .before .before .before .before .before .before .before .before .before .before .args)) .blocks .now) (((c .before .before .before .before .before .before .before .before .before .before .before .before .before .before .before .before .before .before .before .args)) .insts .now) (((c .before .before .before .before .before .before .before .before .before .before .before .before .before .before .before .before .before .before .before .args)) .operands .now) (((c .before .before .before .before .before .before .before .before .before .before .before .before .before .before .before .before .before .before .before .args)) .crossings .now) (((c .before .before .before .before .before .before .before .before .before .before .before .before .before .before .before .before .before .before .before .args)) .locals .now) (((c .before .before .before .before .before .before .before .before .before .before .before .before .before .before .before .before .before .before .before .args)) .addresses .now) (((c .before .before .before .before .before .before .before .before .before .before .before .before .before .before .before .before .before .before .before .args)) .ends .now) (((c .before .before .before .before .before .before .before .before .before .before .before .before .before .before .before .before .before .before .before .args)) .local) (((c .before .before .before .before .before .before .before .before .before .before .before .before .before .before .before .before .before .before .before .args)) .answer .now) (((c .before .before .before .before .before .before .before .before .before .before .before .before .before .before .before .before .before .before .before .args)) .work .now) (((c .before .before .before .before .before .before .before .before .before .least)) .result) (((c .before .before .before .before .before .before .before .before .before .least)) .ensures) (sym (((c .before .before .before .before .before .before .before .before .refusal)) .ensures) ∙ (((c .before .before .before .before .before .before .enum-told))) .given .1) (omega arith) (((c .before .before .before .before .before .needed)) .result) (((c .before .before .before .before .before .needed)) .ensures) (((c .before .before .clear)) .ensures)
+returns-2 c =
+    let s = c .before .before .before .before .before in
+    let t = s .before .before .before .before in
+    let u = t .before .before .before .before .before .before .before .before .before .before in
+    carried-absent (((u .args)) .points) (((u .args)) .v) (((u .args)) .blocks .now) (((u .args)) .insts .now) (((u .args)) .operands .now) (((u .args)) .crossings .now)
+    (((u .args)) .locals .now) (((u .args)) .addresses .now) (((u .args)) .ends .now) (((u .args)) .local) (((u .args)) .answer .now) (((u .args)) .work .now) (((t .least)) .result)
+    (((t .least)) .ensures) (sym (((s .before .before .before .refusal)) .ensures) ∙ (((s .before .enum-told))) .given .1) (omega arith) (((s .needed)) .result)
+    (((s .needed)) .ensures) (((c .before .before .clear)) .ensures)
 
 list-requires : tie.Need-list-requires
-list-requires c κs = let f = fit (((c .before .before .before .before .before .before .before .before .before .before .before .before .before .before .before .before .before .args)) .points) (((c .before .before .before .before .before .before .before .before .before .before .before .before .before .before .before .before .before .args)) .v) (((c .before .before .before .before .before .before .before .before .before .before .before .before .before .before .before .before .before .args)) .blocks .now) (((c .before .before .before .before .before .before .before .before .before .before .before .before .before .before .before .before .before .args)) .insts .now) (((c .before .before .before .before .before .before .before .before .before .before .before .before .before .before .before .before .before .args)) .operands .now) (((c .before .before .before .before .before .before .before .before .before .before .before .before .before .before .before .before .before .args)) .crossings .now) (((c .before .before .before .before .before .before .before .before .before .before .before .before .before .before .before .before .before .args)) .locals .now) (((c .before .before .before .before .before .before .before .before .before .before .before .before .before .before .before .before .before .args)) .addresses .now) (((c .before .before .before .before .before .before .before .before .before .before .before .before .before .before .before .before .before .args)) .ends .now) (length (((c .before .before .before .before .before .before .before .before .before .before .before .before .before .before .before .before .before .args)) .answer .now)) (((c .before .before .before .before .before .before .before .least)) .result) (length (((c .before .before .before .before .before .before .before .before .before .before .before .before .before .before .before .before .before .args)) .work .now)) (sym (((c .before .before .before .before .before .before .refusal)) .ensures) ∙ (((c .before .before .before .before .enum-told))) .given .1) in (f .checked, fits-as (sym ((c .before .before .before .before .before .before .before .least) .ensures)) (f .answer) refl, (c .before .before .if1) .left)
+list-requires c κs =
+    let s = c .before .before .before .before .before .before .before in
+    let t = s .before .before .before .before .before .before .before .before .before .before in
+    let f = fit (((t .args)) .points) (((t .args)) .v) (((t .args)) .blocks .now) (((t .args)) .insts .now) (((t .args)) .operands .now) (((t .args)) .crossings .now)
+    (((t .args)) .locals .now) (((t .args)) .addresses .now) (((t .args)) .ends .now) (length (((t .args)) .answer .now)) (((s .least)) .result) (length (((t .args)) .work .now))
+    (sym (((c .before .before .before .before .before .before .refusal)) .ensures) ∙ (((c .before .before .before .before .enum-told))) .given .1) in
+    (f .checked, fits-as (sym (s .least .ensures)) (f .answer) refl, c .before .before .if1 .left)
 
 clear-requires-2 : tie.Need-clear-requires-2
-clear-requires-2 c κs = let f = fit (((c .before .before .before .before .before .before .before .before .before .before .before .before .before .before .before .before .before .before .before .before .before .before .before .args)) .points) (((c .before .before .before .before .before .before .before .before .before .before .before .before .before .before .before .before .before .before .before .before .before .before .before .args)) .v) (((c .before .before .before .before .before .before .before .before .before .before .before .before .before .before .before .before .before .before .before .before .before .before .before .args)) .blocks .now) (((c .before .before .before .before .before .before .before .before .before .before .before .before .before .before .before .before .before .before .before .before .before .before .before .args)) .insts .now) (((c .before .before .before .before .before .before .before .before .before .before .before .before .before .before .before .before .before .before .before .before .before .before .before .args)) .operands .now) (((c .before .before .before .before .before .before .before .before .before .before .before .before .before .before .before .before .before .before .before .before .before .before .before .args)) .crossings .now) (((c .before .before .before .before .before .before .before .before .before .before .before .before .before .before .before .before .before .before .before .before .before .before .before .args)) .locals .now) (((c .before .before .before .before .before .before .before .before .before .before .before .before .before .before .before .before .before .before .before .before .before .before .before .args)) .addresses .now) (((c .before .before .before .before .before .before .before .before .before .before .before .before .before .before .before .before .before .before .before .before .before .before .before .args)) .ends .now) (length (((c .before .before .before .before .before .before .before .before .before .before .before .before .before .before .before .before .before .before .before .before .before .before .before .args)) .answer .now)) (((c .before .before .before .before .before .before .before .before .before .before .before .before .before .least)) .result) (length (((c .before .before .before .before .before .before .before .before .before .before .before .before .before .before .before .before .before .before .before .before .before .before .before .args)) .work .now)) (sym (((c .before .before .before .before .before .before .before .before .before .before .before .before .refusal)) .ensures) ∙ (((c .before .before .before .before .before .before .before .before .before .before .enum-told))) .given .1) in fits-as ((c .before .before .before .before .before .before .before .before .before .needed) .ensures) (f .space) ((c .before .before .before .before .before .list) .ensures .kept .len)
+clear-requires-2 c κs =
+    let s = c .before .before .before .before .before .before .before .before .before .before .before .before .before .before .before .before .before .before .before .before .before .before .before in
+    let f = fit (((s .args)) .points) (((s .args)) .v) (((s .args)) .blocks .now) (((s .args)) .insts .now) (((s .args)) .operands .now) (((s .args)) .crossings .now)
+    (((s .args)) .locals .now) (((s .args)) .addresses .now) (((s .args)) .ends .now) (length (((s .args)) .answer .now))
+    (((c .before .before .before .before .before .before .before .before .before .before .before .before .before .least)) .result) (length (((s .args)) .work .now)) (sym
+    (((c .before .before .before .before .before .before .before .before .before .before .before .before .refusal)) .ensures) ∙
+    (((c .before .before .before .before .before .before .before .before .before .before .enum-told))) .given .1) in
+    fits-as (c .before .before .before .before .before .before .before .before .before .needed .ensures) (f .space)
+    (c .before .before .before .before .before .list .ensures .kept .len)
 
 same-length-2 : tie.Need-same-length-2
 same-length-2 c = ((c .before .before .before .before .before .before .before .before .list)) .ensures .list .len
@@ -49,7 +86,15 @@ same-length-3 : tie.Need-same-length-3
 same-length-3 c = search needs
 
 returns-3 : tie.Need-returns-3
-returns-3 c = carried-given (((c .before .before .before .before .before .before .before .before .before .before .before .before .before .before .before .before .before .before .before .before .before .before .before .before .before .before .args)) .points) (((c .before .before .before .before .before .before .before .before .before .before .before .before .before .before .before .before .before .before .before .before .before .before .before .before .before .before .args)) .v) (((c .before .before .before .before .before .before .before .before .before .before .before .before .before .before .before .before .before .before .before .before .before .before .before .before .before .before .args)) .blocks .now) (((c .before .before .before .before .before .before .before .before .before .before .before .before .before .before .before .before .before .before .before .before .before .before .before .before .before .before .args)) .insts .now) (((c .before .before .before .before .before .before .before .before .before .before .before .before .before .before .before .before .before .before .before .before .before .before .before .before .before .before .args)) .operands .now) (((c .before .before .before .before .before .before .before .before .before .before .before .before .before .before .before .before .before .before .before .before .before .before .before .before .before .before .args)) .crossings .now) (((c .before .before .before .before .before .before .before .before .before .before .before .before .before .before .before .before .before .before .before .before .before .before .before .before .before .before .args)) .locals .now) (((c .before .before .before .before .before .before .before .before .before .before .before .before .before .before .before .before .before .before .before .before .before .before .before .before .before .before .args)) .addresses .now) (((c .before .before .before .before .before .before .before .before .before .before .before .before .before .before .before .before .before .before .before .before .before .before .before .before .before .before .args)) .ends .now) (((c .before .before .before .before .before .before .before .before .before .before .before .before .before .before .before .before .before .before .before .before .before .before .before .before .before .before .args)) .local) (((c .before .before .before .before .before .before .before .before .before .before .before .before .before .before .before .before .before .before .before .before .before .before .before .before .before .before .args)) .answer .now) (((c .before .before .before .before .before .before .before .before .before .before .before .before .before .before .before .before .before .before .before .before .before .before .before .before .before .before .args)) .work .now) (((c .before .before .before .before .before .before .before .before .before .before .before .before .before .before .before .before .least)) .result) (((c .before .before .before .before .before .before .before .before .before .before .before .before .before .before .before .before .least)) .ensures) (sym (((c .before .before .before .before .before .before .before .before .before .before .before .before .before .before .before .refusal)) .ensures) ∙ (((c .before .before .before .before .before .before .before .before .before .before .before .before .before .enum-told))) .given .1) (omega arith) (((c .before .before .before .before .before .before .before .before .list)) .result) (((c .before .before .before .before .before .before .before .before .list)) .ensures) (((c .before .before .before .before .before .before .before .before .before .before .before .before .needed)) .result) (((c .before .before .before .before .before .before .before .before .before .before .before .before .needed)) .ensures) (((c .before .before .clear2)) .ensures)
+returns-3 c =
+    let s = c .before .before .before .before .before .before .before .before in
+    let t = s .before .before .before .before in
+    let u = t .before .before .before .before in
+    let p = u .before .before .before .before .before .before .before .before .before .before in
+    carried-given (((p .args)) .points) (((p .args)) .v) (((p .args)) .blocks .now) (((p .args)) .insts .now) (((p .args)) .operands .now) (((p .args)) .crossings .now)
+    (((p .args)) .locals .now) (((p .args)) .addresses .now) (((p .args)) .ends .now) (((p .args)) .local) (((p .args)) .answer .now) (((p .args)) .work .now) (((u .least)) .result)
+    (((u .least)) .ensures) (sym (((t .before .before .before .refusal)) .ensures) ∙ (((t .before .enum-told))) .given .1) (omega arith) (((s .list)) .result) (((s .list)) .ensures)
+    (((t .needed)) .result) (((t .needed)) .ensures) (((c .before .before .clear2)) .ensures)
 
 pub carried-spec : {M : Type 1} → statement M
 carried-spec =

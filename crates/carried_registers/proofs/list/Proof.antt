@@ -15,25 +15,67 @@ layout-requires : tie.Need-layout-requires
 layout-requires c κs = let k = (c .before .before .before .before .before .before .before .before .pre) .0 in (k .few-insts, k .few-operands, k .few-locals, k .few-addresses, k .registers)
 
 prepare-requires : tie.Need-prepare-requires
-prepare-requires c κs = let k = ((c .before .before .before .before .before .before .before .before .before .before .pre)) .0 in ((k .adds, k .few-insts, k .registers), (laid-longer (((c .before .layout)) .ensures .0) (length (((c .before .before .before .before .before .before .before .before .before .before .args)) .work .now)) (k .room), k .ended))
+prepare-requires c κs =
+    let s = c .before .before .before .before .before .before .before .before .before .before in
+    let k = ((s .pre)) .0 in ((k .adds, k .few-insts, k .registers), (laid-longer (((c .before .layout)) .ensures .0) (length (((s .args)) .work .now)) (k .room), k .ended))
 
 follow-requires : tie.Need-follow-requires
-follow-requires c κs = (measure-ready (((c .before .before .before .before .before .before .before .before .before .before .before .before .before .before .args)) .v) (((c .before .before .before .before .before .before .before .before .before .before .before .before .before .before .args)) .insts .now) (((c .before .before .before .before .before .before .before .before .before .before .before .before .before .before .args)) .operands .now) (((c .before .before .before .before .before .before .before .before .before .before .before .before .before .before .args)) .crossings .now) (((c .before .before .before .before .before .before .before .before .before .before .before .before .before .before .args)) .locals .now) (((c .before .before .before .before .before .before .before .before .before .before .before .before .before .before .args)) .addresses .now) (((c .before .before .before .before .before .before .before .before .before .before .before .before .before .before .args)) .ends .now) (((c .before .before .before .before .before .layout)) .result) (((c .before .before .before .prepare)) .result) (((c .before .before .before .before .before .before .before .before .before .before .before .before .before .before .pre)) .0) (((c .before .before .before .before .before .layout)) .ensures .0) (((c .before .before .before .prepare)) .ensures), ((c .before .before .before .before .before .before .before .before .before .before .before .before .before .before .pre)) .2)
+follow-requires c κs =
+    let s = c .before .before .before in
+    let t = s .before .before in
+    let u = t .before .before .before .before .before .before .before .before .before in (
+      measure-ready (((u .args)) .v) (((u .args)) .insts .now) (((u .args)) .operands .now) (((u .args)) .crossings .now) (((u .args)) .locals .now) (((u .args)) .addresses .now)
+          (((u .args)) .ends .now) (((t .layout)) .result) (((s .prepare)) .result) (((u .pre)) .0) (((t .layout)) .ensures .0) (((s .prepare)) .ensures),
+      ((u .pre)) .2,
+    )
 
 sort-part-requires : tie.Need-sort-part-requires
-sort-part-requires c κs = omega (arith, queue-holds (codeOf ((c .before .before .before .before .before .before .before .before .before .before .before .before .before .before .before .before .before .before .args) .v) ((c .before .before .before .before .before .before .before .before .before .before .before .before .before .before .before .before .before .before .args) .insts .now) ((c .before .before .before .before .before .before .before .before .before .before .before .before .before .before .before .before .before .before .args) .operands .now) ((c .before .before .before .before .before .before .before .before .before .before .before .before .before .before .before .before .before .before .args) .crossings .now) ((c .before .before .before .before .before .before .before .before .before .before .before .before .before .before .before .before .before .before .args) .addresses .now) ((c .before .before .before .before .before .before .before .before .before .before .before .before .before .before .before .before .before .before .args) .ends .now)) ((c .before .before .before .before .before .before .before .before .before .layout) .result) (record { v = (c .before .before .before .before .before .before .before .before .before .before .before .before .before .before .before .before .before .before .args) .v; insts = instCount ((c .before .before .before .before .before .before .before .before .before .before .before .before .before .before .before .before .before .before .args) .insts .now); locals = localCount ((c .before .before .before .before .before .before .before .before .before .before .before .before .before .before .before .before .before .before .args) .locals .now); edges = (c .before .before .before .before .before .before .before .prepare) .result }) ((c .before .before .before .before .before .before .before .before .before .before .before .before .before .before .before .before .before .before .args) .local) ((c .before .before .before .follow) .ensures .code ((c .before .before .before .before .before .before .before .before .before .before .before .before .before .before .before .before .before .before .args) .operands .now) ((c .before .before .before .before .before .before .before .before .before .before .before .before .before .before .before .before .before .before .args) .crossings .now) ((c .before .before .before .before .before .before .before .before .before .before .before .before .before .before .before .before .before .before .args) .ends .now) ((c .before .before .before .before .before .before .before .prepare) .ensures .prepared)) (fits-on (laid-longer ((c .before .before .before .before .before .before .before .before .before .layout) .ensures .0) (length ((c .before .before .before .before .before .before .before .before .before .before .before .before .before .before .before .before .before .before .args) .work .now)) ((c .before .before .before .before .before .before .before .before .before .before .before .before .before .before .before .before .before .before .pre) .0 .room) .queue-fits) ((c .before .before .before .before .before .before .before .prepare) .ensures .kept .len) ((c .before .before .before .follow) .ensures .kept .len)))
+sort-part-requires c κs =
+    let s = c .before .before .before in
+    let t = s .before .before .before .before in
+    let u = t .before .before in
+    let p = u .before .before .before .before .before .before .before .before .before in
+    omega (
+      arith,
+      queue-holds (codeOf (p .args .v) (p .args .insts .now) (p .args .operands .now) (p .args .crossings .now) (p .args .addresses .now) (p .args .ends .now))
+          (u .layout .result) (record { v = p .args .v; insts = instCount (p .args .insts .now); locals = localCount (p .args .locals .now); edges = t .prepare .result }) (p .args .local)
+          (s .follow .ensures .code (p .args .operands .now) (p .args .crossings .now) (p .args .ends .now) (t .prepare .ensures .prepared))
+          (fits-on (laid-longer (u .layout .ensures .0) (length (p .args .work .now)) (p .pre .0 .room) .queue-fits) (t .prepare .ensures .kept .len) (s .follow .ensures .kept .len)),
+    )
 
 narrow-requires : tie.Need-narrow-requires
-narrow-requires c κs = narrow-asks (codeOf ((c .before .before .before .before .before .before .before .before .before .before .before .before .before .before .before .before .before .before .before .before .before .before .before .args) .v) ((c .before .before .before .before .before .before .before .before .before .before .before .before .before .before .before .before .before .before .before .before .before .before .before .args) .insts .now) ((c .before .before .before .before .before .before .before .before .before .before .before .before .before .before .before .before .before .before .before .before .before .before .before .args) .operands .now) ((c .before .before .before .before .before .before .before .before .before .before .before .before .before .before .before .before .before .before .before .before .before .before .before .args) .crossings .now) ((c .before .before .before .before .before .before .before .before .before .before .before .before .before .before .before .before .before .before .before .before .before .before .before .args) .addresses .now) ((c .before .before .before .before .before .before .before .before .before .before .before .before .before .before .before .before .before .before .before .before .before .before .before .args) .ends .now)) ((c .before .before .before .before .before .before .before .before .before .before .before .before .before .before .layout) .result) (record { v = (c .before .before .before .before .before .before .before .before .before .before .before .before .before .before .before .before .before .before .before .before .before .before .before .args) .v; insts = instCount ((c .before .before .before .before .before .before .before .before .before .before .before .before .before .before .before .before .before .before .before .before .before .before .before .args) .insts .now); locals = localCount ((c .before .before .before .before .before .before .before .before .before .before .before .before .before .before .before .before .before .before .before .before .before .before .before .args) .locals .now); edges = (c .before .before .before .before .before .before .before .before .before .before .before .before .prepare) .result }) ((c .before .before .before .before .before .before .before .before .before .before .before .before .before .before .before .before .before .before .before .before .before .before .before .args) .local) ((c .before .before .before .before .before .before .before .before .follow) .ensures .code ((c .before .before .before .before .before .before .before .before .before .before .before .before .before .before .before .before .before .before .before .before .before .before .before .args) .operands .now) ((c .before .before .before .before .before .before .before .before .before .before .before .before .before .before .before .before .before .before .before .before .before .before .before .args) .crossings .now) ((c .before .before .before .before .before .before .before .before .before .before .before .before .before .before .before .before .before .before .before .before .before .before .before .args) .ends .now) ((c .before .before .before .before .before .before .before .before .before .before .before .before .prepare) .ensures .prepared)) (fits-on (laid-longer ((c .before .before .before .before .before .before .before .before .before .before .before .before .before .before .layout) .ensures .0) (length ((c .before .before .before .before .before .before .before .before .before .before .before .before .before .before .before .before .before .before .before .before .before .before .before .args) .work .now)) ((c .before .before .before .before .before .before .before .before .before .before .before .before .before .before .before .before .before .before .before .before .before .before .before .pre) .0 .room) .queue-fits) ((c .before .before .before .before .before .before .before .before .before .before .before .before .prepare) .ensures .kept .len) ((c .before .before .before .before .before .before .before .before .follow) .ensures .kept .len)) ((c .before .before .before .before .sort-part) .ensures) ((c .before .before .before .before .before .before .before .before .before .before .before .before .before .before .before .before .before .before .before .before .before .before .before .pre) .1) ((c .before .before .before .before .before .before .before .before .before .before .before .before .before .before .before .before .before .before .before .before .before .before .before .pre) .0 .registers)
+narrow-requires c κs =
+    let s = c .before .before .before .before .before .before .before .before in
+    let t = s .before .before .before .before in
+    let u = t .before .before in
+    let p = u .before .before .before .before .before .before .before .before .before in
+    narrow-asks (codeOf (p .args .v) (p .args .insts .now) (p .args .operands .now) (p .args .crossings .now) (p .args .addresses .now) (p .args .ends .now)) (u .layout .result)
+    (record { v = p .args .v; insts = instCount (p .args .insts .now); locals = localCount (p .args .locals .now); edges = t .prepare .result }) (p .args .local)
+    (s .follow .ensures .code (p .args .operands .now) (p .args .crossings .now) (p .args .ends .now) (t .prepare .ensures .prepared))
+    (fits-on (laid-longer (u .layout .ensures .0) (length (p .args .work .now)) (p .pre .0 .room) .queue-fits) (t .prepare .ensures .kept .len) (s .follow .ensures .kept .len))
+    (c .before .before .before .before .sort-part .ensures) (p .pre .1) (p .pre .0 .registers)
 
 same-length : tie.Need-same-length
 same-length c = ((c .before .before .narrow)) .ensures .len
 
 same-length-2 : tie.Need-same-length-2
-same-length-2 c = ((c .before .before .before .before .before .before .before .sort-part)) .ensures .len ∙ ((c .before .before .before .before .before .before .before .before .before .before .before .follow)) .ensures .kept .len ∙ ((c .before .before .before .before .before .before .before .before .before .before .before .before .before .before .before .prepare)) .ensures .kept .len
+same-length-2 c =
+    ((c .before .before .before .before .before .before .before .sort-part)) .ensures .len ∙
+    ((c .before .before .before .before .before .before .before .before .before .before .before .follow)) .ensures .kept .len ∙
+    ((c .before .before .before .before .before .before .before .before .before .before .before .before .before .before .before .prepare)) .ensures .kept .len
 
 returns : tie.Need-returns
-returns c = registers-are (codeOf ((c .before .before .before .before .before .before .before .before .before .before .before .before .before .before .before .before .before .before .before .before .before .before .before .before .before .before .args) .v) ((c .before .before .before .before .before .before .before .before .before .before .before .before .before .before .before .before .before .before .before .before .before .before .before .before .before .before .args) .insts .now) ((c .before .before .before .before .before .before .before .before .before .before .before .before .before .before .before .before .before .before .before .before .before .before .before .before .before .before .args) .operands .now) ((c .before .before .before .before .before .before .before .before .before .before .before .before .before .before .before .before .before .before .before .before .before .before .before .before .before .before .args) .crossings .now) ((c .before .before .before .before .before .before .before .before .before .before .before .before .before .before .before .before .before .before .before .before .before .before .before .before .before .before .args) .addresses .now) ((c .before .before .before .before .before .before .before .before .before .before .before .before .before .before .before .before .before .before .before .before .before .before .before .before .before .before .args) .ends .now)) ((c .before .before .before .before .before .before .before .before .before .before .before .before .before .before .before .before .before .layout) .result) (record { v = (c .before .before .before .before .before .before .before .before .before .before .before .before .before .before .before .before .before .before .before .before .before .before .before .before .before .before .args) .v; insts = instCount ((c .before .before .before .before .before .before .before .before .before .before .before .before .before .before .before .before .before .before .before .before .before .before .before .before .before .before .args) .insts .now); locals = localCount ((c .before .before .before .before .before .before .before .before .before .before .before .before .before .before .before .before .before .before .before .before .before .before .before .before .before .before .args) .locals .now); edges = (c .before .before .before .before .before .before .before .before .before .before .before .before .before .before .before .prepare) .result }) ((c .before .before .before .before .before .before .before .before .before .before .before .before .before .before .before .before .before .before .before .before .before .before .before .before .before .before .args) .local) ((c .before .before .before .before .before .before .before .before .before .before .before .follow) .ensures .code ((c .before .before .before .before .before .before .before .before .before .before .before .before .before .before .before .before .before .before .before .before .before .before .before .before .before .before .args) .operands .now) ((c .before .before .before .before .before .before .before .before .before .before .before .before .before .before .before .before .before .before .before .before .before .before .before .before .before .before .args) .crossings .now) ((c .before .before .before .before .before .before .before .before .before .before .before .before .before .before .before .before .before .before .before .before .before .before .before .before .before .before .args) .ends .now) ((c .before .before .before .before .before .before .before .before .before .before .before .before .before .before .before .prepare) .ensures .prepared)) (fits-on (laid-longer ((c .before .before .before .before .before .before .before .before .before .before .before .before .before .before .before .before .before .layout) .ensures .0) (length ((c .before .before .before .before .before .before .before .before .before .before .before .before .before .before .before .before .before .before .before .before .before .before .before .before .before .before .args) .work .now)) ((c .before .before .before .before .before .before .before .before .before .before .before .before .before .before .before .before .before .before .before .before .before .before .before .before .before .before .pre) .0 .room) .queue-fits) ((c .before .before .before .before .before .before .before .before .before .before .before .before .before .before .before .prepare) .ensures .kept .len) ((c .before .before .before .before .before .before .before .before .before .before .before .follow) .ensures .kept .len)) ((c .before .before .before .before .before .before .before .sort-part) .ensures) _ (from-start _ ((c .before .before .before .before .before .before .before .before .before .before .before .before .before .before .before .before .before .layout) .ensures .1) ((c .before .before .before .before .before .before .before .before .before .before .before .before .before .before .before .prepare) .ensures .kept)) ((c .before .before .before .before .before .before .before .before .before .before .before .follow) .ensures .kept) ((c .before .before .before .before .before .before .before .before .before .before .before .before .before .before .before .before .before .layout) .ensures .1) ((c .before .before .before .before .before .before .before .before .before .before .before .before .before .before .before .before .before .before .before .before .before .before .before .before .before .before .pre) .1) ((c .before .before .narrow) .ensures)
+returns c =
+    let s = c .before .before .before .before .before .before .before .before .before .before .before in
+    let t = s .before .before .before .before in
+    let u = t .before .before in
+    let p = u .before .before .before .before .before .before .before .before .before in
+    registers-are (codeOf (p .args .v) (p .args .insts .now) (p .args .operands .now) (p .args .crossings .now) (p .args .addresses .now) (p .args .ends .now)) (u .layout .result)
+    (record { v = p .args .v; insts = instCount (p .args .insts .now); locals = localCount (p .args .locals .now); edges = t .prepare .result }) (p .args .local)
+    (s .follow .ensures .code (p .args .operands .now) (p .args .crossings .now) (p .args .ends .now) (t .prepare .ensures .prepared))
+    (fits-on (laid-longer (u .layout .ensures .0) (length (p .args .work .now)) (p .pre .0 .room) .queue-fits) (t .prepare .ensures .kept .len) (s .follow .ensures .kept .len))
+    (c .before .before .before .before .before .before .before .sort-part .ensures) _ (from-start _ (u .layout .ensures .1) (t .prepare .ensures .kept)) (s .follow .ensures .kept)
+    (u .layout .ensures .1) (p .pre .1) (c .before .before .narrow .ensures)
 
 pub list-spec : {M : Type 1} → statement M
 list-spec =

@@ -44,7 +44,9 @@ part-ask-start-3 : tie.Need-part-ask-start-3
 part-ask-start-3 c = (c .before .before .before .before .before .before .before .pre) .1 .in2 .0
 
 part-ask-end-3 : tie.Need-part-ask-end-3
-part-ask-end-3 c = stops ((c .before .before .before .before .before .before .before .pre) .0) ((c .before .before .before .before .before .before .before .pre) .1 .in2)
+part-ask-end-3 c =
+    let s = c .before .before .before .before .before .before .before in
+    stops (s .pre .0) (s .pre .1 .in2)
 
 mul-ask-4 : tie.Need-mul-ask-4
 mul-ask-4 c = begins ((c .before .before .before .before .before .before .before .before .pre) .1 .in3)
@@ -56,7 +58,9 @@ part-ask-start-4 : tie.Need-part-ask-start-4
 part-ask-start-4 c = (c .before .before .before .before .before .before .before .before .pre) .1 .in3 .0
 
 part-ask-end-4 : tie.Need-part-ask-end-4
-part-ask-end-4 c = stops ((c .before .before .before .before .before .before .before .before .pre) .0) ((c .before .before .before .before .before .before .before .before .pre) .1 .in3)
+part-ask-end-4 c =
+    let s = c .before .before .before .before .before .before .before .before in
+    stops (s .pre .0) (s .pre .1 .in3)
 
 mul-ask-5 : tie.Need-mul-ask-5
 mul-ask-5 c = begins ((c .before .before .before .before .before .before .before .before .before .pre) .1 .in4)
@@ -68,7 +72,9 @@ part-ask-start-5 : tie.Need-part-ask-start-5
 part-ask-start-5 c = (c .before .before .before .before .before .before .before .before .before .pre) .1 .in4 .0
 
 part-ask-end-5 : tie.Need-part-ask-end-5
-part-ask-end-5 c = stops ((c .before .before .before .before .before .before .before .before .before .pre) .0) ((c .before .before .before .before .before .before .before .before .before .pre) .1 .in4)
+part-ask-end-5 c =
+    let s = c .before .before .before .before .before .before .before .before .before in
+    stops (s .pre .0) (s .pre .1 .in4)
 
 mul-ask-6 : tie.Need-mul-ask-6
 mul-ask-6 c = begins ((c .before .before .before .before .before .before .before .before .before .before .pre) .1 .in5)
@@ -80,7 +86,9 @@ part-ask-start-6 : tie.Need-part-ask-start-6
 part-ask-start-6 c = (c .before .before .before .before .before .before .before .before .before .before .pre) .1 .in5 .0
 
 part-ask-end-6 : tie.Need-part-ask-end-6
-part-ask-end-6 c = stops ((c .before .before .before .before .before .before .before .before .before .before .pre) .0) ((c .before .before .before .before .before .before .before .before .before .before .pre) .1 .in5)
+part-ask-end-6 c =
+    let s = c .before .before .before .before .before .before .before .before .before .before in
+    stops (s .pre .0) (s .pre .1 .in5)
 
 mul-ask-7 : tie.Need-mul-ask-7
 mul-ask-7 c = begins ((c .before .before .before .before .before .before .before .before .before .before .before .pre) .1 .in6)
@@ -92,7 +100,9 @@ part-ask-start-7 : tie.Need-part-ask-start-7
 part-ask-start-7 c = (c .before .before .before .before .before .before .before .before .before .before .before .pre) .1 .in6 .0
 
 part-ask-end-7 : tie.Need-part-ask-end-7
-part-ask-end-7 c = stops ((c .before .before .before .before .before .before .before .before .before .before .before .pre) .0) ((c .before .before .before .before .before .before .before .before .before .before .before .pre) .1 .in6)
+part-ask-end-7 c =
+    let s = c .before .before .before .before .before .before .before .before .before .before .before in
+    stops (s .pre .0) (s .pre .1 .in6)
 
 ask-requires : tie.Need-ask-requires
 ask-requires c κs = tt

@@ -40,7 +40,9 @@ slice-aggregate-run : tie.Need-slice-aggregate-run Inv-loop μ-loop
 slice-aggregate-run c = sym ((c .before .before .case) .kept .1 .1 .0 ∙ (c .before .before .before .before .before .before .loop) .inv)
 
 run-requires : tie.Need-run-requires Inv-loop μ-loop
-run-requires c κs = ((c .before .before .case) .kept .1 .1 .0 ∙ (c .before .before .before .before .before .before .loop) .inv, (c .before .before .case) .ensures .0)
+run-requires c κs =
+    let s = c .before .before in
+    (s .case .kept .1 .1 .0 ∙ s .before .before .before .before .loop .inv, s .case .ensures .0)
 
 loop-less : tie.Need-loop-less Inv-loop μ-loop
 loop-less c = less ((c .before .before .before .before .before .before .loop-test) .taken) ((c .before .before .before .case) .ensures .1)

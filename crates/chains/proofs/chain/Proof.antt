@@ -18,19 +18,29 @@ loop-holds : tie.Need-loop-holds Inv-loop μ-loop
 loop-holds c = link-start (λ j. field ((c .args) .width) ((c .args) .rows .now) j ((c .args) .column)) _ _ _ _ _ (omega arith) (omega arith) ((c .pre) .1)
 
 mul-l : tie.Need-mul-l Inv-loop μ-loop
-mul-l c = omega (arith, row-in ((c .before .before .args) .width) ((c .before .before .args) .column) ((c .before .before .args) .n) ((c .before .loop) .i) ((c .before .before .args) .rows .now) ((c .before .before .pre) .0 .0) ((c .before .before .pre) .0 .1) (omega arith))
+mul-l c =
+    let s = c .before .before in
+    omega (arith, row-in (s .args .width) (s .args .column) (s .args .n) (c .before .loop .i) (s .args .rows .now) (s .pre .0 .0) (s .pre .0 .1) (omega arith))
 
 add-l : tie.Need-add-l Inv-loop μ-loop
-add-l c = omega (arith, row-in ((c .before .before .args) .width) ((c .before .before .args) .column) ((c .before .before .args) .n) ((c .before .loop) .i) ((c .before .before .args) .rows .now) ((c .before .before .pre) .0 .0) ((c .before .before .pre) .0 .1) (omega arith))
+add-l c =
+    let s = c .before .before in
+    omega (arith, row-in (s .args .width) (s .args .column) (s .args .n) (c .before .loop .i) (s .args .rows .now) (s .pre .0 .0) (s .pre .0 .1) (omega arith))
 
 mul-l-2 : tie.Need-mul-l-2 Inv-loop μ-loop
-mul-l-2 c = omega (arith, row-in ((c .before .before .args) .width) ((c .before .before .args) .column) ((c .before .before .args) .n) ((c .before .loop) .i) ((c .before .before .args) .rows .now) ((c .before .before .pre) .0 .0) ((c .before .before .pre) .0 .1) (omega arith))
+mul-l-2 c =
+    let s = c .before .before in
+    omega (arith, row-in (s .args .width) (s .args .column) (s .args .n) (c .before .loop .i) (s .args .rows .now) (s .pre .0 .0) (s .pre .0 .1) (omega arith))
 
 shared-slice-read-l : tie.Need-shared-slice-read-l Inv-loop μ-loop
-shared-slice-read-l c = omega (arith, row-in ((c .before .before .before .args) .width) ((c .before .before .before .args) .column) ((c .before .before .before .args) .n) ((c .before .before .loop) .i) ((c .before .before .before .args) .rows .now) ((c .before .before .before .pre) .0 .0) ((c .before .before .before .pre) .0 .1) (omega arith))
+shared-slice-read-l c =
+    let s = c .before .before .before in
+    omega (arith, row-in (s .args .width) (s .args .column) (s .args .n) (c .before .before .loop .i) (s .args .rows .now) (s .pre .0 .0) (s .pre .0 .1) (omega arith))
 
 cast-l : tie.Need-cast-l Inv-loop μ-loop
-cast-l c = omega (arith, (c .shared-slice-known) .given ((c .before .before .before .args) .width * (c .before .before .loop) .i + (c .before .before .before .args) .column))
+cast-l c =
+    let s = c .before .before .before in
+    omega (arith, c .shared-slice-known .given (s .args .width * (c .before .before .loop) .i + (s .args) .column))
 
 add-work : tie.Need-add-work Inv-loop μ-loop
 add-work c = omega arith

@@ -53,7 +53,10 @@ loop-holds : tie.Need-loop-holds Inv-loop μ-loop
 loop-holds c = (omega arith, omega arith, search-start _ _ ((c .before .before .before .before .pre) .2) ((c .before .before .before .before .pre) .3))
 
 returns : tie.Need-returns Inv-loop μ-loop
-returns c = over-two (column-view-ends (now ((c .before .before .before .before .before .before .before .args) .start)) (now ((c .before .before .before .before .before .before .before .args) .end)) ((c .before .before .before .before .before .before .before .pre) .0)) (column-view-ends (now ((c .before .before .before .before .before .before .before .args) .other-start)) (now ((c .before .before .before .before .before .before .before .args) .other-end)) ((c .before .before .before .before .before .before .before .pre) .1)) ((c .before .before .loop) .inv .2) (as-le _ _ _ ((c .before .before .before .before .before .before .before .pre) .1) ((c .if1) .taken))
+returns c =
+    let s = c .before .before .before .before .before .before .before in
+    over-two (column-view-ends (now (s .args .start)) (now (s .args .end)) (s .pre .0)) (column-view-ends (now (s .args .other-start)) (now (s .args .other-end)) (s .pre .1))
+    (c .before .before .loop .inv .2) (as-le _ _ _ (s .pre .1) (c .if1 .taken))
 
 mul-s : tie.Need-mul-s Inv-loop μ-loop
 mul-s c = fits _ _ ((c .before .loop-test) .taken) ((c .before .before .before .before .before .before .before .good) .0 .1)
@@ -62,7 +65,9 @@ shared-slice-read-s : tie.Need-shared-slice-read-s Inv-loop μ-loop
 shared-slice-read-s c = (c .before .before .loop-test) .taken
 
 mul-e : tie.Need-mul-e Inv-loop μ-loop
-mul-e c = fits _ _ (as-lt _ _ _ ((c .before .before .before .before .before .before .before .before .pre) .0) ((c .before .before .loop-test) .taken)) ((c .before .before .before .before .before .before .before .before .good) .1 .0 .1)
+mul-e c =
+    let s = c .before .before .before .before .before .before .before .before in
+    fits _ _ (as-lt _ _ _ (s .pre .0) (c .before .before .loop-test .taken)) (s .good .1 .0 .1)
 
 shared-slice-read-e : tie.Need-shared-slice-read-e Inv-loop μ-loop
 shared-slice-read-e c = as-lt _ _ _ ((c .before .before .before .before .before .before .before .before .before .pre) .0) ((c .before .before .before .loop-test) .taken)
@@ -74,7 +79,9 @@ shared-slice-read-t : tie.Need-shared-slice-read-t Inv-loop μ-loop
 shared-slice-read-t c = (c .before .before .before .if1) .left
 
 mul-f : tie.Need-mul-f Inv-loop μ-loop
-mul-f c = fits _ _ (as-lt _ _ _ ((c .before .before .before .before .before .before .before .before .before .before .pre) .1) ((c .before .before .before .if1) .left)) ((c .before .before .before .before .before .before .before .before .before .before .good) .1 .1 .1 .0 .1)
+mul-f c =
+    let s = c .before .before .before .before .before .before .before .before .before .before in
+    fits _ _ (as-lt _ _ _ (s .pre .1) (c .before .before .before .if1 .left)) (s .good .1 .1 .1 .0 .1)
 
 shared-slice-read-f : tie.Need-shared-slice-read-f Inv-loop μ-loop
 shared-slice-read-f c = as-lt _ _ _ ((c .before .before .before .before .before .before .before .before .before .before .before .pre) .1) ((c .before .before .before .before .if1) .left)
@@ -83,34 +90,89 @@ overlaps-requires : tie.Need-overlaps-requires Inv-loop μ-loop
 overlaps-requires c κs = tt
 
 returns-2 : tie.Need-returns-2 Inv-loop μ-loop
-returns-2 c = hit (column-view-ends (now ((c .before .before .before .before .before .before .before .before .before .before .before .before .before .args) .start)) (now ((c .before .before .before .before .before .before .before .before .before .before .before .before .before .args) .end)) ((c .before .before .before .before .before .before .before .before .before .before .before .before .before .pre) .0)) (column-view-ends (now ((c .before .before .before .before .before .before .before .before .before .before .before .before .before .args) .other-start)) (now ((c .before .before .before .before .before .before .before .before .before .before .before .before .before .args) .other-end)) ((c .before .before .before .before .before .before .before .before .before .before .before .before .before .pre) .1)) ((c .before .before .before .before .before .before .before .before .loop) .inv .2) (as-lt _ _ _ ((c .before .before .before .before .before .before .before .before .before .before .before .before .before .pre) .0) ((c .before .before .before .before .before .before .before .loop-test) .taken)) (as-lt _ _ _ ((c .before .before .before .before .before .before .before .before .before .before .before .before .before .pre) .1) ((c .before .before .before .before .before .before .if1) .left)) (sym ((c .before .overlaps) .ensures) ∙ (c .if2) .taken)
+returns-2 c =
+    let s = c .before .before .before .before .before .before .before .before .before .before .before .before .before in
+    hit (column-view-ends (now (s .args .start)) (now (s .args .end)) (s .pre .0)) (column-view-ends (now (s .args .other-start)) (now (s .args .other-end)) (s .pre .1))
+    (c .before .before .before .before .before .before .before .before .loop .inv .2)
+    (as-lt _ _ _ (s .pre .0) (c .before .before .before .before .before .before .before .loop-test .taken))
+    (as-lt _ _ _ (s .pre .1) (c .before .before .before .before .before .before .if1 .left)) (sym (c .before .overlaps .ensures) ∙ c .if2 .taken)
 
 ending-before-requires : tie.Need-ending-before-requires Inv-loop μ-loop
-ending-before-requires c κs = (upto _ _ _ ((c .before .before .before .before .before .before .before .before .before .before .before .before .before .before .pre) .0) ((c .before .before .before .before .before .before .before .before .loop-test) .taken), ends-rising (column-view-ends (now ((c .before .before .before .before .before .before .before .before .before .before .before .before .before .before .args) .start)) (now ((c .before .before .before .before .before .before .before .before .before .before .before .before .before .before .args) .end)) ((c .before .before .before .before .before .before .before .before .before .before .before .before .before .before .pre) .0)) ((c .before .before .before .before .before .before .before .before .before .before .before .before .before .before .pre) .2) _)
+ending-before-requires c κs =
+    let s = c .before .before .before .before .before .before .before .before .before .before .before .before .before .before in (
+      upto _ _ _ (s .pre .0) (c .before .before .before .before .before .before .before .before .loop-test .taken),
+      ends-rising
+          (column-view-ends (now (s .args .start)) (now (s .args .end)) (s .pre .0)) (s .pre .2) _,
+    )
 
 add-i : tie.Need-add-i Inv-loop μ-loop
-add-i c = further _ _ _ _ ((c .before .before .before .before .before .before .before .before .before .before .before .before .before .before .before .pre) .0) ((c .before .before .before .before .before .before .before .before .before .loop-test) .taken) ((c .ending-before) .ensures .within) ((c .before .before .before .before .before .before .before .before .before .before .before .before .before .before .before .good) .1 .0 .1)
+add-i c =
+    let s = c .before .before .before .before .before .before .before .before .before .before .before .before .before .before .before in
+    further _ _ _ _ (s .pre .0) (c .before .before .before .before .before .before .before .before .before .loop-test .taken) (c .ending-before .ensures .within) (s .good .1 .0 .1)
 
 loop-less : tie.Need-loop-less Inv-loop μ-loop
-loop-less c = less-one _ _ _ _ _ ((c .before .before .before .before .before .before .before .before .before .before .before .before .before .before .before .pre) .0) ((c .before .before .before .before .before .before .before .before .before .loop-test) .taken) ((c .ending-before) .ensures .within) (splits-some (λ k. getD (now ((c .before .before .before .before .before .before .before .before .before .before .before .before .before .before .before .args) .end)) ((c .before .before .before .before .before .before .before .before .before .before .loop) .i + k) 0) _ _ _ ((c .ending-before) .ensures) (some-left _ _ _ ((c .before .before .before .before .before .before .before .before .before .before .before .before .before .before .before .pre) .0) ((c .before .before .before .before .before .before .before .before .before .loop-test) .taken)) (rw (add-zero ((c .before .before .before .before .before .before .before .before .before .before .loop) .i)) (ends-first _ _ _ _ (one-upright (column-view-ends (now ((c .before .before .before .before .before .before .before .before .before .before .before .before .before .before .before .args) .start)) (now ((c .before .before .before .before .before .before .before .before .before .before .before .before .before .before .before .args) .end)) ((c .before .before .before .before .before .before .before .before .before .before .before .before .before .before .before .pre) .0)) (column-view-ends (now ((c .before .before .before .before .before .before .before .before .before .before .before .before .before .before .before .args) .other-start)) (now ((c .before .before .before .before .before .before .before .before .before .before .before .before .before .before .before .args) .other-end)) ((c .before .before .before .before .before .before .before .before .before .before .before .before .before .before .before .pre) .1)) ((c .before .before .before .before .before .before .before .before .before .before .loop) .inv .2) (as-lt _ _ _ ((c .before .before .before .before .before .before .before .before .before .before .before .before .before .before .before .pre) .0) ((c .before .before .before .before .before .before .before .before .before .loop-test) .taken))) ((c .before .if3) .taken) (sym ((c .before .before .before .overlaps) .ensures) ∙ (c .before .before .if2) .left))))
+loop-less c =
+    let s = c .before .before .before .before .before .before .before .before .before in
+    let t = s .before in
+    let u = t .before .before .before .before .before in
+    less-one _ _ _ _ _ (u .pre .0) (s .loop-test .taken) (c .ending-before .ensures .within) (splits-some (λ k. getD (now (u .args .end)) (t .loop .i + k) 0) _ _ _
+    (c .ending-before .ensures) (some-left _ _ _ (u .pre .0) (s .loop-test .taken)) (rw (add-zero (t .loop .i)) (ends-first _ _ _ _ (one-upright
+    (column-view-ends (now (u .args .start)) (now (u .args .end)) (u .pre .0)) (column-view-ends (now (u .args .other-start)) (now (u .args .other-end)) (u .pre .1)) (t .loop .inv .2)
+    (as-lt _ _ _ (u .pre .0) (s .loop-test .taken))) (c .before .if3 .taken) (sym (c .before .before .before .overlaps .ensures) ∙ c .before .before .if2 .left))))
 
 loop-again : tie.Need-loop-again Inv-loop μ-loop
-loop-again c = (further-in _ _ _ _ ((c .before .before .before .before .before .before .before .before .before .before .before .before .before .before .before .pre) .0) ((c .before .before .before .before .before .before .before .before .before .loop-test) .taken) ((c .ending-before) .ensures .within), (c .before .before .before .before .before .before .before .before .before .before .loop) .inv .1, skip-to-one (column-view-ends (now ((c .before .before .before .before .before .before .before .before .before .before .before .before .before .before .before .args) .start)) (now ((c .before .before .before .before .before .before .before .before .before .before .before .before .before .before .before .args) .end)) ((c .before .before .before .before .before .before .before .before .before .before .before .before .before .before .before .pre) .0)) (column-view-ends (now ((c .before .before .before .before .before .before .before .before .before .before .before .before .before .before .before .args) .other-start)) (now ((c .before .before .before .before .before .before .before .before .before .before .before .before .before .before .before .args) .other-end)) ((c .before .before .before .before .before .before .before .before .before .before .before .before .before .before .before .pre) .1)) ((c .before .before .before .before .before .before .before .before .before .before .loop) .inv .2) _ (upto _ _ _ ((c .before .before .before .before .before .before .before .before .before .before .before .before .before .before .before .pre) .0) ((c .before .before .before .before .before .before .before .before .before .loop-test) .taken)) (as-lt _ _ _ ((c .before .before .before .before .before .before .before .before .before .before .before .before .before .before .before .pre) .1) ((c .before .before .before .before .before .before .before .before .if1) .left)) ((c .ending-before) .ensures))
+loop-again c =
+    let s = c .before .before .before .before .before .before .before .before .before in
+    let t = s .before in
+    let u = t .before .before .before .before .before in (
+      further-in _ _ _ _ (u .pre .0) (s .loop-test .taken) (c .ending-before .ensures .within),
+      t .loop .inv .1,
+      skip-to-one
+          (column-view-ends (now (u .args .start)) (now (u .args .end)) (u .pre .0)) (column-view-ends (now (u .args .other-start)) (now (u .args .other-end)) (u .pre .1))
+          (t .loop .inv .2) _ (upto _ _ _ (u .pre .0) (s .loop-test .taken)) (as-lt _ _ _ (u .pre .1) (c .before .before .before .before .before .before .before .before .if1 .left))
+          (c .ending-before .ensures),
+    )
 
 ending-before-requires-2 : tie.Need-ending-before-requires-2 Inv-loop μ-loop
-ending-before-requires-2 c κs = (upto _ _ _ ((c .before .before .before .before .before .before .before .before .before .before .before .before .before .before .pre) .1) ((c .before .before .before .before .before .before .before .if1) .left), ends-rising (column-view-ends (now ((c .before .before .before .before .before .before .before .before .before .before .before .before .before .before .args) .other-start)) (now ((c .before .before .before .before .before .before .before .before .before .before .before .before .before .before .args) .other-end)) ((c .before .before .before .before .before .before .before .before .before .before .before .before .before .before .pre) .1)) ((c .before .before .before .before .before .before .before .before .before .before .before .before .before .before .pre) .3) _)
+ending-before-requires-2 c κs =
+    let s = c .before .before .before .before .before .before .before .before .before .before .before .before .before .before in (
+      upto _ _ _ (s .pre .1) (c .before .before .before .before .before .before .before .if1 .left),
+      ends-rising
+          (column-view-ends (now (s .args .other-start)) (now (s .args .other-end)) (s .pre .1)) (s .pre .3) _,
+    )
 
 add-j : tie.Need-add-j Inv-loop μ-loop
-add-j c = further _ _ _ _ ((c .before .before .before .before .before .before .before .before .before .before .before .before .before .before .before .pre) .1) ((c .before .before .before .before .before .before .before .before .if1) .left) ((c .ending-before2) .ensures .within) ((c .before .before .before .before .before .before .before .before .before .before .before .before .before .before .before .good) .1 .1 .1 .0 .1)
+add-j c =
+    let s = c .before .before .before .before .before .before .before .before .before .before .before .before .before .before .before in
+    further _ _ _ _ (s .pre .1) (c .before .before .before .before .before .before .before .before .if1 .left) (c .ending-before2 .ensures .within) (s .good .1 .1 .1 .0 .1)
 
 loop-less-2 : tie.Need-loop-less-2 Inv-loop μ-loop
-loop-less-2 c = less-two _ _ _ _ _ ((c .before .before .before .before .before .before .before .before .before .before .before .before .before .before .before .pre) .1) ((c .before .before .before .before .before .before .before .before .if1) .left) ((c .ending-before2) .ensures .within) (splits-some (λ k. getD (now ((c .before .before .before .before .before .before .before .before .before .before .before .before .before .before .before .args) .other-end)) ((c .before .before .before .before .before .before .before .before .before .before .loop) .j + k) 0) _ _ _ ((c .ending-before2) .ensures) (some-left _ _ _ ((c .before .before .before .before .before .before .before .before .before .before .before .before .before .before .before .pre) .1) ((c .before .before .before .before .before .before .before .before .if1) .left)) (rw (add-zero ((c .before .before .before .before .before .before .before .before .before .before .loop) .j)) (ends-last _ _ _ _ (two-upright (column-view-ends (now ((c .before .before .before .before .before .before .before .before .before .before .before .before .before .before .before .args) .start)) (now ((c .before .before .before .before .before .before .before .before .before .before .before .before .before .before .before .args) .end)) ((c .before .before .before .before .before .before .before .before .before .before .before .before .before .before .before .pre) .0)) (column-view-ends (now ((c .before .before .before .before .before .before .before .before .before .before .before .before .before .before .before .args) .other-start)) (now ((c .before .before .before .before .before .before .before .before .before .before .before .before .before .before .before .args) .other-end)) ((c .before .before .before .before .before .before .before .before .before .before .before .before .before .before .before .pre) .1)) ((c .before .before .before .before .before .before .before .before .before .before .loop) .inv .2) (as-lt _ _ _ ((c .before .before .before .before .before .before .before .before .before .before .before .before .before .before .before .pre) .1) ((c .before .before .before .before .before .before .before .before .if1) .left))) ((c .before .if3) .left) (sym ((c .before .before .before .overlaps) .ensures) ∙ (c .before .before .if2) .left))))
+loop-less-2 c =
+    let s = c .before .before .before .before .before .before .before .before in
+    let t = s .before .before in
+    let u = t .before .before .before .before .before in
+    less-two _ _ _ _ _ (u .pre .1) (s .if1 .left) (c .ending-before2 .ensures .within) (splits-some (λ k. getD (now (u .args .other-end)) (t .loop .j + k) 0) _ _ _
+    (c .ending-before2 .ensures) (some-left _ _ _ (u .pre .1) (s .if1 .left)) (rw (add-zero (t .loop .j)) (ends-last _ _ _ _ (two-upright
+    (column-view-ends (now (u .args .start)) (now (u .args .end)) (u .pre .0)) (column-view-ends (now (u .args .other-start)) (now (u .args .other-end)) (u .pre .1)) (t .loop .inv .2)
+    (as-lt _ _ _ (u .pre .1) (s .if1 .left))) (c .before .if3 .left) (sym (c .before .before .before .overlaps .ensures) ∙ c .before .before .if2 .left))))
 
 loop-again-2 : tie.Need-loop-again-2 Inv-loop μ-loop
-loop-again-2 c = ((c .before .before .before .before .before .before .before .before .before .before .loop) .inv .0, further-in _ _ _ _ ((c .before .before .before .before .before .before .before .before .before .before .before .before .before .before .before .pre) .1) ((c .before .before .before .before .before .before .before .before .if1) .left) ((c .ending-before2) .ensures .within), skip-to-two (column-view-ends (now ((c .before .before .before .before .before .before .before .before .before .before .before .before .before .before .before .args) .start)) (now ((c .before .before .before .before .before .before .before .before .before .before .before .before .before .before .before .args) .end)) ((c .before .before .before .before .before .before .before .before .before .before .before .before .before .before .before .pre) .0)) (column-view-ends (now ((c .before .before .before .before .before .before .before .before .before .before .before .before .before .before .before .args) .other-start)) (now ((c .before .before .before .before .before .before .before .before .before .before .before .before .before .before .before .args) .other-end)) ((c .before .before .before .before .before .before .before .before .before .before .before .before .before .before .before .pre) .1)) ((c .before .before .before .before .before .before .before .before .before .before .loop) .inv .2) _ (upto _ _ _ ((c .before .before .before .before .before .before .before .before .before .before .before .before .before .before .before .pre) .1) ((c .before .before .before .before .before .before .before .before .if1) .left)) (as-lt _ _ _ ((c .before .before .before .before .before .before .before .before .before .before .before .before .before .before .before .pre) .0) ((c .before .before .before .before .before .before .before .before .before .loop-test) .taken)) ((c .ending-before2) .ensures))
+loop-again-2 c =
+    let s = c .before .before .before .before .before .before .before .before in
+    let t = s .before .before in
+    let u = t .before .before .before .before .before in (
+      t .loop .inv .0,
+      further-in _ _ _ _ (u .pre .1) (s .if1 .left) (c .ending-before2 .ensures .within),
+      skip-to-two
+          (column-view-ends (now (u .args .start)) (now (u .args .end)) (u .pre .0)) (column-view-ends (now (u .args .other-start)) (now (u .args .other-end)) (u .pre .1))
+          (t .loop .inv .2) _ (upto _ _ _ (u .pre .1) (s .if1 .left)) (as-lt _ _ _ (u .pre .0) (s .before .loop-test .taken)) (c .ending-before2 .ensures),
+    )
 
 returns-3 : tie.Need-returns-3 Inv-loop μ-loop
-returns-3 c = over-one (column-view-ends (now ((c .before .before .before .before .before .before .args) .start)) (now ((c .before .before .before .before .before .before .args) .end)) ((c .before .before .before .before .before .before .pre) .0)) (column-view-ends (now ((c .before .before .before .before .before .before .args) .other-start)) (now ((c .before .before .before .before .before .before .args) .other-end)) ((c .before .before .before .before .before .before .pre) .1)) ((c .before .loop) .inv .2) (as-le _ _ _ ((c .before .before .before .before .before .before .pre) .0) ((c .loop-test) .left))
+returns-3 c =
+    let s = c .before .before .before .before .before .before in
+    over-one (column-view-ends (now (s .args .start)) (now (s .args .end)) (s .pre .0)) (column-view-ends (now (s .args .other-start)) (now (s .args .other-end)) (s .pre .1))
+    (c .before .loop .inv .2) (as-le _ _ _ (s .pre .0) (c .loop-test .left))
 
 pub clash-spec : {M : Type 1} → statement M
 clash-spec = tie.close (tie.spec Inv-loop μ-loop loop-holds returns mul-s shared-slice-read-s mul-e shared-slice-read-e mul-t shared-slice-read-t mul-f shared-slice-read-f overlaps-requires returns-2 ending-before-requires add-i loop-less loop-again ending-before-requires-2 add-j loop-less-2 loop-again-2 returns-3)

@@ -29,10 +29,14 @@ same-length : tie.Need-same-length
 same-length c = simp length-set
 
 returns : tie.Need-returns
-returns c = let a = (c .before .before .before .before .args) in take-wider (now (a .out-start)) (now (a .out-end)) ((c .before .before .before .before .pre) .0) (a .k) (omega arith) (a .s) (a .e) (omega arith) (omega arith) (omega arith)
+returns c =
+    let t = c .before .before .before .before in
+    let a = (t .args) in take-wider (now (a .out-start)) (now (a .out-end)) (t .pre .0) (a .k) (omega arith) (a .s) (a .e) (omega arith) (omega arith) (omega arith)
 
 returns-2 : tie.Need-returns-2
-returns-2 c = let a = (c .before .before .before .before .args) in take-kept (now (a .out-start)) (now (a .out-end)) ((c .before .before .before .before .pre) .0) (a .k) (omega arith) (a .s) (a .e) (omega arith) (omega arith) (omega arith)
+returns-2 c =
+    let t = c .before .before .before .before in
+    let a = (t .args) in take-kept (now (a .out-start)) (now (a .out-end)) (t .pre .0) (a .k) (omega arith) (a .s) (a .e) (omega arith) (omega arith) (omega arith)
 
 mul-out-start : tie.Need-mul-out-start
 mul-out-start c = omega arith

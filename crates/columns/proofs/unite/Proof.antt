@@ -39,40 +39,64 @@ abbrev μ-loop : tie.MeasureT-loop
 μ-loop start end other-start other-end out-start₀ out-end₀ total i₀ j₀ k₀ out-start out-end i j k = length start + length other-start - (i + j)
 
 add-total : tie.Need-add-total Inv-loop μ-loop
-add-total c = both _ _ _ ((c .before .before .before .before .before .before .pre) .3) ((c .before .before .before .before .before .before .good) .1 .1 .1 .1 .0 .1)
+add-total c =
+    let s = c .before .before .before .before .before .before in
+    both _ _ _ (s .pre .3) (s .good .1 .1 .1 .1 .0 .1)
 
 loop-holds : tie.Need-loop-holds Inv-loop μ-loop
-loop-holds c = to-start _ _ _ _ _ _ ((c .before .before .before .before .before .before .pre) .0) ((c .before .before .before .before .before .before .pre) .1) ((c .before .before .before .before .before .before .pre) .2) ((c .before .before .before .before .before .before .pre) .3) ((c .before .before .before .before .before .before .pre) .4) ((c .before .before .before .before .before .before .pre) .5)
+loop-holds c =
+    let s = c .before .before .before .before .before .before in
+    to-start _ _ _ _ _ _ (s .pre .0) (s .pre .1) (s .pre .2) (s .pre .3) (s .pre .4) (s .pre .5)
 
 add-loop : tie.Need-add-loop Inv-loop μ-loop
-add-loop c = so-far _ _ _ _ _ (to-counts ((c .loop) .inv) .0) (to-counts ((c .loop) .inv) .1) ((c .before .before .before .before .before .before .before .pre) .3) ((c .before .before .before .before .before .before .before .good) .1 .1 .1 .1 .0 .1)
+add-loop c =
+    let s = c .before .before .before .before .before .before .before in
+    so-far _ _ _ _ _ (to-counts (c .loop .inv) .0) (to-counts (c .loop .inv) .1) (s .pre .3) (s .good .1 .1 .1 .1 .0 .1)
 
 one-first-requires : tie.Need-one-first-requires Inv-loop μ-loop
 one-first-requires c κs = ((c .before .loop) .inv .one, (c .before .loop) .inv .two)
 
 mul-take-up : tie.Need-mul-take-up Inv-loop μ-loop
-mul-take-up c = fits _ _ (to-one-in ((c .before .before .before .before .before .loop) .inv) ((c .before .before .before .one-first) .ensures) ((c .before .before .if1) .taken) ((c .before .before .before .before .loop-test) .taken)) ((c .before .before .before .before .before .before .before .before .before .before .before .before .good) .0 .1)
+mul-take-up c =
+    fits _ _ (to-one-in ((c .before .before .before .before .before .loop) .inv) ((c .before .before .before .one-first) .ensures) ((c .before .before .if1) .taken)
+    ((c .before .before .before .before .loop-test) .taken)) ((c .before .before .before .before .before .before .before .before .before .before .before .before .good) .0 .1)
 
 shared-slice-read-take-up : tie.Need-shared-slice-read-take-up Inv-loop μ-loop
 shared-slice-read-take-up c = to-one-in ((c .before .before .before .before .before .before .loop) .inv) ((c .before .before .before .before .one-first) .ensures) ((c .before .before .before .if1) .taken) ((c .before .before .before .before .before .loop-test) .taken)
 
 mul-take-up-2 : tie.Need-mul-take-up-2 Inv-loop μ-loop
-mul-take-up-2 c = fits _ _ (to-one-in ((c .before .before .before .before .before .before .loop) .inv) ((c .before .before .before .before .one-first) .ensures) ((c .before .before .before .if1) .taken) ((c .before .before .before .before .before .loop-test) .taken)) ((c .before .before .before .before .before .before .before .before .before .before .before .before .before .good) .0 .1)
+mul-take-up-2 c =
+    fits _ _ (to-one-in ((c .before .before .before .before .before .before .loop) .inv) ((c .before .before .before .before .one-first) .ensures)
+    ((c .before .before .before .if1) .taken) ((c .before .before .before .before .before .loop-test) .taken))
+    ((c .before .before .before .before .before .before .before .before .before .before .before .before .before .good) .0 .1)
 
 shared-slice-read-take-up-2 : tie.Need-shared-slice-read-take-up-2 Inv-loop μ-loop
-shared-slice-read-take-up-2 c = as-lt _ _ _ ((c .before .before .before .before .before .before .before .loop) .inv .one) (to-one-in ((c .before .before .before .before .before .before .before .loop) .inv) ((c .before .before .before .before .before .one-first) .ensures) ((c .before .before .before .before .if1) .taken) ((c .before .before .before .before .before .before .loop-test) .taken))
+shared-slice-read-take-up-2 c =
+    let s = c .before .before .before .before .before .before .before in
+    as-lt _ _ _ (s .loop .inv .one) (to-one-in (s .loop .inv) (c .before .before .before .before .before .one-first .ensures) (c .before .before .before .before .if1 .taken)
+    (c .before .before .before .before .before .before .loop-test .taken))
 
 take-up-requires : tie.Need-take-up-requires Inv-loop μ-loop
-take-up-requires c κs = (((c .before .before .before .before .before .before .before .loop) .inv .starts-len ∙ (c .before .before .before .before .before .before .before .loop) .inv .out ∙ sym ((c .before .before .before .before .before .before .before .loop) .inv .ends-len)), to-room ((c .before .before .before .before .before .before .before .loop) .inv) ((c .before .before .before .before .before .before .loop-test) .taken))
+take-up-requires c κs =
+    let s = c .before .before .before .before .before .before .before in
+    ((s .loop .inv .starts-len ∙ s .loop .inv .out ∙ sym (s .loop .inv .ends-len)), to-room (s .loop .inv) (c .before .before .before .before .before .before .loop-test .taken))
 
 add-i : tie.Need-add-i Inv-loop μ-loop
-add-i c = next _ _ (to-one-in ((c .before .before .before .before .before .before .before .before .before .before .before .before .loop) .inv) ((c .before .before .before .before .before .before .before .before .before .before .one-first) .ensures) ((c .before .before .before .before .before .before .before .before .before .if1) .taken) ((c .before .before .before .before .before .before .before .before .before .before .before .loop-test) .taken)) ((c .before .before .before .before .before .before .before .before .before .before .before .before .before .before .before .before .before .before .before .good) .0 .1)
+add-i c =
+    next _ _ (to-one-in ((c .before .before .before .before .before .before .before .before .before .before .before .before .loop) .inv)
+    ((c .before .before .before .before .before .before .before .before .before .before .one-first) .ensures)
+    ((c .before .before .before .before .before .before .before .before .before .if1) .taken)
+    ((c .before .before .before .before .before .before .before .before .before .before .before .loop-test) .taken))
+    ((c .before .before .before .before .before .before .before .before .before .before .before .before .before .before .before .before .before .before .before .good) .0 .1)
 
 loop-less : tie.Need-loop-less Inv-loop μ-loop
 loop-less c = less-one _ _ _ ((c .before .before .before .before .before .before .before .before .before .before .before .loop-test) .taken)
 
 loop-again : tie.Need-loop-again Inv-loop μ-loop
-loop-again c = to-one ((c .before .before .before .before .before .before .before .before .before .before .before .before .loop) .inv) ((c .before .before .before .before .before .before .before .before .before .before .one-first) .ensures) ((c .before .before .before .before .take-up) .kept .0) ((c .before .before .before .before .take-up) .kept .1 .0) ((c .before .before .before .before .before .before .before .before .before .if1) .taken) ((c .before .before .before .before .before .before .before .before .before .before .before .loop-test) .taken) ((c .before .before .before .before .take-up) .ensures)
+loop-again c =
+    let s = c .before .before .before .before in
+    to-one (s .before .before .before .before .before .before .before .before .loop .inv) (s .before .before .before .before .before .before .one-first .ensures) (s .take-up .kept .0)
+    (s .take-up .kept .1 .0) (s .before .before .before .before .before .if1 .taken) (s .before .before .before .before .before .before .before .loop-test .taken) (s .take-up .ensures)
 
 mul-take-up-3 : tie.Need-mul-take-up-3 Inv-loop μ-loop
 mul-take-up-3 c = fits _ _ (to-two-in ((c .before .before .before .before .before .loop) .inv) ((c .before .before .before .one-first) .ensures) ((c .before .before .if1) .left)) ((c .before .before .before .before .before .before .before .before .before .before .before .before .good) .1 .1 .0 .1)
@@ -81,22 +105,36 @@ shared-slice-read-take-up-3 : tie.Need-shared-slice-read-take-up-3 Inv-loop μ-l
 shared-slice-read-take-up-3 c = to-two-in ((c .before .before .before .before .before .before .loop) .inv) ((c .before .before .before .before .one-first) .ensures) ((c .before .before .before .if1) .left)
 
 mul-take-up-4 : tie.Need-mul-take-up-4 Inv-loop μ-loop
-mul-take-up-4 c = fits _ _ (to-two-in ((c .before .before .before .before .before .before .loop) .inv) ((c .before .before .before .before .one-first) .ensures) ((c .before .before .before .if1) .left)) ((c .before .before .before .before .before .before .before .before .before .before .before .before .before .good) .1 .1 .0 .1)
+mul-take-up-4 c =
+    fits _ _
+    (to-two-in ((c .before .before .before .before .before .before .loop) .inv) ((c .before .before .before .before .one-first) .ensures) ((c .before .before .before .if1) .left))
+    ((c .before .before .before .before .before .before .before .before .before .before .before .before .before .good) .1 .1 .0 .1)
 
 shared-slice-read-take-up-4 : tie.Need-shared-slice-read-take-up-4 Inv-loop μ-loop
-shared-slice-read-take-up-4 c = omega (arith, (c .before .before .before .before .before .before .before .loop) .inv .two, to-two-in ((c .before .before .before .before .before .before .before .loop) .inv) ((c .before .before .before .before .before .one-first) .ensures) ((c .before .before .before .before .if1) .left))
+shared-slice-read-take-up-4 c =
+    let s = c .before .before .before .before .before .before .before in
+    omega (arith, s .loop .inv .two, to-two-in (s .loop .inv) (c .before .before .before .before .before .one-first .ensures) (c .before .before .before .before .if1 .left))
 
 take-up-requires-2 : tie.Need-take-up-requires-2 Inv-loop μ-loop
-take-up-requires-2 c κs = (((c .before .before .before .before .before .before .before .loop) .inv .starts-len ∙ (c .before .before .before .before .before .before .before .loop) .inv .out ∙ sym ((c .before .before .before .before .before .before .before .loop) .inv .ends-len)), to-room ((c .before .before .before .before .before .before .before .loop) .inv) ((c .before .before .before .before .before .before .loop-test) .taken))
+take-up-requires-2 c κs =
+    let s = c .before .before .before .before .before .before .before in
+    ((s .loop .inv .starts-len ∙ s .loop .inv .out ∙ sym (s .loop .inv .ends-len)), to-room (s .loop .inv) (c .before .before .before .before .before .before .loop-test .taken))
 
 add-j : tie.Need-add-j Inv-loop μ-loop
-add-j c = next _ _ (to-two-in ((c .before .before .before .before .before .before .before .before .before .before .before .before .loop) .inv) ((c .before .before .before .before .before .before .before .before .before .before .one-first) .ensures) ((c .before .before .before .before .before .before .before .before .before .if1) .left)) ((c .before .before .before .before .before .before .before .before .before .before .before .before .before .before .before .before .before .before .before .good) .1 .1 .0 .1)
+add-j c =
+    next _ _ (to-two-in ((c .before .before .before .before .before .before .before .before .before .before .before .before .loop) .inv)
+    ((c .before .before .before .before .before .before .before .before .before .before .one-first) .ensures)
+    ((c .before .before .before .before .before .before .before .before .before .if1) .left))
+    ((c .before .before .before .before .before .before .before .before .before .before .before .before .before .before .before .before .before .before .before .good) .1 .1 .0 .1)
 
 loop-less-2 : tie.Need-loop-less-2 Inv-loop μ-loop
 loop-less-2 c = less-two _ _ _ ((c .before .before .before .before .before .before .before .before .before .before .before .loop-test) .taken)
 
 loop-again-2 : tie.Need-loop-again-2 Inv-loop μ-loop
-loop-again-2 c = to-two ((c .before .before .before .before .before .before .before .before .before .before .before .before .loop) .inv) ((c .before .before .before .before .before .before .before .before .before .before .one-first) .ensures) ((c .before .before .before .before .take-up2) .kept .0) ((c .before .before .before .before .take-up2) .kept .1 .0) ((c .before .before .before .before .before .before .before .before .before .if1) .left) ((c .before .before .before .before .take-up2) .ensures)
+loop-again-2 c =
+    let s = c .before .before .before .before in
+    to-two (s .before .before .before .before .before .before .before .before .loop .inv) (s .before .before .before .before .before .before .one-first .ensures) (s .take-up2 .kept .0)
+    (s .take-up2 .kept .1 .0) (s .before .before .before .before .before .if1 .left) (s .take-up2 .ensures)
 
 same-length : tie.Need-same-length Inv-loop μ-loop
 same-length c = (c .before .loop) .inv .starts-len

@@ -15,7 +15,9 @@ some : (c : tie.Start) → 1 ≤ blockCount (now (c .args .blocks))
 some c = omega (arith, c .pre .0 .0 .some-block, blocks-length (now (c .args .blocks)))
 
 successors-requires : tie.Need-successors-requires
-successors-requires c κs = ((c .before .before .before .before .pre .0 .0, c .before .before .before .before .pre .0 .1), omega (arith, some (c .before .before .before .before)))
+successors-requires c κs =
+    let s = c .before .before .before .before in
+    ((s .pre .0 .0, s .pre .0 .1), omega (arith, some (s)))
 
 add-components : tie.Need-add-components
 add-components c = search needs
@@ -33,13 +35,18 @@ add-components-5 : tie.Need-add-components-5
 add-components-5 c = search needs
 
 components-requires : tie.Need-components-requires
-components-requires c κs = walkable (now (c .before .before .before .before .before .before .before .before .args .blocks)) (now (c .before .before .before .before .before .before .before .before .args .edges)) _ _ (c .before .before .before .before .before .before .before .before .pre .1) (c .before .before .before .successors .ensures) (some (c .before .before .before .before .before .before .before .before))
+components-requires c κs =
+    let s = c .before .before .before .before .before .before .before .before in
+    walkable (now (s .args .blocks)) (now (s .args .edges)) _ _ (s .pre .1) (c .before .before .before .successors .ensures) (some (s))
 
 same-length : tie.Need-same-length
 same-length c = c .before .before .components .ensures .kept .len ∙ c .before .before .before .before .before .before .successors .ensures .kept .len
 
 returns : tie.Need-returns
-returns c = solved (now (c .before .before .before .before .before .before .before .before .before .before .before .args .blocks)) (now (c .before .before .before .before .before .before .before .before .before .before .before .args .edges)) _ _ (c .before .before .before .before .before .before .before .before .before .before .before .pre .1) (c .before .before .before .before .before .before .successors .ensures) (some (c .before .before .before .before .before .before .before .before .before .before .before)) (c .before .before .components .ensures)
+returns c =
+    let s = c .before .before .before .before .before .before .before .before .before .before .before in
+    solved (now (s .args .blocks)) (now (s .args .edges)) _ _ (s .pre .1) (c .before .before .before .before .before .before .successors .ensures) (some (s))
+    (c .before .before .components .ensures)
 
 pub solve-spec : {M : Type 1} → statement M
 solve-spec =

@@ -18,11 +18,18 @@ widened-requires-2 c κs = search needs
 
 -- src/lib.rt:72:9
 returns : tie.Need-returns
-returns c = axis-short (now ((c .before .before .before .before .before .args) .blocks)) (now ((c .before .before .before .before .before .args) .areas)) ((c .before .before .widened) .ensures .0) ((c .before .before .widened) .ensures .1) ((c .before .widened2) .ensures .0) ((c .before .widened2) .ensures .1) ((c .if1) .taken)
+returns c =
+    let s = c .before .before in
+    let t = s .before .before .before in
+    axis-short (now (t .args .blocks)) (now (t .args .areas)) (s .widened .ensures .0) (s .widened .ensures .1) (c .before .widened2 .ensures .0) (c .before .widened2 .ensures .1)
+    (c .if1 .taken)
 
 -- src/lib.rt:63:1
 returns-2 : tie.Need-returns-2
-returns-2 c = axis-whole (now ((c .before .before .before .before .before .args) .blocks)) (now ((c .before .before .before .before .before .args) .areas)) ((c .before .before .widened) .ensures .0) ((c .before .before .widened) .ensures .1) ((c .before .widened2) .ensures .0) ((c .before .widened2) .ensures .1)
+returns-2 c =
+    let s = c .before .before in
+    let t = s .before .before .before in
+    axis-whole (now (t .args .blocks)) (now (t .args .areas)) (s .widened .ensures .0) (s .widened .ensures .1) (c .before .widened2 .ensures .0) (c .before .widened2 .ensures .1)
 
 pub axis-of-spec : {M : Type 1} → statement M
 axis-of-spec = tie.close (tie.spec widened-requires widened-requires-2 returns returns-2)

@@ -75,7 +75,10 @@ loop-again-2 c = (omega arith, let e = ranges-more (now ((c .before .before .bef
 
 -- src/lib.rt:78:1
 returns : tie.Need-returns Inv-loop μ-loop
-returns c = let e : (c .before .loop) .i ≡ itemRowCount (now ((c .before .before .args) .items)) = omega arith in (c .before .loop) .inv .1 ∙ ap (λ (j : ℕ). min ((c .before .before .args) .room) (rangesIn (now ((c .before .before .args) .items)) j)) e
+returns c =
+    let s = c .before .before in
+    let e : (c .before .loop) .i ≡ itemRowCount (now (s .args .items)) = omega arith in
+    (c .before .loop) .inv .1 ∙ ap (λ (j : ℕ). min (s .args .room) (rangesIn (now (s .args .items)) j)) e
 
 pub ranges-spec : {M : Type 1} → statement M
 ranges-spec =

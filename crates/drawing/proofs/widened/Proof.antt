@@ -32,19 +32,43 @@ loop-holds c = (omega arith, sym (least-none _ _ _ _), sym (greatest-none _ _ _ 
 
 -- src/lib.rt:55:28
 mul-least : tie.Need-mul-least Inv-loop μ-loop
-mul-least c = omega (arith, field-within ((c .before .before .before .args) .w) (rowCount ((c .before .before .before .args) .w) (now ((c .before .before .before .args) .l))) ((c .before .loop) .i) ((c .before .before .before .args) .s) (length (now ((c .before .before .before .args) .l))) ((c .loop-test) .taken) ((c .before .before .before .pre) .0) (rows-within ((c .before .before .before .args) .w) (now ((c .before .before .before .args) .l))))
+mul-least c =
+    let t = c .before .before .before in
+    omega (
+      arith,
+      field-within (t .args .w) (rowCount (t .args .w) (now (t .args .l))) (c .before .loop .i) (t .args .s) (length (now (t .args .l))) (c .loop-test .taken) (t .pre .0)
+          (rows-within (t .args .w) (now (t .args .l))),
+    )
 
 -- src/lib.rt:55:28
 add-least : tie.Need-add-least Inv-loop μ-loop
-add-least c = omega (arith, field-within ((c .before .before .before .args) .w) (rowCount ((c .before .before .before .args) .w) (now ((c .before .before .before .args) .l))) ((c .before .loop) .i) ((c .before .before .before .args) .s) (length (now ((c .before .before .before .args) .l))) ((c .loop-test) .taken) ((c .before .before .before .pre) .0) (rows-within ((c .before .before .before .args) .w) (now ((c .before .before .before .args) .l))))
+add-least c =
+    let t = c .before .before .before in
+    omega (
+      arith,
+      field-within (t .args .w) (rowCount (t .args .w) (now (t .args .l))) (c .before .loop .i) (t .args .s) (length (now (t .args .l))) (c .loop-test .taken) (t .pre .0)
+          (rows-within (t .args .w) (now (t .args .l))),
+    )
 
 -- src/lib.rt:55:26
 mul-least-2 : tie.Need-mul-least-2 Inv-loop μ-loop
-mul-least-2 c = omega (arith, field-within ((c .before .before .before .args) .w) (rowCount ((c .before .before .before .args) .w) (now ((c .before .before .before .args) .l))) ((c .before .loop) .i) ((c .before .before .before .args) .s) (length (now ((c .before .before .before .args) .l))) ((c .loop-test) .taken) ((c .before .before .before .pre) .0) (rows-within ((c .before .before .before .args) .w) (now ((c .before .before .before .args) .l))))
+mul-least-2 c =
+    let t = c .before .before .before in
+    omega (
+      arith,
+      field-within (t .args .w) (rowCount (t .args .w) (now (t .args .l))) (c .before .loop .i) (t .args .s) (length (now (t .args .l))) (c .loop-test .taken) (t .pre .0)
+          (rows-within (t .args .w) (now (t .args .l))),
+    )
 
 -- src/lib.rt:55:26
 shared-slice-read-least : tie.Need-shared-slice-read-least Inv-loop μ-loop
-shared-slice-read-least c = omega (arith, field-within ((c .before .before .before .before .args) .w) (rowCount ((c .before .before .before .before .args) .w) (now ((c .before .before .before .before .args) .l))) ((c .before .before .loop) .i) ((c .before .before .before .before .args) .s) (length (now ((c .before .before .before .before .args) .l))) ((c .before .loop-test) .taken) ((c .before .before .before .before .pre) .0) (rows-within ((c .before .before .before .before .args) .w) (now ((c .before .before .before .before .args) .l))))
+shared-slice-read-least c =
+    let t = c .before .before .before .before in
+    omega (
+      arith,
+      field-within (t .args .w) (rowCount (t .args .w) (now (t .args .l))) (c .before .before .loop .i) (t .args .s) (length (now (t .args .l)))
+          (c .before .loop-test .taken) (t .pre .0) (rows-within (t .args .w) (now (t .args .l))),
+    )
 
 -- src/lib.rt:55:9
 least-requires : tie.Need-least-requires Inv-loop μ-loop
@@ -52,19 +76,43 @@ least-requires c κs = omega arith
 
 -- src/lib.rt:56:33
 mul-greatest : tie.Need-mul-greatest Inv-loop μ-loop
-mul-greatest c = omega (arith, field-within ((c .before .before .before .before .before .args) .w) (rowCount ((c .before .before .before .before .before .args) .w) (now ((c .before .before .before .before .before .args) .l))) ((c .before .before .before .loop) .i) ((c .before .before .before .before .before .args) .e) (length (now ((c .before .before .before .before .before .args) .l))) ((c .before .before .loop-test) .taken) ((c .before .before .before .before .before .pre) .1) (rows-within ((c .before .before .before .before .before .args) .w) (now ((c .before .before .before .before .before .args) .l))))
+mul-greatest c =
+    let s = c .before .before .before .before .before in
+    omega (
+      arith,
+      field-within (s .args .w) (rowCount (s .args .w) (now (s .args .l))) (c .before .before .before .loop .i) (s .args .e) (length (now (s .args .l)))
+          (c .before .before .loop-test .taken) (s .pre .1) (rows-within (s .args .w) (now (s .args .l))),
+    )
 
 -- src/lib.rt:56:33
 add-greatest : tie.Need-add-greatest Inv-loop μ-loop
-add-greatest c = omega (arith, field-within ((c .before .before .before .before .before .args) .w) (rowCount ((c .before .before .before .before .before .args) .w) (now ((c .before .before .before .before .before .args) .l))) ((c .before .before .before .loop) .i) ((c .before .before .before .before .before .args) .e) (length (now ((c .before .before .before .before .before .args) .l))) ((c .before .before .loop-test) .taken) ((c .before .before .before .before .before .pre) .1) (rows-within ((c .before .before .before .before .before .args) .w) (now ((c .before .before .before .before .before .args) .l))))
+add-greatest c =
+    let s = c .before .before .before .before .before in
+    omega (
+      arith,
+      field-within (s .args .w) (rowCount (s .args .w) (now (s .args .l))) (c .before .before .before .loop .i) (s .args .e) (length (now (s .args .l)))
+          (c .before .before .loop-test .taken) (s .pre .1) (rows-within (s .args .w) (now (s .args .l))),
+    )
 
 -- src/lib.rt:56:31
 mul-greatest-2 : tie.Need-mul-greatest-2 Inv-loop μ-loop
-mul-greatest-2 c = omega (arith, field-within ((c .before .before .before .before .before .args) .w) (rowCount ((c .before .before .before .before .before .args) .w) (now ((c .before .before .before .before .before .args) .l))) ((c .before .before .before .loop) .i) ((c .before .before .before .before .before .args) .e) (length (now ((c .before .before .before .before .before .args) .l))) ((c .before .before .loop-test) .taken) ((c .before .before .before .before .before .pre) .1) (rows-within ((c .before .before .before .before .before .args) .w) (now ((c .before .before .before .before .before .args) .l))))
+mul-greatest-2 c =
+    let s = c .before .before .before .before .before in
+    omega (
+      arith,
+      field-within (s .args .w) (rowCount (s .args .w) (now (s .args .l))) (c .before .before .before .loop .i) (s .args .e) (length (now (s .args .l)))
+          (c .before .before .loop-test .taken) (s .pre .1) (rows-within (s .args .w) (now (s .args .l))),
+    )
 
 -- src/lib.rt:56:31
 shared-slice-read-greatest : tie.Need-shared-slice-read-greatest Inv-loop μ-loop
-shared-slice-read-greatest c = omega (arith, field-within ((c .before .before .before .before .before .before .args) .w) (rowCount ((c .before .before .before .before .before .before .args) .w) (now ((c .before .before .before .before .before .before .args) .l))) ((c .before .before .before .before .loop) .i) ((c .before .before .before .before .before .before .args) .e) (length (now ((c .before .before .before .before .before .before .args) .l))) ((c .before .before .before .loop-test) .taken) ((c .before .before .before .before .before .before .pre) .1) (rows-within ((c .before .before .before .before .before .before .args) .w) (now ((c .before .before .before .before .before .before .args) .l))))
+shared-slice-read-greatest c =
+    let s = c .before .before .before .before .before .before in
+    omega (
+      arith,
+      field-within (s .args .w) (rowCount (s .args .w) (now (s .args .l))) (c .before .before .before .before .loop .i) (s .args .e) (length (now (s .args .l)))
+          (c .before .before .before .loop-test .taken) (s .pre .1) (rows-within (s .args .w) (now (s .args .l))),
+    )
 
 -- src/lib.rt:56:9
 greatest-requires : tie.Need-greatest-requires Inv-loop μ-loop
@@ -72,7 +120,15 @@ greatest-requires c κs = omega arith
 
 -- src/lib.rt:57:9
 add-i : tie.Need-add-i Inv-loop μ-loop
-add-i c = omega (arith, field-within ((c .before .before .before .before .before .before .before .args) .w) (rowCount ((c .before .before .before .before .before .before .before .args) .w) (now ((c .before .before .before .before .before .before .before .args) .l))) ((c .before .before .before .before .before .loop) .i) 0 (length (now ((c .before .before .before .before .before .before .before .args) .l))) ((c .before .before .before .before .loop-test) .taken) (omega (arith, (c .before .before .before .before .before .before .before .pre) .0)) (rows-within ((c .before .before .before .before .before .before .before .args) .w) (now ((c .before .before .before .before .before .before .before .args) .l))), mul-pos-le ((c .before .before .before .before .before .before .before .args) .w) ((c .before .before .before .before .before .loop) .i) (omega (arith, (c .before .before .before .before .before .before .before .pre) .0)))
+add-i c =
+    let s = c .before .before .before .before .before in
+    let t = s .before .before in
+    omega (
+      arith,
+      field-within (t .args .w) (rowCount (t .args .w) (now (t .args .l))) (s .loop .i) 0 (length (now (t .args .l))) (c .before .before .before .before .loop-test .taken)
+          (omega (arith, t .pre .0)) (rows-within (t .args .w) (now (t .args .l))),
+      mul-pos-le (t .args .w) (s .loop .i) (omega (arith, t .pre .0)),
+    )
 
 -- src/lib.rt:54:5
 loop-less : tie.Need-loop-less Inv-loop μ-loop
@@ -80,11 +136,25 @@ loop-less c = omega arith
 
 -- src/lib.rt:54:5
 loop-again : tie.Need-loop-again Inv-loop μ-loop
-loop-again c = (omega arith, (c .before .before .least) .ensures ∙ ap (λ (x : ℕ). min x (getD (now ((c .before .before .before .before .before .before .before .args) .l)) ((c .before .before .before .before .before .before .before .args) .w * (c .before .before .before .before .before .loop) .i + (c .before .before .before .before .before .before .before .args) .s) 0)) ((c .before .before .before .before .before .loop) .inv .1) ∙ sym (least-more _ _ _ _ _), (c .greatest) .ensures ∙ ap (λ (x : ℕ). max x (getD (now ((c .before .before .before .before .before .before .before .args) .l)) ((c .before .before .before .before .before .before .before .args) .w * (c .before .before .before .before .before .loop) .i + (c .before .before .before .before .before .before .before .args) .e) 0)) ((c .before .before .before .before .before .loop) .inv .2) ∙ sym (greatest-more _ _ _ _ _))
+loop-again c =
+    let t = c .before .before .before .before .before in
+    let u = t .before .before in (
+      omega arith,
+      c .before .before .least .ensures ∙ ap (λ (x : ℕ). min x (getD (now (u .args .l)) (u .args .w * (t .loop) .i + (u .args) .s) 0)) (t .loop .inv .1) ∙ sym
+          (least-more _ _ _ _ _),
+      c .greatest .ensures ∙ ap (λ (x : ℕ). max x (getD (now (u .args .l)) (u .args .w * (t .loop) .i + (u .args) .e) 0)) (t .loop .inv .2) ∙ sym
+          (greatest-more _ _ _ _ _),
+    )
 
 -- src/lib.rt:46:1
 returns : tie.Need-returns Inv-loop μ-loop
-returns c = let e : (c .before .loop) .i ≡ rowCount ((c .before .before .before .args) .w) (now ((c .before .before .before .args) .l)) = omega arith in ((c .before .loop) .inv .1 ∙ ap (leastOf ((c .before .before .before .args) .w) (now ((c .before .before .before .args) .l)) ((c .before .before .before .args) .s) ((c .before .before .before .args) .ends .low)) e, (c .before .loop) .inv .2 ∙ ap (greatestOf ((c .before .before .before .args) .w) (now ((c .before .before .before .args) .l)) ((c .before .before .before .args) .e) ((c .before .before .before .args) .ends .high)) e)
+returns c =
+    let t = c .before .before .before in
+    let e : (c .before .loop) .i ≡ rowCount (t .args .w) (now (t .args .l)) = omega arith in (
+      c .before .loop .inv .1 ∙ ap (leastOf (t .args .w) (now (t .args .l)) (t .args .s) (t .args .ends .low)) e,
+      c .before .loop .inv .2 ∙ ap
+          (greatestOf (t .args .w) (now (t .args .l)) (t .args .e) (t .args .ends .high)) e,
+    )
 
 pub widened-spec : {M : Type 1} → statement M
 widened-spec =

@@ -21,37 +21,80 @@ enum-known-v : tie.Need-enum-known-v
 enum-known-v c = search needs
 
 returns : tie.Need-returns
-returns c = refused-is (c .before .before .before .before .before .before .before .before .before .args .over) (now (c .before .before .before .before .before .before .before .before .before .args .blocks)) (now (c .before .before .before .before .before .before .before .before .before .args .edges)) (c .before .before .before .before .before .before .before .before .before .args .points) (now (c .before .before .before .before .before .before .before .before .before .args .touched)) (c .before .before .before .before .before .before .before .before .before .args .words) (now (c .before .before .before .before .before .before .before .before .before .args .out)) (now (c .before .before .before .before .before .before .before .before .before .args .work)) _ _ (sym (c .before .before .before .refusal .ensures) ∙ c .before .v .given .1)
+returns c =
+    let s = c .before .before .before .before .before .before .before .before .before in
+    refused-is (s .args .over) (now (s .args .blocks)) (now (s .args .edges)) (s .args .points) (now (s .args .touched)) (s .args .words) (now (s .args .out)) (now (s .args .work)) _ _
+    (sym (c .before .before .before .refusal .ensures) ∙ c .before .v .given .1)
 
 enum-told : tie.Need-enum-told
 enum-told c = search needs
 
 solve-requires : tie.Need-solve-requires
-solve-requires c κs = let k = known (now (c .before .before .before .before .before .before .before .before .before .args .blocks)) (now (c .before .before .before .before .before .before .before .before .before .args .edges)) (c .before .before .before .before .before .before .before .before .before .args .points) (length (now (c .before .before .before .before .before .before .before .before .before .args .touched))) (c .before .before .before .before .before .before .before .before .before .args .words) (length (now (c .before .before .before .before .before .before .before .before .before .args .out))) (length (now (c .before .before .before .before .before .before .before .before .before .args .work))) (sym (c .before .before .before .refusal .ensures) ∙ c .before .enum-told .given .1) in ((k .graph .sound, k .graph .edges-fine, k .rows), k .work-fits)
+solve-requires c κs =
+    let s = c .before .before .before .before .before .before .before .before .before in
+    let k = known (now (s .args .blocks)) (now (s .args .edges)) (s .args .points) (length (now (s .args .touched))) (s .args .words) (length (now (s .args .out)))
+    (length (now (s .args .work))) (sym (c .before .before .before .refusal .ensures) ∙ c .before .enum-told .given .1) in
+    ((k .graph .sound, k .graph .edges-fine, k .rows), k .work-fits)
 
 copy-from-requires : tie.Need-copy-from-requires
-copy-from-requires c κs = let k = known (now (c .before .before .before .before .before .before .before .before .before .before .before .before .before .before .args .blocks)) (now (c .before .before .before .before .before .before .before .before .before .before .before .before .before .before .args .edges)) (c .before .before .before .before .before .before .before .before .before .before .before .before .before .before .args .points) (length (now (c .before .before .before .before .before .before .before .before .before .before .before .before .before .before .args .touched))) (c .before .before .before .before .before .before .before .before .before .before .before .before .before .before .args .words) (length (now (c .before .before .before .before .before .before .before .before .before .before .before .before .before .before .args .out))) (length (now (c .before .before .before .before .before .before .before .before .before .before .before .before .before .before .args .work))) (sym (c .before .before .before .before .before .before .before .before .refusal .ensures) ∙ c .before .before .before .before .before .before .enum-told .given .1) in (copied _ _ (k .answer-fits), inside (c .before .before .before .before .solve .ensures) (k .work-fits))
+copy-from-requires c κs =
+    let s = c .before .before .before .before .before .before .before .before .before .before .before .before .before .before in
+    let k = known (now (s .args .blocks)) (now (s .args .edges)) (s .args .points) (length (now (s .args .touched))) (s .args .words) (length (now (s .args .out)))
+    (length (now (s .args .work)))
+    (sym (c .before .before .before .before .before .before .before .before .refusal .ensures) ∙ c .before .before .before .before .before .before .enum-told .given .1) in
+    (copied _ _ (k .answer-fits), inside (c .before .before .before .before .solve .ensures) (k .work-fits))
 
 add-clear : tie.Need-add-clear
-add-clear c = let k = known (now (c .before .before .before .before .before .before .before .before .before .before .before .before .before .before .before .before .before .before .args .blocks)) (now (c .before .before .before .before .before .before .before .before .before .before .before .before .before .before .before .before .before .before .args .edges)) (c .before .before .before .before .before .before .before .before .before .before .before .before .before .before .before .before .before .before .args .points) (length (now (c .before .before .before .before .before .before .before .before .before .before .before .before .before .before .before .before .before .before .args .touched))) (c .before .before .before .before .before .before .before .before .before .before .before .before .before .before .before .before .before .before .args .words) (length (now (c .before .before .before .before .before .before .before .before .before .before .before .before .before .before .before .before .before .before .args .out))) (length (now (c .before .before .before .before .before .before .before .before .before .before .before .before .before .before .before .before .before .before .args .work))) (sym (c .before .before .before .before .before .before .before .before .before .before .before .before .refusal .ensures) ∙ c .before .before .before .before .before .before .before .before .before .before .enum-told .given .1) in fit (c .before .before .before .before .before .before .before .before .before .before .before .before .before .before .before .before .before .before) k .graph
+add-clear c =
+    let s = c .before .before .before .before .before .before .before .before .before .before .before .before .before .before .before .before .before .before in
+    let k = known (now (s .args .blocks)) (now (s .args .edges)) (s .args .points) (length (now (s .args .touched))) (s .args .words) (length (now (s .args .out))) (length
+    (now (s .args .work))) (sym (c .before .before .before .before .before .before .before .before .before .before .before .before .refusal .ensures)
+    ∙ c .before .before .before .before .before .before .before .before .before .before .enum-told .given .1) in
+    fit (s) k .graph
 
 add-clear-2 : tie.Need-add-clear-2
-add-clear-2 c = let k = known (now (c .before .before .before .before .before .before .before .before .before .before .before .before .before .before .before .before .before .before .args .blocks)) (now (c .before .before .before .before .before .before .before .before .before .before .before .before .before .before .before .before .before .before .args .edges)) (c .before .before .before .before .before .before .before .before .before .before .before .before .before .before .before .before .before .before .args .points) (length (now (c .before .before .before .before .before .before .before .before .before .before .before .before .before .before .before .before .before .before .args .touched))) (c .before .before .before .before .before .before .before .before .before .before .before .before .before .before .before .before .before .before .args .words) (length (now (c .before .before .before .before .before .before .before .before .before .before .before .before .before .before .before .before .before .before .args .out))) (length (now (c .before .before .before .before .before .before .before .before .before .before .before .before .before .before .before .before .before .before .args .work))) (sym (c .before .before .before .before .before .before .before .before .before .before .before .before .refusal .ensures) ∙ c .before .before .before .before .before .before .before .before .before .before .enum-told .given .1) in fit (c .before .before .before .before .before .before .before .before .before .before .before .before .before .before .before .before .before .before) k .all
+add-clear-2 c =
+    let s = c .before .before .before .before .before .before .before .before .before .before .before .before .before .before .before .before .before .before in
+    let k = known (now (s .args .blocks)) (now (s .args .edges)) (s .args .points) (length (now (s .args .touched))) (s .args .words) (length (now (s .args .out))) (length
+    (now (s .args .work))) (sym (c .before .before .before .before .before .before .before .before .before .before .before .before .refusal .ensures)
+    ∙ c .before .before .before .before .before .before .before .before .before .before .enum-told .given .1) in
+    fit (s) k .all
 
 mul-clear : tie.Need-mul-clear
-mul-clear c = let k = known (now (c .before .before .before .before .before .before .before .before .before .before .before .before .before .before .before .before .before .before .args .blocks)) (now (c .before .before .before .before .before .before .before .before .before .before .before .before .before .before .before .before .before .before .args .edges)) (c .before .before .before .before .before .before .before .before .before .before .before .before .before .before .before .before .before .before .args .points) (length (now (c .before .before .before .before .before .before .before .before .before .before .before .before .before .before .before .before .before .before .args .touched))) (c .before .before .before .before .before .before .before .before .before .before .before .before .before .before .before .before .before .before .args .words) (length (now (c .before .before .before .before .before .before .before .before .before .before .before .before .before .before .before .before .before .before .args .out))) (length (now (c .before .before .before .before .before .before .before .before .before .before .before .before .before .before .before .before .before .before .args .work))) (sym (c .before .before .before .before .before .before .before .before .before .before .before .before .refusal .ensures) ∙ c .before .before .before .before .before .before .before .before .before .before .enum-told .given .1) in fit (c .before .before .before .before .before .before .before .before .before .before .before .before .before .before .before .before .before .before) k .space
+mul-clear c =
+    let s = c .before .before .before .before .before .before .before .before .before .before .before .before .before .before .before .before .before .before in
+    let k = known (now (s .args .blocks)) (now (s .args .edges)) (s .args .points) (length (now (s .args .touched))) (s .args .words) (length (now (s .args .out))) (length
+    (now (s .args .work))) (sym (c .before .before .before .before .before .before .before .before .before .before .before .before .refusal .ensures)
+    ∙ c .before .before .before .before .before .before .before .before .before .before .enum-told .given .1) in
+    fit (s) k .space
 
 clear-requires : tie.Need-clear-requires
-clear-requires c κs = let k = known (now (c .before .before .before .before .before .before .before .before .before .before .before .before .before .before .before .before .before .before .args .blocks)) (now (c .before .before .before .before .before .before .before .before .before .before .before .before .before .before .before .before .before .before .args .edges)) (c .before .before .before .before .before .before .before .before .before .before .before .before .before .before .before .before .before .before .args .points) (length (now (c .before .before .before .before .before .before .before .before .before .before .before .before .before .before .before .before .before .before .args .touched))) (c .before .before .before .before .before .before .before .before .before .before .before .before .before .before .before .before .before .before .args .words) (length (now (c .before .before .before .before .before .before .before .before .before .before .before .before .before .before .before .before .before .before .args .out))) (length (now (c .before .before .before .before .before .before .before .before .before .before .before .before .before .before .before .before .before .before .args .work))) (sym (c .before .before .before .before .before .before .before .before .before .before .before .before .refusal .ensures) ∙ c .before .before .before .before .before .before .before .before .before .before .enum-told .given .1) in as-wide (c .before .before .before .before .before .before .before .before .solve .ensures) (k .work-fits)
+clear-requires c κs =
+    let s = c .before .before .before .before .before .before .before .before .before .before .before .before .before .before .before .before .before .before in
+    let k = known (now (s .args .blocks)) (now (s .args .edges)) (s .args .points) (length (now (s .args .touched))) (s .args .words) (length (now (s .args .out))) (length
+    (now (s .args .work))) (sym (c .before .before .before .before .before .before .before .before .before .before .before .before .refusal .ensures)
+    ∙ c .before .before .before .before .before .before .before .before .before .before .enum-told .given .1) in
+    as-wide (c .before .before .before .before .before .before .before .before .solve .ensures) (k .work-fits)
 
 same-length : tie.Need-same-length
 same-length c = c .before .before .before .before .before .before .copy-from .ensures .len
 
 same-length-2 : tie.Need-same-length-2
-same-length-2 c = let k = known (now (c .before .before .before .before .before .before .before .before .before .before .before .before .before .before .before .before .before .before .before .before .before .args .blocks)) (now (c .before .before .before .before .before .before .before .before .before .before .before .before .before .before .before .before .before .before .before .before .before .args .edges)) (c .before .before .before .before .before .before .before .before .before .before .before .before .before .before .before .before .before .before .before .before .before .args .points) (length (now (c .before .before .before .before .before .before .before .before .before .before .before .before .before .before .before .before .before .before .before .before .before .args .touched))) (c .before .before .before .before .before .before .before .before .before .before .before .before .before .before .before .before .before .before .before .before .before .args .words) (length (now (c .before .before .before .before .before .before .before .before .before .before .before .before .before .before .before .before .before .before .before .before .before .args .out))) (length (now (c .before .before .before .before .before .before .before .before .before .before .before .before .before .before .before .before .before .before .before .before .before .args .work))) (sym (c .before .before .before .before .before .before .before .before .before .before .before .before .before .before .before .refusal .ensures) ∙ c .before .before .before .before .before .before .before .before .before .before .before .before .before .enum-told .given .1) in ap length (c .before .before .clear .ensures) ∙ cleared-length _ _ (as-wide (c .before .before .before .before .before .before .before .before .before .before .before .solve .ensures) (k .work-fits)) ∙ c .before .before .before .before .before .before .before .before .before .before .before .solve .ensures .kept .len
+same-length-2 c =
+    let s = c .before .before .before .before .before .before .before .before .before .before .before in
+    let t = s .before .before .before .before .before .before .before .before .before .before in
+    let k = known (now (t .args .blocks)) (now (t .args .edges)) (t .args .points) (length (now (t .args .touched))) (t .args .words) (length (now (t .args .out)))
+    (length (now (t .args .work))) (sym (s .before .before .before .before .refusal .ensures) ∙ s .before .before .enum-told .given .1) in
+    ap length (c .before .before .clear .ensures) ∙ cleared-length _ _ (as-wide (s .solve .ensures) (k .work-fits)) ∙ s .solve .ensures .kept .len
 
 returns-2 : tie.Need-returns-2
-returns-2 c = given-is (c .before .before .before .before .before .before .before .before .before .before .before .before .before .before .before .before .before .before .before .before .before .args .over) (now (c .before .before .before .before .before .before .before .before .before .before .before .before .before .before .before .before .before .before .before .before .before .args .blocks)) (now (c .before .before .before .before .before .before .before .before .before .before .before .before .before .before .before .before .before .before .before .before .before .args .edges)) (c .before .before .before .before .before .before .before .before .before .before .before .before .before .before .before .before .before .before .before .before .before .args .points) (now (c .before .before .before .before .before .before .before .before .before .before .before .before .before .before .before .before .before .before .before .before .before .args .touched)) (c .before .before .before .before .before .before .before .before .before .before .before .before .before .before .before .before .before .before .before .before .before .args .words) _ _ _ _ _ (sym (c .before .before .before .before .before .before .before .before .before .before .before .before .before .before .before .refusal .ensures) ∙ c .before .before .before .before .before .before .before .before .before .before .before .before .before .enum-told .given .1) (c .before .before .before .before .before .before .before .before .before .before .before .solve .ensures) (λ i. c .before .before .before .before .slice-known4 .given i .fits) (c .before .before .before .before .before .before .copy-from .ensures) (c .before .before .clear .ensures)
+returns-2 c =
+    let s = c .before .before .before .before .before .before .before .before .before .before .before .before .before .before .before .before .before .before .before .before .before in
+    given-is (s .args .over) (now (s .args .blocks)) (now (s .args .edges)) (s .args .points) (now (s .args .touched)) (s .args .words) _ _ _ _ _ (sym
+    (c .before .before .before .before .before .before .before .before .before .before .before .before .before .before .before .refusal .ensures)
+    ∙ c .before .before .before .before .before .before .before .before .before .before .before .before .before .enum-told .given .1)
+    (c .before .before .before .before .before .before .before .before .before .before .before .solve .ensures) (λ i. c .before .before .before .before .slice-known4 .given i .fits)
+    (c .before .before .before .before .before .before .copy-from .ensures) (c .before .before .clear .ensures)
 
 pub flowed-spec : {M : Type 1} → statement M
 flowed-spec =

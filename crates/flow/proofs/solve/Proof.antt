@@ -38,28 +38,55 @@ add-out : tie.Need-add-out
 add-out c = fit (c .before .before .before .before) .out
 
 neighbours-requires : tie.Need-neighbours-requires
-neighbours-requires c κs = ((c .before .before .before .before .before .pre .0 .0, c .before .before .before .before .before .pre .0 .1), omega (arith, some (c .before .before .before .before .before)))
+neighbours-requires c κs =
+    let s = c .before .before .before .before .before in
+    ((s .pre .0 .0, s .pre .0 .1), omega (arith, some (s)))
 
 add-components : tie.Need-add-components
 add-components c = fit (c .before .before .before .before .before .before .before .before .before) .edges
 
 components-requires : tie.Need-components-requires
-components-requires c κs = walkable (c .before .before .before .before .before .before .before .before .before .args .over) (now (c .before .before .before .before .before .before .before .before .before .args .blocks)) (now (c .before .before .before .before .before .before .before .before .before .args .edges)) (now (c .before .before .before .before .before .before .before .before .before .args .touched)) (c .before .before .before .before .before .before .before .before .before .args .words) _ _ (some (c .before .before .before .before .before .before .before .before .before)) (c .before .before .before .before .before .before .before .before .before .pre .0 .2) (c .before .before .before .before .before .before .before .before .before .pre .1) (c .before .before .before .neighbours .ensures)
+components-requires c κs =
+    let s = c .before .before .before .before .before .before .before .before .before in
+    walkable (s .args .over) (now (s .args .blocks)) (now (s .args .edges)) (now (s .args .touched)) (s .args .words) _ _ (some (s)) (s .pre .0 .2) (s .pre .1)
+    (c .before .before .before .neighbours .ensures)
 
 copy-from-requires : tie.Need-copy-from-requires
-copy-from-requires c κs = (copy-fits (c .before .before .before .before .before .before .before .before .before .before .before .before .before .args .over) (now (c .before .before .before .before .before .before .before .before .before .before .before .before .before .args .blocks)) (now (c .before .before .before .before .before .before .before .before .before .before .before .before .before .args .edges)) (now (c .before .before .before .before .before .before .before .before .before .before .before .before .before .args .touched)) (c .before .before .before .before .before .before .before .before .before .before .before .before .before .args .words) _ _ (some (c .before .before .before .before .before .before .before .before .before .before .before .before .before)) (c .before .before .before .before .before .before .before .before .before .before .before .before .before .pre .0 .2) (c .before .before .before .before .before .before .before .before .before .before .before .before .before .pre .1) (c .before .before .before .before .before .before .before .neighbours .ensures) (c .before .before .before .components .ensures), omega arith)
+copy-from-requires c κs =
+    let s = c .before .before .before .before .before .before .before .before .before .before .before .before .before in (
+      copy-fits (s .args .over) (now (s .args .blocks)) (now (s .args .edges)) (now (s .args .touched)) (s .args .words) _ _ (some (s)) (s .pre .0 .2) (s .pre .1)
+          (c .before .before .before .before .before .before .before .neighbours .ensures) (c .before .before .before .components .ensures),
+      omega arith,
+    )
 
 add-t12 : tie.Need-add-t12
 add-t12 c = fit (c .before .before .before .before .before .before .before .before .before .before .before .before .before .before .before .before .before) .edges
 
 flowed-requires : tie.Need-flowed-requires
-flowed-requires c κs = (laid (c .before .before .before .before .before .before .before .before .before .before .before .before .before .before .before .before .before .args .over) (now (c .before .before .before .before .before .before .before .before .before .before .before .before .before .before .before .before .before .args .blocks)) (now (c .before .before .before .before .before .before .before .before .before .before .before .before .before .before .before .before .before .args .edges)) (now (c .before .before .before .before .before .before .before .before .before .before .before .before .before .before .before .before .before .args .touched)) (c .before .before .before .before .before .before .before .before .before .before .before .before .before .before .before .before .before .args .words) _ _ (some (c .before .before .before .before .before .before .before .before .before .before .before .before .before .before .before .before .before)) (c .before .before .before .before .before .before .before .before .before .before .before .before .before .before .before .before .before .pre .0 .2) (c .before .before .before .before .before .before .before .before .before .before .before .before .before .before .before .before .before .pre .1) (c .before .before .before .before .before .before .before .before .before .before .before .neighbours .ensures) (c .before .before .before .before .before .before .before .components .ensures) (c .before .before .before .copy-from .ensures), ordered (c .before .before .before .before .before .before .before .before .before .before .before .before .before .before .before .before .before .args .over) (now (c .before .before .before .before .before .before .before .before .before .before .before .before .before .before .before .before .before .args .blocks)) (now (c .before .before .before .before .before .before .before .before .before .before .before .before .before .before .before .before .before .args .edges)) (now (c .before .before .before .before .before .before .before .before .before .before .before .before .before .before .before .before .before .args .touched)) (c .before .before .before .before .before .before .before .before .before .before .before .before .before .before .before .before .before .args .words) _ _ (some (c .before .before .before .before .before .before .before .before .before .before .before .before .before .before .before .before .before)) (c .before .before .before .before .before .before .before .before .before .before .before .before .before .before .before .before .before .pre .0 .2) (c .before .before .before .before .before .before .before .before .before .before .before .before .before .before .before .before .before .pre .1) (c .before .before .before .before .before .before .before .before .before .before .before .neighbours .ensures) (c .before .before .before .before .before .before .before .components .ensures) (c .before .before .before .copy-from .ensures))
+flowed-requires c κs =
+    let s = c .before .before .before in
+    let t = s .before .before .before .before in
+    let u = t .before .before .before .before in
+    let p = u .before .before .before .before .before .before in (
+      laid (p .args .over) (now (p .args .blocks)) (now (p .args .edges)) (now (p .args .touched)) (p .args .words) _ _ (some (p)) (p .pre .0 .2) (p .pre .1) (u .neighbours .ensures)
+          (t .components .ensures) (s .copy-from .ensures),
+      ordered (p .args .over) (now (p .args .blocks)) (now (p .args .edges)) (now (p .args .touched)) (p .args .words) _ _ (some (p))
+          (p .pre .0 .2) (p .pre .1) (u .neighbours .ensures) (t .components .ensures) (s .copy-from .ensures),
+    )
 
 same-length : tie.Need-same-length
-same-length c = c .before .before .flowed .ensures .kept .len ∙ c .before .before .before .before .before .before .copy-from .ensures .len ∙ c .before .before .before .before .before .before .before .before .before .before .components .ensures .kept .len ∙ c .before .before .before .before .before .before .before .before .before .before .before .before .before .before .neighbours .ensures .kept .len
+same-length c =
+    c .before .before .flowed .ensures .kept .len ∙ c .before .before .before .before .before .before .copy-from .ensures .len
+    ∙ c .before .before .before .before .before .before .before .before .before .before .components .ensures .kept .len
+    ∙ c .before .before .before .before .before .before .before .before .before .before .before .before .before .before .neighbours .ensures .kept .len
 
 returns : tie.Need-returns
-returns c = solved (c .before .before .before .before .before .before .before .before .before .before .before .before .before .before .before .before .before .before .before .before .args .over) (now (c .before .before .before .before .before .before .before .before .before .before .before .before .before .before .before .before .before .before .before .before .args .blocks)) (now (c .before .before .before .before .before .before .before .before .before .before .before .before .before .before .before .before .before .before .before .before .args .edges)) (now (c .before .before .before .before .before .before .before .before .before .before .before .before .before .before .before .before .before .before .before .before .args .touched)) (c .before .before .before .before .before .before .before .before .before .before .before .before .before .before .before .before .before .before .before .before .args .words) _ _ (some (c .before .before .before .before .before .before .before .before .before .before .before .before .before .before .before .before .before .before .before .before)) (c .before .before .before .before .before .before .before .before .before .before .before .before .before .before .before .before .before .before .before .before .pre .0 .2) (c .before .before .before .before .before .before .before .before .before .before .before .before .before .before .before .before .before .before .before .before .pre .1) (c .before .before .before .before .before .before .before .before .before .before .before .before .before .before .neighbours .ensures) (c .before .before .before .before .before .before .before .before .before .before .components .ensures) (c .before .before .before .before .before .before .copy-from .ensures) (c .before .before .flowed .ensures)
+returns c =
+    let s = c .before .before .before .before .before .before .before .before .before .before .before .before .before .before .before .before .before .before .before .before in
+    solved (s .args .over) (now (s .args .blocks)) (now (s .args .edges)) (now (s .args .touched)) (s .args .words) _ _ (some (s)) (s .pre .0 .2) (s .pre .1)
+    (c .before .before .before .before .before .before .before .before .before .before .before .before .before .before .neighbours .ensures)
+    (c .before .before .before .before .before .before .before .before .before .before .components .ensures) (c .before .before .before .before .before .before .copy-from .ensures)
+    (c .before .before .flowed .ensures)
 
 pub solve-spec : {M : Type 1} → statement M
 solve-spec =

@@ -23,7 +23,10 @@ loop-holds : tie.Need-loop-holds Inv-loop μ-loop
 loop-holds c = flow-start _ _ (c .before .before .before .pre .0) (c .before .before .before .pre .1)
 
 visit-requires : tie.Need-visit-requires Inv-loop μ-loop
-visit-requires c κs = (laid-kept (c .before .before .before .loop .inv .laid) (c .before .before .before .loop .inv .kept), five (c .before .before .before .before .before .before .before .args .f .base) (c .before .before .before .before .before .before .before .args .f .n), c .before .if1 .taken)
+visit-requires c κs =
+    let s = c .before .before .before in
+    let t = s .before .before .before .before in
+    (laid-kept (s .loop .inv .laid) (s .loop .inv .kept), five (t .args .f .base) (t .args .f .n), c .before .if1 .taken)
 
 loop-less : tie.Need-loop-less Inv-loop μ-loop
 loop-less c = omega (arith, c .before .before .visit .ensures .run .first, c .before .before .visit .ensures .run .last)

@@ -28,34 +28,54 @@ add-to-2 : tie.Need-add-to-2 Inv-loop μ-loop
 add-to-2 c = before-edges _ _ (c .before .before .pre .0) (c .before .before .pre .1) (c .before .before .pre .2) (c .before .before .good .0 .1) .to-one
 
 mul-row : tie.Need-mul-row Inv-loop μ-loop
-mul-row c = before-edges _ _ (c .before .before .before .pre .0) (c .before .before .before .pre .1) (c .before .before .before .pre .2) (c .before .before .before .good .0 .1) .rows
+mul-row c =
+    let s = c .before .before .before in
+    before-edges _ _ (s .pre .0) (s .pre .1) (s .pre .2) (s .good .0 .1) .rows
 
 add-row : tie.Need-add-row Inv-loop μ-loop
-add-row c = before-edges _ _ (c .before .before .before .before .pre .0) (c .before .before .before .before .pre .1) (c .before .before .before .before .pre .2) (c .before .before .before .before .good .0 .1) .row
+add-row c =
+    let s = c .before .before .before .before in
+    before-edges _ _ (s .pre .0) (s .pre .1) (s .pre .2) (s .good .0 .1) .row
 
 add-end : tie.Need-add-end Inv-loop μ-loop
-add-end c = before-edges _ _ (c .before .before .before .before .before .pre .0) (c .before .before .before .before .before .pre .1) (c .before .before .before .before .before .pre .2) (c .before .before .before .before .before .good .0 .1) .begin
+add-end c =
+    let s = c .before .before .before .before .before in
+    before-edges _ _ (s .pre .0) (s .pre .1) (s .pre .2) (s .good .0 .1) .begin
 
 add-end-2 : tie.Need-add-end-2 Inv-loop μ-loop
-add-end-2 c = before-edges _ _ (c .before .before .before .before .before .pre .0) (c .before .before .before .before .before .pre .1) (c .before .before .before .before .before .pre .2) (c .before .before .before .before .before .good .0 .1) .end
+add-end-2 c =
+    let s = c .before .before .before .before .before in
+    before-edges _ _ (s .pre .0) (s .pre .1) (s .pre .2) (s .good .0 .1) .end
 
 mul-end : tie.Need-mul-end Inv-loop μ-loop
-mul-end c = before-edges _ _ (c .before .before .before .before .before .pre .0) (c .before .before .before .before .before .pre .1) (c .before .before .before .before .before .pre .2) (c .before .before .before .before .before .good .0 .1) .end-bytes
+mul-end c =
+    let s = c .before .before .before .before .before in
+    before-edges _ _ (s .pre .0) (s .pre .1) (s .pre .2) (s .good .0 .1) .end-bytes
 
 slice-read-end : tie.Need-slice-read-end Inv-loop μ-loop
-slice-read-end c = before-edges _ _ (c .before .before .before .before .before .before .pre .0) (c .before .before .before .before .before .before .pre .1) (c .before .before .before .before .before .before .pre .2) (c .before .before .before .before .before .before .good .0 .1) .end-in
+slice-read-end c =
+    let s = c .before .before .before .before .before .before in
+    before-edges _ _ (s .pre .0) (s .pre .1) (s .pre .2) (s .good .0 .1) .end-in
 
 add-k : tie.Need-add-k Inv-loop μ-loop
-add-k c = before-edges _ _ (c .before .before .before .before .before .before .before .pre .0) (c .before .before .before .before .before .before .before .pre .1) (c .before .before .before .before .before .before .before .pre .2) (c .before .before .before .before .before .before .before .good .0 .1) .begin
+add-k c =
+    let s = c .before .before .before .before .before .before .before in
+    before-edges _ _ (s .pre .0) (s .pre .1) (s .pre .2) (s .good .0 .1) .begin
 
 mul-k : tie.Need-mul-k Inv-loop μ-loop
-mul-k c = before-edges _ _ (c .before .before .before .before .before .before .before .pre .0) (c .before .before .before .before .before .before .before .pre .1) (c .before .before .before .before .before .before .before .pre .2) (c .before .before .before .before .before .before .before .good .0 .1) .begin-bytes
+mul-k c =
+    let s = c .before .before .before .before .before .before .before in
+    before-edges _ _ (s .pre .0) (s .pre .1) (s .pre .2) (s .good .0 .1) .begin-bytes
 
 slice-read-k : tie.Need-slice-read-k Inv-loop μ-loop
-slice-read-k c = before-edges _ _ (c .before .before .before .before .before .before .before .before .pre .0) (c .before .before .before .before .before .before .before .before .pre .1) (c .before .before .before .before .before .before .before .before .pre .2) (c .before .before .before .before .before .before .before .before .good .0 .1) .begin-in
+slice-read-k c =
+    let s = c .before .before .before .before .before .before .before .before in
+    before-edges _ _ (s .pre .0) (s .pre .1) (s .pre .2) (s .good .0 .1) .begin-in
 
 loop-holds : tie.Need-loop-holds Inv-loop μ-loop
-loop-holds c = (refl, gather-start (c .before .before .before .before .before .before .before .before .args .f) _ _ _ _ (c .before .before .before .before .before .before .before .before .pre .0) (c .before .before .before .before .before .before .before .before .pre .1) (c .before .before .before .before .before .before .before .before .pre .2) (c .before .before .before .before .before .before .before .before .pre .3))
+loop-holds c =
+    let s = c .before .before .before .before .before .before .before .before in
+    (refl, gather-start (s .args .f) _ _ _ _ (s .pre .0) (s .pre .1) (s .pre .2) (s .pre .3))
 
 add-g : tie.Need-add-g Inv-loop μ-loop
 add-g c = at-edge (c .before .loop .inv .1) (before-end _ _ _ (c .before .loop .inv .0) (c .loop-test .taken)) (c .before .before .before .before .before .before .before .before .before .before .good .0 .1) .to
@@ -64,37 +84,66 @@ mul-g : tie.Need-mul-g Inv-loop μ-loop
 mul-g c = at-edge (c .before .loop .inv .1) (before-end _ _ _ (c .before .loop .inv .0) (c .loop-test .taken)) (c .before .before .before .before .before .before .before .before .before .before .good .0 .1) .to-bytes
 
 slice-read-g : tie.Need-slice-read-g Inv-loop μ-loop
-slice-read-g c = at-edge (c .before .before .loop .inv .1) (before-end _ _ _ (c .before .before .loop .inv .0) (c .before .loop-test .taken)) (c .before .before .before .before .before .before .before .before .before .before .before .good .0 .1) .to-in
+slice-read-g c =
+    let s = c .before .before in
+    at-edge (s .loop .inv .1) (before-end _ _ _ (s .loop .inv .0) (c .before .loop-test .taken))
+    (s .before .before .before .before .before .before .before .before .before .good .0 .1) .to-in
 
 add-if1 : tie.Need-add-if1 Inv-loop μ-loop
-add-if1 c = at-edge (c .before .before .before .loop .inv .1) (before-end _ _ _ (c .before .before .before .loop .inv .0) (c .before .before .loop-test .taken)) (c .before .before .before .before .before .before .before .before .before .before .before .before .good .0 .1) .which-fits
+add-if1 c =
+    let s = c .before .before .before in
+    at-edge (s .loop .inv .1) (before-end _ _ _ (s .loop .inv .0) (c .before .before .loop-test .taken))
+    (s .before .before .before .before .before .before .before .before .before .good .0 .1) .which-fits
 
 mul-if1 : tie.Need-mul-if1 Inv-loop μ-loop
-mul-if1 c = at-edge (c .before .before .before .loop .inv .1) (before-end _ _ _ (c .before .before .before .loop .inv .0) (c .before .before .loop-test .taken)) (c .before .before .before .before .before .before .before .before .before .before .before .before .good .0 .1) .which-bytes
+mul-if1 c =
+    let s = c .before .before .before in
+    at-edge (s .loop .inv .1) (before-end _ _ _ (s .loop .inv .0) (c .before .before .loop-test .taken))
+    (s .before .before .before .before .before .before .before .before .before .good .0 .1) .which-bytes
 
 slice-read-if1 : tie.Need-slice-read-if1 Inv-loop μ-loop
-slice-read-if1 c = at-edge (c .before .before .before .before .loop .inv .1) (before-end _ _ _ (c .before .before .before .before .loop .inv .0) (c .before .before .before .loop-test .taken)) (c .before .before .before .before .before .before .before .before .before .before .before .before .before .good .0 .1) .which-in
+slice-read-if1 c =
+    let s = c .before .before .before .before in
+    at-edge (s .loop .inv .1) (before-end _ _ _ (s .loop .inv .0) (c .before .before .before .loop-test .taken))
+    (s .before .before .before .before .before .before .before .before .before .good .0 .1) .which-in
 
 add-k-2 : tie.Need-add-k-2 Inv-loop μ-loop
-add-k-2 c = at-edge (c .before .before .before .before .before .loop .inv .1) (before-end _ _ _ (c .before .before .before .before .before .loop .inv .0) (c .before .before .before .before .loop-test .taken)) (c .before .before .before .before .before .before .before .before .before .before .before .before .before .before .good .0 .1) .next
+add-k-2 c =
+    let s = c .before .before .before .before .before in
+    at-edge (s .loop .inv .1) (before-end _ _ _ (s .loop .inv .0) (c .before .before .before .before .loop-test .taken))
+    (s .before .before .before .before .before .before .before .before .before .good .0 .1) .next
 
 loop-less : tie.Need-loop-less Inv-loop μ-loop
 loop-less c = omega arith
 
 loop-again : tie.Need-loop-again Inv-loop μ-loop
-loop-again c = (c .before .before .before .before .before .loop .inv .0, gather-stay (c .before .before .before .before .before .loop .inv .1) (before-end _ _ _ (c .before .before .before .before .before .loop .inv .0) (c .before .before .before .before .loop-test .taken)) (c .if1 .taken))
+loop-again c =
+    let s = c .before .before .before .before .before in
+    (s .loop .inv .0, gather-stay (s .loop .inv .1) (before-end _ _ _ (s .loop .inv .0) (c .before .before .before .before .loop-test .taken)) (c .if1 .taken))
 
 mul-row-or-two : tie.Need-mul-row-or-two Inv-loop μ-loop
-mul-row-or-two c = at-edge (c .before .before .before .before .before .before .before .loop .inv .1) (before-end _ _ _ (c .before .before .before .before .before .before .before .loop .inv .0) (c .before .before .before .before .before .before .loop-test .taken)) (c .before .before .before .before .before .before .before .before .before .before .before .before .before .before .before .before .good .0 .1) .rows
+mul-row-or-two c =
+    let s = c .before .before .before .before .before .before .before in
+    at-edge (s .loop .inv .1) (before-end _ _ _ (s .loop .inv .0) (c .before .before .before .before .before .before .loop-test .taken))
+    (s .before .before .before .before .before .before .before .before .before .good .0 .1) .rows
 
 add-row-or-two : tie.Need-add-row-or-two Inv-loop μ-loop
-add-row-or-two c = at-edge (c .before .before .before .before .before .before .before .before .loop .inv .1) (before-end _ _ _ (c .before .before .before .before .before .before .before .before .loop .inv .0) (c .before .before .before .before .before .before .before .loop-test .taken)) (c .before .before .before .before .before .before .before .before .before .before .before .before .before .before .before .before .before .good .0 .1) .out
+add-row-or-two c =
+    let s = c .before .before .before .before .before .before .before .before in
+    at-edge (s .loop .inv .1) (before-end _ _ _ (s .loop .inv .0) (c .before .before .before .before .before .before .before .loop-test .taken))
+    (s .before .before .before .before .before .before .before .before .before .good .0 .1) .out
 
 mul-row-or-two-2 : tie.Need-mul-row-or-two-2 Inv-loop μ-loop
-mul-row-or-two-2 c = at-edge (c .before .before .before .before .before .before .before .before .before .loop .inv .1) (before-end _ _ _ (c .before .before .before .before .before .before .before .before .before .loop .inv .0) (c .before .before .before .before .before .before .before .before .loop-test .taken)) (c .before .before .before .before .before .before .before .before .before .before .before .before .before .before .before .before .before .before .good .0 .1) .rows
+mul-row-or-two-2 c =
+    let s = c .before .before .before .before .before .before .before .before .before in
+    at-edge (s .loop .inv .1) (before-end _ _ _ (s .loop .inv .0) (c .before .before .before .before .before .before .before .before .loop-test .taken))
+    (s .before .before .before .before .before .before .before .before .before .good .0 .1) .rows
 
 add-row-or-two-2 : tie.Need-add-row-or-two-2 Inv-loop μ-loop
-add-row-or-two-2 c = at-edge (c .before .before .before .before .before .before .before .before .before .before .loop .inv .1) (before-end _ _ _ (c .before .before .before .before .before .before .before .before .before .before .loop .inv .0) (c .before .before .before .before .before .before .before .before .before .loop-test .taken)) (c .before .before .before .before .before .before .before .before .before .before .before .before .before .before .before .before .before .before .before .good .0 .1) .touched
+add-row-or-two-2 c =
+    let s = c .before .before .before .before .before .before .before .before .before .before in
+    at-edge (s .loop .inv .1) (before-end _ _ _ (s .loop .inv .0) (c .before .before .before .before .before .before .before .before .before .loop-test .taken))
+    (s .before .before .before .before .before .before .before .before .before .good .0 .1) .touched
 
 row-or-two-requires : tie.Need-row-or-two-requires Inv-loop μ-loop
 row-or-two-requires c κs =
@@ -102,13 +151,22 @@ row-or-two-requires c κs =
     (a .row-in-x, a .out-in, a .touched-in, aligned-rows _ _ _ _, touched-apart (c .before .before .before .before .before .before .before .before .before .before .loop .inv .1) (before-end _ _ _ (c .before .before .before .before .before .before .before .before .before .before .loop .inv .0) (c .before .before .before .before .before .before .before .before .before .loop-test .taken)))
 
 add-k-3 : tie.Need-add-k-3 Inv-loop μ-loop
-add-k-3 c = at-edge (c .before .before .before .before .before .before .before .before .before .before .before .before .before .loop .inv .1) (before-end _ _ _ (c .before .before .before .before .before .before .before .before .before .before .before .before .before .loop .inv .0) (c .before .before .before .before .before .before .before .before .before .before .before .before .loop-test .taken)) (c .before .before .before .before .before .before .before .before .before .before .before .before .before .before .before .before .before .before .before .before .before .before .good .0 .1) .next
+add-k-3 c =
+    let s = c .before .before .before .before .before .before .before .before .before .before .before .before .before in
+    at-edge (s .loop .inv .1) (before-end _ _ _ (s .loop .inv .0) (c .before .before .before .before .before .before .before .before .before .before .before .before .loop-test .taken))
+    (s .before .before .before .before .before .before .before .before .before .good .0 .1) .next
 
 loop-less-2 : tie.Need-loop-less-2 Inv-loop μ-loop
 loop-less-2 c = omega arith
 
 loop-again-2 : tie.Need-loop-again-2 Inv-loop μ-loop
-loop-again-2 c = (c .before .before .before .before .before .before .before .before .before .before .before .before .before .loop .inv .0, gather-go (c .before .before .before .before .before .before .before .before .before .before .before .before .before .loop .inv .1) (before-end _ _ _ (c .before .before .before .before .before .before .before .before .before .before .before .before .before .loop .inv .0) (c .before .before .before .before .before .before .before .before .before .before .before .before .loop-test .taken)) (c .before .before .before .before .before .before .before .before .if1 .left) (c .before .before .row-or-two .ensures))
+loop-again-2 c =
+    let s = c .before .before .before .before .before .before .before .before .before .before .before .before .before in (
+      s .loop .inv .0,
+      gather-go (s .loop .inv .1)
+          (before-end _ _ _ (s .loop .inv .0) (c .before .before .before .before .before .before .before .before .before .before .before .before .loop-test .taken))
+          (c .before .before .before .before .before .before .before .before .if1 .left) (c .before .before .row-or-two .ensures),
+    )
 
 same-length : tie.Need-same-length Inv-loop μ-loop
 same-length c = c .before .loop .inv .1 .joins .kept .len

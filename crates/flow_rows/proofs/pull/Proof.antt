@@ -21,28 +21,51 @@ mul-u : tie.Need-mul-u Inv-loop μ-loop
 mul-u c = pull-at (c .before .loop .inv) (c .loop-test .taken) (c .before .before .before .pre .1) (c .before .before .before .good .0 .1) .in-bytes
 
 slice-read-u : tie.Need-slice-read-u Inv-loop μ-loop
-slice-read-u c = pull-at (c .before .before .loop .inv) (c .before .loop-test .taken) (c .before .before .before .before .pre .1) (c .before .before .before .before .good .0 .1) .inside
+slice-read-u c =
+    let s = c .before .before .before .before in
+    pull-at (c .before .before .loop .inv) (c .before .loop-test .taken) (s .pre .1) (s .good .0 .1) .inside
 
 gather-requires : tie.Need-gather-requires Inv-loop μ-loop
-gather-requires c κs = (pull-laid (c .before .before .before .loop .inv) (c .before .before .loop-test .taken) (c .before .before .before .before .before .pre .1), pull-node (c .before .before .before .loop .inv) (c .before .before .loop-test .taken) (c .before .before .before .before .before .pre .1), c .before .before .before .before .before .pre .4, pull-x (c .before .before .before .loop .inv) (c .before .before .loop-test .taken) (c .before .before .before .before .before .pre .1))
+gather-requires c κs =
+    let s = c .before .before in
+    let t = s .before in
+    let u = t .before .before in (
+      pull-laid (t .loop .inv) (s .loop-test .taken) (u .pre .1),
+      pull-node (t .loop .inv) (s .loop-test .taken) (u .pre .1),
+      u .pre .4,
+      pull-x (t .loop .inv) (s .loop-test .taken)
+          (u .pre .1),
+    )
 
 add-p : tie.Need-add-p Inv-loop μ-loop
-add-p c = pull-at (c .before .before .before .before .before .before .before .loop .inv) (c .before .before .before .before .before .before .loop-test .taken) (c .before .before .before .before .before .before .before .before .before .pre .1) (c .before .before .before .before .before .before .before .before .before .good .0 .1) .next
+add-p c =
+    let s = c .before .before .before .before .before .before .before .before .before in
+    pull-at (c .before .before .before .before .before .before .before .loop .inv) (c .before .before .before .before .before .before .loop-test .taken) (s .pre .1)
+    (s .good .0 .1) .next
 
 loop-less : tie.Need-loop-less Inv-loop μ-loop
 loop-less c = omega arith
 
 loop-again : tie.Need-loop-again Inv-loop μ-loop
-loop-again c = pull-looped (c .before .before .before .before .before .before .before .loop .inv) (c .before .before .before .before .before .before .loop-test .taken) (c .before .before .before .before .before .before .before .before .before .pre .1) (c .before .before .before .gather .ensures .0) (c .before .before .before .gather .ensures .1) (c .if1 .taken)
+loop-again c =
+    let s = c .before .before .before in
+    pull-looped (s .before .before .before .before .loop .inv) (s .before .before .before .loop-test .taken) (s .before .before .before .before .before .before .pre .1)
+    (s .gather .ensures .0) (s .gather .ensures .1) (c .if1 .taken)
 
 add-p-2 : tie.Need-add-p-2 Inv-loop μ-loop
-add-p-2 c = pull-at (c .before .before .before .before .before .before .before .loop .inv) (c .before .before .before .before .before .before .loop-test .taken) (c .before .before .before .before .before .before .before .before .before .pre .1) (c .before .before .before .before .before .before .before .before .before .good .0 .1) .next
+add-p-2 c =
+    let s = c .before .before .before .before .before .before .before .before .before in
+    pull-at (c .before .before .before .before .before .before .before .loop .inv) (c .before .before .before .before .before .before .loop-test .taken) (s .pre .1)
+    (s .good .0 .1) .next
 
 loop-less-2 : tie.Need-loop-less-2 Inv-loop μ-loop
 loop-less-2 c = omega arith
 
 loop-again-2 : tie.Need-loop-again-2 Inv-loop μ-loop
-loop-again-2 c = pull-not (c .before .before .before .before .before .before .before .loop .inv) (c .before .before .before .before .before .before .loop-test .taken) (c .before .before .before .before .before .before .before .before .before .pre .1) (c .before .before .before .gather .ensures .0) (c .before .before .before .gather .ensures .1) (c .if1 .left)
+loop-again-2 c =
+    let s = c .before .before .before in
+    pull-not (s .before .before .before .before .loop .inv) (s .before .before .before .loop-test .taken) (s .before .before .before .before .before .before .pre .1)
+    (s .gather .ensures .0) (s .gather .ensures .1) (c .if1 .left)
 
 same-length : tie.Need-same-length Inv-loop μ-loop
 same-length c = c .before .loop .inv .joins .kept .len

@@ -26,19 +26,29 @@ mul-v : tie.Need-mul-v Inv-loop μ-loop
 mul-v c = order-at (c .before .before .before .pre .0) (c .before .before .before .good .0 .1) (c .before .before .before .pre .1) _ (c .if1 .taken) .in-bytes
 
 shared-slice-read-v : tie.Need-shared-slice-read-v Inv-loop μ-loop
-shared-slice-read-v c = order-at (c .before .before .before .before .pre .0) (c .before .before .before .before .good .0 .1) (c .before .before .before .before .pre .1) _ (c .before .if1 .taken) .inside
+shared-slice-read-v c =
+    let s = c .before .before .before .before in
+    order-at (s .pre .0) (s .good .0 .1) (s .pre .1) _ (c .before .if1 .taken) .inside
 
 add-if2 : tie.Need-add-if2 Inv-loop μ-loop
-add-if2 c = which-at (c .before .before .before .before .before .pre .0) (c .before .before .before .before .before .good .0 .1) _ (node (c .before .before .before .before .before .pre .0) (c .before .before .before .before .before .pre .1) (c .before .before .if1 .taken)) .fits
+add-if2 c =
+    let s = c .before .before .before .before .before in
+    which-at (s .pre .0) (s .good .0 .1) _ (node (s .pre .0) (s .pre .1) (c .before .before .if1 .taken)) .fits
 
 mul-if2 : tie.Need-mul-if2 Inv-loop μ-loop
-mul-if2 c = which-at (c .before .before .before .before .before .pre .0) (c .before .before .before .before .before .good .0 .1) _ (node (c .before .before .before .before .before .pre .0) (c .before .before .before .before .before .pre .1) (c .before .before .if1 .taken)) .in-bytes
+mul-if2 c =
+    let s = c .before .before .before .before .before in
+    which-at (s .pre .0) (s .good .0 .1) _ (node (s .pre .0) (s .pre .1) (c .before .before .if1 .taken)) .in-bytes
 
 shared-slice-read-if2 : tie.Need-shared-slice-read-if2 Inv-loop μ-loop
-shared-slice-read-if2 c = which-at (c .before .before .before .before .before .before .pre .0) (c .before .before .before .before .before .before .good .0 .1) _ (node (c .before .before .before .before .before .before .pre .0) (c .before .before .before .before .before .before .pre .1) (c .before .before .before .if1 .taken)) .inside
+shared-slice-read-if2 c =
+    let s = c .before .before .before .before .before .before in
+    which-at (s .pre .0) (s .good .0 .1) _ (node (s .pre .0) (s .pre .1) (c .before .before .before .if1 .taken)) .inside
 
 add-j-2 : tie.Need-add-j-2 Inv-loop μ-loop
-add-j-2 c = order-at (c .before .before .before .before .before .before .before .pre .0) (c .before .before .before .before .before .before .before .good .0 .1) (c .before .before .before .before .before .before .before .pre .1) _ (c .before .before .before .before .if1 .taken) .next
+add-j-2 c =
+    let s = c .before .before .before .before .before .before .before in
+    order-at (s .pre .0) (s .good .0 .1) (s .pre .1) _ (c .before .before .before .before .if1 .taken) .next
 
 loop-less : tie.Need-loop-less Inv-loop μ-loop
 loop-less c = omega arith
@@ -47,7 +57,9 @@ loop-again : tie.Need-loop-again Inv-loop μ-loop
 loop-again c = run-more (c .before .before .before .before .before .before .loop .inv) (c .before .before .before .before .if1 .taken) (c .if2 .taken)
 
 returns : tie.Need-returns Inv-loop μ-loop
-returns c = run-stops (c .before .before .before .before .before .before .before .args .f) (c .before .before .before .before .before .before .before .pre .1) (c .before .before .before .before .before .before .loop .inv) (λ e. (c .if2) .left e)
+returns c =
+    let s = c .before .before .before .before .before .before .before in
+    run-stops (s .args .f) (s .pre .1) (c .before .before .before .before .before .before .loop .inv) (λ e. (c .if2) .left e)
 
 returns-2 : tie.Need-returns-2 Inv-loop μ-loop
 returns-2 c = run-ends (c .before .before .before .args .f) (c .before .before .before .pre .1) (c .before .before .loop .inv) (c .if1 .left)

@@ -20,34 +20,58 @@ add-row : tie.Need-add-row Inv-loop μ-loop
 add-row c = row-at (c .before .before .before .pre .0) (c .before .before .before .good .0 .1) _ (c .before .before .before .pre .4) .out
 
 loop-holds : tie.Need-loop-holds Inv-loop μ-loop
-loop-holds c = touch-start _ _ _ _ _ (c .before .before .before .pre .0) (c .before .before .before .pre .2) (c .before .before .before .pre .3) (c .before .before .before .pre .4)
+loop-holds c =
+    let s = c .before .before .before in
+    touch-start _ _ _ _ _ (s .pre .0) (s .pre .2) (s .pre .3) (s .pre .4)
 
 add-u : tie.Need-add-u Inv-loop μ-loop
-add-u c = touch-at (c .before .loop .inv) (c .loop-test .taken) (c .before .before .before .before .before .pre .1) (c .before .before .before .before .before .good .0 .1) .fits
+add-u c =
+    let s = c .before .before .before .before .before in
+    touch-at (c .before .loop .inv) (c .loop-test .taken) (s .pre .1) (s .good .0 .1) .fits
 
 mul-u : tie.Need-mul-u Inv-loop μ-loop
-mul-u c = touch-at (c .before .loop .inv) (c .loop-test .taken) (c .before .before .before .before .before .pre .1) (c .before .before .before .before .before .good .0 .1) .in-bytes
+mul-u c =
+    let s = c .before .before .before .before .before in
+    touch-at (c .before .loop .inv) (c .loop-test .taken) (s .pre .1) (s .good .0 .1) .in-bytes
 
 slice-read-u : tie.Need-slice-read-u Inv-loop μ-loop
-slice-read-u c = touch-at (c .before .before .loop .inv) (c .before .loop-test .taken) (c .before .before .before .before .before .before .pre .1) (c .before .before .before .before .before .before .good .0 .1) .inside
+slice-read-u c =
+    let s = c .before .before .before .before .before .before in
+    touch-at (c .before .before .loop .inv) (c .before .loop-test .taken) (s .pre .1) (s .good .0 .1) .inside
 
 mul-row-or : tie.Need-mul-row-or Inv-loop μ-loop
-mul-row-or c = touch-row (c .before .before .before .before .loop .inv) (c .before .before .before .loop-test .taken) (c .before .before .before .before .before .before .before .before .pre .1) (c .before .before .before .before .before .before .before .before .good .0 .1) .rows
+mul-row-or c =
+    let s = c .before .before .before .before .before .before .before .before in
+    touch-row (c .before .before .before .before .loop .inv) (c .before .before .before .loop-test .taken) (s .pre .1) (s .good .0 .1) .rows
 
 add-row-or : tie.Need-add-row-or Inv-loop μ-loop
-add-row-or c = touch-row (c .before .before .before .before .before .loop .inv) (c .before .before .before .before .loop-test .taken) (c .before .before .before .before .before .before .before .before .before .pre .1) (c .before .before .before .before .before .before .before .before .before .good .0 .1) .touched
+add-row-or c =
+    let s = c .before .before .before .before .before .before .before .before .before in
+    touch-row (c .before .before .before .before .before .loop .inv) (c .before .before .before .before .loop-test .taken) (s .pre .1) (s .good .0 .1) .touched
 
 row-or-requires : tie.Need-row-or-requires Inv-loop μ-loop
-row-or-requires c κs = (touch-x (c .before .before .before .before .before .loop .inv) (c .before .before .before .before .loop-test .taken) (c .before .before .before .before .before .before .before .before .before .pre .1) (c .before .before .before .before .before .before .before .before .before .good .0 .1) .out-in, touch-row (c .before .before .before .before .before .loop .inv) (c .before .before .before .before .loop-test .taken) (c .before .before .before .before .before .before .before .before .before .pre .1) (c .before .before .before .before .before .before .before .before .before .good .0 .1) .touched-in, touched-aligned (c .before .before .before .before .before .before .before .before .before .args .f) _ _ _ (touch-laid (c .before .before .before .before .before .loop .inv) (c .before .before .before .before .loop-test .taken) (c .before .before .before .before .before .before .before .before .before .pre .1)) (c .before .before .before .before .before .before .before .before .before .pre .4) (touch-node (c .before .before .before .before .before .loop .inv) (c .before .before .before .before .loop-test .taken) (c .before .before .before .before .before .before .before .before .before .pre .1)))
+row-or-requires c κs =
+    let s = c .before .before .before .before in
+    let t = s .before in
+    let u = t .before .before .before .before in (
+      touch-x (t .loop .inv) (s .loop-test .taken) (u .pre .1) (u .good .0 .1) .out-in,
+      touch-row (t .loop .inv) (s .loop-test .taken) (u .pre .1) (u .good .0 .1) .touched-in,
+      touched-aligned (u .args .f) _ _ _ (touch-laid (t .loop .inv) (s .loop-test .taken) (u .pre .1)) (u .pre .4) (touch-node (t .loop .inv) (s .loop-test .taken) (u .pre .1)),
+    )
 
 add-p : tie.Need-add-p Inv-loop μ-loop
-add-p c = touch-at (c .before .before .before .before .before .before .before .before .loop .inv) (c .before .before .before .before .before .before .before .loop-test .taken) (c .before .before .before .before .before .before .before .before .before .before .before .before .pre .1) (c .before .before .before .before .before .before .before .before .before .before .before .before .good .0 .1) .next
+add-p c =
+    let s = c .before .before .before .before .before .before .before .before .before .before .before .before in
+    touch-at (c .before .before .before .before .before .before .before .before .loop .inv) (c .before .before .before .before .before .before .before .loop-test .taken) (s .pre .1)
+    (s .good .0 .1) .next
 
 loop-less : tie.Need-loop-less Inv-loop μ-loop
 loop-less c = omega arith
 
 loop-again : tie.Need-loop-again Inv-loop μ-loop
-loop-again c = touch-more (c .before .before .before .before .before .before .before .before .loop .inv) (c .before .before .before .before .before .before .before .loop-test .taken) (c .before .before .before .before .before .before .before .before .before .before .before .before .pre .1) (c .before .before .row-or .ensures)
+loop-again c =
+    touch-more (c .before .before .before .before .before .before .before .before .loop .inv) (c .before .before .before .before .before .before .before .loop-test .taken)
+    (c .before .before .before .before .before .before .before .before .before .before .before .before .pre .1) (c .before .before .row-or .ensures)
 
 same-length : tie.Need-same-length Inv-loop μ-loop
 same-length c = c .before .loop .inv .joins .kept .len

@@ -18,49 +18,111 @@ slice-read-x : tie.Need-slice-read-x
 slice-read-x c = order-at (c .before .before .pre .0) (c .before .before .good .0 .1) (c .before .before .pre .1) _ (c .before .before .pre .2) .inside
 
 add-c : tie.Need-add-c
-add-c c = which-at (c .before .before .before .pre .0) (c .before .before .before .good .0 .1) _ (node (c .before .before .before .pre .0) (c .before .before .before .pre .1) (c .before .before .before .pre .2)) .fits
+add-c c =
+    let s = c .before .before .before in
+    which-at (s .pre .0) (s .good .0 .1) _ (node (s .pre .0) (s .pre .1) (s .pre .2)) .fits
 
 mul-c : tie.Need-mul-c
-mul-c c = which-at (c .before .before .before .pre .0) (c .before .before .before .good .0 .1) _ (node (c .before .before .before .pre .0) (c .before .before .before .pre .1) (c .before .before .before .pre .2)) .in-bytes
+mul-c c =
+    let s = c .before .before .before in
+    which-at (s .pre .0) (s .good .0 .1) _ (node (s .pre .0) (s .pre .1) (s .pre .2)) .in-bytes
 
 slice-read-c : tie.Need-slice-read-c
-slice-read-c c = which-at (c .before .before .before .before .pre .0) (c .before .before .before .before .good .0 .1) _ (node (c .before .before .before .before .pre .0) (c .before .before .before .before .pre .1) (c .before .before .before .before .pre .2)) .inside
+slice-read-c c =
+    let s = c .before .before .before .before in
+    which-at (s .pre .0) (s .good .0 .1) _ (node (s .pre .0) (s .pre .1) (s .pre .2)) .inside
 
 run-end-requires : tie.Need-run-end-requires
-run-end-requires c κs = (c .before .before .before .before .before .pre .0, c .before .before .before .before .before .pre .1, c .before .before .before .before .before .pre .2, number (c .before .before .before .before .before .args .f) (now (c .before .before .before .before .before .args .work)) (c .before .before .before .before .before .pre .1) (c .before .before .before .before .before .args .i))
+run-end-requires c κs =
+    let s = c .before .before .before .before .before in
+    (s .pre .0, s .pre .1, s .pre .2, number (s .args .f) (now (s .args .work)) (s .pre .1) (s .args .i))
 
 mul-fill : tie.Need-mul-fill
-mul-fill c = row-at (c .before .before .before .before .before .before .before .before .pre .0) (c .before .before .before .before .before .before .before .before .good .0 .1) _ (node (c .before .before .before .before .before .before .before .before .pre .0) (c .before .before .before .before .before .before .before .before .pre .1) (c .before .before .before .before .before .before .before .before .pre .2)) .rows
+mul-fill c =
+    let s = c .before .before .before .before .before .before .before .before in
+    row-at (s .pre .0) (s .good .0 .1) _ (node (s .pre .0) (s .pre .1) (s .pre .2)) .rows
 
 add-fill : tie.Need-add-fill
-add-fill c = row-at (c .before .before .before .before .before .before .before .before .before .pre .0) (c .before .before .before .before .before .before .before .before .before .good .0 .1) _ (node (c .before .before .before .before .before .before .before .before .before .pre .0) (c .before .before .before .before .before .before .before .before .before .pre .1) (c .before .before .before .before .before .before .before .before .before .pre .2)) .out
+add-fill c =
+    let s = c .before .before .before .before .before .before .before .before .before in
+    row-at (s .pre .0) (s .good .0 .1) _ (node (s .pre .0) (s .pre .1) (s .pre .2)) .out
 
 fill-requires : tie.Need-fill-requires
-fill-requires c κs = row-at (c .before .before .before .before .before .before .before .before .before .pre .0) (c .before .before .before .before .before .before .before .before .before .good .0 .1) _ (node (c .before .before .before .before .before .before .before .before .before .pre .0) (c .before .before .before .before .before .before .before .before .before .pre .1) (c .before .before .before .before .before .before .before .before .before .pre .2)) .out-in
+fill-requires c κs =
+    let s = c .before .before .before .before .before .before .before .before .before in
+    row-at (s .pre .0) (s .good .0 .1) _ (node (s .pre .0) (s .pre .1) (s .pre .2)) .out-in
 
 pull-requires : tie.Need-pull-requires
-pull-requires c κs = (laid₁ (c .before .before .before .before .before .before .before .before .before .before .before .before .before .pre .0) (c .before .before .before .before .before .before .before .run-end .ensures) (node (c .before .before .before .before .before .before .before .before .before .before .before .before .before .pre .0) (c .before .before .before .before .before .before .before .before .before .before .before .before .before .pre .1) (c .before .before .before .before .before .before .before .before .before .before .before .before .before .pre .2)) refl (c .before .before .before .fill .ensures), c .before .before .before .before .before .before .before .before .before .before .before .before .before .pre .1, omega (arith, c .before .before .before .before .before .before .before .run-end .ensures .first), c .before .before .before .before .before .before .before .run-end .ensures .last, (node (c .before .before .before .before .before .before .before .before .before .before .before .before .before .pre .0) (c .before .before .before .before .before .before .before .before .before .before .before .before .before .pre .1) (c .before .before .before .before .before .before .before .before .before .before .before .before .before .pre .2)), x-in₁ (c .before .before .before .before .before .before .before .before .before .before .before .before .before .pre .0) (c .before .before .before .before .before .before .before .run-end .ensures) (node (c .before .before .before .before .before .before .before .before .before .before .before .before .before .pre .0) (c .before .before .before .before .before .before .before .before .before .before .before .before .before .pre .1) (c .before .before .before .before .before .before .before .before .before .before .before .before .before .pre .2)) refl (c .before .before .before .fill .ensures))
+pull-requires c κs =
+    let s = c .before .before .before in
+    let t = s .before .before .before .before in
+    let u = t .before .before .before .before .before .before in (
+      laid₁ (u .pre .0) (t .run-end .ensures) (node (u .pre .0) (u .pre .1) (u .pre .2)) refl (s .fill .ensures),
+      u .pre .1,
+      omega (arith, t .run-end .ensures .first),
+      t .run-end .ensures .last,
+      (node (u .pre .0) (u .pre .1) (u .pre .2)),
+      x-in₁ (u .pre .0) (t .run-end .ensures) (node (u .pre .0) (u .pre .1) (u .pre .2)) refl (s .fill .ensures),
+    )
 
 touch-requires : tie.Need-touch-requires
-touch-requires c κs = (laid₂ (c .before .before .before .before .before .before .before .before .before .before .before .before .before .before .before .before .before .before .pre .0) (c .before .before .before .before .before .before .before .before .before .before .before .before .run-end .ensures) (node (c .before .before .before .before .before .before .before .before .before .before .before .before .before .before .before .before .before .before .pre .0) (c .before .before .before .before .before .before .before .before .before .before .before .before .before .before .before .before .before .before .pre .1) (c .before .before .before .before .before .before .before .before .before .before .before .before .before .before .before .before .before .before .pre .2)) refl (c .before .before .before .before .before .before .before .before .fill .ensures) (c .before .before .before .before .pull .ensures .0), c .before .before .before .before .before .before .before .before .before .before .before .before .before .before .before .before .before .before .pre .1, omega (arith, c .before .before .before .before .before .before .before .before .before .before .before .before .run-end .ensures .first), c .before .before .before .before .before .before .before .before .before .before .before .before .run-end .ensures .last, (node (c .before .before .before .before .before .before .before .before .before .before .before .before .before .before .before .before .before .before .pre .0) (c .before .before .before .before .before .before .before .before .before .before .before .before .before .before .before .before .before .before .pre .1) (c .before .before .before .before .before .before .before .before .before .before .before .before .before .before .before .before .before .before .pre .2)))
+touch-requires c κs =
+    let s = c .before .before .before .before .before .before .before .before .before .before .before .before in
+    let t = s .before .before .before .before .before .before in (
+      laid₂ (t .pre .0) (s .run-end .ensures) (node (t .pre .0) (t .pre .1) (t .pre .2)) refl (c .before .before .before .before .before .before .before .before .fill .ensures)
+          (c .before .before .before .before .pull .ensures .0),
+      t .pre .1,
+      omega (arith, s .run-end .ensures .first),
+      s .run-end .ensures .last,
+      (node (t .pre .0) (t .pre .1) (t .pre .2)),
+    )
 
 share-requires : tie.Need-share-requires
-share-requires c κs = let r = run-loop (c .before .before .before .before .before .before .before .before .before .before .before .before .before .before .before .before .before .before .before .before .before .before .pre .0) (c .before .before .before .before .before .before .before .before .before .before .before .before .before .before .before .before .run-end .ensures) (node (c .before .before .before .before .before .before .before .before .before .before .before .before .before .before .before .before .before .before .before .before .before .before .pre .0) (c .before .before .before .before .before .before .before .before .before .before .before .before .before .before .before .before .before .before .before .before .before .before .pre .1) (c .before .before .before .before .before .before .before .before .before .before .before .before .before .before .before .before .before .before .before .before .before .before .pre .2)) refl (c .before .before .before .before .before .before .before .before .before .before .before .before .fill .ensures) (c .before .before .before .before .before .before .before .before .pull .ensures .0) (c .before .before .before .touch .ensures) in (r .0, c .before .before .before .before .before .before .before .before .before .before .before .before .before .before .before .before .before .before .before .before .before .before .pre .1, r .1, (node (c .before .before .before .before .before .before .before .before .before .before .before .before .before .before .before .before .before .before .before .before .before .before .pre .0) (c .before .before .before .before .before .before .before .before .before .before .before .before .before .before .before .before .before .before .before .before .before .before .pre .1) (c .before .before .before .before .before .before .before .before .before .before .before .before .before .before .before .before .before .before .before .before .before .before .pre .2)))
+share-requires c κs =
+    let s = c .before .before .before .before .before .before .before .before .before .before .before .before .before .before .before .before .before .before .before .before .before .before in
+    let r = run-loop (s .pre .0) (c .before .before .before .before .before .before .before .before .before .before .before .before .before .before .before .before .run-end .ensures)
+    (node (s .pre .0) (s .pre .1) (s .pre .2)) refl (c .before .before .before .before .before .before .before .before .before .before .before .before .fill .ensures)
+    (c .before .before .before .before .before .before .before .before .pull .ensures .0) (c .before .before .before .touch .ensures) in
+    (r .0, s .pre .1, r .1, (node (s .pre .0) (s .pre .1) (s .pre .2)))
 
 same-length : tie.Need-same-length
-same-length c = c .before .before .share .ensures .kept .len ∙ c .before .before .before .before .before .before .touch .ensures .kept .len ∙ c .before .before .before .before .before .before .before .before .before .before .before .pull .ensures .0 .kept .len ∙ c .before .before .before .before .before .before .before .before .before .before .before .before .before .before .before .fill .ensures .len
+same-length c =
+    c .before .before .share .ensures .kept .len ∙ c .before .before .before .before .before .before .touch .ensures .kept .len
+    ∙ c .before .before .before .before .before .before .before .before .before .before .before .pull .ensures .0 .kept .len
+    ∙ c .before .before .before .before .before .before .before .before .before .before .before .before .before .before .before .fill .ensures .len
 
 returns : tie.Need-returns
-returns c = visited-from (c .before .before .before .before .before .before .before .before .before .before .before .before .before .before .before .before .before .before .before .before .before .before .before .before .before .args .f) (now (c .before .before .before .before .before .before .before .before .before .before .before .before .before .before .before .before .before .before .before .before .before .before .before .before .before .args .work)) (c .before .before .before .before .before .before .before .before .before .before .before .before .before .before .before .before .before .before .before .before .before .before .before .before .before .pre .1) (c .before .before .before .before .before .before .before .before .before .before .before .before .before .before .before .before .before .before .before .before .before .before .before .before .before .args .i) (visit-loop (c .before .before .before .before .before .before .before .before .before .before .before .before .before .before .before .before .before .before .before .before .before .before .before .before .before .pre .0) (c .before .before .before .before .before .before .before .before .before .before .before .before .before .before .before .before .before .before .before .run-end .ensures) (node (c .before .before .before .before .before .before .before .before .before .before .before .before .before .before .before .before .before .before .before .before .before .before .before .before .before .pre .0) (c .before .before .before .before .before .before .before .before .before .before .before .before .before .before .before .before .before .before .before .before .before .before .before .before .before .pre .1) (c .before .before .before .before .before .before .before .before .before .before .before .before .before .before .before .before .before .before .before .before .before .before .before .before .before .pre .2)) refl (c .before .before .before .before .before .before .before .before .before .before .before .before .before .before .before .fill .ensures) (c .before .before .before .before .before .before .before .before .before .before .before .pull .ensures .0) (c .before .before .before .before .before .before .before .before .before .before .before .pull .ensures .1) (c .before .before .before .before .before .before .before .before .if1 .taken) (c .before .before .before .before .before .before .touch .ensures) (c .before .before .share .ensures))
+returns c =
+    let s = c .before .before .before .before .before .before .before .before .before .before .before in
+    let t = s .before .before .before .before .before .before .before .before .before .before .before .before .before .before in
+    visited-from (t .args .f) (now (t .args .work)) (t .pre .1) (t .args .i) (visit-loop (t .pre .0)
+    (s .before .before .before .before .before .before .before .before .run-end .ensures) (node (t .pre .0) (t .pre .1) (t .pre .2)) refl
+    (s .before .before .before .before .fill .ensures) (s .pull .ensures .0) (s .pull .ensures .1) (c .before .before .before .before .before .before .before .before .if1 .taken)
+    (c .before .before .before .before .before .before .touch .ensures) (c .before .before .share .ensures))
 
 share-requires-2 : tie.Need-share-requires-2
-share-requires-2 c κs = (laid₂ (c .before .before .before .before .before .before .before .before .before .before .before .before .before .before .before .before .before .before .pre .0) (c .before .before .before .before .before .before .before .before .before .before .before .before .run-end .ensures) (node (c .before .before .before .before .before .before .before .before .before .before .before .before .before .before .before .before .before .before .pre .0) (c .before .before .before .before .before .before .before .before .before .before .before .before .before .before .before .before .before .before .pre .1) (c .before .before .before .before .before .before .before .before .before .before .before .before .before .before .before .before .before .before .pre .2)) refl (c .before .before .before .before .before .before .before .before .fill .ensures) (c .before .before .before .before .pull .ensures .0), c .before .before .before .before .before .before .before .before .before .before .before .before .before .before .before .before .before .before .pre .1, run₂ (c .before .before .before .before .before .before .before .before .before .before .before .before .before .before .before .before .before .before .pre .0) (c .before .before .before .before .before .before .before .before .before .before .before .before .run-end .ensures) (node (c .before .before .before .before .before .before .before .before .before .before .before .before .before .before .before .before .before .before .pre .0) (c .before .before .before .before .before .before .before .before .before .before .before .before .before .before .before .before .before .before .pre .1) (c .before .before .before .before .before .before .before .before .before .before .before .before .before .before .before .before .before .before .pre .2)) refl (c .before .before .before .before .before .before .before .before .fill .ensures) (c .before .before .before .before .pull .ensures .0), (node (c .before .before .before .before .before .before .before .before .before .before .before .before .before .before .before .before .before .before .pre .0) (c .before .before .before .before .before .before .before .before .before .before .before .before .before .before .before .before .before .before .pre .1) (c .before .before .before .before .before .before .before .before .before .before .before .before .before .before .before .before .before .before .pre .2)))
+share-requires-2 c κs =
+    let s = c .before .before .before .before in
+    let t = s .before .before .before .before in
+    let u = t .before .before .before .before in
+    let p = u .before .before .before .before .before .before in (
+      laid₂ (p .pre .0) (u .run-end .ensures) (node (p .pre .0) (p .pre .1) (p .pre .2)) refl (t .fill .ensures) (s .pull .ensures .0),
+      p .pre .1,
+      run₂ (p .pre .0) (u .run-end .ensures)
+          (node (p .pre .0) (p .pre .1) (p .pre .2)) refl (t .fill .ensures) (s .pull .ensures .0),
+      (node (p .pre .0) (p .pre .1) (p .pre .2)),
+    )
 
 same-length-2 : tie.Need-same-length-2
 same-length-2 c = c .before .before .share2 .ensures .kept .len ∙ c .before .before .before .before .before .before .before .pull .ensures .0 .kept .len ∙ c .before .before .before .before .before .before .before .before .before .before .before .fill .ensures .len
 
 returns-2 : tie.Need-returns-2
-returns-2 c = visited-from (c .before .before .before .before .before .before .before .before .before .before .before .before .before .before .before .before .before .before .before .before .before .args .f) (now (c .before .before .before .before .before .before .before .before .before .before .before .before .before .before .before .before .before .before .before .before .before .args .work)) (c .before .before .before .before .before .before .before .before .before .before .before .before .before .before .before .before .before .before .before .before .before .pre .1) (c .before .before .before .before .before .before .before .before .before .before .before .before .before .before .before .before .before .before .before .before .before .args .i) (visit-line (c .before .before .before .before .before .before .before .before .before .before .before .before .before .before .before .before .before .before .before .before .before .pre .0) (c .before .before .before .before .before .before .before .before .before .before .before .before .before .before .before .run-end .ensures) (node (c .before .before .before .before .before .before .before .before .before .before .before .before .before .before .before .before .before .before .before .before .before .pre .0) (c .before .before .before .before .before .before .before .before .before .before .before .before .before .before .before .before .before .before .before .before .before .pre .1) (c .before .before .before .before .before .before .before .before .before .before .before .before .before .before .before .before .before .before .before .before .before .pre .2)) refl (c .before .before .before .before .before .before .before .before .before .before .before .fill .ensures) (c .before .before .before .before .before .before .before .pull .ensures .0) (c .before .before .before .before .before .before .before .pull .ensures .1) (c .before .before .before .before .if1 .left) (c .before .before .share2 .ensures))
+returns-2 c =
+    let s = c .before .before .before .before .before .before .before in
+    let t = s .before .before .before .before .before .before .before .before .before .before .before .before .before .before in
+    visited-from (t .args .f) (now (t .args .work)) (t .pre .1) (t .args .i) (visit-line (t .pre .0)
+    (s .before .before .before .before .before .before .before .before .run-end .ensures) (node (t .pre .0) (t .pre .1) (t .pre .2)) refl
+    (s .before .before .before .before .fill .ensures) (s .pull .ensures .0) (s .pull .ensures .1) (c .before .before .before .before .if1 .left) (c .before .before .share2 .ensures))
 
 pub visit-spec : {M : Type 1} → statement M
 visit-spec =

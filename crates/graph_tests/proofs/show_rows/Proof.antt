@@ -32,7 +32,10 @@ show-spread-requires : tie.Need-show-spread-requires
 show-spread-requires c κs = tt
 
 same-length : tie.Need-same-length
-same-length c = (c .before .before .show-spread) .kept .1 .1 .1 .1 .1 .1 .0 ∙ ((c .before .before .before .before .before .before .before .before .before .show-flowed2) .kept .1 .1 .1 .1 .1 .1 .1 .0 ∙ (c .before .before .before .before .before .before .before .before .before .before .before .before .before .before .show-flowed) .kept .1 .1 .1 .1 .1 .1 .1 .0)
+same-length c =
+    (c .before .before .show-spread) .kept .1 .1 .1 .1 .1 .1 .0 ∙
+    ((c .before .before .before .before .before .before .before .before .before .show-flowed2) .kept .1 .1 .1 .1 .1 .1 .1 .0 ∙
+    (c .before .before .before .before .before .before .before .before .before .before .before .before .before .before .show-flowed) .kept .1 .1 .1 .1 .1 .1 .1 .0)
 
 returns : tie.Need-returns
 returns c = tt

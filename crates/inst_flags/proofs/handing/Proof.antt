@@ -26,7 +26,9 @@ shared-slice-read-if2 : tie.Need-shared-slice-read-if2
 shared-slice-read-if2 c = omega arith
 
 returns-2 : tie.Need-returns-2
-returns-2 c = handing-other ((c .before .before .before .before .args) .insts .now) ((c .before .before .before .before .args) .i) ((c .before .before .if1) .left) (λ e. omega arith)
+returns-2 c =
+    let s = c .before .before .before .before in
+    handing-other (s .args .insts .now) (s .args .i) (c .before .before .if1 .left) (λ e. omega arith)
 
 add-result : tie.Need-add-result
 add-result c = omega arith
@@ -38,7 +40,9 @@ shared-slice-read-result : tie.Need-shared-slice-read-result
 shared-slice-read-result c = omega arith
 
 returns-3 : tie.Need-returns-3
-returns-3 c = handing-lea ((c .before .before .before .before .before .args) .insts .now) ((c .before .before .before .before .before .args) .i) ((c .before .before .before .if1) .left) (omega arith)
+returns-3 c =
+    let s = c .before .before .before .before .before in
+    handing-lea (s .args .insts .now) (s .args .i) (c .before .before .before .if1 .left) (omega arith)
 
 pub handing-spec : {M : Type 1} → statement M
 handing-spec =

@@ -32,7 +32,9 @@ shared-slice-read-result : tie.Need-shared-slice-read-result
 shared-slice-read-result c = omega arith
 
 returns-2 : tie.Need-returns-2
-returns-2 c = by-register ((c .before .before .before .args) .operands .now) ((c .before .before .before .args) .i) ((c .before .before .before .args) .v) ((c .before .if1) .left)
+returns-2 c =
+    let s = c .before .before .before in
+    by-register (s .args .operands .now) (s .args .i) (s .args .v) (c .before .if1 .left)
 
 pub bad-operand-spec : {M : Type 1} → statement M
 bad-operand-spec =

@@ -31,7 +31,9 @@ shared-slice-read-if3 : tie.Need-shared-slice-read-if3
 shared-slice-read-if3 c = omega arith
 
 returns : tie.Need-returns
-returns c = near-found ((c .before .before .before .before .before .before .args) .blocks .now) ((c .before .before .before .before .before .before .pre) .0) ((c .before .before .before .before .before .before .args) .k) ((c .before .before .before .before .before .before .args) .early) (omega arith) (omega arith) (omega arith) (omega arith)
+returns c =
+    let s = c .before .before .before .before .before .before in
+    near-found (s .args .blocks .now) (s .pre .0) (s .args .k) (s .args .early) (omega arith) (omega arith) (omega arith) (omega arith)
 
 at-most-in-rows-requires : tie.Need-at-most-in-rows-requires
 at-most-in-rows-requires c κs = (omega arith, omega arith, starts-rise ((c .before .before .args) .blocks .now) ((c .before .before .pre) .0))

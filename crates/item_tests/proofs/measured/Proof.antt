@@ -33,7 +33,9 @@ part-item-areas-start-2 : tie.Need-part-item-areas-start-2
 part-item-areas-start-2 c = (c .before .before .before .before .before .before .before .pre) .1 .in1 .0
 
 part-item-areas-end-2 : tie.Need-part-item-areas-end-2
-part-item-areas-end-2 c = stops ((c .before .before .before .before .before .before .before .pre) .0) ((c .before .before .before .before .before .before .before .pre) .1 .in1)
+part-item-areas-end-2 c =
+    let s = c .before .before .before .before .before .before .before in
+    stops (s .pre .0) (s .pre .1 .in1)
 
 mul-item-areas-3 : tie.Need-mul-item-areas-3
 mul-item-areas-3 c = begins ((c .before .before .before .before .before .before .before .before .pre) .1 .in2)
@@ -45,7 +47,9 @@ part-item-areas-start-3 : tie.Need-part-item-areas-start-3
 part-item-areas-start-3 c = (c .before .before .before .before .before .before .before .before .pre) .1 .in2 .0
 
 part-item-areas-end-3 : tie.Need-part-item-areas-end-3
-part-item-areas-end-3 c = stops ((c .before .before .before .before .before .before .before .before .pre) .0) ((c .before .before .before .before .before .before .before .before .pre) .1 .in2)
+part-item-areas-end-3 c =
+    let s = c .before .before .before .before .before .before .before .before in
+    stops (s .pre .0) (s .pre .1 .in2)
 
 mul-item-areas-4 : tie.Need-mul-item-areas-4
 mul-item-areas-4 c = begins ((c .before .before .before .before .before .before .before .before .before .pre) .1 .in3)
@@ -57,7 +61,9 @@ part-item-areas-start-4 : tie.Need-part-item-areas-start-4
 part-item-areas-start-4 c = (c .before .before .before .before .before .before .before .before .before .pre) .1 .in3 .0
 
 part-item-areas-end-4 : tie.Need-part-item-areas-end-4
-part-item-areas-end-4 c = stops ((c .before .before .before .before .before .before .before .before .before .pre) .0) ((c .before .before .before .before .before .before .before .before .before .pre) .1 .in3)
+part-item-areas-end-4 c =
+    let s = c .before .before .before .before .before .before .before .before .before in
+    stops (s .pre .0) (s .pre .1 .in3)
 
 mul-item-areas-5 : tie.Need-mul-item-areas-5
 mul-item-areas-5 c = begins ((c .before .before .before .before .before .before .before .before .before .before .pre) .1 .in4)
@@ -69,7 +75,9 @@ part-item-areas-start-5 : tie.Need-part-item-areas-start-5
 part-item-areas-start-5 c = (c .before .before .before .before .before .before .before .before .before .before .pre) .1 .in4 .0
 
 part-item-areas-end-5 : tie.Need-part-item-areas-end-5
-part-item-areas-end-5 c = stops ((c .before .before .before .before .before .before .before .before .before .before .pre) .0) ((c .before .before .before .before .before .before .before .before .before .before .pre) .1 .in4)
+part-item-areas-end-5 c =
+    let s = c .before .before .before .before .before .before .before .before .before .before in
+    stops (s .pre .0) (s .pre .1 .in4)
 
 mul-item-areas-6 : tie.Need-mul-item-areas-6
 mul-item-areas-6 c = begins ((c .before .before .before .before .before .before .before .before .before .before .before .pre) .1 .in5)
@@ -81,7 +89,9 @@ part-item-areas-start-6 : tie.Need-part-item-areas-start-6
 part-item-areas-start-6 c = (c .before .before .before .before .before .before .before .before .before .before .before .pre) .1 .in5 .0
 
 part-item-areas-end-6 : tie.Need-part-item-areas-end-6
-part-item-areas-end-6 c = stops ((c .before .before .before .before .before .before .before .before .before .before .before .pre) .0) ((c .before .before .before .before .before .before .before .before .before .before .before .pre) .1 .in5)
+part-item-areas-end-6 c =
+    let s = c .before .before .before .before .before .before .before .before .before .before .before in
+    stops (s .pre .0) (s .pre .1 .in5)
 
 mul-item-areas-7 : tie.Need-mul-item-areas-7
 mul-item-areas-7 c = begins ((c .before .before .before .before .before .before .before .before .before .before .before .before .pre) .1 .in6)
@@ -93,7 +103,9 @@ part-item-areas-start-7 : tie.Need-part-item-areas-start-7
 part-item-areas-start-7 c = (c .before .before .before .before .before .before .before .before .before .before .before .before .pre) .1 .in6 .0
 
 part-item-areas-end-7 : tie.Need-part-item-areas-end-7
-part-item-areas-end-7 c = stops ((c .before .before .before .before .before .before .before .before .before .before .before .before .pre) .0) ((c .before .before .before .before .before .before .before .before .before .before .before .before .pre) .1 .in6)
+part-item-areas-end-7 c =
+    let s = c .before .before .before .before .before .before .before .before .before .before .before .before in
+    stops (s .pre .0) (s .pre .1 .in6)
 
 mul-item-areas-8 : tie.Need-mul-item-areas-8
 mul-item-areas-8 c = begins ((c .before .before .before .before .before .before .before .before .before .before .before .before .before .pre) .1 .in7)
@@ -105,7 +117,9 @@ part-item-areas-start-8 : tie.Need-part-item-areas-start-8
 part-item-areas-start-8 c = (c .before .before .before .before .before .before .before .before .before .before .before .before .before .pre) .1 .in7 .0
 
 part-item-areas-end-8 : tie.Need-part-item-areas-end-8
-part-item-areas-end-8 c = stops ((c .before .before .before .before .before .before .before .before .before .before .before .before .before .pre) .0) ((c .before .before .before .before .before .before .before .before .before .before .before .before .before .pre) .1 .in7)
+part-item-areas-end-8 c =
+    let s = c .before .before .before .before .before .before .before .before .before .before .before .before .before in
+    stops (s .pre .0) (s .pre .1 .in7)
 
 mul-item-areas-9 : tie.Need-mul-item-areas-9
 mul-item-areas-9 c = begins ((c .before .before .before .before .before .before .before .before .before .before .before .before .before .before .pre) .1 .in8)
@@ -117,7 +131,9 @@ part-item-areas-start-9 : tie.Need-part-item-areas-start-9
 part-item-areas-start-9 c = (c .before .before .before .before .before .before .before .before .before .before .before .before .before .before .pre) .1 .in8 .0
 
 part-item-areas-end-9 : tie.Need-part-item-areas-end-9
-part-item-areas-end-9 c = stops ((c .before .before .before .before .before .before .before .before .before .before .before .before .before .before .pre) .0) ((c .before .before .before .before .before .before .before .before .before .before .before .before .before .before .pre) .1 .in8)
+part-item-areas-end-9 c =
+    let s = c .before .before .before .before .before .before .before .before .before .before .before .before .before .before in
+    stops (s .pre .0) (s .pre .1 .in8)
 
 mul-item-areas-10 : tie.Need-mul-item-areas-10
 mul-item-areas-10 c = begins ((c .before .before .before .before .before .before .before .before .before .before .before .before .before .before .before .pre) .1 .in9)
@@ -129,7 +145,9 @@ part-item-areas-start-10 : tie.Need-part-item-areas-start-10
 part-item-areas-start-10 c = (c .before .before .before .before .before .before .before .before .before .before .before .before .before .before .before .pre) .1 .in9 .0
 
 part-item-areas-end-10 : tie.Need-part-item-areas-end-10
-part-item-areas-end-10 c = stops ((c .before .before .before .before .before .before .before .before .before .before .before .before .before .before .before .pre) .0) ((c .before .before .before .before .before .before .before .before .before .before .before .before .before .before .before .pre) .1 .in9)
+part-item-areas-end-10 c =
+    let s = c .before .before .before .before .before .before .before .before .before .before .before .before .before .before .before in
+    stops (s .pre .0) (s .pre .1 .in9)
 
 mul-item-areas-11 : tie.Need-mul-item-areas-11
 mul-item-areas-11 c = begins ((c .before .before .before .before .before .before .before .before .before .before .before .before .before .before .before .before .pre) .1 .in10)
@@ -141,7 +159,9 @@ part-item-areas-start-11 : tie.Need-part-item-areas-start-11
 part-item-areas-start-11 c = (c .before .before .before .before .before .before .before .before .before .before .before .before .before .before .before .before .pre) .1 .in10 .0
 
 part-item-areas-end-11 : tie.Need-part-item-areas-end-11
-part-item-areas-end-11 c = stops ((c .before .before .before .before .before .before .before .before .before .before .before .before .before .before .before .before .pre) .0) ((c .before .before .before .before .before .before .before .before .before .before .before .before .before .before .before .before .pre) .1 .in10)
+part-item-areas-end-11 c =
+    let s = c .before .before .before .before .before .before .before .before .before .before .before .before .before .before .before .before in
+    stops (s .pre .0) (s .pre .1 .in10)
 
 mul-item-areas-12 : tie.Need-mul-item-areas-12
 mul-item-areas-12 c = begins ((c .before .before .before .before .before .before .before .before .before .before .before .before .before .before .before .before .before .pre) .1 .in11)
@@ -153,7 +173,9 @@ part-item-areas-start-12 : tie.Need-part-item-areas-start-12
 part-item-areas-start-12 c = (c .before .before .before .before .before .before .before .before .before .before .before .before .before .before .before .before .before .pre) .1 .in11 .0
 
 part-item-areas-end-12 : tie.Need-part-item-areas-end-12
-part-item-areas-end-12 c = stops ((c .before .before .before .before .before .before .before .before .before .before .before .before .before .before .before .before .before .pre) .0) ((c .before .before .before .before .before .before .before .before .before .before .before .before .before .before .before .before .before .pre) .1 .in11)
+part-item-areas-end-12 c =
+    let s = c .before .before .before .before .before .before .before .before .before .before .before .before .before .before .before .before .before in
+    stops (s .pre .0) (s .pre .1 .in11)
 
 item-areas-requires : tie.Need-item-areas-requires
 item-areas-requires c κs = tt

@@ -51,7 +51,10 @@ needed-requires c κs =
     small-counted (subst Small (sym ((c .sizes) .ensures (s .args .head .points))) (known s (sym ((c .before .before .before .refusal) .ensures) ∙ (c .before .enum-told) .given .1) .lent .passed .small))
 
 solve-requires : tie.Need-solve-requires
-solve-requires c κs = let s = (c .before .before .before .before .before .before .before .before .before .before .before .before .before .before .before .before .before .before .before .before .before .before) in known s (sym ((c .before .before .before .before .before .refusal) .ensures) ∙ (c .before .before .before .enum-told) .given .1) .lent
+solve-requires c κs =
+    let s =
+    (c .before .before .before .before .before .before .before .before .before .before .before .before .before .before .before .before .before .before .before .before .before .before) in
+    known s (sym ((c .before .before .before .before .before .refusal) .ensures) ∙ (c .before .before .before .enum-told) .given .1) .lent
 
 answer-requires : tie.Need-answer-requires
 answer-requires c κs =

@@ -35,10 +35,14 @@ shared-slice-read-w-2 : tie.Need-shared-slice-read-w-2 Inv-loop μ-loop
 shared-slice-read-w-2 c = omega arith
 
 cast-w-2 : tie.Need-cast-w-2 Inv-loop μ-loop
-cast-w-2 c = omega (arith, (c .shared-slice-known2) .given ((c .before .before .before .loop) .i), (c .before .shared-slice-known) .given ((c .before .before .before .loop) .i))
+cast-w-2 c =
+    let s = c .before .before .before in
+    omega (arith, c .shared-slice-known2 .given (s .loop .i), c .before .shared-slice-known .given (s .loop .i))
 
 add-w : tie.Need-add-w Inv-loop μ-loop
-add-w c = omega (arith, (c .shared-slice-known2) .given ((c .before .before .before .loop) .i), (c .before .shared-slice-known) .given ((c .before .before .before .loop) .i))
+add-w c =
+    let s = c .before .before .before in
+    omega (arith, c .shared-slice-known2 .given (s .loop .i), c .before .shared-slice-known .given (s .loop .i))
 
 add-w-2 : tie.Need-add-w-2 Inv-loop μ-loop
 add-w-2 c = omega arith

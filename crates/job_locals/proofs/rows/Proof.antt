@@ -9,13 +9,36 @@ mark-all-requires : tie.Need-mark-all-requires
 mark-all-requires c κs = (c .before .before .before .before .before .before .before .before .pre) .marks
 
 area-rows-requires : tie.Need-area-rows-requires
-area-rows-requires c κs = let a = (c .before .before .before .before .before .before .before .before .before .before .before .before .args) in (((c .before .before .before .before .before .before .before .before .before .before .before .before .pre) .marks .line, (c .before .before .before .before .before .before .before .before .before .before .before .before .pre) .edges-fine, grid-since (now (a .blocks)) (now (a .edges)) (now (a .insts)) (now (a .addresses)) (now (a .ends)) (now (a .pieces)) (a .lay) (a .p) (a .z) (a .g) (a .mark) (c .before .before .before .before .before .before .before .before .before .before .before .before .pre) ((c .before .before .before .mark-all) .ensures)), quiet (now (a .blocks)) (now (a .edges)) (now (a .insts)) (now (a .addresses)) (now (a .ends)) (now (a .pieces)) (a .lay) (a .p) (a .z) (a .g) (a .mark) (c .before .before .before .before .before .before .before .before .before .before .before .before .pre) ((c .before .before .before .mark-all) .ensures))
+area-rows-requires c κs =
+    let s = c .before .before .before in
+    let t = s .before .before .before .before .before .before .before .before .before in
+    let a = (t .args) in (
+      (
+        t .pre .marks .line,
+        t .pre .edges-fine,
+        grid-since (now (a .blocks)) (now (a .edges)) (now (a .insts)) (now (a .addresses)) (now (a .ends)) (now (a .pieces)) (a .lay) (a .p)
+            (a .z) (a .g) (a .mark) (t .pre) (s .mark-all .ensures),
+      ),
+      quiet (now (a .blocks)) (now (a .edges)) (now (a .insts)) (now (a .addresses)) (now (a .ends)) (now (a .pieces)) (a .lay)
+          (a .p) (a .z) (a .g) (a .mark) (t .pre) (s .mark-all .ensures),
+    )
 
 fill-requires : tie.Need-fill-requires
-fill-requires c κs = omega (arith, (c .before .before .before .before .before .before .before .before .before .before .before .before .before .before .before .before .pre) .mark-fits, (c .before .before .before .area-rows) .ensures .kept .len, (c .before .before .before .before .before .before .before .mark-all) .ensures .kept .len)
+fill-requires c κs =
+    omega (
+      arith,
+      (c .before .before .before .before .before .before .before .before .before .before .before .before .before .before .before .before .pre) .mark-fits,
+      (c .before .before .before .area-rows) .ensures .kept .len,
+      (c .before .before .before .before .before .before .before .mark-all) .ensures .kept .len,
+    )
 
 returns : tie.Need-returns
-returns c = let a = (c .before .before .before .before .before .before .before .before .before .before .before .before .before .before .before .before .before .before .before .args) in rows-in (now (a .blocks)) (now (a .edges)) (now (a .insts)) (now (a .addresses)) (now (a .ends)) (now (a .pieces)) (a .lay) (a .p) (a .z) (a .g) (a .mark) (c .before .before .before .before .before .before .before .before .before .before .before .before .before .before .before .before .before .before .before .pre) ((c .before .before .before .before .before .before .before .before .before .before .mark-all) .ensures) ((c .before .before .before .before .before .before .area-rows) .ensures) ((c .before .before .fill) .ensures)
+returns c =
+    let s = c .before .before .before .before .before .before .before .before .before .before .before .before .before .before .before .before .before .before .before in
+    let a = (s .args) in
+    rows-in (now (a .blocks)) (now (a .edges)) (now (a .insts)) (now (a .addresses)) (now (a .ends)) (now (a .pieces)) (a .lay) (a .p) (a .z) (a .g) (a .mark) (s .pre)
+    (c .before .before .before .before .before .before .before .before .before .before .mark-all .ensures) (c .before .before .before .before .before .before .area-rows .ensures)
+    (c .before .before .fill .ensures)
 
 same-length : tie.Need-same-length
 same-length c = returns c .kept .len

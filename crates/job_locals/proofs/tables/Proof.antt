@@ -13,10 +13,21 @@ fill-requires : tie.Need-fill-requires
 fill-requires c κs = let T = (c .before .before .before .before .before .before .before .before .before .before .before .pre) in omega (arith, T .heads-fit, T .nexts-fit, (c .before .before .before .prepare) .ensures .kept .len)
 
 chain-requires : tie.Need-chain-requires
-chain-requires c κs = let T = (c .before .before .before .before .before .before .before .before .before .before .before .before .before .before .before .pre) in ((omega arith, refl, T .heads-fit, omega (arith, T .nexts-fit, (c .before .before .before .fill) .ensures .len, (c .before .before .before .before .before .before .before .prepare) .ensures .kept .len)), λ l h. (c .before .before .before .fill) .ensures .inside _ l refl h)
+chain-requires c κs =
+    let s = c .before .before .before in
+    let T = (s .before .before .before .before .before .before .before .before .before .before .before .before .pre) in (
+      (omega arith, refl, T .heads-fit, omega (arith, T .nexts-fit, s .fill .ensures .len, s .before .before .before .before .prepare .ensures .kept .len)),
+      λ l h.
+          (s .fill) .ensures .inside _ l refl h,
+    )
 
 returns : tie.Need-returns
-returns c = let a = (c .before .before .before .before .before .before .before .before .before .before .before .before .before .before .before .before .before .before .args) in tables-in (now (a .insts)) (now (a .operands)) (now (a .crossings)) (now (a .addresses)) (now (a .ends)) (a .v) (a .locals) (a .lay) (a .p) (c .before .before .before .before .before .before .before .before .before .before .before .before .before .before .before .before .before .before .pre) ((c .before .before .before .before .before .before .before .before .before .before .prepare) .ensures) ((c .before .before .before .before .before .before .fill) .ensures) ((c .before .before .chain) .ensures)
+returns c =
+    let s = c .before .before .before .before .before .before .before .before .before .before .before .before .before .before .before .before .before .before in
+    let a = (s .args) in
+    tables-in (now (a .insts)) (now (a .operands)) (now (a .crossings)) (now (a .addresses)) (now (a .ends)) (a .v) (a .locals) (a .lay) (a .p) (s .pre)
+    (c .before .before .before .before .before .before .before .before .before .before .prepare .ensures) (c .before .before .before .before .before .before .fill .ensures)
+    (c .before .before .chain .ensures)
 
 same-length : tie.Need-same-length
 same-length c = returns c .kept .len

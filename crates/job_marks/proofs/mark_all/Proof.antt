@@ -16,7 +16,9 @@ less : (l n : ℕ) → l < n → n - (l + 1) < n - l
 less l n h = omega arith
 
 clear-marks-requires : tie.Need-clear-marks-requires Inv-loop μ-loop
-clear-marks-requires c κs = (c .before .before .before .before .before .before .before .pre .touched-fits, c .before .before .before .before .before .before .before .pre .leaves-fit, c .before .before .before .before .before .before .before .pre .passes-fit)
+clear-marks-requires c κs =
+    let s = c .before .before .before .before .before .before .before in
+    (s .pre .touched-fits, s .pre .leaves-fit, s .pre .passes-fit)
 
 loop-holds : tie.Need-loop-holds Inv-loop μ-loop
 loop-holds c = sweep-start (c .before .before .before .before .before .before .before .before .before .before .pre) (c .before .before .clear-marks .ensures)

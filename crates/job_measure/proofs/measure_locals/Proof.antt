@@ -24,10 +24,17 @@ few : (c : tie.Start Inv-loop μ-loop) → Fits w64 (c .args .z .locals)
 few c = omega (arith, c .fits)
 
 loop-holds : tie.Need-loop-holds Inv-loop μ-loop
-loop-holds c = let a = (c .before .before .before .before .before .before .args) in going-start (now (a .blocks)) (now (a .insts)) (now (a .addresses)) (now (a .ends)) (now (a .pieces)) (a .lay) (a .p) (a .z) (a .g) (a .mark) (a .o) _ (c .before .before .before .before .before .before .pre)
+loop-holds c =
+    let s = c .before .before .before .before .before .before in
+    let a = (s .args) in going-start (now (a .blocks)) (now (a .insts)) (now (a .addresses)) (now (a .ends)) (now (a .pieces)) (a .lay) (a .p) (a .z) (a .g) (a .mark) (a .o) _ (s .pre)
 
 measure-next-requires : tie.Need-measure-next-requires Inv-loop μ-loop
-measure-next-requires c κs = let a = (c .before .before .before .before .before .before .before .before .before .before .args) in (going-ready (now (a .blocks)) (now (a .insts)) (now (a .addresses)) (now (a .ends)) (now (a .pieces)) (a .lay) (a .p) (a .z) (a .g) (a .mark) (a .o) (c .before .before .before .loop .inv), (c .before .if1 .taken, c .before .before .before .loop .inv .most))
+measure-next-requires c κs =
+    let s = c .before .before .before in
+    let a = (s .before .before .before .before .before .before .before .args) in (
+      going-ready (now (a .blocks)) (now (a .insts)) (now (a .addresses)) (now (a .ends)) (now (a .pieces)) (a .lay) (a .p) (a .z) (a .g) (a .mark) (a .o) (s .loop .inv),
+      (c .before .if1 .taken, s .loop .inv .most),
+    )
 
 add-l : tie.Need-add-l Inv-loop μ-loop
 add-l c = more _ _ (c .before .before .before .before .if1 .taken) (few (c .before .before .before .before .before .before .before .before .before .before .before .before .before))
@@ -36,7 +43,10 @@ loop-less : tie.Need-loop-less Inv-loop μ-loop
 loop-less c = less _ _ (c .before .before .before .before .if1 .taken)
 
 loop-again : tie.Need-loop-again Inv-loop μ-loop
-loop-again c = let a = (c .before .before .before .before .before .before .before .before .before .before .before .before .before .args) in going-more (now (a .blocks)) (now (a .insts)) (now (a .addresses)) (now (a .ends)) (now (a .pieces)) (a .lay) (a .p) (a .z) (a .g) (a .mark) (a .o) (c .before .before .before .before .before .before .loop .inv) (c .before .before .before .before .if1 .taken) (c .before .before .measure-next .ensures)
+loop-again c =
+    let a = (c .before .before .before .before .before .before .before .before .before .before .before .before .before .args) in
+    going-more (now (a .blocks)) (now (a .insts)) (now (a .addresses)) (now (a .ends)) (now (a .pieces)) (a .lay) (a .p) (a .z) (a .g) (a .mark) (a .o)
+    (c .before .before .before .before .before .before .loop .inv) (c .before .before .before .before .if1 .taken) (c .before .before .measure-next .ensures)
 
 same-length : tie.Need-same-length Inv-loop μ-loop
 same-length c = c .before .before .loop .inv .spared .len

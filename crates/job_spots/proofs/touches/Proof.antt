@@ -11,7 +11,9 @@ add-of-entries : tie.Need-add-of-entries
 add-of-entries c = search needs
 
 of-entries-requires : tie.Need-of-entries-requires
-of-entries-requires c κs = still-linked _ _ _ _ _ _ _ _ _ ((c .before .before .before .before .before .before .before .before .before .pre) .1 .1 .0) ((c .before .before .before .before .before .before .before .before .before .pre) .1 .1 .1) ((c .before .before .before .of-registers) .ensures)
+of-entries-requires c κs =
+    let s = c .before .before .before .before .before .before .before .before .before in
+    still-linked _ _ _ _ _ _ _ _ _ (s .pre .1 .1 .0) (s .pre .1 .1 .1) (c .before .before .before .of-registers .ensures)
 
 add-result : tie.Need-add-result
 add-result c = search needs
@@ -20,7 +22,9 @@ same-length : tie.Need-same-length
 same-length c = search needs
 
 returns : tie.Need-returns
-returns c = both _ _ _ _ _ _ _ _ _ ((c .before .before .before .before .before .before .before .before .before .before .before .before .pre) .1 .1 .0) ((c .before .before .before .before .before .before .before .before .before .before .before .before .pre) .1 .1 .1) ((c .before .before .before .before .before .before .of-registers) .ensures) ((c .before .before .of-entries) .ensures)
+returns c =
+    let s = c .before .before .before .before .before .before .before .before .before .before .before .before in
+    both _ _ _ _ _ _ _ _ _ (s .pre .1 .1 .0) (s .pre .1 .1 .1) (c .before .before .before .before .before .before .of-registers .ensures) (c .before .before .of-entries .ensures)
 
 pub touches-spec : {M : Type 1} → statement M
 touches-spec =

@@ -11,19 +11,27 @@ add-write-cells : tie.Need-add-write-cells
 add-write-cells c = omega (arith, (c .before .before .before .before .before .pre) .few, (c .before .before .before .before .before .pre) .short)
 
 write-cells-requires : tie.Need-write-cells-requires
-write-cells-requires c κs = (omega (arith, (c .before .before .before .before .before .pre) .in-cells), omega (arith, (c .before .before .before .before .before .pre) .in-work, (c .before .before .before .before .before .pre) .used-few))
+write-cells-requires c κs =
+    let s = c .before .before .before .before .before in
+    (omega (arith, s .pre .in-cells), omega (arith, s .pre .in-work, s .pre .used-few))
 
 mul-write-items : tie.Need-mul-write-items
 mul-write-items c = omega (arith, (c .before .before .before .before .before .before .before .before .before .pre) .few)
 
 add-write-items : tie.Need-add-write-items
-add-write-items c = omega (arith, (c .before .before .before .before .before .before .before .before .before .pre) .few, (c .before .before .before .before .before .before .before .before .before .pre) .short)
+add-write-items c =
+    let s = c .before .before .before .before .before .before .before .before .before in
+    omega (arith, s .pre .few, s .pre .short)
 
 write-items-requires : tie.Need-write-items-requires
-write-items-requires c κs = (omega (arith, (c .before .before .before .before .before .before .before .before .before .pre) .in-items), omega (arith, (c .before .before .before .before .before .before .before .before .before .pre) .in-work), omega (arith, (c .before .before .before .before .before .before .before .before .before .pre) .in-work), λ i h. (c .before .before .before .before .before .before .before .before .before .pre) .small i (omega arith))
+write-items-requires c κs =
+    let s = c .before .before .before .before .before .before .before .before .before in
+    (omega (arith, s .pre .in-items), omega (arith, s .pre .in-work), omega (arith, s .pre .in-work), λ i h. (s .pre) .small i (omega arith))
 
 write-rows-requires : tie.Need-write-rows-requires
-write-rows-requires c κs = (omega (arith, (c .before .before .before .before .before .before .before .before .before .before .before .before .before .pre) .in-areas), omega (arith, (c .before .before .before .before .before .before .before .before .before .before .before .before .before .pre) .in-areas, (c .before .before .before .before .before .before .before .before .before .before .before .before .before .pre) .in-work), λ i h. omega arith)
+write-rows-requires c κs =
+    let s = c .before .before .before .before .before .before .before .before .before .before .before .before .before in
+    (omega (arith, s .pre .in-areas), omega (arith, s .pre .in-areas, s .pre .in-work), λ i h. omega arith)
 
 same-length : tie.Need-same-length
 same-length c = search needs

@@ -42,7 +42,9 @@ shared-slice-read-put-item-2 : tie.Need-shared-slice-read-put-item-2 Inv-loop μ
 shared-slice-read-put-item-2 c = omega arith
 
 put-item-requires : tie.Need-put-item-requires Inv-loop μ-loop
-put-item-requires c κs = (omega (arith, (c .before .before .before .before .loop) .inv .1 .len), omega (arith, (c .before .before .before .before .before .before .before .pre) .3 ((c .before .before .before .before .loop) .i) (omega arith)))
+put-item-requires c κs =
+    let s = c .before .before .before .before in
+    (omega (arith, s .loop .inv .1 .len), omega (arith, s .before .before .before .pre .3 (s .loop .i) (omega arith)))
 
 add-i : tie.Need-add-i Inv-loop μ-loop
 add-i c = omega arith
@@ -51,7 +53,13 @@ loop-less : tie.Need-loop-less Inv-loop μ-loop
 loop-less c = omega arith
 
 loop-again : tie.Need-loop-again Inv-loop μ-loop
-loop-again c = let a = (c .before .before .before .before .before .before .before .before .before .before .args) in (omega arith, rw ((c .before .before .put-item) .ensures) (four-more (a .n) (λ j. rowOf (getD (now (a .w)) (a .cells + j) 0) (getD (now (a .w)) (a .from + j) 0)) _ _ ((c .before .before .before .before .before .before .before .loop) .i) (omega arith) (λ j h. refl) ((c .before .before .before .before .before .before .before .loop) .inv .1) _ _ _ _ refl))
+loop-again c =
+    let s = c .before .before .before .before .before .before .before in
+    let a = (s .before .before .before .args) in (
+      omega arith,
+      rw (c .before .before .put-item .ensures) (four-more (a .n) (λ j. rowOf (getD (now (a .w)) (a .cells + j) 0) (getD (now (a .w)) (a .from + j) 0)) _ _ (s .loop .i)
+          (omega arith) (λ j h. refl) (s .loop .inv .1) _ _ _ _ refl),
+    )
 
 same-length : tie.Need-same-length Inv-loop μ-loop
 same-length c = (c .before .loop) .inv .1 .len

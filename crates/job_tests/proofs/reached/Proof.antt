@@ -45,7 +45,9 @@ part-reach-start-3 : tie.Need-part-reach-start-3
 part-reach-start-3 c = (c .before .before .before .before .before .before .before .pre) .1 .in3 .0
 
 part-reach-end-3 : tie.Need-part-reach-end-3
-part-reach-end-3 c = stops ((c .before .before .before .before .before .before .before .pre) .0) ((c .before .before .before .before .before .before .before .pre) .1 .in3)
+part-reach-end-3 c =
+    let s = c .before .before .before .before .before .before .before in
+    stops (s .pre .0) (s .pre .1 .in3)
 
 mul-reach-4 : tie.Need-mul-reach-4
 mul-reach-4 c = begins ((c .before .before .before .before .before .before .before .before .pre) .1 .in4)
@@ -57,7 +59,9 @@ part-reach-start-4 : tie.Need-part-reach-start-4
 part-reach-start-4 c = (c .before .before .before .before .before .before .before .before .pre) .1 .in4 .0
 
 part-reach-end-4 : tie.Need-part-reach-end-4
-part-reach-end-4 c = stops ((c .before .before .before .before .before .before .before .before .pre) .0) ((c .before .before .before .before .before .before .before .before .pre) .1 .in4)
+part-reach-end-4 c =
+    let s = c .before .before .before .before .before .before .before .before in
+    stops (s .pre .0) (s .pre .1 .in4)
 
 mul-reach-5 : tie.Need-mul-reach-5
 mul-reach-5 c = begins ((c .before .before .before .before .before .before .before .before .before .pre) .1 .in5)
@@ -69,7 +73,9 @@ part-reach-start-5 : tie.Need-part-reach-start-5
 part-reach-start-5 c = (c .before .before .before .before .before .before .before .before .before .pre) .1 .in5 .0
 
 part-reach-end-5 : tie.Need-part-reach-end-5
-part-reach-end-5 c = stops ((c .before .before .before .before .before .before .before .before .before .pre) .0) ((c .before .before .before .before .before .before .before .before .before .pre) .1 .in5)
+part-reach-end-5 c =
+    let s = c .before .before .before .before .before .before .before .before .before in
+    stops (s .pre .0) (s .pre .1 .in5)
 
 mul-reach-6 : tie.Need-mul-reach-6
 mul-reach-6 c = begins ((c .before .before .before .before .before .before .before .before .before .before .pre) .1 .in7)
@@ -81,7 +87,9 @@ part-reach-start-6 : tie.Need-part-reach-start-6
 part-reach-start-6 c = (c .before .before .before .before .before .before .before .before .before .before .pre) .1 .in7 .0
 
 part-reach-end-6 : tie.Need-part-reach-end-6
-part-reach-end-6 c = stops ((c .before .before .before .before .before .before .before .before .before .before .pre) .0) ((c .before .before .before .before .before .before .before .before .before .before .pre) .1 .in7)
+part-reach-end-6 c =
+    let s = c .before .before .before .before .before .before .before .before .before .before in
+    stops (s .pre .0) (s .pre .1 .in7)
 
 mul-reach-7 : tie.Need-mul-reach-7
 mul-reach-7 c = begins ((c .before .before .before .before .before .before .before .before .before .before .before .pre) .1 .in8)
@@ -93,7 +101,9 @@ part-reach-start-7 : tie.Need-part-reach-start-7
 part-reach-start-7 c = (c .before .before .before .before .before .before .before .before .before .before .before .pre) .1 .in8 .0
 
 part-reach-end-7 : tie.Need-part-reach-end-7
-part-reach-end-7 c = stops ((c .before .before .before .before .before .before .before .before .before .before .before .pre) .0) ((c .before .before .before .before .before .before .before .before .before .before .before .pre) .1 .in8)
+part-reach-end-7 c =
+    let s = c .before .before .before .before .before .before .before .before .before .before .before in
+    stops (s .pre .0) (s .pre .1 .in8)
 
 reach-requires : tie.Need-reach-requires
 reach-requires c κs = tt

@@ -24,7 +24,9 @@ part-share-start : tie.Need-part-share-start
 part-share-start c = (c .before .before .before .before .before .before .before .before .pre) .1 .in0 .0
 
 part-share-end : tie.Need-part-share-end
-part-share-end c = stops ((c .before .before .before .before .before .before .before .before .pre) .0) ((c .before .before .before .before .before .before .before .before .pre) .1 .in0)
+part-share-end c =
+    let s = c .before .before .before .before .before .before .before .before in
+    stops (s .pre .0) (s .pre .1 .in0)
 
 mul-share-2 : tie.Need-mul-share-2
 mul-share-2 c = begins ((c .before .before .before .before .before .before .before .before .before .pre) .1 .in1)
@@ -36,7 +38,9 @@ part-share-start-2 : tie.Need-part-share-start-2
 part-share-start-2 c = (c .before .before .before .before .before .before .before .before .before .pre) .1 .in1 .0
 
 part-share-end-2 : tie.Need-part-share-end-2
-part-share-end-2 c = stops ((c .before .before .before .before .before .before .before .before .before .pre) .0) ((c .before .before .before .before .before .before .before .before .before .pre) .1 .in1)
+part-share-end-2 c =
+    let s = c .before .before .before .before .before .before .before .before .before in
+    stops (s .pre .0) (s .pre .1 .in1)
 
 mul-share-3 : tie.Need-mul-share-3
 mul-share-3 c = begins ((c .before .before .before .before .before .before .before .before .before .before .pre) .1 .in2)
@@ -48,7 +52,9 @@ part-share-start-3 : tie.Need-part-share-start-3
 part-share-start-3 c = (c .before .before .before .before .before .before .before .before .before .before .pre) .1 .in2 .0
 
 part-share-end-3 : tie.Need-part-share-end-3
-part-share-end-3 c = stops ((c .before .before .before .before .before .before .before .before .before .before .pre) .0) ((c .before .before .before .before .before .before .before .before .before .before .pre) .1 .in2)
+part-share-end-3 c =
+    let s = c .before .before .before .before .before .before .before .before .before .before in
+    stops (s .pre .0) (s .pre .1 .in2)
 
 mul-share-4 : tie.Need-mul-share-4
 mul-share-4 c = begins ((c .before .before .before .before .before .before .before .before .before .before .before .pre) .1 .in3)
@@ -60,7 +66,9 @@ part-share-start-4 : tie.Need-part-share-start-4
 part-share-start-4 c = (c .before .before .before .before .before .before .before .before .before .before .before .pre) .1 .in3 .0
 
 part-share-end-4 : tie.Need-part-share-end-4
-part-share-end-4 c = stops ((c .before .before .before .before .before .before .before .before .before .before .before .pre) .0) ((c .before .before .before .before .before .before .before .before .before .before .before .pre) .1 .in3)
+part-share-end-4 c =
+    let s = c .before .before .before .before .before .before .before .before .before .before .before in
+    stops (s .pre .0) (s .pre .1 .in3)
 
 mul-share-5 : tie.Need-mul-share-5
 mul-share-5 c = begins ((c .before .before .before .before .before .before .before .before .before .before .before .before .pre) .1 .in4)
@@ -72,7 +80,9 @@ part-share-start-5 : tie.Need-part-share-start-5
 part-share-start-5 c = (c .before .before .before .before .before .before .before .before .before .before .before .before .pre) .1 .in4 .0
 
 part-share-end-5 : tie.Need-part-share-end-5
-part-share-end-5 c = stops ((c .before .before .before .before .before .before .before .before .before .before .before .before .pre) .0) ((c .before .before .before .before .before .before .before .before .before .before .before .before .pre) .1 .in4)
+part-share-end-5 c =
+    let s = c .before .before .before .before .before .before .before .before .before .before .before .before in
+    stops (s .pre .0) (s .pre .1 .in4)
 
 mul-share-6 : tie.Need-mul-share-6
 mul-share-6 c = begins ((c .before .before .before .before .before .before .before .before .before .before .before .before .before .pre) .1 .in5)
@@ -84,7 +94,9 @@ part-share-start-6 : tie.Need-part-share-start-6
 part-share-start-6 c = (c .before .before .before .before .before .before .before .before .before .before .before .before .before .pre) .1 .in5 .0
 
 part-share-end-6 : tie.Need-part-share-end-6
-part-share-end-6 c = stops ((c .before .before .before .before .before .before .before .before .before .before .before .before .before .pre) .0) ((c .before .before .before .before .before .before .before .before .before .before .before .before .before .pre) .1 .in5)
+part-share-end-6 c =
+    let s = c .before .before .before .before .before .before .before .before .before .before .before .before .before in
+    stops (s .pre .0) (s .pre .1 .in5)
 
 mul-share-7 : tie.Need-mul-share-7
 mul-share-7 c = begins ((c .before .before .before .before .before .before .before .before .before .before .before .before .before .before .pre) .1 .in6)
@@ -96,7 +108,9 @@ part-share-start-7 : tie.Need-part-share-start-7
 part-share-start-7 c = (c .before .before .before .before .before .before .before .before .before .before .before .before .before .before .pre) .1 .in6 .0
 
 part-share-end-7 : tie.Need-part-share-end-7
-part-share-end-7 c = stops ((c .before .before .before .before .before .before .before .before .before .before .before .before .before .before .pre) .0) ((c .before .before .before .before .before .before .before .before .before .before .before .before .before .before .pre) .1 .in6)
+part-share-end-7 c =
+    let s = c .before .before .before .before .before .before .before .before .before .before .before .before .before .before in
+    stops (s .pre .0) (s .pre .1 .in6)
 
 mul-share-8 : tie.Need-mul-share-8
 mul-share-8 c = begins ((c .before .before .before .before .before .before .before .before .before .before .before .before .before .before .before .pre) .1 .in7)
@@ -108,7 +122,9 @@ part-share-start-8 : tie.Need-part-share-start-8
 part-share-start-8 c = (c .before .before .before .before .before .before .before .before .before .before .before .before .before .before .before .pre) .1 .in7 .0
 
 part-share-end-8 : tie.Need-part-share-end-8
-part-share-end-8 c = stops ((c .before .before .before .before .before .before .before .before .before .before .before .before .before .before .before .pre) .0) ((c .before .before .before .before .before .before .before .before .before .before .before .before .before .before .before .pre) .1 .in7)
+part-share-end-8 c =
+    let s = c .before .before .before .before .before .before .before .before .before .before .before .before .before .before .before in
+    stops (s .pre .0) (s .pre .1 .in7)
 
 mul-share-9 : tie.Need-mul-share-9
 mul-share-9 c = begins ((c .before .before .before .before .before .before .before .before .before .before .before .before .before .before .before .before .pre) .1 .in8)
@@ -120,7 +136,9 @@ part-share-start-9 : tie.Need-part-share-start-9
 part-share-start-9 c = (c .before .before .before .before .before .before .before .before .before .before .before .before .before .before .before .before .pre) .1 .in8 .0
 
 part-share-end-9 : tie.Need-part-share-end-9
-part-share-end-9 c = stops ((c .before .before .before .before .before .before .before .before .before .before .before .before .before .before .before .before .pre) .0) ((c .before .before .before .before .before .before .before .before .before .before .before .before .before .before .before .before .pre) .1 .in8)
+part-share-end-9 c =
+    let s = c .before .before .before .before .before .before .before .before .before .before .before .before .before .before .before .before in
+    stops (s .pre .0) (s .pre .1 .in8)
 
 mul-share-10 : tie.Need-mul-share-10
 mul-share-10 c = begins ((c .before .before .before .before .before .before .before .before .before .before .before .before .before .before .before .before .before .pre) .1 .in9)
@@ -132,7 +150,9 @@ part-share-start-10 : tie.Need-part-share-start-10
 part-share-start-10 c = (c .before .before .before .before .before .before .before .before .before .before .before .before .before .before .before .before .before .pre) .1 .in9 .0
 
 part-share-end-10 : tie.Need-part-share-end-10
-part-share-end-10 c = stops ((c .before .before .before .before .before .before .before .before .before .before .before .before .before .before .before .before .before .pre) .0) ((c .before .before .before .before .before .before .before .before .before .before .before .before .before .before .before .before .before .pre) .1 .in9)
+part-share-end-10 c =
+    let s = c .before .before .before .before .before .before .before .before .before .before .before .before .before .before .before .before .before in
+    stops (s .pre .0) (s .pre .1 .in9)
 
 mul-share-11 : tie.Need-mul-share-11
 mul-share-11 c = begins ((c .before .before .before .before .before .before .before .before .before .before .before .before .before .before .before .before .before .before .pre) .1 .in10)
@@ -144,7 +164,9 @@ part-share-start-11 : tie.Need-part-share-start-11
 part-share-start-11 c = (c .before .before .before .before .before .before .before .before .before .before .before .before .before .before .before .before .before .before .pre) .1 .in10 .0
 
 part-share-end-11 : tie.Need-part-share-end-11
-part-share-end-11 c = stops ((c .before .before .before .before .before .before .before .before .before .before .before .before .before .before .before .before .before .before .pre) .0) ((c .before .before .before .before .before .before .before .before .before .before .before .before .before .before .before .before .before .before .pre) .1 .in10)
+part-share-end-11 c =
+    let s = c .before .before .before .before .before .before .before .before .before .before .before .before .before .before .before .before .before .before in
+    stops (s .pre .0) (s .pre .1 .in10)
 
 mul-share-12 : tie.Need-mul-share-12
 mul-share-12 c = begins ((c .before .before .before .before .before .before .before .before .before .before .before .before .before .before .before .before .before .before .before .pre) .1 .in11)
@@ -156,7 +178,9 @@ part-share-start-12 : tie.Need-part-share-start-12
 part-share-start-12 c = (c .before .before .before .before .before .before .before .before .before .before .before .before .before .before .before .before .before .before .before .pre) .1 .in11 .0
 
 part-share-end-12 : tie.Need-part-share-end-12
-part-share-end-12 c = stops ((c .before .before .before .before .before .before .before .before .before .before .before .before .before .before .before .before .before .before .before .pre) .0) ((c .before .before .before .before .before .before .before .before .before .before .before .before .before .before .before .before .before .before .before .pre) .1 .in11)
+part-share-end-12 c =
+    let s = c .before .before .before .before .before .before .before .before .before .before .before .before .before .before .before .before .before .before .before in
+    stops (s .pre .0) (s .pre .1 .in11)
 
 share-requires : tie.Need-share-requires
 share-requires c κs = tt

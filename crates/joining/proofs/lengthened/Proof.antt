@@ -23,7 +23,11 @@ pack-requires : tie.Need-pack-requires
 pack-requires c κs = search needs
 
 returns : tie.Need-returns
-returns c = ap unpack (c .pack .ensures) ∙ lengthened-is ((c .before .before .before .before .before .args) .x) ((c .before .before .before .before .before .args) .top) ((c .before .before .before .before .before .args) .bottom) ((c .before .before .before .before .before .args) .written) ((c .before .before .before .before .before .args) .read) (omega arith) _ _ (rw (sym ((c .before .before .before .before .start-of) .ensures)) ((c .before .before .before .either) .ensures)) (rw (sym ((c .before .before .end-of) .ensures)) ((c .before .either2) .ensures))
+returns c =
+    let s = c .before .before .before .before .before in
+    ap unpack (c .pack .ensures) ∙ lengthened-is (s .args .x) (s .args .top) (s .args .bottom) (s .args .written) (s .args .read) (omega arith) _ _
+    (rw (sym (c .before .before .before .before .start-of .ensures)) (c .before .before .before .either .ensures))
+    (rw (sym (c .before .before .end-of .ensures)) (c .before .either2 .ensures))
 
 pub lengthened-spec : {M : Type 1} → statement M
 lengthened-spec =

@@ -18,34 +18,93 @@ add-grid : tie.Need-add-grid
 add-grid c = near _ (past-ends _ _ ((c .before .before .before .before .before .before .before .before .before .before .pre) .small) ((c .before .before .places) .ensures))
 
 grid-requires : tie.Need-grid-requires
-grid-requires c κs = ((c .before .before .before .before .before .before .before .before .before .before .pre) .small, past-ends _ _ ((c .before .before .before .before .before .before .before .before .before .before .pre) .small) ((c .before .before .places) .ensures))
+grid-requires c κs =
+    let s = c .before .before .before .before .before .before .before .before .before .before in
+    (s .pre .small, past-ends _ _ (s .pre .small) (c .before .before .places .ensures))
 
 mul-from : tie.Need-mul-from
-mul-from c = let a = (c .before .before .before .before .before .before .before .before .before .before .before .before .args) in mark-fits (now (a .blocks)) (now (a .edges)) (now (a .kinds)) (now (a .touches)) (now (a .ends)) (a .areas) _ _ (c .before .before .before .before .before .before .before .before .before .before .before .before .pre) (positive _ ((c .before .before .before .before .before .if1) .left)) ((c .before .before .before .before .places) .ensures) ((c .before .grid) .ensures) .0
+mul-from c =
+    let s = c .before .before .before .before .before .before .before .before .before .before .before .before in
+    let a = (s .args) in
+    mark-fits (now (a .blocks)) (now (a .edges)) (now (a .kinds)) (now (a .touches)) (now (a .ends)) (a .areas) _ _ (s .pre)
+    (positive _ (c .before .before .before .before .before .if1 .left)) (c .before .before .before .before .places .ensures) (c .before .grid .ensures) .0
 
 add-from : tie.Need-add-from
-add-from c = let a = (c .before .before .before .before .before .before .before .before .before .before .before .before .before .args) in mark-fits (now (a .blocks)) (now (a .edges)) (now (a .kinds)) (now (a .touches)) (now (a .ends)) (a .areas) _ _ (c .before .before .before .before .before .before .before .before .before .before .before .before .before .pre) (positive _ ((c .before .before .before .before .before .before .if1) .left)) ((c .before .before .before .before .before .places) .ensures) ((c .before .before .grid) .ensures) .1
+add-from c =
+    let s = c .before .before .before .before .before .before .before .before .before .before .before .before .before in
+    let a = (s .args) in
+    mark-fits (now (a .blocks)) (now (a .edges)) (now (a .kinds)) (now (a .touches)) (now (a .ends)) (a .areas) _ _ (s .pre)
+    (positive _ (c .before .before .before .before .before .before .if1 .left)) (c .before .before .before .before .before .places .ensures) (c .before .before .grid .ensures) .1
 
 mark-requires : tie.Need-mark-requires
-mark-requires c κs = let a = (c .before .before .before .before .before .before .before .before .before .before .before .before .before .before .args) in markable (now (a .blocks)) (now (a .edges)) (now (a .kinds)) (now (a .touches)) (now (a .ends)) (a .areas) _ _ (c .before .before .before .before .before .before .before .before .before .before .before .before .before .before .pre) (positive _ ((c .before .before .before .before .before .before .before .if1) .left)) ((c .before .before .before .before .before .before .places) .ensures) ((c .before .before .before .grid) .ensures)
+mark-requires c κs =
+    let s = c .before .before .before .before .before .before .before .before .before .before .before .before .before .before in
+    let a = (s .args) in
+    markable (now (a .blocks)) (now (a .edges)) (now (a .kinds)) (now (a .touches)) (now (a .ends)) (a .areas) _ _ (s .pre)
+    (positive _ (c .before .before .before .before .before .before .before .if1 .left)) (c .before .before .before .before .before .before .places .ensures)
+    (c .before .before .before .grid .ensures)
 
 same-length : tie.Need-same-length
 same-length c = search needs
 
 returns-2 : tie.Need-returns-2
-returns-2 c = let a = (c .before .before .before .before .before .before .before .before .before .before .before .before .before .before .before .before .before .before .args) in inverted-found (now (a .blocks)) (now (a .edges)) (now (a .kinds)) (now (a .touches)) (now (a .ends)) (a .areas) _ _ (c .before .before .before .before .before .before .before .before .before .before .before .before .before .before .before .before .before .before .pre) (positive _ ((c .before .before .before .before .before .before .before .before .before .before .before .if1) .left)) ((c .before .before .before .before .before .before .before .before .before .before .places) .ensures) ((c .before .before .before .before .before .before .before .grid) .ensures) ((c .before .before .before .mark) .ensures) ((c .if2) .taken)
+returns-2 c =
+    let s = c .before .before .before .before .before .before .before .before .before .before .before .before .before .before .before .before .before .before in
+    let a = (s .args) in
+    inverted-found (now (a .blocks)) (now (a .edges)) (now (a .kinds)) (now (a .touches)) (now (a .ends)) (a .areas) _ _ (s .pre)
+    (positive _ (c .before .before .before .before .before .before .before .before .before .before .before .if1 .left))
+    (c .before .before .before .before .before .before .before .before .before .before .places .ensures) (c .before .before .before .before .before .before .before .grid .ensures)
+    (c .before .before .before .mark .ensures) (c .if2 .taken)
 
 rows-requires : tie.Need-rows-requires
-rows-requires c κs = let a = (c .before .before .before .before .before .before .before .before .before .before .before .before .before .before .before .before .before .before .before .args) in (((c .before .before .before .before .before .before .before .before .before .before .before .before .before .before .before .before .before .before .before .pre) .sound, (c .before .before .before .before .before .before .before .before .before .before .before .before .before .before .before .before .before .before .before .pre) .edges-fine, grid-laid (now (a .blocks)) (now (a .edges)) (now (a .kinds)) (now (a .touches)) (now (a .ends)) (a .areas) _ _ (c .before .before .before .before .before .before .before .before .before .before .before .before .before .before .before .before .before .before .before .pre) (positive _ ((c .before .before .before .before .before .before .before .before .before .before .before .before .if1) .left)) ((c .before .before .before .before .before .before .before .before .before .before .before .places) .ensures) ((c .before .before .before .before .before .before .before .before .grid) .ensures) ((c .before .before .before .before .mark) .ensures .kept .len)), ((c .before .before .before .before .mark) .ensures .marks [] ((c .before .if2) .left) .quiet, mark-room (now (a .blocks)) (now (a .edges)) (now (a .kinds)) (now (a .touches)) (now (a .ends)) (a .areas) _ _ (c .before .before .before .before .before .before .before .before .before .before .before .before .before .before .before .before .before .before .before .pre) (positive _ ((c .before .before .before .before .before .before .before .before .before .before .before .before .if1) .left)) ((c .before .before .before .before .before .before .before .before .before .before .before .places) .ensures) ((c .before .before .before .before .before .before .before .before .grid) .ensures) ((c .before .before .before .before .mark) .ensures)))
+rows-requires c κs =
+    let s = c .before .before .before .before in
+    let t = s .before .before .before .before in
+    let u = t .before .before .before in
+    let p = u .before in
+    let q = p .before .before .before .before .before .before .before in
+    let a = (q .args) in (
+      (
+        q .pre .sound,
+        q .pre .edges-fine,
+        grid-laid (now (a .blocks)) (now (a .edges)) (now (a .kinds)) (now (a .touches)) (now (a .ends)) (a .areas) _ _ (q .pre)
+            (positive _ (p .if1 .left)) (u .places .ensures) (t .grid .ensures) (s .mark .ensures .kept .len),
+      ),
+      (
+        s .mark .ensures .marks [] (c .before .if2 .left) .quiet,
+        mark-room
+            (now (a .blocks)) (now (a .edges)) (now (a .kinds)) (now (a .touches)) (now (a .ends)) (a .areas) _ _ (q .pre) (positive _ (p .if1 .left)) (u .places .ensures) (t .grid .ensures)
+            (s .mark .ensures),
+      ),
+    )
 
 measure-all-requires : tie.Need-measure-all-requires
-measure-all-requires c κs = let a = (c .before .before .before .before .before .before .before .before .before .before .before .before .before .before .before .before .before .before .before .before .before .before .before .args) in ((c .before .before .before .before .before .before .before .before .before .before .before .before .before .before .before .before .before .before .before .before .before .before .before .pre) .sound, ready (now (a .blocks)) (now (a .edges)) (now (a .kinds)) (now (a .touches)) (now (a .ends)) (a .areas) _ _ (c .before .before .before .before .before .before .before .before .before .before .before .before .before .before .before .before .before .before .before .before .before .before .before .pre) (positive _ ((c .before .before .before .before .before .before .before .before .before .before .before .before .before .before .before .before .if1) .left)) ((c .before .before .before .before .before .before .before .before .before .before .before .before .before .before .before .places) .ensures) ((c .before .before .before .before .before .before .before .before .before .before .before .before .grid) .ensures) ((c .before .before .before .before .before .before .before .before .mark) .ensures) ((c .before .before .before .before .before .if2) .left) ((c .before .before .before .rows) .ensures))
+measure-all-requires c κs =
+    let s = c .before .before .before .before .before .before .before .before .before .before .before .before .before .before .before .before .before .before .before .before .before .before .before in
+    let a = (s .args) in (
+      s .pre .sound,
+      ready (now (a .blocks)) (now (a .edges)) (now (a .kinds)) (now (a .touches)) (now (a .ends)) (a .areas) _ _ (s .pre)
+          (positive _ (c .before .before .before .before .before .before .before .before .before .before .before .before .before .before .before .before .if1 .left))
+          (c .before .before .before .before .before .before .before .before .before .before .before .before .before .before .before .places .ensures)
+          (c .before .before .before .before .before .before .before .before .before .before .before .before .grid .ensures)
+          (c .before .before .before .before .before .before .before .before .mark .ensures) (c .before .before .before .before .before .if2 .left)
+          (c .before .before .before .rows .ensures),
+    )
 
 same-length-2 : tie.Need-same-length-2
 same-length-2 c = search needs
 
 returns-3 : tie.Need-returns-3
-returns-3 c = let a = (c .before .before .before .before .before .before .before .before .before .before .before .before .before .before .before .before .before .before .before .before .before .before .before .before .before .before .args) in solved (now (a .blocks)) (now (a .edges)) (now (a .kinds)) (now (a .touches)) (now (a .ends)) (a .areas) _ _ (c .before .before .before .before .before .before .before .before .before .before .before .before .before .before .before .before .before .before .before .before .before .before .before .before .before .before .pre) (positive _ ((c .before .before .before .before .before .before .before .before .before .before .before .before .before .before .before .before .before .before .before .if1) .left)) ((c .before .before .before .before .before .before .before .before .before .before .before .before .before .before .before .before .before .before .places) .ensures) ((c .before .before .before .before .before .before .before .before .before .before .before .before .before .before .before .grid) .ensures) ((c .before .before .before .before .before .before .before .before .before .before .before .mark) .ensures) ((c .before .before .before .before .before .before .before .before .if2) .left) ((c .before .before .before .before .before .before .rows) .ensures) ((c .before .before .measure-all) .ensures)
+returns-3 c =
+    let s = c .before .before .before .before .before .before .before .before .before .before .before .before .before .before .before .before .before .before .before .before .before .before .before .before .before .before in
+    let a = (s .args) in
+    solved (now (a .blocks)) (now (a .edges)) (now (a .kinds)) (now (a .touches)) (now (a .ends)) (a .areas) _ _ (s .pre)
+    (positive _ (c .before .before .before .before .before .before .before .before .before .before .before .before .before .before .before .before .before .before .before .if1 .left))
+    (c .before .before .before .before .before .before .before .before .before .before .before .before .before .before .before .before .before .before .places .ensures)
+    (c .before .before .before .before .before .before .before .before .before .before .before .before .before .before .before .grid .ensures)
+    (c .before .before .before .before .before .before .before .before .before .before .before .mark .ensures)
+    (c .before .before .before .before .before .before .before .before .if2 .left) (c .before .before .before .before .before .before .rows .ensures)
+    (c .before .before .measure-all .ensures)
 
 pub solve-spec : {M : Type 1} → statement M
 solve-spec = tie.close (tie.spec returns places-requires add-grid grid-requires mul-from add-from mark-requires same-length returns-2 rows-requires measure-all-requires same-length-2 returns-3)

@@ -40,7 +40,9 @@ shared-slice-read-end : tie.Need-shared-slice-read-end
 shared-slice-read-end c = search needs
 
 known : (c : tie.After-shared-slice-known3) → (blockAt (blocksOf (now (c .before .before .before .args .blocks))) (c .before .before .before .args .i) .start ≡ blockStart (now (c .before .before .before .args .blocks)) (c .before .before .before .args .i)) × (blockAt (blocksOf (now (c .before .before .before .args .blocks))) (c .before .before .before .args .i) .end ≡ blockEnd (now (c .before .before .before .args .blocks)) (c .before .before .before .args .i))
-known c = (start-is (now (c .before .before .before .args .blocks)) (c .before .before .before .args .i) (omega arith), end-is (now (c .before .before .before .args .blocks)) (c .before .before .before .args .i) (omega arith))
+known c =
+    let s = c .before .before .before in
+    (start-is (now (s .args .blocks)) (s .args .i) (omega arith), end-is (now (s .args .blocks)) (s .args .i) (omega arith))
 
 before-is : (c : tie.After-shared-slice-known3) → 0 < c .before .before .before .args .i → eqb (blockStart (now (c .before .before .before .args .blocks)) (c .before .before .before .args .i)) (getD (now (c .before .before .before .args .blocks)) (blockWidth * c .before .before .before .args .i - 1) 0 + 1) ≡ eqb (blockAt (blocksOf (now (c .before .before .before .args .blocks))) (c .before .before .before .args .i) .start) (blockAt (blocksOf (now (c .before .before .before .args .blocks))) (c .before .before .before .args .i - 1) .end + 1)
 before-is c h =
@@ -49,7 +51,9 @@ before-is c h =
     sym (ap (λ (y : ℕ). eqb y (blockAt (blocksOf (now (c .before .before .before .args .blocks))) (c .before .before .before .args .i - 1) .end + 1)) (known c .0) ∙ ap (λ (y : ℕ). eqb (blockStart (now (c .before .before .before .args .blocks)) (c .before .before .before .args .i)) (y + 1)) e)
 
 returns : tie.Need-returns
-returns c = let b = known (c .before) in reversed (blocksOf (now (c .before .before .before .before .args .blocks))) (c .before .before .before .before .args .points) (c .before .before .before .before .args .i) (omega arith)
+returns c =
+    let s = c .before .before .before .before in
+    let b = known (c .before) in reversed (blocksOf (now (s .args .blocks))) (s .args .points) (s .args .i) (omega arith)
 
 mul-follows : tie.Need-mul-follows
 mul-follows c = search needs
@@ -67,7 +71,12 @@ follows-requires : tie.Need-follows-requires
 follows-requires c κs = search needs
 
 returns-2 : tie.Need-returns-2
-returns-2 c = let b = known (c .before .before .before .before .before) in gapped (blocksOf (now (c .before .before .before .before .before .before .before .before .args .blocks))) (c .before .before .before .before .before .before .before .before .args .points) (c .before .before .before .before .before .before .before .before .args .i) (omega arith) (gap-next (blocksOf (now (c .before .before .before .before .before .before .before .before .args .blocks))) (c .before .before .before .before .before .before .before .before .args .i) (omega arith) (c .before .follows .result) (c .before .follows .ensures ∙ before-is (c .before .before .before .before .before) (omega arith)) ∙ c .if3 .taken)
+returns-2 c =
+    let s = c .before .before .before .before .before in
+    let t = s .before .before .before in
+    let b = known (s) in
+    gapped (blocksOf (now (t .args .blocks))) (t .args .points) (t .args .i) (omega arith)
+    (gap-next (blocksOf (now (t .args .blocks))) (t .args .i) (omega arith) (c .before .follows .result) (c .before .follows .ensures ∙ before-is (s) (omega arith)) ∙ c .if3 .taken)
 
 no-gap : (c : tie.Joined2) → gapAt (blocksOf (now (c .before .before .before .before .before .args .blocks))) (c .before .before .before .before .before .args .i) ≡ false
 no-gap c =
@@ -80,10 +89,17 @@ add-if4 : tie.Need-add-if4
 add-if4 c = search needs
 
 returns-3 : tie.Need-returns-3
-returns-3 c = let b = known (c .before .before .before) in ap (ltb (c .before .before .before .before .before .before .args .points)) (sym (b .1)) ∙ at-end (blocksOf (now (c .before .before .before .before .before .before .args .blocks))) (c .before .before .before .before .before .before .args .points) (c .before .before .before .before .before .before .args .i) (omega arith) (no-gap (c .before)) (omega (arith, blocks-length (now (c .before .before .before .before .before .before .args .blocks))))
+returns-3 c =
+    let s = c .before .before .before .before .before .before in
+    let b = known (c .before .before .before) in
+    ap (ltb (s .args .points)) (sym (b .1)) ∙ at-end (blocksOf (now (s .args .blocks))) (s .args .points) (s .args .i) (omega arith) (no-gap (c .before))
+    (omega (arith, blocks-length (now (s .args .blocks))))
 
 returns-4 : tie.Need-returns-4
-returns-4 c = let b = known (c .before .before .before) in inside (blocksOf (now (c .before .before .before .before .before .before .args .blocks))) (c .before .before .before .before .before .before .args .points) (c .before .before .before .before .before .before .args .i) (omega arith) (no-gap (c .before)) (omega (arith, blocks-length (now (c .before .before .before .before .before .before .args .blocks))))
+returns-4 c =
+    let s = c .before .before .before .before .before .before in
+    let b = known (c .before .before .before) in
+    inside (blocksOf (now (s .args .blocks))) (s .args .points) (s .args .i) (omega arith) (no-gap (c .before)) (omega (arith, blocks-length (now (s .args .blocks))))
 
 pub bad-span-spec : {M : Type 1} → statement M
 bad-span-spec =

@@ -19,19 +19,27 @@ enum-known-v : tie.Need-enum-known-v
 enum-known-v c = search needs
 
 returns : tie.Need-returns
-returns c = count-bad (now (c .before .before .before .before .before .before .args .blocks)) (now (c .before .before .before .before .before .before .args .edges)) (c .before .before .before .before .before .before .args .points) _ _ (sym (c .before .before .before .count .ensures) ∙ c .before .v .given .1)
+returns c =
+    let s = c .before .before .before .before .before .before in
+    count-bad (now (s .args .blocks)) (now (s .args .edges)) (s .args .points) _ _ (sym (c .before .before .before .count .ensures) ∙ c .before .v .given .1)
 
 enum-told : tie.Need-enum-told
 enum-told c = search needs
 
 line-requires : tie.Need-line-requires
-line-requires c κs = counts (now (c .before .before .before .before .before .args .blocks)) (now (c .before .before .before .before .before .args .edges)) (sym (c .before .before .count .ensures) ∙ c .enum-told .given .1) .few
+line-requires c κs =
+    let s = c .before .before .before .before .before in
+    counts (now (s .args .blocks)) (now (s .args .edges)) (sym (c .before .before .count .ensures) ∙ c .enum-told .given .1) .few
 
 enum-known-v-2 : tie.Need-enum-known-v-2
 enum-known-v-2 c = search needs
 
 returns-2 : tie.Need-returns-2
-returns-2 c = line-bad (now (c .before .before .before .before .before .before .before .before .before .args .blocks)) (now (c .before .before .before .before .before .before .before .before .before .args .edges)) (c .before .before .before .before .before .before .before .before .before .args .points) _ _ (sym (c .before .before .before .before .before .before .count .ensures) ∙ c .before .before .before .before .enum-told .given .1) (sym (c .before .before .before .line .ensures) ∙ c .before .v2 .given .1)
+returns-2 c =
+    let s = c .before .before .before .before .before .before .before .before .before in
+    line-bad (now (s .args .blocks)) (now (s .args .edges)) (s .args .points) _ _
+    (sym (c .before .before .before .before .before .before .count .ensures) ∙ c .before .before .before .before .enum-told .given .1)
+    (sym (c .before .before .before .line .ensures) ∙ c .before .v2 .given .1)
 
 enum-told-2 : tie.Need-enum-told-2
 enum-told-2 c = search needs
@@ -40,7 +48,11 @@ edge-requires : tie.Need-edge-requires
 edge-requires c κs = search needs
 
 returns-3 : tie.Need-returns-3
-returns-3 c = edge-last (now (c .before .before .before .before .before .before .before .before .before .args .blocks)) (now (c .before .before .before .before .before .before .before .before .before .args .edges)) (c .before .before .before .before .before .before .before .before .before .args .points) _ (sym (c .before .before .before .before .before .before .count .ensures) ∙ c .before .before .before .before .enum-told .given .1) (sym (c .before .before .before .line .ensures) ∙ c .before .enum-told2 .given .1) (c .edge .ensures ∙ ap (λ (y : ℕ). scan EdgeWord (badEdge y (jumpsOf (now (c .before .before .before .before .before .before .before .before .before .args .edges)))) (length (jumpsOf (now (c .before .before .before .before .before .before .before .before .before .args .edges))))) (sym (blocks-length (now (c .before .before .before .before .before .before .before .before .before .args .blocks)))))
+returns-3 c =
+    let s = c .before .before .before .before .before .before .before .before .before in
+    edge-last (now (s .args .blocks)) (now (s .args .edges)) (s .args .points) _ (sym (c .before .before .before .before .before .before .count .ensures)
+    ∙ c .before .before .before .before .enum-told .given .1) (sym (c .before .before .before .line .ensures) ∙ c .before .enum-told2 .given .1) (c .edge .ensures ∙ ap
+    (λ (y : ℕ). scan EdgeWord (badEdge y (jumpsOf (now (s .args .edges)))) (length (jumpsOf (now (s .args .edges))))) (sym (blocks-length (now (s .args .blocks)))))
 
 pub check-spec : {M : Type 1} → statement M
 check-spec =

@@ -37,7 +37,11 @@ wide-requires : tie.Need-wide-requires Inv-loop μ-loop
 wide-requires c κs = omega arith
 
 returns : tie.Need-returns Inv-loop μ-loop
-returns c = sym (scan-hit _ _ _ _ (c .before .before .before .before .loop .inv .2) (from-bad (c .before .before .before .before .before .before .args .n) (now (c .before .before .before .before .before .before .args .edges)) (c .before .before .before .before .loop .i) (omega arith) (omega arith)) (omega (arith, jumps-length (now (c .before .before .before .before .before .before .args .edges)))))
+returns c =
+    let s = c .before .before .before .before in
+    let t = s .before .before in
+    sym
+    (scan-hit _ _ _ _ (s .loop .inv .2) (from-bad (t .args .n) (now (t .args .edges)) (s .loop .i) (omega arith) (omega arith)) (omega (arith, jumps-length (now (t .args .edges)))))
 
 mul-wide-3 : tie.Need-mul-wide-3 Inv-loop μ-loop
 mul-wide-3 c = omega arith
@@ -55,7 +59,11 @@ wide-requires-2 : tie.Need-wide-requires-2 Inv-loop μ-loop
 wide-requires-2 c κs = omega arith
 
 returns-2 : tie.Need-returns-2 Inv-loop μ-loop
-returns-2 c = sym (scan-hit _ _ _ _ (c .before .before .before .before .before .before .before .loop .inv .2) (to-bad (c .before .before .before .before .before .before .before .before .before .args .n) (now (c .before .before .before .before .before .before .before .before .before .args .edges)) (c .before .before .before .before .before .before .before .loop .i) (omega arith) (omega arith) (omega arith)) (omega (arith, jumps-length (now (c .before .before .before .before .before .before .before .before .before .args .edges)))))
+returns-2 c =
+    let s = c .before .before .before .before .before .before .before in
+    let t = s .before .before in
+    sym (scan-hit _ _ _ _ (s .loop .inv .2) (to-bad (t .args .n) (now (t .args .edges)) (s .loop .i) (omega arith) (omega arith) (omega arith))
+    (omega (arith, jumps-length (now (t .args .edges)))))
 
 add-i : tie.Need-add-i Inv-loop μ-loop
 add-i c = omega arith
@@ -64,10 +72,15 @@ loop-less : tie.Need-loop-less Inv-loop μ-loop
 loop-less c = omega arith
 
 loop-again : tie.Need-loop-again Inv-loop μ-loop
-loop-again c = (omega arith, omega arith, scan-miss _ _ _ (c .before .before .before .before .before .before .before .loop .inv .2) (edge-fine (c .before .before .before .before .before .before .before .before .before .args .n) (now (c .before .before .before .before .before .before .before .before .before .args .edges)) (c .before .before .before .before .before .before .before .loop .i) (omega arith) (omega arith) (omega arith)))
+loop-again c =
+    let s = c .before .before .before .before .before .before .before in
+    let t = s .before .before in
+    (omega arith, omega arith, scan-miss _ _ _ (s .loop .inv .2) (edge-fine (t .args .n) (now (t .args .edges)) (s .loop .i) (omega arith) (omega arith) (omega arith)))
 
 returns-3 : tie.Need-returns-3 Inv-loop μ-loop
-returns-3 c = sym (scan-end _ _ _ _ (c .before .loop .inv .2) (omega (arith, jumps-length (now (c .before .before .before .args .edges)))) (omega (arith, jumps-length (now (c .before .before .before .args .edges)))))
+returns-3 c =
+    let s = c .before .before .before in
+    sym (scan-end _ _ _ _ (c .before .loop .inv .2) (omega (arith, jumps-length (now (s .args .edges)))) (omega (arith, jumps-length (now (s .args .edges)))))
 
 pub edge-spec : {M : Type 1} → statement M
 edge-spec =

@@ -41,10 +41,17 @@ at-i : (c : tie.After-wide Inv-loop μ-loop) → blockAt (blocksOf (now (c .befo
 at-i c = number-is (now (c .before .before .before .before .before .args .blocks)) (c .before .before .before .loop .i) (omega arith) ∙ sym (c .wide .ensures)
 
 returns : tie.Need-returns Inv-loop μ-loop
-returns c = sym (scan-hit _ _ _ _ (c .before .before .before .before .loop .inv .2) (by-number (blocksOf (now (c .before .before .before .before .before .before .args .blocks))) (c .before .before .before .before .before .before .args .points) (c .before .before .before .before .loop .i) (omega (arith, at-i (c .before), blocks-length (now (c .before .before .before .before .before .before .args .blocks))))) (omega (arith, blocks-length (now (c .before .before .before .before .before .before .args .blocks)))))
+returns c =
+    let s = c .before .before .before .before in
+    let t = s .before .before in
+    sym (scan-hit _ _ _ _ (s .loop .inv .2)
+    (by-number (blocksOf (now (t .args .blocks))) (t .args .points) (s .loop .i) (omega (arith, at-i (c .before), blocks-length (now (t .args .blocks)))))
+    (omega (arith, blocks-length (now (t .args .blocks)))))
 
 used-at : (c : tie.Else1 Inv-loop μ-loop) → usedBefore (blocksOf (now (c .before .before .before .before .before .before .args .blocks))) (blockAt (blocksOf (now (c .before .before .before .before .before .before .args .blocks))) (c .before .before .before .before .loop .i) .number) (c .before .before .before .before .loop .i) ≡ bit (c .before .before .before .before .loop .used) 0 (c .before .wide .result)
-used-at c = ap (λ (y : ℕ). usedBefore (blocksOf (now (c .before .before .before .before .before .before .args .blocks))) y (c .before .before .before .before .loop .i)) (at-i (c .before)) ∙ sym (c .before .before .before .before .loop .inv .4 (c .before .wide .result) (omega arith))
+used-at c =
+    let s = c .before .before .before .before in
+    ap (λ (y : ℕ). usedBefore (blocksOf (now (s .before .before .args .blocks))) y (s .loop .i)) (at-i (c .before)) ∙ sym (s .loop .inv .4 (c .before .wide .result) (omega arith))
 
 slice-aggregate-test : tie.Need-slice-aggregate-test Inv-loop μ-loop
 slice-aggregate-test c = omega (arith, c .before .before .before .before .before .loop .inv .3)
@@ -53,13 +60,24 @@ test-requires : tie.Need-test-requires Inv-loop μ-loop
 test-requires c κs = omega (arith, c .before .before .before .before .before .loop .inv .3)
 
 returns-2 : tie.Need-returns-2 Inv-loop μ-loop
-returns-2 c = sym (scan-hit _ _ _ _ (c .before .before .before .before .before .before .before .loop .inv .2) (by-use (blocksOf (now (c .before .before .before .before .before .before .before .before .before .args .blocks))) (c .before .before .before .before .before .before .before .before .before .args .points) (c .before .before .before .before .before .before .before .loop .i) (omega (arith, at-i (c .before .before .before .before), blocks-length (now (c .before .before .before .before .before .before .before .before .before .args .blocks)))) (used-at (c .before .before .before) ∙ sym (c .before .test .ensures) ∙ c .if2 .taken)) (omega (arith, blocks-length (now (c .before .before .before .before .before .before .before .before .before .args .blocks)))))
+returns-2 c =
+    let s = c .before .before .before .before .before .before .before in
+    let t = s .before .before in
+    sym (scan-hit _ _ _ _ (s .loop .inv .2) (by-use (blocksOf (now (t .args .blocks))) (t .args .points) (s .loop .i)
+    (omega (arith, at-i (c .before .before .before .before), blocks-length (now (t .args .blocks))))
+    (used-at (c .before .before .before) ∙ sym (c .before .test .ensures) ∙ c .if2 .taken)) (omega (arith, blocks-length (now (t .args .blocks)))))
 
 bad-span-requires : tie.Need-bad-span-requires Inv-loop μ-loop
 bad-span-requires c κs = omega arith
 
 returns-3 : tie.Need-returns-3 Inv-loop μ-loop
-returns-3 c = sym (scan-hit _ _ _ _ (c .before .before .before .before .before .before .before .before .before .loop .inv .2) (by-span (blocksOf (now (c .before .before .before .before .before .before .before .before .before .before .before .args .blocks))) (c .before .before .before .before .before .before .before .before .before .before .before .args .points) (c .before .before .before .before .before .before .before .before .before .loop .i) (omega (arith, at-i (c .before .before .before .before .before .before), blocks-length (now (c .before .before .before .before .before .before .before .before .before .before .before .args .blocks)))) (used-at (c .before .before .before .before .before) ∙ sym (c .before .before .before .test .ensures) ∙ c .before .before .if2 .left) ∙ sym (c .before .bad-span .ensures) ∙ c .if3 .taken) (omega (arith, blocks-length (now (c .before .before .before .before .before .before .before .before .before .before .before .args .blocks)))))
+returns-3 c =
+    let s = c .before .before .before .before .before .before .before .before .before in
+    let t = s .before .before in
+    sym (scan-hit _ _ _ _ (s .loop .inv .2) (by-span (blocksOf (now (t .args .blocks))) (t .args .points) (s .loop .i)
+    (omega (arith, at-i (c .before .before .before .before .before .before), blocks-length (now (t .args .blocks))))
+    (used-at (c .before .before .before .before .before) ∙ sym (c .before .before .before .test .ensures) ∙ c .before .before .if2 .left) ∙ sym (c .before .bad-span .ensures)
+    ∙ c .if3 .taken) (omega (arith, blocks-length (now (t .args .blocks)))))
 
 slice-aggregate-set : tie.Need-slice-aggregate-set Inv-loop μ-loop
 slice-aggregate-set c = omega (arith, c .before .before .before .before .before .before .before .before .before .before .loop .inv .3)
@@ -74,10 +92,25 @@ loop-less : tie.Need-loop-less Inv-loop μ-loop
 loop-less c = omega arith
 
 loop-again : tie.Need-loop-again Inv-loop μ-loop
-loop-again c = (omega arith, omega arith, scan-miss _ _ _ (c .before .before .before .before .before .before .before .before .before .before .before .before .loop .inv .2) (by-span (blocksOf (now (c .before .before .before .before .before .before .before .before .before .before .before .before .before .before .args .blocks))) (c .before .before .before .before .before .before .before .before .before .before .before .before .before .before .args .points) (c .before .before .before .before .before .before .before .before .before .before .before .before .loop .i) (omega (arith, at-i (c .before .before .before .before .before .before .before .before .before), blocks-length (now (c .before .before .before .before .before .before .before .before .before .before .before .before .before .before .args .blocks)))) (used-at (c .before .before .before .before .before .before .before .before) ∙ sym (c .before .before .before .before .before .before .test .ensures) ∙ c .before .before .before .before .before .if2 .left) ∙ sym (c .before .before .before .before .bad-span .ensures) ∙ c .before .before .before .if3 .left), c .before .set .ensures .len ∙ c .before .before .before .before .before .before .before .before .before .before .before .before .loop .inv .3, used-more (blocksOf (now (c .before .before .before .before .before .before .before .before .before .before .before .before .before .before .args .blocks))) (c .before .before .before .before .before .before .before .before .before .before .before .before .loop .i) _ _ _ (sym (at-i (c .before .before .before .before .before .before .before .before .before))) (c .before .set .ensures) (c .before .before .before .before .before .before .before .before .before .before .before .before .loop .inv .4))
+loop-again c =
+    let s = c .before .before .before .before .before .before .before .before .before in
+    let t = s .before .before .before in
+    let u = t .before .before in (
+      omega arith,
+      omega arith,
+      scan-miss _ _ _ (t .loop .inv .2) (by-span (blocksOf (now (u .args .blocks))) (u .args .points) (t .loop .i) (omega
+          (arith, at-i (s), blocks-length (now (u .args .blocks)))) (used-at (c .before .before .before .before .before .before .before .before) ∙ sym
+          (c .before .before .before .before .before .before .test .ensures) ∙ c .before .before .before .before .before .if2 .left) ∙ sym
+          (c .before .before .before .before .bad-span .ensures) ∙ c .before .before .before .if3 .left),
+      c .before .set .ensures .len ∙ t .loop .inv .3,
+      used-more (blocksOf (now
+          (u .args .blocks))) (t .loop .i) _ _ _ (sym (at-i (s))) (c .before .set .ensures) (t .loop .inv .4),
+    )
 
 returns-4 : tie.Need-returns-4 Inv-loop μ-loop
-returns-4 c = sym (scan-end _ _ _ _ (c .before .loop .inv .2) (omega (arith, blocks-length (now (c .before .before .before .args .blocks)))) (omega (arith, blocks-length (now (c .before .before .before .args .blocks)))))
+returns-4 c =
+    let s = c .before .before .before in
+    sym (scan-end _ _ _ _ (c .before .loop .inv .2) (omega (arith, blocks-length (now (s .args .blocks)))) (omega (arith, blocks-length (now (s .args .blocks)))))
 
 pub line-spec : {M : Type 1} → statement M
 line-spec =

@@ -13,7 +13,9 @@ abbrev μ-loop : tie.MeasureT-loop
 μ-loop insts addresses answer₀ work₀ lay z l₀ answer work l = z .locals - l
 
 loop-holds : tie.Need-loop-holds Inv-loop μ-loop
-loop-holds c = list-start ((c .before .before .before .before .args) .insts .now) ((c .before .before .before .before .args) .addresses .now) ((c .before .before .before .before .args) .lay) ((c .before .before .before .before .args) .z) ((c .before .before .before .before .args) .answer .now) ((c .before .before .before .before .args) .work .now) ((c .before .before .before .before .pre) .0) ((c .before .before .before .before .pre) .1)
+loop-holds c =
+    let s = c .before .before .before .before in
+    list-start (s .args .insts .now) (s .args .addresses .now) (s .args .lay) (s .args .z) (s .args .answer .now) (s .args .work .now) (s .pre .0) (s .pre .1)
 
 follow-requires : tie.Need-follow-requires Inv-loop μ-loop
 follow-requires c κs = (list-ready ((c .before .before .before .loop) .inv), omega arith)
@@ -25,7 +27,9 @@ mul-answer : tie.Need-mul-answer Inv-loop μ-loop
 mul-answer c = omega arith
 
 slice-write-answer : tie.Need-slice-write-answer Inv-loop μ-loop
-slice-write-answer c = let q = (c .before .before .before .before .before .before .before .loop) .inv .len in let r = (c .before .before .before .before .before .before .before .loop) .inv .room in omega arith
+slice-write-answer c =
+    let s = c .before .before .before .before .before .before .before in
+    let q = s .loop .inv .len in let r = s .loop .inv .room in omega arith
 
 add-l : tie.Need-add-l Inv-loop μ-loop
 add-l c = let r = (c .before .before .before .before .before .before .before .loop) .inv .room in omega arith

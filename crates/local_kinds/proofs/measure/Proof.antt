@@ -12,10 +12,19 @@ layout-requires : tie.Need-layout-requires
 layout-requires c κs = let k = (c .before .before .before .before .before .before .before .before .pre) .0 in omega arith
 
 prepare-requires : tie.Need-prepare-requires
-prepare-requires c κs = let k = (c .before .before .before .before .before .before .before .before .before .before .pre) .0 in ((k .adds, k .few-insts, k .registers), (laid-longer ((c .before .layout) .ensures .0) (length ((c .before .before .before .before .before .before .before .before .before .before .args) .work .now)) (k .room), k .ended))
+prepare-requires c κs =
+    let s = c .before .before .before .before .before .before .before .before .before .before in
+    let k = s .pre .0 in ((k .adds, k .few-insts, k .registers), (laid-longer (c .before .layout .ensures .0) (length (s .args .work .now)) (k .room), k .ended))
 
 kinds-requires : tie.Need-kinds-requires
-kinds-requires c κs = (measure-ready ((c .before .before .before .before .before .before .before .before .before .before .before .before .before .before .before .args) .v) ((c .before .before .before .before .before .before .before .before .before .before .before .before .before .before .before .args) .insts .now) ((c .before .before .before .before .before .before .before .before .before .before .before .before .before .before .before .args) .operands .now) ((c .before .before .before .before .before .before .before .before .before .before .before .before .before .before .before .args) .crossings .now) ((c .before .before .before .before .before .before .before .before .before .before .before .before .before .before .before .args) .locals .now) ((c .before .before .before .before .before .before .before .before .before .before .before .before .before .before .before .args) .addresses .now) ((c .before .before .before .before .before .before .before .before .before .before .before .before .before .before .before .args) .ends .now) ((c .before .before .before .before .before .before .layout) .result) ((c .before .before .before .before .prepare) .result) ((c .before .before .before .before .before .before .before .before .before .before .before .before .before .before .before .pre) .0) ((c .before .before .before .before .before .before .layout) .ensures .0) ((c .before .before .before .before .prepare) .ensures), (c .before .before .before .before .before .before .before .before .before .before .before .before .before .before .before .pre) .1)
+kinds-requires c κs =
+    let s = c .before .before .before .before in
+    let t = s .before .before in
+    let u = t .before .before .before .before .before .before .before .before .before in (
+      measure-ready (u .args .v) (u .args .insts .now) (u .args .operands .now) (u .args .crossings .now) (u .args .locals .now) (u .args .addresses .now) (u .args .ends .now)
+          (t .layout .result) (s .prepare .result) (u .pre .0) (t .layout .ensures .0) (s .prepare .ensures),
+      u .pre .1,
+    )
 
 same-length : tie.Need-same-length
 same-length c = (c .before .before .before .before .kinds) .ensures .len
@@ -24,7 +33,12 @@ same-length-2 : tie.Need-same-length-2
 same-length-2 c = (c .before .before .before .before .kinds) .ensures .kept .len ∙ (c .before .before .before .before .before .before .before .before .before .prepare) .ensures .kept .len
 
 returns : tie.Need-returns
-returns c = measured ((c .before .before .before .before .before .before .before .before .before .before .before .before .before .before .before .before .before .before .before .before .args) .v) ((c .before .before .before .before .before .before .before .before .before .before .before .before .before .before .before .before .before .before .before .before .args) .insts .now) ((c .before .before .before .before .before .before .before .before .before .before .before .before .before .before .before .before .before .before .before .before .args) .operands .now) ((c .before .before .before .before .before .before .before .before .before .before .before .before .before .before .before .before .before .before .before .before .args) .crossings .now) ((c .before .before .before .before .before .before .before .before .before .before .before .before .before .before .before .before .before .before .before .before .args) .locals .now) ((c .before .before .before .before .before .before .before .before .before .before .before .before .before .before .before .before .before .before .before .before .args) .addresses .now) ((c .before .before .before .before .before .before .before .before .before .before .before .before .before .before .before .before .before .before .before .before .args) .ends .now) ((c .before .before .before .before .before .before .before .before .before .before .before .layout) .result) ((c .before .before .before .before .before .before .before .before .before .prepare) .result) ((c .before .before .before .before .before .before .before .before .before .before .before .before .before .before .before .before .before .before .before .before .pre) .0) ((c .before .before .before .before .before .before .before .before .before .before .before .layout) .ensures .0) ((c .before .before .before .before .before .before .before .before .before .prepare) .ensures) ((c .before .before .before .before .kinds) .ensures) ((c .before .before .before .before .before .before .before .before .before .before .before .layout) .ensures .1)
+returns c =
+    let s = c .before .before .before .before .before .before .before .before .before in
+    let t = s .before .before in
+    let u = t .before .before .before .before .before .before .before .before .before in
+    measured (u .args .v) (u .args .insts .now) (u .args .operands .now) (u .args .crossings .now) (u .args .locals .now) (u .args .addresses .now) (u .args .ends .now)
+    (t .layout .result) (s .prepare .result) (u .pre .0) (t .layout .ensures .0) (s .prepare .ensures) (c .before .before .before .before .kinds .ensures) (t .layout .ensures .1)
 
 pub measure-spec : {M : Type 1} → statement M
 measure-spec =

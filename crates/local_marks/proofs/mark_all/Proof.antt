@@ -12,10 +12,15 @@ abbrev μ-loop : tie.MeasureT-loop
 μ-loop blocks kinds touches ends work₀ p g l₀ work l = p .locals - l
 
 clear-marks-requires : tie.Need-clear-marks-requires Inv-loop μ-loop
-clear-marks-requires c κs = ((c .before .before .before .before .before .before .pre) .0 .touched-fits, (c .before .before .before .before .before .before .pre) .0 .leaves-fit, (c .before .before .before .before .before .before .pre) .0 .passes-fit)
+clear-marks-requires c κs =
+    let s = c .before .before .before .before .before .before in
+    (s .pre .0 .touched-fits, s .pre .0 .leaves-fit, s .pre .0 .passes-fit)
 
 loop-holds : tie.Need-loop-holds Inv-loop μ-loop
-loop-holds c = sweep-start ((c .before .before .before .before .before .before .before .before .before .args) .p) ((c .before .before .before .before .before .before .before .before .before .args) .g) ((c .before .before .before .before .before .before .before .before .before .args) .blocks .now) ((c .before .before .before .before .before .before .before .before .before .args) .kinds .now) ((c .before .before .before .before .before .before .before .before .before .args) .touches .now) ((c .before .before .before .before .before .before .before .before .before .args) .ends .now) ((c .before .before .before .before .before .before .before .before .before .pre) .0) ((c .before .before .clear-marks) .ensures)
+loop-holds c =
+    let s = c .before .before .before .before .before .before .before .before .before in
+    sweep-start (s .args .p) (s .args .g) (s .args .blocks .now) (s .args .kinds .now) (s .args .touches .now) (s .args .ends .now) (s .pre .0)
+    (c .before .before .clear-marks .ensures)
 
 mul-kind : tie.Need-mul-kind Inv-loop μ-loop
 mul-kind c = omega arith
@@ -27,10 +32,19 @@ mark-one-requires : tie.Need-mark-one-requires Inv-loop μ-loop
 mark-one-requires c κs = ((c .before .before .before .before .loop) .inv .ready, omega arith)
 
 same-length : tie.Need-same-length Inv-loop μ-loop
-same-length c = let a = (c .before .before .before .before .before .before .before .before .loop) .inv .kept .len in let b = (c .before .before .before .mark-one) .ensures .0 .len in let z = (cleared-kept ((c .before .before .before .before .before .before .before .before .before .before .before .before .before .before .before .before .before .before .pre) .0) ((c .before .before .before .before .before .before .before .before .before .before .before .clear-marks) .ensures)) .len in omega arith
+same-length c =
+    let a = (c .before .before .before .before .before .before .before .before .loop) .inv .kept .len in
+    let b = (c .before .before .before .mark-one) .ensures .0 .len in
+    let z = (cleared-kept ((c .before .before .before .before .before .before .before .before .before .before .before .before .before .before .before .before .before .before .pre) .0)
+    ((c .before .before .before .before .before .before .before .before .before .before .before .clear-marks) .ensures)) .len in
+    omega arith
 
 returns : tie.Need-returns Inv-loop μ-loop
-returns c = sweep-found ((c .before .before .before .before .before .before .before .before .loop) .inv) (omega arith) ((c .before .before .before .mark-one) .ensures .0) ((c .before .before .before .mark-one) .ensures .1) (cleared-kept ((c .before .before .before .before .before .before .before .before .before .before .before .before .before .before .before .before .before .before .pre) .0) ((c .before .before .before .before .before .before .before .before .before .before .before .clear-marks) .ensures)) ((c .if2) .taken)
+returns c =
+    let s = c .before .before .before in
+    sweep-found (s .before .before .before .before .before .loop .inv) (omega arith) (s .mark-one .ensures .0) (s .mark-one .ensures .1) (cleared-kept
+    (s .before .before .before .before .before .before .before .before .before .before .before .before .before .before .before .pre .0)
+    (s .before .before .before .before .before .before .before .before .clear-marks .ensures)) (c .if2 .taken)
 
 add-l : tie.Need-add-l Inv-loop μ-loop
 add-l c = omega arith
@@ -39,7 +53,9 @@ loop-less : tie.Need-loop-less Inv-loop μ-loop
 loop-less c = omega arith
 
 loop-again : tie.Need-loop-again Inv-loop μ-loop
-loop-again c = sweep-more ((c .before .before .before .before .before .before .before .before .loop) .inv) (omega arith) ((c .before .before .before .mark-one) .ensures .0) ((c .before .before .before .mark-one) .ensures .1) ((c .if2) .left)
+loop-again c =
+    let s = c .before .before .before in
+    sweep-more (s .before .before .before .before .before .loop .inv) (omega arith) (s .mark-one .ensures .0) (s .mark-one .ensures .1) (c .if2 .left)
 
 same-length-2 : tie.Need-same-length-2 Inv-loop μ-loop
 same-length-2 c = let a = (c .before .before .loop) .inv .kept .len in let z = (cleared-kept ((c .before .before .before .before .before .before .before .before .before .before .before .before .pre) .0) ((c .before .before .before .before .before .clear-marks) .ensures)) .len in omega arith

@@ -8,25 +8,48 @@ use Rattle.local_marks.proofs.mark_spots.Statement.{statement}
 use Rattle.local_marks.proofs.mark_spots.Tie as tie
 
 mark-touched-requires : tie.Need-mark-touched-requires
-mark-touched-requires c κs = (touches-ready ((c .before .before .before .before .args) .blocks .now) ((c .before .before .before .before .args) .s) ((c .before .before .before .before .args) .g) ((c .before .before .before .before .args) .l) (c .before .before .before .before .pre) _ (omega arith) (omega arith), (c .before .before .before .before .pre) .upright)
+mark-touched-requires c κs =
+    let t = c .before .before .before .before in
+    (touches-ready (t .args .blocks .now) (t .args .s) (t .args .g) (t .args .l) (t .pre) _ (omega arith) (omega arith), t .pre .upright)
 
 same-length : tie.Need-same-length
 same-length c = search needs
 
 returns : tie.Need-returns
-returns c = (plain-kept ((c .before .before .before .before .before .before .before .args) .blocks .now) ((c .before .before .before .before .before .before .before .args) .s) ((c .before .before .before .before .before .before .before .args) .g) ((c .before .before .before .before .before .before .before .args) .l) (c .before .before .before .before .before .before .before .pre) ((c .before .before .mark-touched) .ensures), plain-marking ((c .before .before .before .before .before .before .before .args) .blocks .now) ((c .before .before .before .before .before .before .before .args) .s) ((c .before .before .before .before .before .before .before .args) .g) ((c .before .before .before .before .before .before .before .args) .l) (c .before .before .before .before .before .before .before .pre) ((c .before .before .mark-touched) .ensures) ((c .before .before .before .before .before .before .before .args) .plain) ((c .before .before .before .before .if1) .taken))
+returns c =
+    let t = c .before .before in
+    let u = t .before .before .before .before .before in (
+      plain-kept (u .args .blocks .now) (u .args .s) (u .args .g) (u .args .l) (u .pre) (t .mark-touched .ensures),
+      plain-marking (u .args .blocks .now) (u .args .s) (u .args .g)
+          (u .args .l) (u .pre) (t .mark-touched .ensures) (u .args .plain) (t .before .before .if1 .taken),
+    )
 
 mark-leaving-requires : tie.Need-mark-leaving-requires
-mark-leaving-requires c κs = (touches-ready ((c .before .before .before .before .args) .blocks .now) ((c .before .before .before .before .args) .s) ((c .before .before .before .before .args) .g) ((c .before .before .before .before .args) .l) (c .before .before .before .before .pre) _ (omega arith) (omega arith), ends-ready ((c .before .before .before .before .args) .blocks .now) ((c .before .before .before .before .args) .s) ((c .before .before .before .before .args) .g) ((c .before .before .before .before .args) .l) (c .before .before .before .before .pre) _ refl (omega arith) (omega arith), (c .before .before .before .before .pre) .stand .rising)
+mark-leaving-requires c κs =
+    let t = c .before .before .before .before in (
+      touches-ready (t .args .blocks .now) (t .args .s) (t .args .g) (t .args .l) (t .pre) _ (omega arith) (omega arith),
+      ends-ready (t .args .blocks .now) (t .args .s) (t .args .g)
+          (t .args .l) (t .pre) _ refl (omega arith) (omega arith),
+      t .pre .stand .rising,
+    )
 
 mark-passing-requires : tie.Need-mark-passing-requires
-mark-passing-requires c κs = ends-ready ((c .before .before .before .before .before .before .before .before .args) .blocks .now) ((c .before .before .before .before .before .before .before .before .args) .s) ((c .before .before .before .before .before .before .before .before .args) .g) ((c .before .before .before .before .before .before .before .before .args) .l) (c .before .before .before .before .before .before .before .before .pre) _ ((c .before .before .before .mark-leaving) .ensures [] .kept .len) (omega arith) (omega arith)
+mark-passing-requires c κs =
+    let t = c .before .before .before .before .before .before .before .before in
+    ends-ready (t .args .blocks .now) (t .args .s) (t .args .g) (t .args .l) (t .pre) _ (c .before .before .before .mark-leaving .ensures [] .kept .len) (omega arith) (omega arith)
 
 same-length-2 : tie.Need-same-length-2
 same-length-2 c = search needs
 
 returns-2 : tie.Need-returns-2
-returns-2 c = (ending-kept ((c .before .before .before .before .before .before .before .before .before .before .before .args) .blocks .now) ((c .before .before .before .before .before .before .before .before .before .before .before .args) .s) ((c .before .before .before .before .before .before .before .before .before .before .before .args) .g) ((c .before .before .before .before .before .before .before .before .before .before .before .args) .l) (c .before .before .before .before .before .before .before .before .before .before .before .pre) ((c .before .before .before .before .before .before .mark-leaving) .ensures) ((c .before .before .mark-passing) .ensures), ending-marking ((c .before .before .before .before .before .before .before .before .before .before .before .args) .blocks .now) ((c .before .before .before .before .before .before .before .before .before .before .before .args) .s) ((c .before .before .before .before .before .before .before .before .before .before .before .args) .g) ((c .before .before .before .before .before .before .before .before .before .before .before .args) .l) (c .before .before .before .before .before .before .before .before .before .before .before .pre) ((c .before .before .before .before .before .before .mark-leaving) .ensures) ((c .before .before .mark-passing) .ensures) ((c .before .before .before .before .before .before .before .before .before .before .before .args) .plain) ((c .before .before .before .before .before .before .before .before .if1) .left))
+returns-2 c =
+    let t = c .before .before in
+    let u = t .before .before .before .before in
+    let p = u .before .before .before .before .before in (
+      ending-kept (p .args .blocks .now) (p .args .s) (p .args .g) (p .args .l) (p .pre) (u .mark-leaving .ensures) (t .mark-passing .ensures),
+      ending-marking (p .args .blocks .now)
+          (p .args .s) (p .args .g) (p .args .l) (p .pre) (u .mark-leaving .ensures) (t .mark-passing .ensures) (p .args .plain) (u .before .before .if1 .left),
+    )
 
 pub mark-spots-spec : {M : Type 1} → statement M
 mark-spots-spec =

@@ -19,31 +19,49 @@ add-last : tie.Need-add-last
 add-last c = ends-of (c .before .before .before .before .before .pre .0) (room (c .before .before .before .before .before)) .last
 
 walk-requires : tie.Need-walk-requires
-walk-requires c κs = (inr refl, touches-walkable (c .before .before .before .before .before .before .pre .0) (c .before .before .before .before .before .before .pre .1) (c .before .before .before .before .before .before .pre .2) _ refl)
+walk-requires c κs =
+    let s = c .before .before .before .before .before .before in
+    (inr refl, touches-walkable (s .pre .0) (s .pre .1) (s .pre .2) _ refl)
 
 add-walk : tie.Need-add-walk
-add-walk c = ends-of (c .before .before .before .before .before .before .before .before .before .before .before .pre .0) (room (c .before .before .before .before .before .before .before .before .before .before .before)) .past
+add-walk c =
+    let s = c .before .before .before .before .before .before .before .before .before .before .before in
+    ends-of (s .pre .0) (room (s)) .past
 
 add-walk-2 : tie.Need-add-walk-2
-add-walk-2 c = ends-of (c .before .before .before .before .before .before .before .before .before .before .before .before .pre .0) (room (c .before .before .before .before .before .before .before .before .before .before .before .before)) .nexts
+add-walk-2 c =
+    let s = c .before .before .before .before .before .before .before .before .before .before .before .before in
+    ends-of (s .pre .0) (room (s)) .nexts
 
 walk-requires-2 : tie.Need-walk-requires-2
-walk-requires-2 c κs = (inl refl, ends-walkable (c .before .before .before .before .before .before .before .before .before .before .before .before .pre .0) (c .before .before .before .before .before .before .before .before .before .before .before .before .pre .1) (c .before .before .before .before .before .before .before .before .before .before .before .before .pre .2) refl (c .before .before .before .before .before .walk .ensures) _ refl)
+walk-requires-2 c κs =
+    let s = c .before .before .before .before .before .before .before .before .before .before .before .before in
+    (inl refl, ends-walkable (s .pre .0) (s .pre .1) (s .pre .2) refl (c .before .before .before .before .before .walk .ensures) _ refl)
 
 sub-first : tie.Need-sub-first
 sub-first c = fewer _ _ (c .before .before .before .before .before .before .before .before .before .before .before .before .before .before .before .args .p .ends) (c .before .before .walk2 .ensures .few)
 
 sort-part-requires : tie.Need-sort-part-requires
-sort-part-requires c κs = ends-in _ _ _ _ _ (c .before .before .before .walk2 .ensures .few) (c .before .before .before .walk2 .ensures .kept .len ∙ c .before .before .before .before .before .before .before .before .before .walk .ensures .kept .len) (c .before .before .before .before .before .before .before .before .before .before .before .before .before .before .before .before .pre .0 .ends-fit)
+sort-part-requires c κs =
+    let s = c .before .before .before in
+    ends-in _ _ _ _ _ (s .walk2 .ensures .few) (s .walk2 .ensures .kept .len ∙ s .before .before .before .before .before .before .walk .ensures .kept .len)
+    (s .before .before .before .before .before .before .before .before .before .before .before .before .before .pre .0 .ends-fit)
 
 sub-t12 : tie.Need-sub-t12
-sub-t12 c = fewer _ _ (c .before .before .before .before .before .before .before .before .before .before .before .before .before .before .before .before .before .before .before .args .p .at) (c .before .before .before .before .before .before .before .before .before .before .before .before .walk .ensures .few)
+sub-t12 c =
+    fewer _ _ (c .before .before .before .before .before .before .before .before .before .before .before .before .before .before .before .before .before .before .before .args .p .at)
+    (c .before .before .before .before .before .before .before .before .before .before .before .before .walk .ensures .few)
 
 same-length : tie.Need-same-length
 same-length c = c .before .before .sort-part .ensures .len ∙ c .before .before .before .before .before .before .walk2 .ensures .kept .len ∙ c .before .before .before .before .before .before .before .before .before .before .before .before .walk .ensures .kept .len
 
 returns : tie.Need-returns
-returns c = fetched (c .before .before .before .before .before .before .before .before .before .before .before .before .before .before .before .before .before .before .before .pre .0) (c .before .before .before .before .before .before .before .before .before .before .before .before .before .before .before .before .before .before .before .pre .1) (c .before .before .before .before .before .before .before .before .before .before .before .before .before .before .before .before .before .before .before .pre .2) refl (c .before .before .before .before .before .before .before .before .before .before .before .before .walk .ensures) refl (c .before .before .before .before .before .before .walk2 .ensures) (c .before .before .sort-part .ensures) (λ i. let z = c .before .before .before .before .before .before .before .before .before .before .before .before .before .before .before .before .before .before .shared-slice-known .given i in omega arith) _ _ refl refl
+returns c =
+    let s = c .before .before .before .before .before .before .before .before .before .before .before .before .before .before .before .before .before .before .before in
+    fetched (s .pre .0) (s .pre .1) (s .pre .2) refl (c .before .before .before .before .before .before .before .before .before .before .before .before .walk .ensures) refl
+    (c .before .before .before .before .before .before .walk2 .ensures) (c .before .before .sort-part .ensures)
+    (λ i. let z = c .before .before .before .before .before .before .before .before .before .before .before .before .before .before .before .before .before .before .shared-slice-known .given i in
+    omega arith) _ _ refl refl
 
 pub fetch-spec : {M : Type 1} → statement M
 fetch-spec =

@@ -30,7 +30,9 @@ slice-read-next : tie.Need-slice-read-next Inv-loop μ-loop
 slice-read-next c = head-at (c .before .before .before .pre .1) (room (c .before .before .before)) .inside
 
 loop-holds : tie.Need-loop-holds Inv-loop μ-loop
-loop-holds c = walk-start (λ i. wordOf (c .before .before .before .args .width) (field (c .before .before .before .args .width) (c .before .before .before .args .rows .now) i)) (c .before .before .before .pre .1) _ refl
+loop-holds c =
+    let s = c .before .before .before in
+    walk-start (λ i. wordOf (s .args .width) (field (s .args .width) (s .args .rows .now) i)) (s .pre .1) _ refl
 
 sub-i : tie.Need-sub-i Inv-loop μ-loop
 sub-i c = step (c .before .loop .inv) (c .loop-test .taken) (room (c .before .before .before .before .before)) .some
@@ -39,7 +41,10 @@ sub-to : tie.Need-sub-to Inv-loop μ-loop
 sub-to c = step (c .before .loop .inv) (c .loop-test .taken) (room (c .before .before .before .before .before)) .room
 
 word-requires : tie.Need-word-requires Inv-loop μ-loop
-word-requires c κs = row-whole (c .before .before .before .before .before .args .rows .now) (c .before .loop .next - 1) (c .before .before .before .before .before .pre .0) (walk-row (c .before .loop .inv) (c .before .loop .next - 1) (step (c .before .loop .inv) (c .loop-test .taken) (room (c .before .before .before .before .before)) .is))
+word-requires c κs =
+    let s = c .before .before .before .before .before in
+    row-whole (s .args .rows .now) (c .before .loop .next - 1) (s .pre .0)
+    (walk-row (c .before .loop .inv) (c .before .loop .next - 1) (step (c .before .loop .inv) (c .loop-test .taken) (room (s)) .is))
 
 mul-work : tie.Need-mul-work Inv-loop μ-loop
 mul-work c = step (c .before .before .loop .inv) (c .before .loop-test .taken) (room (c .before .before .before .before .before .before)) .put .in-bytes
@@ -57,10 +62,19 @@ slice-read-next-2 : tie.Need-slice-read-next-2 Inv-loop μ-loop
 slice-read-next-2 c = rw length-set (step (c .before .before .before .loop .inv) (c .before .before .loop-test .taken) (room (c .before .before .before .before .before .before .before)) .link .inside)
 
 loop-less : tie.Need-loop-less Inv-loop μ-loop
-loop-less c = let s = step (c .before .before .before .loop .inv) (c .before .before .loop-test .taken) (room (c .before .before .before .before .before .before .before)) in walk-less (c .before .before .before .loop .inv) (c .before .before .before .loop .next - 1) _ (s .is) (walk-back (c .before .before .before .before .before .before .before .pre .1) (c .before .before .before .loop .inv) _ (c .before .before .before .loop .next - 1) (c .before .before .before .loop .to - 1) (s .is) (s .down))
+loop-less c =
+    let t = c .before .before .before in
+    let u = t .before .before .before .before in
+    let s = step (t .loop .inv) (c .before .before .loop-test .taken) (room (u)) in
+    walk-less (t .loop .inv) (t .loop .next - 1) _ (s .is) (walk-back (u .pre .1) (t .loop .inv) _ (t .loop .next - 1) (t .loop .to - 1) (s .is) (s .down))
 
 loop-again : tie.Need-loop-again Inv-loop μ-loop
-loop-again c = let s = step (c .before .before .before .loop .inv) (c .before .before .loop-test .taken) (room (c .before .before .before .before .before .before .before)) in walk-more (c .before .before .before .loop .inv) _ (c .before .before .before .loop .next - 1) (c .before .before .before .loop .to - 1) _ (s .is) (s .down) (c .before .word .ensures) (walk-back (c .before .before .before .before .before .before .before .pre .1) (c .before .before .before .loop .inv) _ (c .before .before .before .loop .next - 1) (c .before .before .before .loop .to - 1) (s .is) (s .down))
+loop-again c =
+    let t = c .before .before .before in
+    let u = t .before .before .before .before in
+    let s = step (t .loop .inv) (c .before .before .loop-test .taken) (room (u)) in
+    walk-more (t .loop .inv) _ (t .loop .next - 1) (t .loop .to - 1) _ (s .is) (s .down) (c .before .word .ensures)
+    (walk-back (u .pre .1) (t .loop .inv) _ (t .loop .next - 1) (t .loop .to - 1) (s .is) (s .down))
 
 sub-result : tie.Need-sub-result Inv-loop μ-loop
 sub-result c = c .before .loop .inv .to-le

@@ -36,7 +36,9 @@ pack-requires : tie.Need-pack-requires
 pack-requires c κs = search needs
 
 returns : tie.Need-returns
-returns c = (c .pack) .ensures ∙ word-touch ((c .before .before .before .before .before .args) .width) ((c .before .before .before .before .before .args) .i) ((c .before .before .before .before .before .args) .rows .now) ((c .before .before .before .if1) .taken)
+returns c =
+    let s = c .before .before .before .before .before in
+    c .pack .ensures ∙ word-touch (s .args .width) (s .args .i) (s .args .rows .now) (c .before .before .before .if1 .taken)
 
 mul-result : tie.Need-mul-result
 mul-result c = let z = (c .before .before .pre) .1 ((c .if1) .left) .1 in omega arith
@@ -54,7 +56,9 @@ cast-result : tie.Need-cast-result
 cast-result c = let h = (c .shared-slice-known4) .given (stopWidth * (c .before .before .before .args) .i + 1) in omega arith
 
 returns-2 : tie.Need-returns-2
-returns-2 c = word-point ((c .before .before .before .args) .width) ((c .before .before .before .args) .i) ((c .before .before .before .args) .rows .now) ((c .before .before .before .pre) .1 ((c .before .if1) .left) .0)
+returns-2 c =
+    let s = c .before .before .before in
+    word-point (s .args .width) (s .args .i) (s .args .rows .now) (s .pre .1 (c .before .if1 .left) .0)
 
 pub word-spec : {M : Type 1} → statement M
 word-spec =

@@ -42,7 +42,9 @@ same-length : tie.Need-same-length
 same-length c = simp length-set
 
 returns : tie.Need-returns
-returns c = wrote-one (((c .before .before .before .args) .out .now)) ((c .before .before .before .args) .k) _ _ _ _ _ ((c .before .before .before .pre)) refl refl (sym ((c .before .preceding) .ensures)) (sym ((c .beyond) .ensures))
+returns c =
+    let s = c .before .before .before in
+    wrote-one ((s .args .out .now)) (s .args .k) _ _ _ _ _ ((s .pre)) refl refl (sym (c .before .preceding .ensures)) (sym (c .beyond .ensures))
 
 pub cover-spec : {M : Type 1} → statement M
 cover-spec =

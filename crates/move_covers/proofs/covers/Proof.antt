@@ -40,7 +40,9 @@ shared-slice-read-position-2 : tie.Need-shared-slice-read-position-2
 shared-slice-read-position-2 c = omega arith
 
 position-requires : tie.Need-position-requires
-position-requires c κs = ((c .before .before .before .before .before .before .before .pre) .0 .0, (c .before .before .before .before .before .before .before .pre) .0 .1, omega (arith, (c .before .before .before .before .before .before .before .pre) .0 .2))
+position-requires c κs =
+    let s = c .before .before .before .before .before .before .before in
+    (s .pre .0 .0, s .pre .0 .1, omega (arith, s .pre .0 .2))
 
 enum-known-at : tie.Need-enum-known-at
 enum-known-at c = search needs
@@ -49,7 +51,12 @@ enum-told : tie.Need-enum-told
 enum-told c = search needs
 
 returns : tie.Need-returns
-returns c = absurd (not-nowhere ((c .before .before .before .before .before .before .before .before .before .before .args) .points) (blocksOf (((c .before .before .before .before .before .before .before .before .before .before .args) .blocks .now))) (instsOf (((c .before .before .before .before .before .before .before .before .before .before .args) .insts .now)) []) ((c .before .before .before .before .before .before .before .before .before .before .args) .slot) (moveRow (((c .before .before .before .before .before .before .before .before .before .before .args) .moves .now)) ((c .before .before .before .before .before .before .before .before .before .before .args) .i)) (move-fine (blocksOf (((c .before .before .before .before .before .before .before .before .before .before .args) .blocks .now))) (instsOf (((c .before .before .before .before .before .before .before .before .before .before .args) .insts .now)) []) (((c .before .before .before .before .before .before .before .before .before .before .args) .moves .now)) ((c .before .before .before .before .before .before .before .before .before .before .args) .i) ((c .before .before .before .before .before .before .before .before .before .before .pre) .1 .1) ((c .before .before .before .before .before .before .before .before .before .before .pre) .1 .0)) (sym ((c .enum-told) .given .1) ∙ (c .before .before .position) .ensures ∙ ap (λ (x : ℕ). positionAt (blocksOf (((c .before .before .before .before .before .before .before .before .before .before .args) .blocks .now))) (instsOf (((c .before .before .before .before .before .before .before .before .before .before .args) .insts .now)) []) (getD (((c .before .before .before .before .before .before .before .before .before .before .args) .moves .now)) x 0) (moveNumber (((c .before .before .before .before .before .before .before .before .before .before .args) .moves .now)) ((c .before .before .before .before .before .before .before .before .before .before .args) .i))) (sym (add-zero (moveWidth * (c .before .before .before .before .before .before .before .before .before .before .args) .i)))))
+returns c =
+    let s = c .before .before .before .before .before .before .before .before .before .before in
+    absurd (not-nowhere (s .args .points) (blocksOf ((s .args .blocks .now))) (instsOf ((s .args .insts .now)) []) (s .args .slot) (moveRow ((s .args .moves .now)) (s .args .i))
+    (move-fine (blocksOf ((s .args .blocks .now))) (instsOf ((s .args .insts .now)) []) ((s .args .moves .now)) (s .args .i) (s .pre .1 .1) (s .pre .1 .0)) (sym
+    (c .enum-told .given .1) ∙ c .before .before .position .ensures ∙ ap (λ (x : ℕ). positionAt (blocksOf ((s .args .blocks .now))) (instsOf ((s .args .insts .now)) [])
+    (getD ((s .args .moves .now)) x 0) (moveNumber ((s .args .moves .now)) (s .args .i))) (sym (add-zero (moveWidth * (s .args) .i)))))
 
 mul-to : tie.Need-mul-to
 mul-to c = omega arith
@@ -79,19 +86,41 @@ cover-requires : tie.Need-cover-requires
 cover-requires c κs = let q = (c .before .before .before .before .before .before .before .before .before .before .before .before .before .before .before .pre) .1 .2 in omega arith
 
 cover-requires-2 : tie.Need-cover-requires-2
-cover-requires-2 c κs = let q = (c .before .before .before .before .before .before .before .before .before .before .before .before .before .before .before .before .before .before .before .before .pre) .1 .2 in let l = (c .before .before .before .before .cover) .ensures .len in let n = (c .before .before .before .before .cover) .ensures .count in omega arith
+cover-requires-2 c κs =
+    let s = c .before .before .before .before in
+    let q = s .before .before .before .before .before .before .before .before .before .before .before .before .before .before .before .before .pre .1 .2 in
+    let l = s .cover .ensures .len in
+    let n = s .cover .ensures .count in
+    omega arith
 
 same-length : tie.Need-same-length
 same-length c = (c .before .before .cover2) .ensures .len ∙ (c .before .before .before .before .before .before .before .cover) .ensures .len
 
 returns-2 : tie.Need-returns-2
-returns-2 c = wrote-as (wrote-then ((c .before .before .before .before .before .before .before .cover) .ensures) ((c .before .before .cover2) .ensures)) (ap (λ (r : Range). (r ∷ []) ++ (r ∷ [])) (point-is ((c .before .before .before .before .before .before .before .before .before .before .before .before .before .before .before .before .before .before .before .before .before .before .before .args) .points) (blocksOf (((c .before .before .before .before .before .before .before .before .before .before .before .before .before .before .before .before .before .before .before .before .before .before .before .args) .blocks .now))) (instsOf (((c .before .before .before .before .before .before .before .before .before .before .before .before .before .before .before .before .before .before .before .before .before .before .before .args) .insts .now)) []) ((c .before .before .before .before .before .before .before .before .before .before .before .before .before .before .before .before .before .before .before .before .before .before .before .args) .slot) (moveRow (((c .before .before .before .before .before .before .before .before .before .before .before .before .before .before .before .before .before .before .before .before .before .before .before .args) .moves .now)) ((c .before .before .before .before .before .before .before .before .before .before .before .before .before .before .before .before .before .before .before .before .before .before .before .args) .i)) _ (move-fine (blocksOf (((c .before .before .before .before .before .before .before .before .before .before .before .before .before .before .before .before .before .before .before .before .before .before .before .args) .blocks .now))) (instsOf (((c .before .before .before .before .before .before .before .before .before .before .before .before .before .before .before .before .before .before .before .before .before .before .before .args) .insts .now)) []) (((c .before .before .before .before .before .before .before .before .before .before .before .before .before .before .before .before .before .before .before .before .before .before .before .args) .moves .now)) ((c .before .before .before .before .before .before .before .before .before .before .before .before .before .before .before .before .before .before .before .before .before .before .before .args) .i) ((c .before .before .before .before .before .before .before .before .before .before .before .before .before .before .before .before .before .before .before .before .before .before .before .pre) .1 .1) ((c .before .before .before .before .before .before .before .before .before .before .before .before .before .before .before .before .before .before .before .before .before .before .before .pre) .1 .0)) (sym ((c .before .before .before .before .before .before .before .before .before .before .before .before .before .at) .given .1) ∙ (c .before .before .before .before .before .before .before .before .before .before .before .before .before .before .before .position) .ensures ∙ ap (λ (x : ℕ). positionAt (blocksOf (((c .before .before .before .before .before .before .before .before .before .before .before .before .before .before .before .before .before .before .before .before .before .before .before .args) .blocks .now))) (instsOf (((c .before .before .before .before .before .before .before .before .before .before .before .before .before .before .before .before .before .before .before .before .before .before .before .args) .insts .now)) []) (getD (((c .before .before .before .before .before .before .before .before .before .before .before .before .before .before .before .before .before .before .before .before .before .before .before .args) .moves .now)) x 0) (moveNumber (((c .before .before .before .before .before .before .before .before .before .before .before .before .before .before .before .before .before .before .before .before .before .before .before .args) .moves .now)) ((c .before .before .before .before .before .before .before .before .before .before .before .before .before .before .before .before .before .before .before .before .before .before .before .args) .i))) (sym (add-zero (moveWidth * (c .before .before .before .before .before .before .before .before .before .before .before .before .before .before .before .before .before .before .before .before .before .before .before .args) .i))))) ∙ sym (covers-both ((c .before .before .before .before .before .before .before .before .before .before .before .before .before .before .before .before .before .before .before .before .before .before .before .args) .points) (blocksOf (((c .before .before .before .before .before .before .before .before .before .before .before .before .before .before .before .before .before .before .before .before .before .before .before .args) .blocks .now))) (instsOf (((c .before .before .before .before .before .before .before .before .before .before .before .before .before .before .before .before .before .before .before .before .before .before .before .args) .insts .now)) []) ((c .before .before .before .before .before .before .before .before .before .before .before .before .before .before .before .before .before .before .before .before .before .before .before .args) .slot) (moveRow (((c .before .before .before .before .before .before .before .before .before .before .before .before .before .before .before .before .before .before .before .before .before .before .before .args) .moves .now)) ((c .before .before .before .before .before .before .before .before .before .before .before .before .before .before .before .before .before .before .before .before .before .before .before .args) .i)) ((c .before .before .before .before .before .before .before .before .before .if1) .taken) ((c .before .before .before .before .if2) .taken)))
+returns-2 c =
+    let s = c .before .before .before .before .before .before .before .before .before .before .before .before .before .before .before .before .before .before .before .before .before .before .before in
+    wrote-as (wrote-then (c .before .before .before .before .before .before .before .cover .ensures) (c .before .before .cover2 .ensures)) (ap (λ (r : Range). (r ∷ []) ++ (r ∷ []))
+    (point-is (s .args .points) (blocksOf ((s .args .blocks .now))) (instsOf ((s .args .insts .now)) []) (s .args .slot) (moveRow ((s .args .moves .now)) (s .args .i)) _ (move-fine
+    (blocksOf ((s .args .blocks .now))) (instsOf ((s .args .insts .now)) []) ((s .args .moves .now)) (s .args .i) (s .pre .1 .1) (s .pre .1 .0)) (sym
+    (c .before .before .before .before .before .before .before .before .before .before .before .before .before .at .given .1)
+    ∙ c .before .before .before .before .before .before .before .before .before .before .before .before .before .before .before .position .ensures ∙ ap (λ (x : ℕ). positionAt
+    (blocksOf ((s .args .blocks .now))) (instsOf ((s .args .insts .now)) []) (getD ((s .args .moves .now)) x 0) (moveNumber ((s .args .moves .now)) (s .args .i))) (sym
+    (add-zero (moveWidth * (s .args) .i))))) ∙ sym (covers-both (s .args .points) (blocksOf ((s .args .blocks .now))) (instsOf ((s .args .insts .now)) []) (s .args .slot) (moveRow
+    ((s .args .moves .now)) (s .args .i)) (c .before .before .before .before .before .before .before .before .before .if1 .taken) (c .before .before .before .before .if2 .taken)))
 
 same-length-2 : tie.Need-same-length-2
 same-length-2 c = (c .before .before .before .cover) .ensures .len
 
 returns-3 : tie.Need-returns-3
-returns-3 c = wrote-as ((c .before .before .before .cover) .ensures) (ap (λ (r : Range). r ∷ []) (point-is ((c .before .before .before .before .before .before .before .before .before .before .before .before .before .before .before .before .before .before .before .args) .points) (blocksOf (((c .before .before .before .before .before .before .before .before .before .before .before .before .before .before .before .before .before .before .before .args) .blocks .now))) (instsOf (((c .before .before .before .before .before .before .before .before .before .before .before .before .before .before .before .before .before .before .before .args) .insts .now)) []) ((c .before .before .before .before .before .before .before .before .before .before .before .before .before .before .before .before .before .before .before .args) .slot) (moveRow (((c .before .before .before .before .before .before .before .before .before .before .before .before .before .before .before .before .before .before .before .args) .moves .now)) ((c .before .before .before .before .before .before .before .before .before .before .before .before .before .before .before .before .before .before .before .args) .i)) _ (move-fine (blocksOf (((c .before .before .before .before .before .before .before .before .before .before .before .before .before .before .before .before .before .before .before .args) .blocks .now))) (instsOf (((c .before .before .before .before .before .before .before .before .before .before .before .before .before .before .before .before .before .before .before .args) .insts .now)) []) (((c .before .before .before .before .before .before .before .before .before .before .before .before .before .before .before .before .before .before .before .args) .moves .now)) ((c .before .before .before .before .before .before .before .before .before .before .before .before .before .before .before .before .before .before .before .args) .i) ((c .before .before .before .before .before .before .before .before .before .before .before .before .before .before .before .before .before .before .before .pre) .1 .1) ((c .before .before .before .before .before .before .before .before .before .before .before .before .before .before .before .before .before .before .before .pre) .1 .0)) (sym ((c .before .before .before .before .before .before .before .before .before .at) .given .1) ∙ (c .before .before .before .before .before .before .before .before .before .before .before .position) .ensures ∙ ap (λ (x : ℕ). positionAt (blocksOf (((c .before .before .before .before .before .before .before .before .before .before .before .before .before .before .before .before .before .before .before .args) .blocks .now))) (instsOf (((c .before .before .before .before .before .before .before .before .before .before .before .before .before .before .before .before .before .before .before .args) .insts .now)) []) (getD (((c .before .before .before .before .before .before .before .before .before .before .before .before .before .before .before .before .before .before .before .args) .moves .now)) x 0) (moveNumber (((c .before .before .before .before .before .before .before .before .before .before .before .before .before .before .before .before .before .before .before .args) .moves .now)) ((c .before .before .before .before .before .before .before .before .before .before .before .before .before .before .before .before .before .before .before .args) .i))) (sym (add-zero (moveWidth * (c .before .before .before .before .before .before .before .before .before .before .before .before .before .before .before .before .before .before .before .args) .i))))) ∙ sym (covers-to ((c .before .before .before .before .before .before .before .before .before .before .before .before .before .before .before .before .before .before .before .args) .points) (blocksOf (((c .before .before .before .before .before .before .before .before .before .before .before .before .before .before .before .before .before .before .before .args) .blocks .now))) (instsOf (((c .before .before .before .before .before .before .before .before .before .before .before .before .before .before .before .before .before .before .before .args) .insts .now)) []) ((c .before .before .before .before .before .before .before .before .before .before .before .before .before .before .before .before .before .before .before .args) .slot) (moveRow (((c .before .before .before .before .before .before .before .before .before .before .before .before .before .before .before .before .before .before .before .args) .moves .now)) ((c .before .before .before .before .before .before .before .before .before .before .before .before .before .before .before .before .before .before .before .args) .i)) ((c .before .before .before .before .before .if1) .taken) ((c .if2) .left)))
+returns-3 c =
+    let s = c .before .before .before .before .before .before .before .before .before .before .before .before .before .before .before .before .before .before .before in
+    wrote-as (c .before .before .before .cover .ensures) (ap (λ (r : Range). r ∷ []) (point-is (s .args .points) (blocksOf ((s .args .blocks .now))) (instsOf
+    ((s .args .insts .now)) []) (s .args .slot) (moveRow ((s .args .moves .now)) (s .args .i)) _ (move-fine (blocksOf ((s .args .blocks .now))) (instsOf ((s .args .insts .now)) [])
+    ((s .args .moves .now)) (s .args .i) (s .pre .1 .1) (s .pre .1 .0)) (sym (c .before .before .before .before .before .before .before .before .before .at .given .1)
+    ∙ c .before .before .before .before .before .before .before .before .before .before .before .position .ensures ∙ ap (λ (x : ℕ). positionAt (blocksOf ((s .args .blocks .now)))
+    (instsOf ((s .args .insts .now)) []) (getD ((s .args .moves .now)) x 0) (moveNumber ((s .args .moves .now)) (s .args .i))) (sym (add-zero (moveWidth * (s .args) .i))))) ∙ sym
+    (covers-to (s .args .points) (blocksOf ((s .args .blocks .now))) (instsOf ((s .args .insts .now)) []) (s .args .slot) (moveRow ((s .args .moves .now)) (s .args .i))
+    (c .before .before .before .before .before .if1 .taken) (c .if2 .left)))
 
 cover-requires-3 : tie.Need-cover-requires-3
 cover-requires-3 c κs = let q = (c .before .before .before .before .before .before .before .before .before .before .before .before .before .before .before .before .pre) .1 .2 in omega arith
@@ -100,10 +129,21 @@ same-length-3 : tie.Need-same-length-3
 same-length-3 c = (c .before .before .cover3) .ensures .len
 
 returns-4 : tie.Need-returns-4
-returns-4 c = wrote-as ((c .before .before .cover3) .ensures) (ap (λ (r : Range). r ∷ []) (point-is ((c .before .before .before .before .before .before .before .before .before .before .before .before .before .before .before .before .before .before .before .args) .points) (blocksOf (((c .before .before .before .before .before .before .before .before .before .before .before .before .before .before .before .before .before .before .before .args) .blocks .now))) (instsOf (((c .before .before .before .before .before .before .before .before .before .before .before .before .before .before .before .before .before .before .before .args) .insts .now)) []) ((c .before .before .before .before .before .before .before .before .before .before .before .before .before .before .before .before .before .before .before .args) .slot) (moveRow (((c .before .before .before .before .before .before .before .before .before .before .before .before .before .before .before .before .before .before .before .args) .moves .now)) ((c .before .before .before .before .before .before .before .before .before .before .before .before .before .before .before .before .before .before .before .args) .i)) _ (move-fine (blocksOf (((c .before .before .before .before .before .before .before .before .before .before .before .before .before .before .before .before .before .before .before .args) .blocks .now))) (instsOf (((c .before .before .before .before .before .before .before .before .before .before .before .before .before .before .before .before .before .before .before .args) .insts .now)) []) (((c .before .before .before .before .before .before .before .before .before .before .before .before .before .before .before .before .before .before .before .args) .moves .now)) ((c .before .before .before .before .before .before .before .before .before .before .before .before .before .before .before .before .before .before .before .args) .i) ((c .before .before .before .before .before .before .before .before .before .before .before .before .before .before .before .before .before .before .before .pre) .1 .1) ((c .before .before .before .before .before .before .before .before .before .before .before .before .before .before .before .before .before .before .before .pre) .1 .0)) (sym ((c .before .before .before .before .before .before .before .before .before .at) .given .1) ∙ (c .before .before .before .before .before .before .before .before .before .before .before .position) .ensures ∙ ap (λ (x : ℕ). positionAt (blocksOf (((c .before .before .before .before .before .before .before .before .before .before .before .before .before .before .before .before .before .before .before .args) .blocks .now))) (instsOf (((c .before .before .before .before .before .before .before .before .before .before .before .before .before .before .before .before .before .before .before .args) .insts .now)) []) (getD (((c .before .before .before .before .before .before .before .before .before .before .before .before .before .before .before .before .before .before .before .args) .moves .now)) x 0) (moveNumber (((c .before .before .before .before .before .before .before .before .before .before .before .before .before .before .before .before .before .before .before .args) .moves .now)) ((c .before .before .before .before .before .before .before .before .before .before .before .before .before .before .before .before .before .before .before .args) .i))) (sym (add-zero (moveWidth * (c .before .before .before .before .before .before .before .before .before .before .before .before .before .before .before .before .before .before .before .args) .i))))) ∙ sym (covers-from ((c .before .before .before .before .before .before .before .before .before .before .before .before .before .before .before .before .before .before .before .args) .points) (blocksOf (((c .before .before .before .before .before .before .before .before .before .before .before .before .before .before .before .before .before .before .before .args) .blocks .now))) (instsOf (((c .before .before .before .before .before .before .before .before .before .before .before .before .before .before .before .before .before .before .before .args) .insts .now)) []) ((c .before .before .before .before .before .before .before .before .before .before .before .before .before .before .before .before .before .before .before .args) .slot) (moveRow (((c .before .before .before .before .before .before .before .before .before .before .before .before .before .before .before .before .before .before .before .args) .moves .now)) ((c .before .before .before .before .before .before .before .before .before .before .before .before .before .before .before .before .before .before .before .args) .i)) ((c .before .before .before .before .before .if1) .left) ((c .before .before .before .before .if3) .taken)))
+returns-4 c =
+    let s = c .before .before .before .before .before .before .before .before .before .before .before .before .before .before .before .before .before .before .before in
+    wrote-as (c .before .before .cover3 .ensures) (ap (λ (r : Range). r ∷ []) (point-is (s .args .points) (blocksOf ((s .args .blocks .now))) (instsOf ((s .args .insts .now)) [])
+    (s .args .slot) (moveRow ((s .args .moves .now)) (s .args .i)) _ (move-fine (blocksOf ((s .args .blocks .now))) (instsOf ((s .args .insts .now)) []) ((s .args .moves .now))
+    (s .args .i) (s .pre .1 .1) (s .pre .1 .0)) (sym (c .before .before .before .before .before .before .before .before .before .at .given .1)
+    ∙ c .before .before .before .before .before .before .before .before .before .before .before .position .ensures ∙ ap (λ (x : ℕ). positionAt (blocksOf ((s .args .blocks .now)))
+    (instsOf ((s .args .insts .now)) []) (getD ((s .args .moves .now)) x 0) (moveNumber ((s .args .moves .now)) (s .args .i))) (sym (add-zero (moveWidth * (s .args) .i))))) ∙ sym
+    (covers-from (s .args .points) (blocksOf ((s .args .blocks .now))) (instsOf ((s .args .insts .now)) []) (s .args .slot) (moveRow ((s .args .moves .now)) (s .args .i))
+    (c .before .before .before .before .before .if1 .left) (c .before .before .before .before .if3 .taken)))
 
 returns-5 : tie.Need-returns-5
-returns-5 c = wrote-as (wrote-none _ _) (sym (covers-none ((c .before .before .before .before .before .before .before .before .before .before .before .before .before .before .before .args) .points) (blocksOf (((c .before .before .before .before .before .before .before .before .before .before .before .before .before .before .before .args) .blocks .now))) (instsOf (((c .before .before .before .before .before .before .before .before .before .before .before .before .before .before .before .args) .insts .now)) []) ((c .before .before .before .before .before .before .before .before .before .before .before .before .before .before .before .args) .slot) (moveRow (((c .before .before .before .before .before .before .before .before .before .before .before .before .before .before .before .args) .moves .now)) ((c .before .before .before .before .before .before .before .before .before .before .before .before .before .before .before .args) .i)) ((c .before .if1) .left) ((c .if3) .left)))
+returns-5 c =
+    let s = c .before .before .before .before .before .before .before .before .before .before .before .before .before .before .before in
+    wrote-as (wrote-none _ _) (sym (covers-none (s .args .points) (blocksOf ((s .args .blocks .now))) (instsOf ((s .args .insts .now)) []) (s .args .slot)
+    (moveRow ((s .args .moves .now)) (s .args .i)) (c .before .if1 .left) (c .if3 .left)))
 
 pub covers-spec : {M : Type 1} → statement M
 covers-spec =

@@ -25,10 +25,20 @@ abbrev μ-loop : tie.MeasureT-loop
 μ-loop points blocks insts moves slot work out₀ m k₀ i₀ out k i = m - i
 
 loop-holds : tie.Need-loop-holds Inv-loop μ-loop
-loop-holds c = (omega arith, omega arith, omega arith, rw (gather-none (covering ((c .before .before .before .before .before .args) .points) (blocksOf (((c .before .before .before .before .before .args) .blocks .now))) (instsOf (((c .before .before .before .before .before .args) .insts .now)) []) ((c .before .before .before .before .before .args) .slot)) (moveRow (((c .before .before .before .before .before .args) .moves .now)))) (wrote-none _ _))
+loop-holds c =
+    let s = c .before .before .before .before .before in (
+      omega arith,
+      omega arith,
+      omega arith,
+      rw
+          (gather-none (covering (s .args .points) (blocksOf ((s .args .blocks .now))) (instsOf ((s .args .insts .now)) []) (s .args .slot)) (moveRow ((s .args .moves .now))))
+          (wrote-none _ _),
+    )
 
 covers-requires : tie.Need-covers-requires Inv-loop μ-loop
-covers-requires c κs = ((c .before .before .before .before .before .before .before .before .pre) .0, (omega arith, (c .before .before .before .before .before .before .before .before .pre) .1 .0, let l = (c .before .before .loop) .inv .3 .len in let q = (c .before .before .before .before .before .before .before .before .pre) .1 .1 in omega arith))
+covers-requires c κs =
+    let s = c .before .before .before .before .before .before .before .before in
+    (s .pre .0, (omega arith, s .pre .1 .0, let l = c .before .before .loop .inv .3 .len in let q = s .pre .1 .1 in omega arith))
 
 add-i : tie.Need-add-i Inv-loop μ-loop
 add-i c = omega arith
@@ -37,7 +47,19 @@ loop-less : tie.Need-loop-less Inv-loop μ-loop
 loop-less c = omega arith
 
 loop-again : tie.Need-loop-again Inv-loop μ-loop
-loop-again c = (omega arith, omega arith, (let q = covers-two ((c .before .before .before .before .before .before .before .before .before .before .before .args) .points) (blocksOf (((c .before .before .before .before .before .before .before .before .before .before .before .args) .blocks .now))) (instsOf (((c .before .before .before .before .before .before .before .before .before .before .before .args) .insts .now)) []) ((c .before .before .before .before .before .before .before .before .before .before .before .args) .slot) (moveRow (((c .before .before .before .before .before .before .before .before .before .before .before .args) .moves .now)) ((c .before .before .before .before .before .loop) .i)) in let e = (c .before .before .covers) .ensures .count in omega arith), rw (gather-next (covering ((c .before .before .before .before .before .before .before .before .before .before .before .args) .points) (blocksOf (((c .before .before .before .before .before .before .before .before .before .before .before .args) .blocks .now))) (instsOf (((c .before .before .before .before .before .before .before .before .before .before .before .args) .insts .now)) []) ((c .before .before .before .before .before .before .before .before .before .before .before .args) .slot)) (moveRow (((c .before .before .before .before .before .before .before .before .before .before .before .args) .moves .now))) ((c .before .before .before .before .before .loop) .i)) (wrote-then ((c .before .before .before .before .before .loop) .inv .3) ((c .before .before .covers) .ensures)))
+loop-again c =
+    let s = c .before .before in
+    let t = s .before .before .before in
+    let u = t .before .before .before .before .before .before in (
+      omega arith,
+      omega arith,
+      (let q = covers-two (u .args .points) (blocksOf ((u .args .blocks .now))) (instsOf ((u .args .insts .now)) []) (u .args .slot)
+          (moveRow ((u .args .moves .now)) (t .loop .i)) in
+          let e = s .covers .ensures .count in
+          omega arith),
+      rw (gather-next (covering (u .args .points) (blocksOf ((u .args .blocks .now))) (instsOf ((u .args .insts .now)) []) (u .args .slot))
+          (moveRow ((u .args .moves .now))) (t .loop .i)) (wrote-then (t .loop .inv .3) (s .covers .ensures)),
+    )
 
 same-length : tie.Need-same-length Inv-loop μ-loop
 same-length c = (c .before .loop) .inv .3 .len

@@ -34,7 +34,12 @@ earlier-requires-4 : tie.Need-earlier-requires-4
 earlier-requires-4 c κs = search needs
 
 returns : tie.Need-returns
-returns c = counts-chain ((c .before .before .before .before .before .before .before .before .before .before .before .before .before .args) .v) ((c .before .before .before .before .before .before .before .before .before .before .before .before .before .args) .blocks .now) ((c .before .before .before .before .before .before .before .before .before .before .before .before .before .args) .insts .now) ((c .before .before .before .before .before .before .before .before .before .before .before .before .before .args) .operands .now) ((c .before .before .before .before .before .before .before .before .before .before .before .before .before .args) .moves .now) ((c .before .before .before .before .before .before .before .before .before .before .before .before .before .args) .lent) ((c .before .before .before .before .before .before .before .before .most) .ensures) ((c .before .before .before .before .before .before .before .blocks2) .ensures) ((c .before .before .before .before .before .before .insts) .ensures) ((c .before .before .before .before .before .rows) .ensures) ((c .before .before .before .before .whole) .ensures) ((c .before .before .before .earlier) .ensures) ((c .before .before .earlier2) .ensures) ((c .before .earlier3) .ensures) ((c .earlier4) .ensures)
+returns c =
+    let s = c .before .before .before .before .before .before .before .before .before .before .before .before .before in
+    counts-chain (s .args .v) (s .args .blocks .now) (s .args .insts .now) (s .args .operands .now) (s .args .moves .now) (s .args .lent)
+    (c .before .before .before .before .before .before .before .before .most .ensures) (c .before .before .before .before .before .before .before .blocks2 .ensures)
+    (c .before .before .before .before .before .before .insts .ensures) (c .before .before .before .before .before .rows .ensures) (c .before .before .before .before .whole .ensures)
+    (c .before .before .before .earlier .ensures) (c .before .before .earlier2 .ensures) (c .before .earlier3 .ensures) (c .earlier4 .ensures)
 
 pub counts-spec : {M : Type 1} → statement M
 counts-spec =

@@ -18,19 +18,30 @@ enum-known-number : tie.Need-enum-known-number
 enum-known-number c = search needs
 
 returns : tie.Need-returns
-returns c = by-counts ((c .before .before .before .before .before .before .before .before .args) .points) ((c .before .before .before .before .before .before .before .before .args) .v) ((c .before .before .before .before .before .before .before .before .args) .blocks .now) ((c .before .before .before .before .before .before .before .before .args) .insts .now) ((c .before .before .before .before .before .before .before .before .args) .operands .now) ((c .before .before .before .before .before .before .before .before .args) .moves .now) ((c .before .before .before .before .before .before .before .before .args) .lent) ((c .before .before .before .before .before .before .before .before .args) .work) _ _ (sym ((c .before .before .before .counts) .ensures) ∙ (c .before .number) .given .1)
+returns c =
+    let s = c .before .before .before .before .before .before .before .before in
+    by-counts (s .args .points) (s .args .v) (s .args .blocks .now) (s .args .insts .now) (s .args .operands .now) (s .args .moves .now) (s .args .lent) (s .args .work) _ _
+    (sym (c .before .before .before .counts .ensures) ∙ c .before .number .given .1)
 
 enum-told : tie.Need-enum-told
 enum-told c = search needs
 
 located-requires : tie.Need-located-requires
-located-requires c κs = let k = counted ((c .before .before .before .before .before .before .before .args) .v) ((c .before .before .before .before .before .before .before .args) .blocks .now) ((c .before .before .before .before .before .before .before .args) .insts .now) ((c .before .before .before .before .before .before .before .args) .operands .now) ((c .before .before .before .before .before .before .before .args) .moves .now) ((c .before .before .before .before .before .before .before .args) .lent) (sym ((c .before .before .counts) .ensures) ∙ (c .enum-told) .given .1) in (k .some, k .few, k .adds, k .registers)
+located-requires c κs =
+    let s = c .before .before .before .before .before .before .before in
+    let k = counted (s .args .v) (s .args .blocks .now) (s .args .insts .now) (s .args .operands .now) (s .args .moves .now) (s .args .lent)
+    (sym (c .before .before .counts .ensures) ∙ c .enum-told .given .1) in
+    (k .some, k .few, k .adds, k .registers)
 
 enum-known-place : tie.Need-enum-known-place
 enum-known-place c = search needs
 
 returns-2 : tie.Need-returns-2
-returns-2 c = by-place ((c .before .before .before .before .before .before .before .before .before .before .before .args) .points) ((c .before .before .before .before .before .before .before .before .before .before .before .args) .v) ((c .before .before .before .before .before .before .before .before .before .before .before .args) .blocks .now) ((c .before .before .before .before .before .before .before .before .before .before .before .args) .insts .now) ((c .before .before .before .before .before .before .before .before .before .before .before .args) .operands .now) ((c .before .before .before .before .before .before .before .before .before .before .before .args) .moves .now) ((c .before .before .before .before .before .before .before .before .before .before .before .args) .lent) ((c .before .before .before .before .before .before .before .before .before .before .before .args) .work) _ _ (sym ((c .before .before .before .before .before .before .counts) .ensures) ∙ (c .before .before .before .before .enum-told) .given .1) (sym ((c .before .before .before .located) .ensures) ∙ (c .before .place) .given .1)
+returns-2 c =
+    let s = c .before .before .before .before .before .before .before .before .before .before .before in
+    by-place (s .args .points) (s .args .v) (s .args .blocks .now) (s .args .insts .now) (s .args .operands .now) (s .args .moves .now) (s .args .lent) (s .args .work) _ _
+    (sym (c .before .before .before .before .before .before .counts .ensures) ∙ c .before .before .before .before .enum-told .given .1)
+    (sym (c .before .before .before .located .ensures) ∙ c .before .place .given .1)
 
 enum-told-2 : tie.Need-enum-told-2
 enum-told-2 c = search needs
@@ -39,10 +50,18 @@ moves-requires : tie.Need-moves-requires
 moves-requires c κs = search needs
 
 needed-requires : tie.Need-needed-requires
-needed-requires c κs = let k = counted ((c .before .before .before .before .before .before .before .before .before .before .before .args) .v) ((c .before .before .before .before .before .before .before .before .before .before .before .args) .blocks .now) ((c .before .before .before .before .before .before .before .before .before .before .before .args) .insts .now) ((c .before .before .before .before .before .before .before .before .before .before .before .args) .operands .now) ((c .before .before .before .before .before .before .before .before .before .before .before .args) .moves .now) ((c .before .before .before .before .before .before .before .before .before .before .before .args) .lent) (sym ((c .before .before .before .before .before .before .counts) .ensures) ∙ (c .before .before .before .before .enum-told) .given .1) in (k .few, k .few-insts, k .few-operands, k .few-moves)
+needed-requires c κs =
+    let s = c .before .before .before .before .before .before .before .before .before .before .before in
+    let k = counted (s .args .v) (s .args .blocks .now) (s .args .insts .now) (s .args .operands .now) (s .args .moves .now) (s .args .lent)
+    (sym (c .before .before .before .before .before .before .counts .ensures) ∙ c .before .before .before .before .enum-told .given .1) in
+    (k .few, k .few-insts, k .few-operands, k .few-moves)
 
 mul-room : tie.Need-mul-room
-mul-room c = let k = counted ((c .before .before .before .before .before .before .before .before .before .before .before .before .args) .v) ((c .before .before .before .before .before .before .before .before .before .before .before .before .args) .blocks .now) ((c .before .before .before .before .before .before .before .before .before .before .before .before .args) .insts .now) ((c .before .before .before .before .before .before .before .before .before .before .before .before .args) .operands .now) ((c .before .before .before .before .before .before .before .before .before .before .before .before .args) .moves .now) ((c .before .before .before .before .before .before .before .before .before .before .before .before .args) .lent) (sym ((c .before .before .before .before .before .before .before .counts) .ensures) ∙ (c .before .before .before .before .before .enum-told) .given .1) .few-moves in omega arith
+mul-room c =
+    let s = c .before .before .before .before .before .before .before .before .before .before .before .before in
+    let k = counted (s .args .v) (s .args .blocks .now) (s .args .insts .now) (s .args .operands .now) (s .args .moves .now) (s .args .lent)
+    (sym (c .before .before .before .before .before .before .before .counts .ensures) ∙ c .before .before .before .before .before .enum-told .given .1) .few-moves in
+    omega arith
 
 room-requires : tie.Need-room-requires
 room-requires c κs = search needs
@@ -51,7 +70,12 @@ earlier-requires : tie.Need-earlier-requires
 earlier-requires c κs = search needs
 
 returns-3 : tie.Need-returns-3
-returns-3 c = by-moves ((c .before .before .before .before .before .before .before .before .before .before .before .before .before .before .args) .points) ((c .before .before .before .before .before .before .before .before .before .before .before .before .before .before .args) .v) ((c .before .before .before .before .before .before .before .before .before .before .before .before .before .before .args) .blocks .now) ((c .before .before .before .before .before .before .before .before .before .before .before .before .before .before .args) .insts .now) ((c .before .before .before .before .before .before .before .before .before .before .before .before .before .before .args) .operands .now) ((c .before .before .before .before .before .before .before .before .before .before .before .before .before .before .args) .moves .now) ((c .before .before .before .before .before .before .before .before .before .before .before .before .before .before .args) .lent) ((c .before .before .before .before .before .before .before .before .before .before .before .before .before .before .args) .work) (sym ((c .before .before .before .before .before .before .before .before .before .counts) .ensures) ∙ (c .before .before .before .before .before .before .before .enum-told) .given .1) (sym ((c .before .before .before .before .before .before .located) .ensures) ∙ (c .before .before .before .before .enum-told2) .given .1) ((c .before .before .before .moves) .ensures) ((c .before .room) .ensures ∙ ap (movedRoom ((c .before .before .before .before .before .before .before .before .before .before .before .before .before .before .args) .lent) (moveCount ((c .before .before .before .before .before .before .before .before .before .before .before .before .before .before .args) .moves .now)) ((c .before .before .before .before .before .before .before .before .before .before .before .before .before .before .args) .work)) ((c .before .before .needed) .ensures)) ((c .earlier) .ensures)
+returns-3 c =
+    let s = c .before .before .before .before .before .before .before .before .before .before .before .before .before .before in
+    by-moves (s .args .points) (s .args .v) (s .args .blocks .now) (s .args .insts .now) (s .args .operands .now) (s .args .moves .now) (s .args .lent) (s .args .work)
+    (sym (c .before .before .before .before .before .before .before .before .before .counts .ensures) ∙ c .before .before .before .before .before .before .before .enum-told .given .1)
+    (sym (c .before .before .before .before .before .before .located .ensures) ∙ c .before .before .before .before .enum-told2 .given .1) (c .before .before .before .moves .ensures)
+    (c .before .room .ensures ∙ ap (movedRoom (s .args .lent) (moveCount (s .args .moves .now)) (s .args .work)) (c .before .before .needed .ensures)) (c .earlier .ensures)
 
 pub refusal-spec : {M : Type 1} → statement M
 refusal-spec =

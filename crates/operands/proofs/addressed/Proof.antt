@@ -25,7 +25,11 @@ stray-requires : tie.Need-stray-requires Inv-loop μ-loop
 stray-requires c κs = omega arith
 
 returns : tie.Need-returns Inv-loop μ-loop
-returns c = sym ((c .before .before .before .loop) .inv .1 ∙ each-fail (addressing ((c .before .before .before .before .before .args) .base) ((c .before .before .before .before .before .args) .index)) ((c .before .before .before .before .before .args) .r) ((c .before .before .before .before .before .args) .n) (λ p. operandAt (((c .before .before .before .before .before .args) .operands .now)) ((c .before .before .before .before .before .args) .from + p)) ((c .before .before .before .loop) .p) (omega arith) (sym ((c .before .stray) .ensures) ∙ c .if1 .taken))
+returns c =
+    let s = c .before .before .before in
+    let t = s .before .before in
+    sym (s .loop .inv .1 ∙ each-fail (addressing (t .args .base) (t .args .index)) (t .args .r) (t .args .n) (λ p. operandAt ((t .args .operands .now)) (t .args .from + p))
+    (s .loop .p) (omega arith) (sym (c .before .stray .ensures) ∙ c .if1 .taken))
 
 add-p : tie.Need-add-p Inv-loop μ-loop
 add-p c = omega arith
@@ -34,10 +38,20 @@ loop-less : tie.Need-loop-less Inv-loop μ-loop
 loop-less c = omega arith
 
 loop-again : tie.Need-loop-again Inv-loop μ-loop
-loop-again c = (omega arith, (c .before .before .before .loop) .inv .1 ∙ each-pass (addressing ((c .before .before .before .before .before .args) .base) ((c .before .before .before .before .before .args) .index)) ((c .before .before .before .before .before .args) .r) ((c .before .before .before .before .before .args) .n) (λ p. operandAt (((c .before .before .before .before .before .args) .operands .now)) ((c .before .before .before .before .before .args) .from + p)) ((c .before .before .before .loop) .p) (omega arith) (sym ((c .before .stray) .ensures) ∙ (c .if1) .left))
+loop-again c =
+    let s = c .before .before .before in
+    let t = s .before .before in (
+      omega arith,
+      s .loop .inv .1 ∙ each-pass (addressing (t .args .base) (t .args .index)) (t .args .r) (t .args .n) (λ p. operandAt ((t .args .operands .now)) (t .args .from + p))
+          (s .loop .p) (omega arith) (sym (c .before .stray .ensures) ∙ c .if1 .left),
+    )
 
 returns-2 : tie.Need-returns-2 Inv-loop μ-loop
-returns-2 c = let q : (c .before .loop) .p ≡ (c .before .before .before .args) .n = omega arith in sym ((c .before .loop) .inv .1 ∙ ap (From (addressing ((c .before .before .before .args) .base) ((c .before .before .before .args) .index)) ((c .before .before .before .args) .r) ((c .before .before .before .args) .n) (λ p. operandAt (((c .before .before .before .args) .operands .now)) ((c .before .before .before .args) .from + p))) q ∙ each-end (addressing ((c .before .before .before .args) .base) ((c .before .before .before .args) .index)) ((c .before .before .before .args) .r) ((c .before .before .before .args) .n) (λ p. operandAt (((c .before .before .before .args) .operands .now)) ((c .before .before .before .args) .from + p)))
+returns-2 c =
+    let s = c .before .before .before in
+    let q : (c .before .loop) .p ≡ (s .args) .n = omega arith in
+    sym (c .before .loop .inv .1 ∙ ap (From (addressing (s .args .base) (s .args .index)) (s .args .r) (s .args .n) (λ p. operandAt ((s .args .operands .now)) (s .args .from + p))) q
+    ∙ each-end (addressing (s .args .base) (s .args .index)) (s .args .r) (s .args .n) (λ p. operandAt ((s .args .operands .now)) (s .args .from + p)))
 
 pub addressed-spec : {M : Type 1} → statement M
 addressed-spec =

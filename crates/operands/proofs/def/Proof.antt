@@ -35,7 +35,13 @@ shared-slice-read-if1 : tie.Need-shared-slice-read-if1 Inv-loop μ-loop
 shared-slice-read-if1 c = omega arith
 
 returns : tie.Need-returns Inv-loop μ-loop
-returns c = let z : operandDef (((c .before .before .before .before .before .args) .operands .now)) ((c .before .before .before .before .before .args) .from + (c .before .before .before .before .loop) .p) ≡ getD (((c .before .before .before .before .before .args) .operands .now)) (operandWidth * ((c .before .before .before .before .before .args) .from + (c .before .before .before .before .loop) .p)) 0 = ap (λ (k : ℕ). getD (((c .before .before .before .before .before .args) .operands .now)) k 0) (add-zero (operandWidth * ((c .before .before .before .before .before .args) .from + (c .before .before .before .before .loop) .p))) in def-two (λ p. operandAt (((c .before .before .before .before .before .args) .operands .now)) ((c .before .before .before .before .before .args) .from + p)) ((c .before .before .before .before .before .args) .v) ((c .before .before .before .before .loop) .p) ((c .before .before .before .before .before .args) .n) ((c .before .before .before .before .loop) .register) (omega arith) (omega arith) ((c .before .before .before .before .loop) .inv .3 (omega arith))
+returns c =
+    let s = c .before .before .before .before in
+    let t = s .before in
+    let z : operandDef ((t .args .operands .now)) (t .args .from + (s .loop) .p) ≡ getD ((t .args .operands .now)) (operandWidth * (t .args .from + (s .loop) .p)) 0 = ap
+    (λ (k : ℕ). getD ((t .args .operands .now)) k 0) (add-zero (operandWidth * (t .args .from + (s .loop) .p))) in
+    def-two (λ p. operandAt ((t .args .operands .now)) (t .args .from + p)) (t .args .v) (s .loop .p) (t .args .n) (s .loop .register) (omega arith) (omega arith)
+    (s .loop .inv .3 (omega arith))
 
 mul-register : tie.Need-mul-register Inv-loop μ-loop
 mul-register c = omega arith
@@ -56,7 +62,17 @@ loop-less : tie.Need-loop-less Inv-loop μ-loop
 loop-less c = omega arith
 
 loop-again : tie.Need-loop-again Inv-loop μ-loop
-loop-again c = let z : operandDef (((c .before .before .before .before .before .before .args) .operands .now)) ((c .before .before .before .before .before .before .args) .from + (c .before .before .before .before .before .loop) .p) ≡ getD (((c .before .before .before .before .before .before .args) .operands .now)) (operandWidth * ((c .before .before .before .before .before .before .args) .from + (c .before .before .before .before .before .loop) .p)) 0 = ap (λ (k : ℕ). getD (((c .before .before .before .before .before .before .args) .operands .now)) k 0) (add-zero (operandWidth * ((c .before .before .before .before .before .before .args) .from + (c .before .before .before .before .before .loop) .p))) in (omega arith, omega arith, (λ e. absurd (omega arith)), (λ e. found-def (λ p. operandAt (((c .before .before .before .before .before .before .args) .operands .now)) ((c .before .before .before .before .before .before .args) .from + p)) ((c .before .before .before .before .before .loop) .p) _ (omega arith) ((c .before .before .before .before .before .loop) .inv .2 (let b = (c .before .before .before .before .before .loop) .inv .1 in let f = (c .before .if2) .left in omega arith)) refl))
+loop-again c =
+    let s = c .before .before .before .before .before in
+    let t = s .before in
+    let z : operandDef ((t .args .operands .now)) (t .args .from + (s .loop) .p) ≡ getD ((t .args .operands .now)) (operandWidth * (t .args .from + (s .loop) .p)) 0 = ap (λ
+    (k : ℕ). getD ((t .args .operands .now)) k 0) (add-zero (operandWidth * (t .args .from + (s .loop) .p))) in (
+      omega arith,
+      omega arith,
+      (λ e. absurd (omega arith)),
+      (λ e. found-def (λ p. operandAt ((t .args .operands .now)) (t .args .from + p)) (s .loop .p) _ (omega arith)
+          (s .loop .inv .2 (let b = s .loop .inv .1 in let f = c .before .if2 .left in omega arith)) refl),
+    )
 
 add-p-2 : tie.Need-add-p-2 Inv-loop μ-loop
 add-p-2 c = omega arith
@@ -65,19 +81,42 @@ loop-less-2 : tie.Need-loop-less-2 Inv-loop μ-loop
 loop-less-2 c = omega arith
 
 loop-again-2 : tie.Need-loop-again-2 Inv-loop μ-loop
-loop-again-2 c = let z : operandDef (((c .before .before .before .before .args) .operands .now)) ((c .before .before .before .before .args) .from + (c .before .before .before .loop) .p) ≡ getD (((c .before .before .before .before .args) .operands .now)) (operandWidth * ((c .before .before .before .before .args) .from + (c .before .before .before .loop) .p)) 0 = ap (λ (k : ℕ). getD (((c .before .before .before .before .args) .operands .now)) k 0) (add-zero (operandWidth * ((c .before .before .before .before .args) .from + (c .before .before .before .loop) .p))) in (omega arith, omega arith, (λ e. found-use (λ p. operandAt (((c .before .before .before .before .args) .operands .now)) ((c .before .before .before .before .args) .from + p)) ((c .before .before .before .loop) .p) _ (λ q. (c .if1) .left (sym z ∙ q)) ((c .before .before .before .loop) .inv .2 e)), (λ e. found-use (λ p. operandAt (((c .before .before .before .before .args) .operands .now)) ((c .before .before .before .before .args) .from + p)) ((c .before .before .before .loop) .p) _ (λ q. (c .if1) .left (sym z ∙ q)) ((c .before .before .before .loop) .inv .3 e)))
+loop-again-2 c =
+    let s = c .before .before .before in
+    let t = s .before in
+    let z : operandDef ((t .args .operands .now)) (t .args .from + (s .loop) .p) ≡ getD ((t .args .operands .now)) (operandWidth * (t .args .from + (s .loop) .p)) 0 = ap (λ
+    (k : ℕ). getD ((t .args .operands .now)) k 0) (add-zero (operandWidth * (t .args .from + (s .loop) .p))) in (
+      omega arith,
+      omega arith,
+      (λ e. found-use (λ p. operandAt ((t .args .operands .now)) (t .args .from + p)) (s .loop .p) _ (λ q. (c .if1) .left (sym z ∙ q)) (s .loop .inv .2 e)),
+      (λ e. found-use (λ p. operandAt ((t .args .operands .now)) (t .args .from + p)) (s .loop .p) _ (λ q. (c .if1) .left (sym z ∙ q)) (s .loop .inv .3 e)),
+    )
 
 returns-2 : tie.Need-returns-2 Inv-loop μ-loop
-returns-2 c = let q : (c .before .before .loop) .p ≡ (c .before .before .before .args) .n = omega arith in def-none (λ p. operandAt (((c .before .before .before .args) .operands .now)) ((c .before .before .before .args) .from + p)) ((c .before .before .before .args) .v) ((c .before .before .before .args) .n) (rw q at ((c .before .before .loop) .inv .2 (omega arith)))
+returns-2 c =
+    let s = c .before .before in
+    let t = s .before in
+    let q : (s .loop) .p ≡ (t .args) .n = omega arith in
+    def-none (λ p. operandAt ((t .args .operands .now)) (t .args .from + p)) (t .args .v) (t .args .n) (rw q at (s .loop .inv .2 (omega arith)))
 
 add-result : tie.Need-add-result Inv-loop μ-loop
 add-result c = omega arith
 
 returns-3 : tie.Need-returns-3 Inv-loop μ-loop
-returns-3 c = let q : (c .before .before .before .loop) .p ≡ (c .before .before .before .before .args) .n = omega arith in let b = (c .before .before .before .loop) .inv .1 in def-one (λ p. operandAt (((c .before .before .before .before .args) .operands .now)) ((c .before .before .before .before .args) .from + p)) ((c .before .before .before .before .args) .v) ((c .before .before .before .before .args) .n) ((c .before .before .before .loop) .register) (rw q at ((c .before .before .before .loop) .inv .3 (omega arith))) (omega arith)
+returns-3 c =
+    let s = c .before .before .before in
+    let t = s .before in
+    let q : (s .loop) .p ≡ (t .args) .n = omega arith in
+    let b = s .loop .inv .1 in
+    def-one (λ p. operandAt ((t .args .operands .now)) (t .args .from + p)) (t .args .v) (t .args .n) (s .loop .register) (rw q at (s .loop .inv .3 (omega arith))) (omega arith)
 
 returns-4 : tie.Need-returns-4 Inv-loop μ-loop
-returns-4 c = let q : (c .before .before .before .loop) .p ≡ (c .before .before .before .before .args) .n = omega arith in let b = (c .before .before .before .loop) .inv .1 in def-physical (λ p. operandAt (((c .before .before .before .before .args) .operands .now)) ((c .before .before .before .before .args) .from + p)) ((c .before .before .before .before .args) .v) ((c .before .before .before .before .args) .n) ((c .before .before .before .loop) .register) (rw q at ((c .before .before .before .loop) .inv .3 (omega arith))) (omega arith)
+returns-4 c =
+    let s = c .before .before .before in
+    let t = s .before in
+    let q : (s .loop) .p ≡ (t .args) .n = omega arith in
+    let b = s .loop .inv .1 in
+    def-physical (λ p. operandAt ((t .args .operands .now)) (t .args .from + p)) (t .args .v) (t .args .n) (s .loop .register) (rw q at (s .loop .inv .3 (omega arith))) (omega arith)
 
 pub def-spec : {M : Type 1} → statement M
 def-spec =

@@ -28,7 +28,9 @@ shared-slice-read-if1 : tie.Need-shared-slice-read-if1
 shared-slice-read-if1 c = omega arith
 
 returns : tie.Need-returns
-returns c = stray-other ((c .before .before .before .args) .r) (operandAt (((c .before .before .before .args) .operands .now)) ((c .before .before .before .args) .i)) (not (addressPosition (addressing ((c .before .before .before .args) .base) ((c .before .before .before .args) .index)) ((c .before .before .before .args) .p))) (c .if1 .taken)
+returns c =
+    let s = c .before .before .before in
+    stray-other (s .args .r) (operandAt ((s .args .operands .now)) (s .args .i)) (not (addressPosition (addressing (s .args .base) (s .args .index)) (s .args .p))) (c .if1 .taken)
 
 mul-if2 : tie.Need-mul-if2
 mul-if2 c = omega arith
@@ -40,13 +42,23 @@ shared-slice-read-if2 : tie.Need-shared-slice-read-if2
 shared-slice-read-if2 c = omega arith
 
 returns-2 : tie.Need-returns-2
-returns-2 c = let z : operandDef (((c .before .before .before .before .before .args) .operands .now)) ((c .before .before .before .before .before .args) .i) ≡ getD (((c .before .before .before .before .before .args) .operands .now)) (operandWidth * (c .before .before .before .before .before .args) .i) 0 = ap (λ (k : ℕ). getD (((c .before .before .before .before .before .args) .operands .now)) k 0) (add-zero (operandWidth * (c .before .before .before .before .before .args) .i)) in stray-def ((c .before .before .before .before .before .args) .r) (operandAt (((c .before .before .before .before .before .args) .operands .now)) ((c .before .before .before .before .before .args) .i)) (not (addressPosition (addressing ((c .before .before .before .before .before .args) .base) ((c .before .before .before .before .before .args) .index)) ((c .before .before .before .before .before .args) .p))) ((c .before .before .if1) .left) (omega arith)
+returns-2 c =
+    let s = c .before .before .before .before .before in
+    let z : operandDef ((s .args .operands .now)) (s .args .i) ≡ getD ((s .args .operands .now)) (operandWidth * (s .args) .i) 0 = ap (λ (k : ℕ). getD ((s .args .operands .now)) k 0)
+    (add-zero (operandWidth * (s .args) .i)) in
+    stray-def (s .args .r) (operandAt ((s .args .operands .now)) (s .args .i)) (not (addressPosition (addressing (s .args .base) (s .args .index)) (s .args .p)))
+    (c .before .before .if1 .left) (omega arith)
 
 part-requires : tie.Need-part-requires
 part-requires c κs = omega arith
 
 returns-3 : tie.Need-returns-3
-returns-3 c = let z : operandDef (((c .before .before .before .before .before .before .args) .operands .now)) ((c .before .before .before .before .before .before .args) .i) ≡ getD (((c .before .before .before .before .before .before .args) .operands .now)) (operandWidth * (c .before .before .before .before .before .before .args) .i) 0 = ap (λ (k : ℕ). getD (((c .before .before .before .before .before .before .args) .operands .now)) k 0) (add-zero (operandWidth * (c .before .before .before .before .before .before .args) .i)) in ap not (c .part .ensures) ∙ stray-use ((c .before .before .before .before .before .before .args) .r) (operandAt (((c .before .before .before .before .before .before .args) .operands .now)) ((c .before .before .before .before .before .before .args) .i)) (not (addressPosition (addressing ((c .before .before .before .before .before .before .args) .base) ((c .before .before .before .before .before .before .args) .index)) ((c .before .before .before .before .before .before .args) .p))) ((c .before .before .before .if1) .left) (λ q. (c .before .if2) .left (sym z ∙ q))
+returns-3 c =
+    let s = c .before .before .before .before .before .before in
+    let z : operandDef ((s .args .operands .now)) (s .args .i) ≡ getD ((s .args .operands .now)) (operandWidth * (s .args) .i) 0 = ap (λ (k : ℕ). getD ((s .args .operands .now)) k 0)
+    (add-zero (operandWidth * (s .args) .i)) in
+    ap not (c .part .ensures) ∙ stray-use (s .args .r) (operandAt ((s .args .operands .now)) (s .args .i))
+    (not (addressPosition (addressing (s .args .base) (s .args .index)) (s .args .p))) (c .before .before .before .if1 .left) (λ q. (c .before .if2) .left (sym z ∙ q))
 
 pub stray-spec : {M : Type 1} → statement M
 stray-spec =

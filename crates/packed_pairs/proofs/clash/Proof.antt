@@ -46,7 +46,9 @@ loop-holds : tie.Need-loop-holds Inv-loop μ-loop
 loop-holds c = (omega arith, omega arith, search-start _ _ ((c .before .before .pre) .0) ((c .before .before .pre) .1))
 
 returns : tie.Need-returns Inv-loop μ-loop
-returns c = over-two (word-view (now ((c .before .before .before .before .before .args) .one))) (word-view (now ((c .before .before .before .before .before .args) .two))) ((c .before .before .loop) .inv .2) ((c .if1) .taken)
+returns c =
+    let s = c .before .before .before .before .before in
+    over-two (word-view (now (s .args .one))) (word-view (now (s .args .two))) (c .before .before .loop .inv .2) (c .if1 .taken)
 
 mul-x : tie.Need-mul-x Inv-loop μ-loop
 mul-x c = fits _ _ ((c .before .loop-test) .taken) ((c .before .before .before .before .before .good) .0 .1)
@@ -76,34 +78,90 @@ overlaps-requires : tie.Need-overlaps-requires Inv-loop μ-loop
 overlaps-requires c κs = tt
 
 returns-2 : tie.Need-returns-2 Inv-loop μ-loop
-returns-2 c = hit (word-view (now ((c .before .before .before .before .before .before .before .before .before .before .before .before .before .args) .one))) (word-view (now ((c .before .before .before .before .before .before .before .before .before .before .before .before .before .args) .two))) ((c .before .before .before .before .before .before .before .before .before .before .loop) .inv .2) ((c .before .before .before .before .before .before .before .before .before .loop-test) .taken) ((c .before .before .before .before .before .before .before .before .if1) .left) (rw ((c .before .before .before .before .before .start-of) .ensures, (c .before .before .before .before .end-of) .ensures, (c .before .before .before .start-of2) .ensures, (c .before .before .end-of2) .ensures) at (sym ((c .before .overlaps) .ensures) ∙ (c .if2) .taken))
+returns-2 c =
+    let s = c .before .before .before .before .before .before .before .before .before .before .before .before .before in
+    hit (word-view (now (s .args .one))) (word-view (now (s .args .two))) (c .before .before .before .before .before .before .before .before .before .before .loop .inv .2)
+    (c .before .before .before .before .before .before .before .before .before .loop-test .taken) (c .before .before .before .before .before .before .before .before .if1 .left) (rw (
+      c .before .before .before .before .before .start-of .ensures,
+      c .before .before .before .before .end-of .ensures,
+      c .before .before .before .start-of2 .ensures,
+      c .before .before .end-of2 .ensures,
+    ) at (sym (c .before .overlaps .ensures) ∙ c .if2 .taken))
 
 ending-before-requires : tie.Need-ending-before-requires Inv-loop μ-loop
-ending-before-requires c κs = (upto _ _ ((c .before .before .before .before .before .before .before .before .before .before .loop-test) .taken), ends-rising (word-view (now ((c .before .before .before .before .before .before .before .before .before .before .before .before .before .before .args) .one))) ((c .before .before .before .before .before .before .before .before .before .before .before .before .before .before .pre) .0) _)
+ending-before-requires c κs =
+    let s = c .before .before .before .before .before .before .before .before .before .before .before .before .before .before in
+    (upto _ _ (c .before .before .before .before .before .before .before .before .before .before .loop-test .taken), ends-rising (word-view (now (s .args .one))) (s .pre .0) _)
 
 add-i : tie.Need-add-i Inv-loop μ-loop
-add-i c = further _ _ _ ((c .before .before .before .before .before .before .before .before .before .before .before .loop-test) .taken) ((c .ending-before) .ensures .within) ((c .before .before .before .before .before .before .before .before .before .before .before .before .before .before .before .good) .0 .1)
+add-i c =
+    further _ _ _ ((c .before .before .before .before .before .before .before .before .before .before .before .loop-test) .taken) ((c .ending-before) .ensures .within)
+    ((c .before .before .before .before .before .before .before .before .before .before .before .before .before .before .before .good) .0 .1)
 
 loop-less : tie.Need-loop-less Inv-loop μ-loop
-loop-less c = less-one _ _ _ _ ((c .before .before .before .before .before .before .before .before .before .before .before .loop-test) .taken) ((c .ending-before) .ensures .within) (splits-some (λ k. getD (now ((c .before .before .before .before .before .before .before .before .before .before .before .before .before .before .before .args) .one)) ((c .before .before .before .before .before .before .before .before .before .before .before .before .loop) .i + k) 0 % 2 ^ 32) _ _ _ (rw ((c .before .before .before .before .before .start-of2) .ensures) at ((c .ending-before) .ensures)) (some-left _ _ ((c .before .before .before .before .before .before .before .before .before .before .before .loop-test) .taken)) (rw (add-zero ((c .before .before .before .before .before .before .before .before .before .before .before .before .loop) .i)) (ends-first _ _ _ _ (one-upright (word-view (now ((c .before .before .before .before .before .before .before .before .before .before .before .before .before .before .before .args) .one))) (word-view (now ((c .before .before .before .before .before .before .before .before .before .before .before .before .before .before .before .args) .two))) ((c .before .before .before .before .before .before .before .before .before .before .before .before .loop) .inv .2) ((c .before .before .before .before .before .before .before .before .before .before .before .loop-test) .taken)) (rw ((c .before .before .before .before .before .before .end-of) .ensures, (c .before .before .before .before .end-of2) .ensures) at ((c .before .if3) .taken)) (rw ((c .before .before .before .before .before .before .before .start-of) .ensures, (c .before .before .before .before .before .before .end-of) .ensures, (c .before .before .before .before .before .start-of2) .ensures, (c .before .before .before .before .end-of2) .ensures) at (sym ((c .before .before .before .overlaps) .ensures) ∙ (c .before .before .if2) .left)))))
+loop-less c =
+    let s = c .before .before .before .before in
+    let t = s .before in
+    let u = t .before in
+    let p = u .before .before .before .before .before in
+    let q = p .before in
+    let z = q .before .before .before in
+    less-one _ _ _ _ (p .loop-test .taken) (c .ending-before .ensures .within) (splits-some (λ k. getD (now (z .args .one)) (q .loop .i + k) 0 % 2 ^ 32) _ _ _ (rw
+    (t .start-of2 .ensures) at (c .ending-before .ensures)) (some-left _ _ (p .loop-test .taken)) (rw (add-zero (q .loop .i)) (ends-first _ _ _ _ (one-upright
+    (word-view (now (z .args .one))) (word-view (now (z .args .two))) (q .loop .inv .2) (p .loop-test .taken)) (rw (u .end-of .ensures, s .end-of2 .ensures) at (c .before .if3 .taken))
+    (rw (u .before .start-of .ensures, u .end-of .ensures, t .start-of2 .ensures, s .end-of2 .ensures) at
+    (sym (c .before .before .before .overlaps .ensures) ∙ c .before .before .if2 .left)))))
 
 loop-again : tie.Need-loop-again Inv-loop μ-loop
-loop-again c = (further-in _ _ _ ((c .before .before .before .before .before .before .before .before .before .before .before .loop-test) .taken) ((c .ending-before) .ensures .within), (c .before .before .before .before .before .before .before .before .before .before .before .before .loop) .inv .1, skip-to-one (word-view (now ((c .before .before .before .before .before .before .before .before .before .before .before .before .before .before .before .args) .one))) (word-view (now ((c .before .before .before .before .before .before .before .before .before .before .before .before .before .before .before .args) .two))) ((c .before .before .before .before .before .before .before .before .before .before .before .before .loop) .inv .2) _ (upto _ _ ((c .before .before .before .before .before .before .before .before .before .before .before .loop-test) .taken)) ((c .before .before .before .before .before .before .before .before .before .before .if1) .left) (rw ((c .before .before .before .before .before .start-of2) .ensures) at ((c .ending-before) .ensures)))
+loop-again c =
+    let s = c .before .before .before .before .before .before .before .before .before .before .before in
+    let t = s .before in
+    let u = t .before .before .before in (
+      further-in _ _ _ (s .loop-test .taken) (c .ending-before .ensures .within),
+      t .loop .inv .1,
+      skip-to-one (word-view (now (u .args .one))) (word-view (now (u .args .two)))
+          (t .loop .inv .2) _ (upto _ _ (s .loop-test .taken)) (c .before .before .before .before .before .before .before .before .before .before .if1 .left)
+          (rw (c .before .before .before .before .before .start-of2 .ensures) at (c .ending-before .ensures)),
+    )
 
 ending-before-requires-2 : tie.Need-ending-before-requires-2 Inv-loop μ-loop
-ending-before-requires-2 c κs = (upto _ _ ((c .before .before .before .before .before .before .before .before .before .if1) .left), ends-rising (word-view (now ((c .before .before .before .before .before .before .before .before .before .before .before .before .before .before .args) .two))) ((c .before .before .before .before .before .before .before .before .before .before .before .before .before .before .pre) .1) _)
+ending-before-requires-2 c κs =
+    let s = c .before .before .before .before .before .before .before .before .before .before .before .before .before .before in
+    (upto _ _ (c .before .before .before .before .before .before .before .before .before .if1 .left), ends-rising (word-view (now (s .args .two))) (s .pre .1) _)
 
 add-j : tie.Need-add-j Inv-loop μ-loop
 add-j c = further _ _ _ ((c .before .before .before .before .before .before .before .before .before .before .if1) .left) ((c .ending-before2) .ensures .within) ((c .before .before .before .before .before .before .before .before .before .before .before .before .before .before .before .good) .1 .0 .1)
 
 loop-less-2 : tie.Need-loop-less-2 Inv-loop μ-loop
-loop-less-2 c = less-two _ _ _ _ ((c .before .before .before .before .before .before .before .before .before .before .if1) .left) ((c .ending-before2) .ensures .within) (splits-some (λ k. getD (now ((c .before .before .before .before .before .before .before .before .before .before .before .before .before .before .before .args) .two)) ((c .before .before .before .before .before .before .before .before .before .before .before .before .loop) .j + k) 0 % 2 ^ 32) _ _ _ (rw ((c .before .before .before .before .before .before .before .start-of) .ensures) at ((c .ending-before2) .ensures)) (some-left _ _ ((c .before .before .before .before .before .before .before .before .before .before .if1) .left)) (rw (add-zero ((c .before .before .before .before .before .before .before .before .before .before .before .before .loop) .j)) (ends-last _ _ _ _ (two-upright (word-view (now ((c .before .before .before .before .before .before .before .before .before .before .before .before .before .before .before .args) .one))) (word-view (now ((c .before .before .before .before .before .before .before .before .before .before .before .before .before .before .before .args) .two))) ((c .before .before .before .before .before .before .before .before .before .before .before .before .loop) .inv .2) ((c .before .before .before .before .before .before .before .before .before .before .if1) .left)) (rw ((c .before .before .before .before .before .before .end-of) .ensures, (c .before .before .before .before .end-of2) .ensures) at ((c .before .if3) .left)) (rw ((c .before .before .before .before .before .before .before .start-of) .ensures, (c .before .before .before .before .before .before .end-of) .ensures, (c .before .before .before .before .before .start-of2) .ensures, (c .before .before .before .before .end-of2) .ensures) at (sym ((c .before .before .before .overlaps) .ensures) ∙ (c .before .before .if2) .left)))))
+loop-less-2 c =
+    let s = c .before .before .before .before in
+    let t = s .before .before in
+    let u = t .before in
+    let p = u .before .before .before in
+    let q = p .before .before in
+    let z = q .before .before .before in
+    less-two _ _ _ _ (p .if1 .left) (c .ending-before2 .ensures .within) (splits-some (λ k. getD (now (z .args .two)) (q .loop .j + k) 0 % 2 ^ 32) _ _ _ (rw (u .start-of .ensures) at
+    (c .ending-before2 .ensures)) (some-left _ _ (p .if1 .left)) (rw (add-zero (q .loop .j)) (ends-last _ _ _ _ (two-upright (word-view (now (z .args .one)))
+    (word-view (now (z .args .two))) (q .loop .inv .2) (p .if1 .left)) (rw (t .end-of .ensures, s .end-of2 .ensures) at (c .before .if3 .left)) (rw
+    (u .start-of .ensures, t .end-of .ensures, s .before .start-of2 .ensures, s .end-of2 .ensures) at
+    (sym (c .before .before .before .overlaps .ensures) ∙ c .before .before .if2 .left)))))
 
 loop-again-2 : tie.Need-loop-again-2 Inv-loop μ-loop
-loop-again-2 c = ((c .before .before .before .before .before .before .before .before .before .before .before .before .loop) .inv .0, further-in _ _ _ ((c .before .before .before .before .before .before .before .before .before .before .if1) .left) ((c .ending-before2) .ensures .within), skip-to-two (word-view (now ((c .before .before .before .before .before .before .before .before .before .before .before .before .before .before .before .args) .one))) (word-view (now ((c .before .before .before .before .before .before .before .before .before .before .before .before .before .before .before .args) .two))) ((c .before .before .before .before .before .before .before .before .before .before .before .before .loop) .inv .2) _ (upto _ _ ((c .before .before .before .before .before .before .before .before .before .before .if1) .left)) ((c .before .before .before .before .before .before .before .before .before .before .before .loop-test) .taken) (rw ((c .before .before .before .before .before .before .before .start-of) .ensures) at ((c .ending-before2) .ensures)))
+loop-again-2 c =
+    let s = c .before .before .before .before .before .before .before .before .before .before in
+    let t = s .before .before in
+    let u = t .before .before .before in (
+      t .loop .inv .0,
+      further-in _ _ _ (s .if1 .left) (c .ending-before2 .ensures .within),
+      skip-to-two (word-view (now (u .args .one))) (word-view (now (u .args .two)))
+          (t .loop .inv .2) _ (upto _ _ (s .if1 .left)) (s .before .loop-test .taken)
+          (rw (c .before .before .before .before .before .before .before .start-of .ensures) at (c .ending-before2 .ensures)),
+    )
 
 returns-3 : tie.Need-returns-3 Inv-loop μ-loop
-returns-3 c = over-one (word-view (now ((c .before .before .before .before .args) .one))) (word-view (now ((c .before .before .before .before .args) .two))) ((c .before .loop) .inv .2) ((c .loop-test) .left)
+returns-3 c =
+    let s = c .before .before .before .before in
+    over-one (word-view (now (s .args .one))) (word-view (now (s .args .two))) (c .before .loop .inv .2) (c .loop-test .left)
 
 pub clash-spec : {M : Type 1} → statement M
 clash-spec = tie.close (tie.spec Inv-loop μ-loop loop-holds returns mul-x shared-slice-read-x mul-y shared-slice-read-y start-of-requires end-of-requires start-of-requires-2 end-of-requires-2 overlaps-requires returns-2 ending-before-requires add-i loop-less loop-again ending-before-requires-2 add-j loop-less-2 loop-again-2 returns-3)

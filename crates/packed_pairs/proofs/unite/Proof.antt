@@ -25,46 +25,96 @@ one-first-requires : tie.Need-one-first-requires Inv-loop μ-loop
 one-first-requires c κs = omega arith
 
 add-x : tie.Need-add-x Inv-loop μ-loop
-add-x c = omega (arith, united-one-in ((c .before .before .before .before .loop) .inv .1) (sym (next-is ((c .before .before .before .before .loop) .inv .1)) ∙ sym ((c .before .one-first) .ensures) ∙ (c .if1) .taken) (omega arith))
+add-x c =
+    let s = c .before .before .before .before in
+    omega (arith, united-one-in (s .loop .inv .1) (sym (next-is (s .loop .inv .1)) ∙ sym (c .before .one-first .ensures) ∙ c .if1 .taken) (omega arith))
 
 mul-x : tie.Need-mul-x Inv-loop μ-loop
-mul-x c = omega (arith, united-one-in ((c .before .before .before .before .loop) .inv .1) (sym (next-is ((c .before .before .before .before .loop) .inv .1)) ∙ sym ((c .before .one-first) .ensures) ∙ (c .if1) .taken) (omega arith))
+mul-x c =
+    let s = c .before .before .before .before in
+    omega (arith, united-one-in (s .loop .inv .1) (sym (next-is (s .loop .inv .1)) ∙ sym (c .before .one-first .ensures) ∙ c .if1 .taken) (omega arith))
 
 slice-read-x : tie.Need-slice-read-x Inv-loop μ-loop
-slice-read-x c = omega (arith, united-one-in ((c .before .before .before .before .before .loop) .inv .1) (sym (next-is ((c .before .before .before .before .before .loop) .inv .1)) ∙ sym ((c .before .before .one-first) .ensures) ∙ (c .before .if1) .taken) (omega arith))
+slice-read-x c =
+    let s = c .before .before .before .before .before in
+    omega (arith, united-one-in (s .loop .inv .1) (sym (next-is (s .loop .inv .1)) ∙ sym (c .before .before .one-first .ensures) ∙ c .before .if1 .taken) (omega arith))
 
 take-up-requires : tie.Need-take-up-requires Inv-loop μ-loop
 take-up-requires c κs = united-room ((c .before .before .before .before .before .before .loop) .inv .1) (omega arith)
 
 add-i : tie.Need-add-i Inv-loop μ-loop
-add-i c = omega (arith, united-one-in ((c .before .before .before .before .before .before .before .before .before .loop) .inv .1) (sym (next-is ((c .before .before .before .before .before .before .before .before .before .loop) .inv .1)) ∙ sym ((c .before .before .before .before .before .before .one-first) .ensures) ∙ (c .before .before .before .before .before .if1) .taken) (omega arith))
+add-i c =
+    let s = c .before .before .before .before .before .before .before .before .before in
+    omega (
+      arith,
+      united-one-in (s .loop .inv .1)
+          (sym (next-is (s .loop .inv .1)) ∙ sym (c .before .before .before .before .before .before .one-first .ensures) ∙ c .before .before .before .before .before .if1 .taken)
+          (omega arith),
+    )
 
 loop-less : tie.Need-loop-less Inv-loop μ-loop
-loop-less c = omega (arith, united-one-in ((c .before .before .before .before .before .before .before .before .before .loop) .inv .1) (sym (next-is ((c .before .before .before .before .before .before .before .before .before .loop) .inv .1)) ∙ sym ((c .before .before .before .before .before .before .one-first) .ensures) ∙ (c .before .before .before .before .before .if1) .taken) (omega arith))
+loop-less c =
+    let s = c .before .before .before .before .before .before .before .before .before in
+    omega (
+      arith,
+      united-one-in (s .loop .inv .1)
+          (sym (next-is (s .loop .inv .1)) ∙ sym (c .before .before .before .before .before .before .one-first .ensures) ∙ c .before .before .before .before .before .if1 .taken)
+          (omega arith),
+    )
 
 loop-again : tie.Need-loop-again Inv-loop μ-loop
-loop-again c = (omega arith, united-one ((c .before .before .before .before .before .before .before .before .before .loop) .inv .1) (omega arith) ((c .before .before .take-up) .ensures) (sym (next-is ((c .before .before .before .before .before .before .before .before .before .loop) .inv .1)) ∙ sym ((c .before .before .before .before .before .before .one-first) .ensures) ∙ (c .before .before .before .before .before .if1) .taken) (united-one-in ((c .before .before .before .before .before .before .before .before .before .loop) .inv .1) (sym (next-is ((c .before .before .before .before .before .before .before .before .before .loop) .inv .1)) ∙ sym ((c .before .before .before .before .before .before .one-first) .ensures) ∙ (c .before .before .before .before .before .if1) .taken) (omega arith)) refl)
+loop-again c =
+    let s = c .before .before .before .before .before in
+    let t = s .before in
+    let u = t .before .before .before in (
+      omega arith,
+      united-one (u .loop .inv .1) (omega arith) (c .before .before .take-up .ensures) (sym (next-is (u .loop .inv .1)) ∙ sym (t .one-first .ensures) ∙ s .if1 .taken)
+          (united-one-in (u .loop .inv .1) (sym (next-is (u .loop .inv .1)) ∙ sym (t .one-first .ensures) ∙ s .if1 .taken) (omega arith)) refl,
+    )
 
 add-x-2 : tie.Need-add-x-2 Inv-loop μ-loop
-add-x-2 c = omega (arith, united-two-in ((c .before .before .before .before .loop) .inv .1) (sym (next-is ((c .before .before .before .before .loop) .inv .1)) ∙ sym ((c .before .one-first) .ensures) ∙ (c .if1) .left))
+add-x-2 c =
+    let s = c .before .before .before .before in
+    omega (arith, united-two-in (s .loop .inv .1) (sym (next-is (s .loop .inv .1)) ∙ sym (c .before .one-first .ensures) ∙ c .if1 .left))
 
 mul-x-2 : tie.Need-mul-x-2 Inv-loop μ-loop
-mul-x-2 c = omega (arith, united-two-in ((c .before .before .before .before .loop) .inv .1) (sym (next-is ((c .before .before .before .before .loop) .inv .1)) ∙ sym ((c .before .one-first) .ensures) ∙ (c .if1) .left))
+mul-x-2 c =
+    let s = c .before .before .before .before in
+    omega (arith, united-two-in (s .loop .inv .1) (sym (next-is (s .loop .inv .1)) ∙ sym (c .before .one-first .ensures) ∙ c .if1 .left))
 
 slice-read-x-2 : tie.Need-slice-read-x-2 Inv-loop μ-loop
-slice-read-x-2 c = omega (arith, united-two-in ((c .before .before .before .before .before .loop) .inv .1) (sym (next-is ((c .before .before .before .before .before .loop) .inv .1)) ∙ sym ((c .before .before .one-first) .ensures) ∙ (c .before .if1) .left))
+slice-read-x-2 c =
+    let s = c .before .before .before .before .before in
+    omega (arith, united-two-in (s .loop .inv .1) (sym (next-is (s .loop .inv .1)) ∙ sym (c .before .before .one-first .ensures) ∙ c .before .if1 .left))
 
 take-up-requires-2 : tie.Need-take-up-requires-2 Inv-loop μ-loop
 take-up-requires-2 c κs = united-room ((c .before .before .before .before .before .before .loop) .inv .1) (omega arith)
 
 add-j : tie.Need-add-j Inv-loop μ-loop
-add-j c = omega (arith, united-two-in ((c .before .before .before .before .before .before .before .before .before .loop) .inv .1) (sym (next-is ((c .before .before .before .before .before .before .before .before .before .loop) .inv .1)) ∙ sym ((c .before .before .before .before .before .before .one-first) .ensures) ∙ (c .before .before .before .before .before .if1) .left))
+add-j c =
+    let s = c .before .before .before .before .before .before .before .before .before in
+    omega (
+      arith,
+      united-two-in (s .loop .inv .1)
+          (sym (next-is (s .loop .inv .1)) ∙ sym (c .before .before .before .before .before .before .one-first .ensures) ∙ c .before .before .before .before .before .if1 .left),
+    )
 
 loop-less-2 : tie.Need-loop-less-2 Inv-loop μ-loop
-loop-less-2 c = omega (arith, united-two-in ((c .before .before .before .before .before .before .before .before .before .loop) .inv .1) (sym (next-is ((c .before .before .before .before .before .before .before .before .before .loop) .inv .1)) ∙ sym ((c .before .before .before .before .before .before .one-first) .ensures) ∙ (c .before .before .before .before .before .if1) .left))
+loop-less-2 c =
+    let s = c .before .before .before .before .before .before .before .before .before in
+    omega (
+      arith,
+      united-two-in (s .loop .inv .1)
+          (sym (next-is (s .loop .inv .1)) ∙ sym (c .before .before .before .before .before .before .one-first .ensures) ∙ c .before .before .before .before .before .if1 .left),
+    )
 
 loop-again-2 : tie.Need-loop-again-2 Inv-loop μ-loop
-loop-again-2 c = (omega arith, united-two ((c .before .before .before .before .before .before .before .before .before .loop) .inv .1) (omega arith) ((c .before .before .take-up2) .ensures) (sym (next-is ((c .before .before .before .before .before .before .before .before .before .loop) .inv .1)) ∙ sym ((c .before .before .before .before .before .before .one-first) .ensures) ∙ (c .before .before .before .before .before .if1) .left) refl)
+loop-again-2 c =
+    let s = c .before .before .before .before .before .before .before .before .before in (
+      omega arith,
+      united-two (s .loop .inv .1) (omega arith) (c .before .before .take-up2 .ensures)
+          (sym (next-is (s .loop .inv .1)) ∙ sym (c .before .before .before .before .before .before .one-first .ensures) ∙ c .before .before .before .before .before .if1 .left) refl,
+    )
 
 same-length : tie.Need-same-length Inv-loop μ-loop
 same-length c = omega arith

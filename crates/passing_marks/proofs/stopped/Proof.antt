@@ -6,7 +6,9 @@ use Rattle.passing_marks.proofs.stopped.Statement.{statement}
 use Rattle.passing_marks.proofs.stopped.Tie as tie
 
 returns : tie.Need-returns
-returns c = stopped-far ((c .before .before .args) .blocks .now) ((c .before .before .pre)) _ (omega arith) (λ i. let h = (c .before .shared-slice-known) .given i in omega arith)
+returns c =
+    let s = c .before .before in
+    stopped-far (s .args .blocks .now) ((s .pre)) _ (omega arith) (λ i. let h = c .before .shared-slice-known .given i in omega arith)
 
 cast-p : tie.Need-cast-p
 cast-p c = search needs
@@ -27,7 +29,9 @@ shared-slice-read-if2 : tie.Need-shared-slice-read-if2
 shared-slice-read-if2 c = search needs
 
 returns-2 : tie.Need-returns-2
-returns-2 c = stopped-before ((c .before .before .before .before .before .args) .blocks .now) ((c .before .before .before .before .before .pre)) _ _ ((c .before .before .holding) .ensures) (omega arith)
+returns-2 c =
+    let s = c .before .before .before .before .before in
+    stopped-before (s .args .blocks .now) ((s .pre)) _ _ (c .before .before .holding .ensures) (omega arith)
 
 mul-if3 : tie.Need-mul-if3
 mul-if3 c = search needs
@@ -42,10 +46,14 @@ shared-slice-read-if3 : tie.Need-shared-slice-read-if3
 shared-slice-read-if3 c = search needs
 
 returns-3 : tie.Need-returns-3
-returns-3 c = stopped-after ((c .before .before .before .before .before .before .before .args) .blocks .now) ((c .before .before .before .before .before .before .before .pre)) _ _ ((c .before .before .before .before .holding) .ensures) (omega arith)
+returns-3 c =
+    let s = c .before .before .before .before .before .before .before in
+    stopped-after (s .args .blocks .now) ((s .pre)) _ _ (c .before .before .before .before .holding .ensures) (omega arith)
 
 returns-4 : tie.Need-returns-4
-returns-4 c = stopped-in ((c .before .before .before .before .before .before .before .args) .blocks .now) ((c .before .before .before .before .before .before .before .pre)) _ _ ((c .before .before .before .before .holding) .ensures) (omega arith) (omega arith)
+returns-4 c =
+    let s = c .before .before .before .before .before .before .before in
+    stopped-in (s .args .blocks .now) ((s .pre)) _ _ (c .before .before .before .before .holding .ensures) (omega arith) (omega arith)
 
 pub stopped-spec : {M : Type 1} → statement M
 stopped-spec =

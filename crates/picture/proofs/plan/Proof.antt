@@ -17,7 +17,9 @@ add-n : tie.Need-add-n
 add-n c = omega (arith, ((c .before .held)) .ensures .1, ((c .held2)) .ensures .1)
 
 records-requires : tie.Need-records-requires
-records-requires c κs = ((c .before .before .before .before .pre) .0, (c .before .before .before .before .pre) .1, (c .before .before .before .before .pre) .2, omega arith)
+records-requires c κs =
+    let s = c .before .before .before .before in
+    (s .pre .0, s .pre .1, s .pre .2, omega arith)
 
 slice-aggregate-planned : tie.Need-slice-aggregate-planned
 slice-aggregate-planned c = search needs

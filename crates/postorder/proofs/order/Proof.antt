@@ -34,28 +34,47 @@ mul-if1 : tie.Need-mul-if1 Inv-loop μ-loop
 mul-if1 c = at-root _ _ ((c .before .loop) .inv .1) ((c .before .loop) .inv .0) ((c .before .before .before .before .fill) .ensures .len) ((c .before .before .before .before .before .before .before) .good .0 .1) ((c .loop-test) .taken) .seen .in-bytes
 
 slice-read-if1 : tie.Need-slice-read-if1 Inv-loop μ-loop
-slice-read-if1 c = at-root _ _ ((c .before .before .loop) .inv .1) ((c .before .before .loop) .inv .0) ((c .before .before .before .before .before .fill) .ensures .len) ((c .before .before .before .before .before .before .before .before) .good .0 .1) ((c .before .loop-test) .taken) .seen .inside
+slice-read-if1 c =
+    let s = c .before .before in
+    at-root _ _ (s .loop .inv .1) (s .loop .inv .0) (s .before .before .before .fill .ensures .len) (s .before .before .before .before .before .before .good .0 .1)
+    (c .before .loop-test .taken) .seen .inside
 
 walk-requires : tie.Need-walk-requires Inv-loop μ-loop
 walk-requires c κs = ((c .before .before .before .loop-test .taken, c .before .if1 .taken), c .before .before .before .before .loop .inv .1 .ready)
 
 add-root : tie.Need-add-root Inv-loop μ-loop
-add-root c = at-root _ _ ((c .before .before .before .before .before .before .before .loop) .inv .1) ((c .before .before .before .before .before .before .before .loop) .inv .0) ((c .before .before .before .before .before .before .before .before .before .before .fill) .ensures .len) ((c .before .before .before .before .before .before .before .before .before .before .before .before .before) .good .0 .1) ((c .before .before .before .before .before .before .loop-test) .taken) .more
+add-root c =
+    let s = c .before .before .before .before .before .before .before in
+    at-root _ _ (s .loop .inv .1) (s .loop .inv .0) (s .before .before .before .fill .ensures .len) (s .before .before .before .before .before .before .good .0 .1)
+    (c .before .before .before .before .before .before .loop-test .taken) .more
 
 loop-less : tie.Need-loop-less Inv-loop μ-loop
-loop-less c = at-root _ _ ((c .before .before .before .before .before .before .before .loop) .inv .1) ((c .before .before .before .before .before .before .before .loop) .inv .0) ((c .before .before .before .before .before .before .before .before .before .before .fill) .ensures .len) ((c .before .before .before .before .before .before .before .before .before .before .before .before .before) .good .0 .1) ((c .before .before .before .before .before .before .loop-test) .taken) .less
+loop-less c =
+    let s = c .before .before .before .before .before .before .before in
+    at-root _ _ (s .loop .inv .1) (s .loop .inv .0) (s .before .before .before .fill .ensures .len) (s .before .before .before .before .before .before .good .0 .1)
+    (c .before .before .before .before .before .before .loop-test .taken) .less
 
 loop-again : tie.Need-loop-again Inv-loop μ-loop
-loop-again c = (c .before .before .before .before .before .before .before .loop .inv .0, roots-walk (c .before .before .before .before .before .before .before .loop .inv .1) (c .before .before .before .before .before .before .loop-test .taken) (c .before .before .walk .ensures))
+loop-again c =
+    let s = c .before .before .before .before .before .before .before in
+    (s .loop .inv .0, roots-walk (s .loop .inv .1) (c .before .before .before .before .before .before .loop-test .taken) (c .before .before .walk .ensures))
 
 add-root-2 : tie.Need-add-root-2 Inv-loop μ-loop
-add-root-2 c = at-root _ _ ((c .before .before .before .loop) .inv .1) ((c .before .before .before .loop) .inv .0) ((c .before .before .before .before .before .before .fill) .ensures .len) ((c .before .before .before .before .before .before .before .before .before) .good .0 .1) ((c .before .before .loop-test) .taken) .more
+add-root-2 c =
+    let s = c .before .before .before in
+    at-root _ _ (s .loop .inv .1) (s .loop .inv .0) (s .before .before .before .fill .ensures .len) (s .before .before .before .before .before .before .good .0 .1)
+    (c .before .before .loop-test .taken) .more
 
 loop-less-2 : tie.Need-loop-less-2 Inv-loop μ-loop
-loop-less-2 c = at-root _ _ ((c .before .before .before .loop) .inv .1) ((c .before .before .before .loop) .inv .0) ((c .before .before .before .before .before .before .fill) .ensures .len) ((c .before .before .before .before .before .before .before .before .before) .good .0 .1) ((c .before .before .loop-test) .taken) .less
+loop-less-2 c =
+    let s = c .before .before .before in
+    at-root _ _ (s .loop .inv .1) (s .loop .inv .0) (s .before .before .before .fill .ensures .len) (s .before .before .before .before .before .before .good .0 .1)
+    (c .before .before .loop-test .taken) .less
 
 loop-again-2 : tie.Need-loop-again-2 Inv-loop μ-loop
-loop-again-2 c = (c .before .before .before .loop .inv .0, roots-skip (c .before .before .before .loop .inv .1) (c .before .before .loop-test .taken) (c .if1 .left))
+loop-again-2 c =
+    let s = c .before .before .before in
+    (s .loop .inv .0, roots-skip (s .loop .inv .1) (c .before .before .loop-test .taken) (c .if1 .left))
 
 returns : tie.Need-returns Inv-loop μ-loop
 returns c = roots-done ((c .before .before .before .before .before .before .before .pre)) (c .before .before .before .before .fill .ensures) (c .before .loop .inv .1) (c .loop-test .left)

@@ -17,7 +17,9 @@ more : (c : tie.Then1) → nextOf (c .before .before .before .before .before .ar
 more c = c .if1 .taken
 
 at-edge : (c : tie.Then1) → AtEdge (c .before .before .before .before .before .args .n) (c .before .before .before .before .before .args .at) (c .before .before .before .before .before .args .base) (c .before .before .before .before .before .args .w .now) (c .before .before .before .before .before .args .z .depth)
-at-edge c = edge (c .before .before .before .before .before .pre .0) (c .before .before .before .before .before .pre .1) (c .before .before .before .before .before .good .0 .1) (more c)
+at-edge c =
+    let s = c .before .before .before .before .before in
+    edge (s .pre .0) (s .pre .1) (s .good .0 .1) (more c)
 
 sub-top : tie.Need-sub-top
 sub-top c = (c .before .pre) .0
@@ -86,7 +88,15 @@ slice-read-if2 : tie.Need-slice-read-if2
 slice-read-if2 c = at-edge (c .before .before) .seen .inside
 
 push-requires : tie.Need-push-requires
-push-requires c κs = (v-ok _ _ _ _ _ _ (c .before .before .before .before .before .before .before .before .before .pre .0) (more (c .before .before .before .before)) (c .before .before .before .before .before .before .before .before .before .pre .1), room-for _ _ _ _ _ _ (c .before .before .before .before .before .before .before .before .before .pre .0) (more (c .before .before .before .before)) (c .before .before .before .before .before .before .before .before .before .pre .1) (c .before .if2 .taken), (top _ _ _ _ _ _ (c .before .before .before .before .before .before .before .before .before .pre .0) (c .before .before .before .before .before .before .before .before .before .pre .1)) .starts, (top _ _ _ _ _ _ (c .before .before .before .before .before .before .before .before .before .pre .0) (c .before .before .before .before .before .before .before .before .before .pre .1)) .room, first-ok _ _ _ _ _ _ (c .before .before .before .before .before .before .before .before .before .pre .0) (more (c .before .before .before .before)) (c .before .before .before .before .before .before .before .before .before .pre .1))
+push-requires c κs =
+    let s = c .before .before .before .before in
+    let t = s .before .before .before .before .before in (
+      v-ok _ _ _ _ _ _ (t .pre .0) (more (s)) (t .pre .1),
+      room-for _ _ _ _ _ _ (t .pre .0) (more (s)) (t .pre .1) (c .before .if2 .taken),
+      (top _ _ _ _ _ _ (t .pre .0) (t .pre .1)) .starts,
+      (top _ _ _ _ _ _ (t .pre .0) (t .pre .1)) .room,
+      first-ok _ _ _ _ _ _ (t .pre .0) (more (s)) (t .pre .1),
+    )
 
 add-w : tie.Need-add-w
 add-w c = turns (c .before .before .before .before .before .before .before .before .before .before .before .before) .looked .fits
@@ -98,10 +108,16 @@ slice-write-w : tie.Need-slice-write-w
 slice-write-w c = rw ((c .before .before .push) .ensures) (simp length-set (turns (c .before .before .before .before .before .before .before .before .before .before .before .before) .looked .inside))
 
 add-t36 : tie.Need-add-t36
-add-t36 c = deeper ((c .before .before .before .before .before .before .before .before .before .before .before .before .pre) .0) ((c .before .before .before .before .before .before .before .before .before .before .before .before .pre) .1) ((c .before .before .before .before .before .before .before .before .before .before .before .before .good) .0 .1) (room-for _ _ _ _ _ _ ((c .before .before .before .before .before .before .before .before .before .before .before .before .pre) .0) (more (c .before .before .before .before .before .before .before)) ((c .before .before .before .before .before .before .before .before .before .before .before .before .pre) .1) ((c .before .before .before .before .if2) .taken))
+add-t36 c =
+    let s = c .before .before .before .before .before .before .before .before .before .before .before .before in
+    deeper (s .pre .0) (s .pre .1) (s .good .0 .1)
+    (room-for _ _ _ _ _ _ (s .pre .0) (more (c .before .before .before .before .before .before .before)) (s .pre .1) (c .before .before .before .before .if2 .taken))
 
 returns : tie.Need-returns
-returns c = rw (c .before .before .push .ensures) (turn-new _ _ _ _ _ _ (c .before .before .before .before .before .before .before .before .before .before .before .before .pre .0) (more (c .before .before .before .before .before .before .before)) (c .before .before .before .before .before .before .before .before .before .before .before .before .pre .1) (c .before .before .before .before .if2 .taken) _ refl)
+returns c =
+    let s = c .before .before .before .before .before .before .before .before .before .before .before .before in
+    rw (c .before .before .push .ensures)
+    (turn-new _ _ _ _ _ _ (s .pre .0) (more (c .before .before .before .before .before .before .before)) (s .pre .1) (c .before .before .before .before .if2 .taken) _ refl)
 
 same-length : tie.Need-same-length
 same-length c = returns c .kept .len
@@ -116,7 +132,9 @@ slice-write-w-2 : tie.Need-slice-write-w-2
 slice-write-w-2 c = turns (c .before .before .before .before .before .before .before .before) .looked .inside
 
 returns-2 : tie.Need-returns-2
-returns-2 c = turn-seen _ _ _ _ _ _ (c .before .before .before .before .before .before .before .before .pre .0) (more (c .before .before .before)) (c .before .before .before .before .before .before .before .before .pre .1) _ refl (c .if2 .left)
+returns-2 c =
+    let s = c .before .before .before .before .before .before .before .before in
+    turn-seen _ _ _ _ _ _ (s .pre .0) (more (c .before .before .before)) (s .pre .1) _ refl (c .if2 .left)
 
 same-length-2 : tie.Need-same-length-2
 same-length-2 c = returns-2 c .kept .len
@@ -128,13 +146,19 @@ add-rank : tie.Need-add-rank
 add-rank c = turns (c .before .before .before .before .before) .rank
 
 add-w-3 : tie.Need-add-w-3
-add-w-3 c = omega (arith, few ((c .before .before .before .before .before .pre) .0) ((c .before .before .before .before .before .pre) .1) ((c .before .before .before .before .before) .good .0 .1))
+add-w-3 c =
+    let s = c .before .before .before .before .before in
+    omega (arith, few (s .pre .0) (s .pre .1) ((s) .good .0 .1))
 
 mul-w-3 : tie.Need-mul-w-3
-mul-w-3 c = omega (arith, few ((c .before .before .before .before .before .pre) .0) ((c .before .before .before .before .before .pre) .1) ((c .before .before .before .before .before) .good .0 .1))
+mul-w-3 c =
+    let s = c .before .before .before .before .before in
+    omega (arith, few (s .pre .0) (s .pre .1) ((s) .good .0 .1))
 
 slice-write-w-3 : tie.Need-slice-write-w-3
-slice-write-w-3 c = omega (arith, few ((c .before .before .before .before .before .pre) .0) ((c .before .before .before .before .before .pre) .1) ((c .before .before .before .before .before) .good .0 .1))
+slice-write-w-3 c =
+    let s = c .before .before .before .before .before in
+    omega (arith, few (s .pre .0) (s .pre .1) ((s) .good .0 .1))
 
 add-w-4 : tie.Need-add-w-4
 add-w-4 c = turns (c .before .before .before .before .before) .ranked .fits
@@ -146,7 +170,9 @@ slice-write-w-4 : tie.Need-slice-write-w-4
 slice-write-w-4 c = simp length-set (turns (c .before .before .before .before .before) .ranked .inside)
 
 returns-3 : tie.Need-returns-3
-returns-3 c = turn-left _ _ _ _ _ _ (c .before .before .before .before .before .pre .0) _ _ refl refl (c .if1 .left) (c .before .before .before .before .before .pre .1)
+returns-3 c =
+    let s = c .before .before .before .before .before in
+    turn-left _ _ _ _ _ _ (s .pre .0) _ _ refl refl (c .if1 .left) (s .pre .1)
 
 same-length-3 : tie.Need-same-length-3
 same-length-3 c = returns-3 c .kept .len

@@ -13,10 +13,14 @@ abbrev μ-loop : tie.MeasureT-loop
 μ-loop w₀ n at base root left z₀ w z = toCome n at base w + z .depth
 
 push-requires : tie.Need-push-requires Inv-loop μ-loop
-push-requires c κs = (c .before .before .pre .0 .0, omega arith, c .before .before .pre .1 .held .starts, c .before .before .pre .1 .held .room, root-first _ _ _ _ _ _ (c .before .before .pre .1) (c .before .before .pre .0 .0) (c .before .before .pre .0 .1))
+push-requires c κs =
+    let s = c .before .before in
+    (s .pre .0 .0, omega arith, s .pre .1 .held .starts, s .pre .1 .held .room, root-first _ _ _ _ _ _ (s .pre .1) (s .pre .0 .0) (s .pre .0 .1))
 
 loop-holds : tie.Need-loop-holds Inv-loop μ-loop
-loop-holds c = rw (c .before .before .push .ensures) (root-ready _ _ _ _ _ _ (c .before .before .before .before .before .pre .1) (c .before .before .before .before .before .pre .0 .0) (c .before .before .before .before .before .pre .0 .1), going-start _ _ _ _ _ _)
+loop-holds c =
+    let s = c .before .before .before .before .before in
+    rw (c .before .before .push .ensures) (root-ready _ _ _ _ _ _ (s .pre .1) (s .pre .0 .0) (s .pre .0 .1), going-start _ _ _ _ _ _)
 
 turn-requires : tie.Need-turn-requires Inv-loop μ-loop
 turn-requires c κs = (c .before .if1 .taken, c .before .before .before .loop .inv .0)
@@ -25,10 +29,16 @@ loop-less : tie.Need-loop-less Inv-loop μ-loop
 loop-less c = c .before .before .turn .ensures .falls
 
 loop-again : tie.Need-loop-again Inv-loop μ-loop
-loop-again c = (ready-more (c .before .before .before .before .before .before .loop .inv .0) (c .before .before .turn .ensures), going-more (c .before .before .before .before .before .before .loop .inv .1) (c .before .before .turn .ensures))
+loop-again c =
+    let s = c .before .before in
+    let t = s .before .before .before .before in
+    (ready-more (t .loop .inv .0) (s .turn .ensures), going-more (t .loop .inv .1) (s .turn .ensures))
 
 returns : tie.Need-returns Inv-loop μ-loop
-returns c = walk-done _ _ _ _ _ _ (c .before .before .before .before .before .before .before .before .pre .1) (c .before .before .before .before .before .before .before .before .pre .0 .0) (c .before .before .before .before .before .before .before .before .pre .0 .1) _ _ _ (rw (c .before .before .before .before .before .push .ensures) at (c .before .before .loop .inv .1)) (omega arith)
+returns c =
+    let s = c .before .before .before .before .before .before .before .before in
+    walk-done _ _ _ _ _ _ (s .pre .1) (s .pre .0 .0) (s .pre .0 .1) _ _ _ (rw (c .before .before .before .before .before .push .ensures) at (c .before .before .loop .inv .1))
+    (omega arith)
 
 same-length : tie.Need-same-length Inv-loop μ-loop
 same-length c = returns c .kept .len

@@ -11,7 +11,9 @@ empty-requires : tie.Need-empty-requires
 empty-requires c κs = omega arith
 
 chain-requires : tie.Need-chain-requires
-chain-requires c κs = let l = c .before .before .before .empty .ensures .len in ((omega arith, refl, omega arith, omega arith), c .before .before .before .empty .ensures .heads)
+chain-requires c κs =
+    let s = c .before .before .before in
+    let l = s .empty .ensures .len in ((omega arith, refl, omega arith, omega arith), s .empty .ensures .heads)
 
 ends-requires : tie.Need-ends-requires
 ends-requires c κs =
@@ -23,7 +25,11 @@ same-length : tie.Need-same-length
 same-length c = c .before .before .ends .ensures .kept .len ∙ c .before .before .before .before .before .before .chain .ensures .len ∙ c .before .before .before .before .before .before .before .before .before .before .empty .ensures .len
 
 returns : tie.Need-returns
-returns c = let a = (c .before .before .before .before .before .before .before .before .before .before .before .before .before .before .before .before .args) in by-local (a .lay) (a .words) (a .insts .now) (a .addresses .now) (a .ends .now) (a .locals) (omega arith) (omega arith) (omega arith) (c .before .before .before .before .before .before .before .before .before .before .empty .ensures) (c .before .before .before .before .before .before .chain .ensures) (c .before .before .ends .ensures)
+returns c =
+    let a = (c .before .before .before .before .before .before .before .before .before .before .before .before .before .before .before .before .args) in
+    by-local (a .lay) (a .words) (a .insts .now) (a .addresses .now) (a .ends .now) (a .locals) (omega arith) (omega arith) (omega arith)
+    (c .before .before .before .before .before .before .before .before .before .before .empty .ensures) (c .before .before .before .before .before .before .chain .ensures)
+    (c .before .before .ends .ensures)
 
 pub by-local-spec : {M : Type 1} → statement M
 by-local-spec = tie.close (tie.spec empty-requires chain-requires ends-requires same-length returns)

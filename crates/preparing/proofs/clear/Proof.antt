@@ -16,7 +16,9 @@ same-length : tie.Need-same-length
 same-length c = c .before .before .fill2 .ensures .len ∙ c .before .before .before .before .before .before .fill .ensures .len
 
 returns : tie.Need-returns
-returns c = cleared-two (c .before .before .before .before .before .before .before .before .before .args .lay) (c .before .before .before .before .before .before .before .before .before .args .words) (omega arith) (c .before .before .before .before .before .before .fill .ensures) (c .before .before .fill2 .ensures)
+returns c =
+    let s = c .before .before .before .before .before .before .before .before .before in
+    cleared-two (s .args .lay) (s .args .words) (omega arith) (c .before .before .before .before .before .before .fill .ensures) (c .before .before .fill2 .ensures)
 
 pub clear-spec : {M : Type 1} → statement M
 clear-spec = tie.close (tie.spec fill-requires fill-requires-2 same-length returns)

@@ -29,7 +29,9 @@ cast-set : tie.Need-cast-set Inv-loop μ-loop
 cast-set c = omega arith
 
 set-requires : tie.Need-set-requires Inv-loop μ-loop
-set-requires c κs = let r = c .before .before .before .before .loop .inv .1 .room in let l = c .before .before .before .before .loop .inv .1 .kept .len in omega arith
+set-requires c κs =
+    let s = c .before .before .before .before in
+    let r = s .loop .inv .1 .room in let l = s .loop .inv .1 .kept .len in omega arith
 
 add-k : tie.Need-add-k Inv-loop μ-loop
 add-k c = omega arith
@@ -38,7 +40,13 @@ loop-less : tie.Need-loop-less Inv-loop μ-loop
 loop-less c = omega arith
 
 loop-again : tie.Need-loop-again Inv-loop μ-loop
-loop-again c = (omega arith, mark-put (c .before .before .before .before .before .before .before .loop .inv .1) (c .before .before .set .ensures) (omega arith) (lt-ltb (getD (c .before .before .before .before .before .before .before .before .before .before .args .crossings .now) (c .before .before .before .before .before .before .before .loop .k) 0) (c .before .before .before .before .before .before .before .before .before .before .args .v) (omega arith)) refl (omega arith))
+loop-again c =
+    let s = c .before .before .before .before .before .before .before in
+    let t = s .before .before .before in (
+      omega arith,
+      mark-put (s .loop .inv .1) (c .before .before .set .ensures) (omega arith) (lt-ltb (getD (t .args .crossings .now) (s .loop .k) 0) (t .args .v) (omega arith)) refl
+          (omega arith),
+    )
 
 add-k-2 : tie.Need-add-k-2 Inv-loop μ-loop
 add-k-2 c = omega arith
@@ -47,13 +55,18 @@ loop-less-2 : tie.Need-loop-less-2 Inv-loop μ-loop
 loop-less-2 c = omega arith
 
 loop-again-2 : tie.Need-loop-again-2 Inv-loop μ-loop
-loop-again-2 c = (omega arith, mark-skip (c .before .before .before .loop .inv .1) (omega arith) (le-ltb (getD (c .before .before .before .before .before .before .args .crossings .now) (c .before .before .before .loop .k) 0) (c .before .before .before .before .before .before .args .v) (omega arith)))
+loop-again-2 c =
+    let s = c .before .before .before in
+    let t = s .before .before .before in
+    (omega arith, mark-skip (s .loop .inv .1) (omega arith) (le-ltb (getD (t .args .crossings .now) (s .loop .k) 0) (t .args .v) (omega arith)))
 
 same-length : tie.Need-same-length Inv-loop μ-loop
 same-length c = c .before .loop .inv .1 .kept .len
 
 returns : tie.Need-returns Inv-loop μ-loop
-returns c = mark-done (c .before .loop .inv .1) (omega arith) _ (λ r l. let z = c .before .loop .inv .0 in rw z (cross-found (c .before .before .before .before .args .crossings .now) (c .before .before .before .before .args .v) r l))
+returns c =
+    let s = c .before .before .before .before in
+    mark-done (c .before .loop .inv .1) (omega arith) _ (λ r l. let z = c .before .loop .inv .0 in rw z (cross-found (s .args .crossings .now) (s .args .v) r l))
 
 pub cross-spec : {M : Type 1} → statement M
 cross-spec =

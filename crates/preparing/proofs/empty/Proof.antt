@@ -19,7 +19,11 @@ same-length : tie.Need-same-length
 same-length c = c .before .before .fill3 .ensures .len ∙ c .before .before .before .before .before .before .fill2 .ensures .len ∙ c .before .before .before .before .before .before .before .before .before .before .fill .ensures .len
 
 returns : tie.Need-returns
-returns c = emptied-three (c .before .before .before .before .before .before .before .before .before .before .before .before .before .args .lay) (c .before .before .before .before .before .before .before .before .before .before .before .before .before .args .words) (c .before .before .before .before .before .before .before .before .before .before .before .before .before .args .locals) (omega arith) (omega arith) (c .before .before .before .before .before .before .before .before .before .before .fill .ensures) (c .before .before .before .before .before .before .fill2 .ensures) (c .before .before .fill3 .ensures)
+returns c =
+    let s = c .before .before .before .before .before .before .before .before .before .before .before .before .before in
+    emptied-three (s .args .lay) (s .args .words) (s .args .locals) (omega arith) (omega arith)
+    (c .before .before .before .before .before .before .before .before .before .before .fill .ensures) (c .before .before .before .before .before .before .fill2 .ensures)
+    (c .before .before .fill3 .ensures)
 
 pub empty-spec : {M : Type 1} → statement M
 empty-spec = tie.close (tie.spec fill-requires fill-requires-2 fill-requires-3 same-length returns)

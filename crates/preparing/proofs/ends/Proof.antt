@@ -26,49 +26,92 @@ loop-holds : tie.Need-loop-holds Inv-loop μ-loop
 loop-holds c = (refl, end-start _ _ _ _ _ (c .pre .0 .0) (c .pre .1))
 
 mul-i : tie.Need-mul-i Inv-loop μ-loop
-mul-i c = at-end _ _ _ _ _ (c .before .loop .inv .0) (c .loop-test .taken) (c .before .before .pre .0 .1 (c .before .loop .k) (within _ _ _ (c .before .loop .inv .0) (c .loop-test .taken))) (room (c .before .before)) .first
+mul-i c =
+    let s = c .before .before in
+    at-end _ _ _ _ _ (c .before .loop .inv .0) (c .loop-test .taken) (s .pre .0 .1 (c .before .loop .k) (within _ _ _ (c .before .loop .inv .0) (c .loop-test .taken)))
+    (room (s)) .first
 
 mul-i-2 : tie.Need-mul-i-2 Inv-loop μ-loop
-mul-i-2 c = at-end _ _ _ _ _ (c .before .loop .inv .0) (c .loop-test .taken) (c .before .before .pre .0 .1 (c .before .loop .k) (within _ _ _ (c .before .loop .inv .0) (c .loop-test .taken))) (room (c .before .before)) .first-bytes
+mul-i-2 c =
+    let s = c .before .before in
+    at-end _ _ _ _ _ (c .before .loop .inv .0) (c .loop-test .taken) (s .pre .0 .1 (c .before .loop .k) (within _ _ _ (c .before .loop .inv .0) (c .loop-test .taken)))
+    (room (s)) .first-bytes
 
 shared-slice-read-i : tie.Need-shared-slice-read-i Inv-loop μ-loop
-shared-slice-read-i c = at-end _ _ _ _ _ (c .before .before .loop .inv .0) (c .before .loop-test .taken) (c .before .before .before .pre .0 .1 (c .before .before .loop .k) (within _ _ _ (c .before .before .loop .inv .0) (c .before .loop-test .taken))) (room (c .before .before .before)) .first-in
+shared-slice-read-i c =
+    let s = c .before .before in
+    let t = s .before in
+    at-end _ _ _ _ _ (s .loop .inv .0) (c .before .loop-test .taken) (t .pre .0 .1 (s .loop .k) (within _ _ _ (s .loop .inv .0) (c .before .loop-test .taken))) (room (t)) .first-in
 
 cast-i : tie.Need-cast-i Inv-loop μ-loop
-cast-i c = at-end _ _ _ _ _ (c .before .before .loop .inv .0) (c .before .loop-test .taken) (c .before .before .before .pre .0 .1 (c .before .before .loop .k) (within _ _ _ (c .before .before .loop .inv .0) (c .before .loop-test .taken))) (room (c .before .before .before)) .inst
+cast-i c =
+    let s = c .before .before in
+    let t = s .before in
+    at-end _ _ _ _ _ (s .loop .inv .0) (c .before .loop-test .taken) (t .pre .0 .1 (s .loop .k) (within _ _ _ (s .loop .inv .0) (c .before .loop-test .taken))) (room (t)) .inst
 
 mul-l : tie.Need-mul-l Inv-loop μ-loop
-mul-l c = at-end _ _ _ _ _ (c .before .before .loop .inv .0) (c .before .loop-test .taken) (c .before .before .before .pre .0 .1 (c .before .before .loop .k) (within _ _ _ (c .before .before .loop .inv .0) (c .before .loop-test .taken))) (room (c .before .before .before)) .first
+mul-l c =
+    let s = c .before .before in
+    let t = s .before in
+    at-end _ _ _ _ _ (s .loop .inv .0) (c .before .loop-test .taken) (t .pre .0 .1 (s .loop .k) (within _ _ _ (s .loop .inv .0) (c .before .loop-test .taken))) (room (t)) .first
 
 add-l : tie.Need-add-l Inv-loop μ-loop
-add-l c = at-end _ _ _ _ _ (c .before .before .loop .inv .0) (c .before .loop-test .taken) (c .before .before .before .pre .0 .1 (c .before .before .loop .k) (within _ _ _ (c .before .before .loop .inv .0) (c .before .loop-test .taken))) (room (c .before .before .before)) .second
+add-l c =
+    let s = c .before .before in
+    let t = s .before in
+    at-end _ _ _ _ _ (s .loop .inv .0) (c .before .loop-test .taken) (t .pre .0 .1 (s .loop .k) (within _ _ _ (s .loop .inv .0) (c .before .loop-test .taken))) (room (t)) .second
 
 mul-l-2 : tie.Need-mul-l-2 Inv-loop μ-loop
-mul-l-2 c = at-end _ _ _ _ _ (c .before .before .loop .inv .0) (c .before .loop-test .taken) (c .before .before .before .pre .0 .1 (c .before .before .loop .k) (within _ _ _ (c .before .before .loop .inv .0) (c .before .loop-test .taken))) (room (c .before .before .before)) .second-bytes
+mul-l-2 c =
+    let s = c .before .before in
+    let t = s .before in
+    at-end _ _ _ _ _ (s .loop .inv .0) (c .before .loop-test .taken) (t .pre .0 .1 (s .loop .k) (within _ _ _ (s .loop .inv .0) (c .before .loop-test .taken))) (room (t)) .second-bytes
 
 shared-slice-read-l : tie.Need-shared-slice-read-l Inv-loop μ-loop
-shared-slice-read-l c = at-end _ _ _ _ _ (c .before .before .before .loop .inv .0) (c .before .before .loop-test .taken) (c .before .before .before .before .pre .0 .1 (c .before .before .before .loop .k) (within _ _ _ (c .before .before .before .loop .inv .0) (c .before .before .loop-test .taken))) (room (c .before .before .before .before)) .second-in
+shared-slice-read-l c =
+    let s = c .before .before in
+    let t = s .before in
+    let u = t .before in
+    at-end _ _ _ _ _ (t .loop .inv .0) (s .loop-test .taken) (u .pre .0 .1 (t .loop .k) (within _ _ _ (t .loop .inv .0) (s .loop-test .taken))) (room (u)) .second-in
 
 cast-l : tie.Need-cast-l Inv-loop μ-loop
 cast-l c = omega (arith, c .shared-slice-known2 .given (mentionWidth * (c .before .before .before .loop) .k + 1))
 
 mul-if1 : tie.Need-mul-if1 Inv-loop μ-loop
-mul-if1 c = at-end _ _ _ _ _ (c .before .before .before .loop .inv .0) (c .before .before .loop-test .taken) (c .before .before .before .before .pre .0 .1 (c .before .before .before .loop .k) (within _ _ _ (c .before .before .before .loop .inv .0) (c .before .before .loop-test .taken))) (room (c .before .before .before .before)) .row
+mul-if1 c =
+    let s = c .before .before in
+    let t = s .before in
+    let u = t .before in
+    at-end _ _ _ _ _ (t .loop .inv .0) (s .loop-test .taken) (u .pre .0 .1 (t .loop .k) (within _ _ _ (t .loop .inv .0) (s .loop-test .taken))) (room (u)) .row
 
 mul-if1-2 : tie.Need-mul-if1-2 Inv-loop μ-loop
-mul-if1-2 c = at-end _ _ _ _ _ (c .before .before .before .loop .inv .0) (c .before .before .loop-test .taken) (c .before .before .before .before .pre .0 .1 (c .before .before .before .loop .k) (within _ _ _ (c .before .before .before .loop .inv .0) (c .before .before .loop-test .taken))) (room (c .before .before .before .before)) .row-bytes
+mul-if1-2 c =
+    let s = c .before .before in
+    let t = s .before in
+    let u = t .before in
+    at-end _ _ _ _ _ (t .loop .inv .0) (s .loop-test .taken) (u .pre .0 .1 (t .loop .k) (within _ _ _ (t .loop .inv .0) (s .loop-test .taken))) (room (u)) .row-bytes
 
 shared-slice-read-if1 : tie.Need-shared-slice-read-if1 Inv-loop μ-loop
-shared-slice-read-if1 c = at-end _ _ _ _ _ (c .before .before .before .before .loop .inv .0) (c .before .before .before .loop-test .taken) (c .before .before .before .before .before .pre .0 .1 (c .before .before .before .before .loop .k) (within _ _ _ (c .before .before .before .before .loop .inv .0) (c .before .before .before .loop-test .taken))) (room (c .before .before .before .before .before)) .row-in
+shared-slice-read-if1 c =
+    let s = c .before .before .before in
+    let t = s .before in
+    let u = t .before in
+    at-end _ _ _ _ _ (t .loop .inv .0) (s .loop-test .taken) (u .pre .0 .1 (t .loop .k) (within _ _ _ (t .loop .inv .0) (s .loop-test .taken))) (room (u)) .row-in
 
 add-k : tie.Need-add-k Inv-loop μ-loop
-add-k c = at-end _ _ _ _ _ (c .before .before .before .before .before .loop .inv .0) (c .before .before .before .before .loop-test .taken) (c .before .before .before .before .before .before .pre .0 .1 (c .before .before .before .before .before .loop .k) (within _ _ _ (c .before .before .before .before .before .loop .inv .0) (c .before .before .before .before .loop-test .taken))) (room (c .before .before .before .before .before .before)) .next
+add-k c =
+    let s = c .before .before .before .before in
+    let t = s .before in
+    let u = t .before in
+    at-end _ _ _ _ _ (t .loop .inv .0) (s .loop-test .taken) (u .pre .0 .1 (t .loop .k) (within _ _ _ (t .loop .inv .0) (s .loop-test .taken))) (room (u)) .next
 
 loop-less : tie.Need-loop-less Inv-loop μ-loop
 loop-less c = omega arith
 
 loop-again : tie.Need-loop-again Inv-loop μ-loop
-loop-again c = (c .before .before .before .before .before .loop .inv .0, end-unplaced (c .before .before .before .before .before .loop .inv .1) _ (within _ _ _ (c .before .before .before .before .before .loop .inv .0) (c .before .before .before .before .loop-test .taken)) refl (c .if1 .taken))
+loop-again c =
+    let s = c .before .before .before .before .before in
+    (s .loop .inv .0, end-unplaced (s .loop .inv .1) _ (within _ _ _ (s .loop .inv .0) (c .before .before .before .before .loop-test .taken)) refl (c .if1 .taken))
 
 add-work : tie.Need-add-work Inv-loop μ-loop
 add-work c = ended-at (c .before .before .before .before .before .before .before .loop .inv .1) _ (c .before .if2 .taken) (long (c .before .before .before .before .before .before .before .before)) .fits
@@ -80,22 +123,37 @@ slice-write-work : tie.Need-slice-write-work Inv-loop μ-loop
 slice-write-work c = ended-at (c .before .before .before .before .before .before .before .loop .inv .1) _ (c .before .if2 .taken) (long (c .before .before .before .before .before .before .before .before)) .inside
 
 add-k-2 : tie.Need-add-k-2 Inv-loop μ-loop
-add-k-2 c = at-end _ _ _ _ _ (c .before .before .before .before .before .before .before .loop .inv .0) (c .before .before .before .before .before .before .loop-test .taken) (c .before .before .before .before .before .before .before .before .pre .0 .1 (c .before .before .before .before .before .before .before .loop .k) (within _ _ _ (c .before .before .before .before .before .before .before .loop .inv .0) (c .before .before .before .before .before .before .loop-test .taken))) (room (c .before .before .before .before .before .before .before .before)) .next
+add-k-2 c =
+    let s = c .before .before .before .before .before .before in
+    let t = s .before in
+    let u = t .before in
+    at-end _ _ _ _ _ (t .loop .inv .0) (s .loop-test .taken) (u .pre .0 .1 (t .loop .k) (within _ _ _ (t .loop .inv .0) (s .loop-test .taken))) (room (u)) .next
 
 loop-less-2 : tie.Need-loop-less-2 Inv-loop μ-loop
 loop-less-2 c = omega arith
 
 loop-again-2 : tie.Need-loop-again-2 Inv-loop μ-loop
-loop-again-2 c = (c .before .before .before .before .before .before .before .loop .inv .0, end-put (c .before .before .before .before .before .before .before .loop .inv .1) _ _ (within _ _ _ (c .before .before .before .before .before .before .before .loop .inv .0) (c .before .before .before .before .before .before .loop-test .taken)) refl (c .before .before .if1 .left) (c .before .if2 .taken) refl)
+loop-again-2 c =
+    let s = c .before .before .before .before .before .before .before in (
+      s .loop .inv .0,
+      end-put (s .loop .inv .1) _ _ (within _ _ _ (s .loop .inv .0) (c .before .before .before .before .before .before .loop-test .taken)) refl
+          (c .before .before .if1 .left) (c .before .if2 .taken) refl,
+    )
 
 add-k-3 : tie.Need-add-k-3 Inv-loop μ-loop
-add-k-3 c = at-end _ _ _ _ _ (c .before .before .before .before .before .before .loop .inv .0) (c .before .before .before .before .before .loop-test .taken) (c .before .before .before .before .before .before .before .pre .0 .1 (c .before .before .before .before .before .before .loop .k) (within _ _ _ (c .before .before .before .before .before .before .loop .inv .0) (c .before .before .before .before .before .loop-test .taken))) (room (c .before .before .before .before .before .before .before)) .next
+add-k-3 c =
+    let s = c .before .before .before .before .before in
+    let t = s .before in
+    let u = t .before in
+    at-end _ _ _ _ _ (t .loop .inv .0) (s .loop-test .taken) (u .pre .0 .1 (t .loop .k) (within _ _ _ (t .loop .inv .0) (s .loop-test .taken))) (room (u)) .next
 
 loop-less-3 : tie.Need-loop-less-3 Inv-loop μ-loop
 loop-less-3 c = omega arith
 
 loop-again-3 : tie.Need-loop-again-3 Inv-loop μ-loop
-loop-again-3 c = (c .before .before .before .before .before .before .loop .inv .0, end-past (c .before .before .before .before .before .before .loop .inv .1) (within _ _ _ (c .before .before .before .before .before .before .loop .inv .0) (c .before .before .before .before .before .loop-test .taken)) (c .if2 .left))
+loop-again-3 c =
+    let s = c .before .before .before .before .before .before in
+    (s .loop .inv .0, end-past (s .loop .inv .1) (within _ _ _ (s .loop .inv .0) (c .before .before .before .before .before .loop-test .taken)) (c .if2 .left))
 
 same-length : tie.Need-same-length Inv-loop μ-loop
 same-length c = c .before .loop .inv .1 .kept .len

@@ -39,10 +39,15 @@ sub-below : tie.Need-sub-below Inv-loop μ-loop
 sub-below c = not-none _ (c .before .if1 .left)
 
 mul-below : tie.Need-mul-below Inv-loop μ-loop
-mul-below c = key-fits _ (def-few (c .before .before .before .before .before .loop .inv) (c .before .before .before .before .loop-test .taken) (c .before .before .before .before .before .before .before .pre .1 .1 (c .before .before .before .before .before .loop .i) (c .before .before .before .before .loop-test .taken)))
+mul-below c =
+    let s = c .before .before .before .before in
+    let t = s .before in
+    key-fits _ (def-few (t .loop .inv) (s .loop-test .taken) (t .before .before .pre .1 .1 (t .loop .i) (s .loop-test .taken)))
 
 below-requires : tie.Need-below-requires Inv-loop μ-loop
-below-requires c κs = (edges-in (c .before .before .before .before .before .loop .inv), first-rising (c .before .before .before .before .before .loop .inv) (c .before .before .before .before .before .before .before .pre .1 .0))
+below-requires c κs =
+    let s = c .before .before .before .before .before in
+    (edges-in (s .loop .inv), first-rising (s .loop .inv) (s .before .before .pre .1 .0))
 
 add-work : tie.Need-add-work Inv-loop μ-loop
 add-work c = at-inst (c .before .before .before .before .before .before .before .loop .inv) (c .before .before .before .before .before .before .loop-test .taken) (c .before .before .before .before .before .before .before .before .before .good .0 .1) .put .fits

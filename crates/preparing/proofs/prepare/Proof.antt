@@ -11,16 +11,23 @@ add-words : tie.Need-add-words
 add-words c = words-fit _ (c .before .before .before .before .before .before .pre .0 .2)
 
 registers-requires : tie.Need-registers-requires
-registers-requires c κs = ((c .before .before .before .before .before .before .before .pre .0 .0, c .before .before .before .before .before .before .before .pre .0 .1, c .before .before .before .before .before .before .before .pre .0 .2, refl), let d = c .before .before .before .before .before .before .before .pre .1 .0 in omega arith)
+registers-requires c κs =
+    let s = c .before .before .before .before .before .before .before in
+    ((s .pre .0 .0, s .pre .0 .1, s .pre .0 .2, refl), let d = s .pre .1 .0 in omega arith)
 
 by-local-requires : tie.Need-by-local-requires
-by-local-requires c κs = (let d = c .before .before .before .before .before .before .before .before .before .before .before .pre .1 .0 in let l = c .before .before .before .registers .ensures .kept .len in omega arith, c .before .before .before .before .before .before .before .before .before .before .before .pre .1 .1)
+by-local-requires c κs =
+    let s = c .before .before .before .before .before .before .before .before .before .before .before in
+    (let d = s .pre .1 .0 in let l = c .before .before .before .registers .ensures .kept .len in omega arith, s .pre .1 .1)
 
 same-length : tie.Need-same-length
 same-length c = c .before .before .by-local .ensures .len ∙ c .before .before .before .before .before .before .registers .ensures .kept .len
 
 returns : tie.Need-returns
-returns c = readied (c .before .before .before .before .before .before .before .before .before .before .before .before .before .before .args .v) (c .before .before .before .before .before .before .before .before .before .before .before .before .before .before .args .insts .now) (c .before .before .before .before .before .before .before .before .before .before .before .before .before .before .args .operands .now) (c .before .before .before .before .before .before .before .before .before .before .before .before .before .before .args .crossings .now) (c .before .before .before .before .before .before .before .before .before .before .before .before .before .before .args .addresses .now) (c .before .before .before .before .before .before .before .before .before .before .before .before .before .before .args .ends .now) (c .before .before .before .before .before .before .before .before .before .before .before .before .before .before .args .lay) (c .before .before .before .before .before .before .before .before .before .before .before .before .before .before .args .locals) (c .before .before .before .before .before .before .before .before .before .before .before .before .before .before .pre .1 .1) refl (c .before .before .before .before .before .before .before .before .before .before .before .before .before .before .pre .1 .0) (c .before .before .before .before .before .before .registers .ensures) (c .before .before .by-local .ensures)
+returns c =
+    let s = c .before .before .before .before .before .before .before .before .before .before .before .before .before .before in
+    readied (s .args .v) (s .args .insts .now) (s .args .operands .now) (s .args .crossings .now) (s .args .addresses .now) (s .args .ends .now) (s .args .lay) (s .args .locals)
+    (s .pre .1 .1) refl (s .pre .1 .0) (c .before .before .before .before .before .before .registers .ensures) (c .before .before .by-local .ensures)
 
 pub prepare-spec : {M : Type 1} → statement M
 prepare-spec =

@@ -11,19 +11,43 @@ clear-requires : tie.Need-clear-requires
 clear-requires c κs = omega arith
 
 scan-requires : tie.Need-scan-requires
-scan-requires c κs = ((c .before .before .before .before .before .before .before .before .before .pre .0 .0, c .before .before .before .before .before .before .before .before .before .pre .0 .1, c .before .before .before .before .before .before .before .before .before .pre .0 .2, cleared-blank (c .before .before .before .before .before .before .before .before .before .args .lay) (c .before .before .before .before .before .before .before .before .before .args .v) _ (c .before .before .before .before .before .before .before .before .before .pre .0 .3) (c .before .before .before .clear .ensures)), (c .before .before .before .before .before .before .before .before .before .pre .1 .0, c .before .before .before .before .before .before .before .before .before .pre .1 .1, skip _ _ _ _ (c .before .before .before .before .before .before .before .before .before .pre .1 .2) (c .before .before .before .before .before .before .before .before .before .pre .1 .3), c .before .before .before .before .before .before .before .before .before .pre .1 .4, longer _ _ _ (c .before .before .before .clear .ensures .kept .len) (c .before .before .before .before .before .before .before .before .before .pre .1 .5)))
+scan-requires c κs =
+    let s = c .before .before .before in
+    let t = s .before .before .before .before .before .before in (
+      (t .pre .0 .0, t .pre .0 .1, t .pre .0 .2, cleared-blank (t .args .lay) (t .args .v) _ (t .pre .0 .3) (s .clear .ensures)),
+      (t .pre .1 .0, t .pre .1 .1, skip _ _ _ _ (t .pre .1 .2) (t .pre .1 .3), t .pre .1 .4, longer _ _ _ (s .clear .ensures .kept .len) (t .pre .1 .5)),
+    )
 
 cross-requires : tie.Need-cross-requires
 cross-requires c κs = omega (arith, c .before .before .before .before .before .before .before .clear .ensures .kept .len, c .before .before .before .scan .ensures .kept .len)
 
 index-requires : tie.Need-index-requires
-index-requires c κs = (index-room (c .before .before .before .before .before .before .before .before .before .before .before .before .before .before .before .before .before .args .v) (c .before .before .before .before .before .before .before .before .before .before .before .before .before .before .before .before .before .args .insts .now) (c .before .before .before .before .before .before .before .before .before .before .before .before .before .before .before .before .before .args .operands .now) (c .before .before .before .before .before .before .before .before .before .before .before .before .before .before .before .before .before .args .crossings .now) (c .before .before .before .before .before .before .before .before .before .before .before .before .before .before .before .before .before .args .lay) (c .before .before .before .before .before .before .before .before .before .before .before .before .before .before .before .before .before .pre .0 .0) (c .before .before .before .before .before .before .before .before .before .before .before .before .before .before .before .before .before .pre .1 .0) (c .before .before .before .before .before .before .before .before .before .before .before .before .before .before .before .before .before .pre .1 .1) (c .before .before .before .before .before .before .before .before .before .before .before .before .before .before .before .before .before .pre .1 .2) (c .before .before .before .before .before .before .before .before .before .before .before .before .before .before .before .before .before .pre .1 .3) (c .before .before .before .before .before .before .before .before .before .before .before .before .before .before .before .before .before .pre .1 .4) (c .before .before .before .before .before .before .before .before .before .before .before .before .before .before .before .before .before .pre .0 .3) (c .before .before .before .before .before .before .before .before .before .before .before .before .before .before .before .before .before .pre .1 .5) (c .before .before .before .before .before .before .before .before .before .before .before .clear .ensures) (c .before .before .before .before .before .before .before .scan .ensures) (c .before .before .before .cross .ensures), defs-small (c .before .before .before .before .before .before .before .before .before .before .before .before .before .before .before .before .before .args .v) (c .before .before .before .before .before .before .before .before .before .before .before .before .before .before .before .before .before .args .insts .now) (c .before .before .before .before .before .before .before .before .before .before .before .before .before .before .before .before .before .args .operands .now) (c .before .before .before .before .before .before .before .before .before .before .before .before .before .before .before .before .before .args .crossings .now) (c .before .before .before .before .before .before .before .before .before .before .before .before .before .before .before .before .before .args .lay) (c .before .before .before .before .before .before .before .before .before .before .before .before .before .before .before .before .before .pre .0 .0) (c .before .before .before .before .before .before .before .before .before .before .before .before .before .before .before .before .before .pre .1 .0) (c .before .before .before .before .before .before .before .before .before .before .before .before .before .before .before .before .before .pre .1 .1) (c .before .before .before .before .before .before .before .before .before .before .before .before .before .before .before .before .before .pre .1 .2) (c .before .before .before .before .before .before .before .before .before .before .before .before .before .before .before .before .before .pre .1 .3) (c .before .before .before .before .before .before .before .before .before .before .before .before .before .before .before .before .before .pre .1 .4) (c .before .before .before .before .before .before .before .before .before .before .before .before .before .before .before .before .before .pre .0 .3) (c .before .before .before .before .before .before .before .before .before .before .before .before .before .before .before .before .before .pre .1 .5) (c .before .before .before .before .before .before .before .before .before .before .before .clear .ensures) (c .before .before .before .before .before .before .before .scan .ensures) (c .before .before .before .cross .ensures) (c .before .before .before .before .before .before .before .before .before .before .before .before .before .before .before .before .before .pre .0 .2))
+index-requires c κs =
+    let s = c .before .before .before in
+    let t = s .before .before .before .before in
+    let u = t .before .before .before .before in
+    let p = u .before .before .before .before .before .before in (
+      index-room (p .args .v) (p .args .insts .now) (p .args .operands .now) (p .args .crossings .now) (p .args .lay) (p .pre .0 .0) (p .pre .1 .0) (p .pre .1 .1) (p .pre .1 .2)
+          (p .pre .1 .3) (p .pre .1 .4) (p .pre .0 .3) (p .pre .1 .5) (u .clear .ensures) (t .scan .ensures) (s .cross .ensures),
+      defs-small (p .args .v) (p .args .insts .now)
+          (p .args .operands .now) (p .args .crossings .now) (p .args .lay) (p .pre .0 .0) (p .pre .1 .0) (p .pre .1 .1) (p .pre .1 .2) (p .pre .1 .3) (p .pre .1 .4) (p .pre .0 .3)
+          (p .pre .1 .5) (u .clear .ensures) (t .scan .ensures) (s .cross .ensures) (p .pre .0 .2),
+    )
 
 same-length : tie.Need-same-length
-same-length c = c .before .before .index .ensures .kept .len ∙ c .before .before .before .before .before .before .cross .ensures .kept .len ∙ c .before .before .before .before .before .before .before .before .before .before .scan .ensures .kept .len ∙ c .before .before .before .before .before .before .before .before .before .before .before .before .before .before .clear .ensures .kept .len
+same-length c =
+    c .before .before .index .ensures .kept .len ∙ c .before .before .before .before .before .before .cross .ensures .kept .len
+    ∙ c .before .before .before .before .before .before .before .before .before .before .scan .ensures .kept .len
+    ∙ c .before .before .before .before .before .before .before .before .before .before .before .before .before .before .clear .ensures .kept .len
 
 returns : tie.Need-returns
-returns c = registered (c .before .before .before .before .before .before .before .before .before .before .before .before .before .before .before .before .before .before .before .before .args .v) (c .before .before .before .before .before .before .before .before .before .before .before .before .before .before .before .before .before .before .before .before .args .insts .now) (c .before .before .before .before .before .before .before .before .before .before .before .before .before .before .before .before .before .before .before .before .args .operands .now) (c .before .before .before .before .before .before .before .before .before .before .before .before .before .before .before .before .before .before .before .before .args .crossings .now) (c .before .before .before .before .before .before .before .before .before .before .before .before .before .before .before .before .before .before .before .before .args .lay) (c .before .before .before .before .before .before .before .before .before .before .before .before .before .before .before .before .before .before .before .before .pre .0 .0) (c .before .before .before .before .before .before .before .before .before .before .before .before .before .before .before .before .before .before .before .before .pre .1 .0) (c .before .before .before .before .before .before .before .before .before .before .before .before .before .before .before .before .before .before .before .before .pre .1 .1) (c .before .before .before .before .before .before .before .before .before .before .before .before .before .before .before .before .before .before .before .before .pre .1 .2) (c .before .before .before .before .before .before .before .before .before .before .before .before .before .before .before .before .before .before .before .before .pre .1 .3) (c .before .before .before .before .before .before .before .before .before .before .before .before .before .before .before .before .before .before .before .before .pre .1 .4) (c .before .before .before .before .before .before .before .before .before .before .before .before .before .before .before .before .before .before .before .before .pre .0 .3) (c .before .before .before .before .before .before .before .before .before .before .before .before .before .before .before .before .before .before .before .before .pre .1 .5) (c .before .before .before .before .before .before .before .before .before .before .before .before .before .before .clear .ensures) (c .before .before .before .before .before .before .before .before .before .before .scan .ensures) (c .before .before .before .before .before .before .cross .ensures) (c .before .before .index .ensures)
+returns c =
+    let s = c .before .before .before .before .before .before .before .before .before .before .before .before .before .before .before .before .before .before .before .before in
+    registered (s .args .v) (s .args .insts .now) (s .args .operands .now) (s .args .crossings .now) (s .args .lay) (s .pre .0 .0) (s .pre .1 .0) (s .pre .1 .1) (s .pre .1 .2)
+    (s .pre .1 .3) (s .pre .1 .4) (s .pre .0 .3) (s .pre .1 .5)
+    (c .before .before .before .before .before .before .before .before .before .before .before .before .before .before .clear .ensures)
+    (c .before .before .before .before .before .before .before .before .before .before .scan .ensures) (c .before .before .before .before .before .before .cross .ensures)
+    (c .before .before .index .ensures)
 
 pub registers-spec : {M : Type 1} → statement M
 registers-spec =

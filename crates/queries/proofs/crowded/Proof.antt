@@ -24,13 +24,20 @@ enum-told : tie.Need-enum-told
 enum-told c = omega arith
 
 crowded-requires : tie.Need-crowded-requires
-crowded-requires c κs = let a = (c .before .before .before .before .before .before .before .args) in let r = crowd-passed (now (a .cells)) (now (a .items)) (a .locals) (length (now (a .out))) (sym ((c .before .before .before .crowd) .ensures) ∙ (c .before .enum-told) .given .1) in let s = sound (now (a .cells)) (now (a .items)) (a .locals) (r .plan) in (s .whole .1, s .whole .0, (λ i h. omega (arith, named (now (a .cells)) (now (a .items)) (a .locals) (r .plan) i h, s .enough, s .whole .1)), r .fits)
+crowded-requires c κs =
+    let a = (c .before .before .before .before .before .before .before .args) in
+    let r = crowd-passed (now (a .cells)) (now (a .items)) (a .locals) (length (now (a .out))) (sym ((c .before .before .before .crowd) .ensures) ∙ (c .before .enum-told) .given .1) in
+    let s = sound (now (a .cells)) (now (a .items)) (a .locals) (r .plan) in
+    (s .whole .1, s .whole .0, (λ i h. omega (arith, named (now (a .cells)) (now (a .items)) (a .locals) (r .plan) i h, s .enough, s .whole .1)), r .fits)
 
 same-length : tie.Need-same-length
 same-length c = omega arith
 
 returns-2 : tie.Need-returns-2
-returns-2 c = let a = (c .before .before .before .before .before .before .before .before .before .before .args) in crowded-told (now (a .cells)) (now (a .items)) (a .locals) (length (now (a .out))) (now (a .out)) _ _ (sym ((c .before .before .before .before .before .before .crowd) .ensures) ∙ (c .before .before .before .before .enum-told) .given .1) ((c .before .before .crowded) .ensures)
+returns-2 c =
+    let a = (c .before .before .before .before .before .before .before .before .before .before .args) in
+    crowded-told (now (a .cells)) (now (a .items)) (a .locals) (length (now (a .out))) (now (a .out)) _ _
+    (sym ((c .before .before .before .before .before .before .crowd) .ensures) ∙ (c .before .before .before .before .enum-told) .given .1) ((c .before .before .crowded) .ensures)
 
 pub crowded-spec : {M : Type 1} → statement M
 crowded-spec =

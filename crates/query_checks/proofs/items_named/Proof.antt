@@ -35,7 +35,9 @@ cast-if1 : tie.Need-cast-if1 Inv-loop μ-loop
 cast-if1 c = omega (arith, (c .shared-slice-known) .given (itemWidth * (c .before .before .loop) .i))
 
 returns : tie.Need-returns Inv-loop μ-loop
-returns c = let a = (c .before .before .before .before .args) in sym (scan-hit Want _ _ _ ((c .before .before .before .loop) .inv .1) (names-none (now (a .cells)) (now (a .items)) ((c .before .before .before .loop) .i) ((c .if1) .taken)) (omega arith))
+returns c =
+    let s = c .before .before .before in
+    let a = (s .before .args) in sym (scan-hit Want _ _ _ (s .loop .inv .1) (names-none (now (a .cells)) (now (a .items)) (s .loop .i) (c .if1 .taken)) (omega arith))
 
 add-i : tie.Need-add-i Inv-loop μ-loop
 add-i c = omega arith
@@ -44,7 +46,9 @@ loop-less : tie.Need-loop-less Inv-loop μ-loop
 loop-less c = omega arith
 
 loop-again : tie.Need-loop-again Inv-loop μ-loop
-loop-again c = let a = (c .before .before .before .before .args) in (omega arith, scan-miss Want _ _ ((c .before .before .before .loop) .inv .1) (names-one (now (a .cells)) (now (a .items)) ((c .before .before .before .loop) .i) ((c .if1) .left)))
+loop-again c =
+    let s = c .before .before .before in
+    let a = (s .before .args) in (omega arith, scan-miss Want _ _ (s .loop .inv .1) (names-one (now (a .cells)) (now (a .items)) (s .loop .i) (c .if1 .left)))
 
 returns-2 : tie.Need-returns-2 Inv-loop μ-loop
 returns-2 c = sym (scan-end Want _ _ _ ((c .before .loop) .inv .1) (omega arith) (omega arith))

@@ -35,7 +35,10 @@ cast-if1 : tie.Need-cast-if1 Inv-loop μ-loop
 cast-if1 c = omega (arith, (c .shared-slice-known3) .given (itemWidth * (c .before .before .loop) .i))
 
 returns : tie.Need-returns Inv-loop μ-loop
-returns c = let a = (c .before .before .before .before .before .before .args) in sym (scan-hit Want _ _ _ ((c .before .before .before .loop) .inv .1) (item-nameless (now (a .cells)) (now (a .items)) (a .ranges) ((c .before .before .before .loop) .i) ((c .if1) .taken)) (omega arith))
+returns c =
+    let s = c .before .before .before in
+    let a = (s .before .before .before .args) in
+    sym (scan-hit Want _ _ _ (s .loop .inv .1) (item-nameless (now (a .cells)) (now (a .items)) (a .ranges) (s .loop .i) (c .if1 .taken)) (omega arith))
 
 add-part-outside : tie.Need-add-part-outside Inv-loop μ-loop
 add-part-outside c = omega arith
@@ -68,7 +71,11 @@ part-outside-requires : tie.Need-part-outside-requires Inv-loop μ-loop
 part-outside-requires c κs = omega arith
 
 returns-2 : tie.Need-returns-2 Inv-loop μ-loop
-returns-2 c = let a = (c .before .before .before .before .before .before .before .before .before .before .before .args) in sym (scan-hit Want _ _ _ ((c .before .before .before .before .before .before .before .before .loop) .inv .1) (item-named (now (a .cells)) (now (a .items)) (a .ranges) ((c .before .before .before .before .before .before .before .before .loop) .i) ((c .before .before .before .before .before .if1) .left) ∙ sym ((c .before .part-outside) .ensures) ∙ (c .if2) .taken) (omega arith))
+returns-2 c =
+    let s = c .before .before .before .before .before .before .before .before in
+    let a = (s .before .before .before .args) in
+    sym (scan-hit Want _ _ _ (s .loop .inv .1) (item-named (now (a .cells)) (now (a .items)) (a .ranges) (s .loop .i) (c .before .before .before .before .before .if1 .left) ∙ sym
+    (c .before .part-outside .ensures) ∙ c .if2 .taken) (omega arith))
 
 add-i : tie.Need-add-i Inv-loop μ-loop
 add-i c = omega arith
@@ -77,7 +84,13 @@ loop-less : tie.Need-loop-less Inv-loop μ-loop
 loop-less c = omega arith
 
 loop-again : tie.Need-loop-again Inv-loop μ-loop
-loop-again c = let a = (c .before .before .before .before .before .before .before .before .before .before .before .args) in (omega arith, scan-miss Want _ _ ((c .before .before .before .before .before .before .before .before .loop) .inv .1) (item-named (now (a .cells)) (now (a .items)) (a .ranges) ((c .before .before .before .before .before .before .before .before .loop) .i) ((c .before .before .before .before .before .if1) .left) ∙ sym ((c .before .part-outside) .ensures) ∙ (c .if2) .left))
+loop-again c =
+    let s = c .before .before .before .before .before .before .before .before in
+    let a = (s .before .before .before .args) in (
+      omega arith,
+      scan-miss Want _ _ (s .loop .inv .1) (item-named (now (a .cells)) (now (a .items)) (a .ranges) (s .loop .i) (c .before .before .before .before .before .if1 .left)
+          ∙ sym (c .before .part-outside .ensures) ∙ c .if2 .left),
+    )
 
 returns-3 : tie.Need-returns-3 Inv-loop μ-loop
 returns-3 c = sym (scan-end Want _ _ _ ((c .before .loop) .inv .1) (omega arith) (omega arith))

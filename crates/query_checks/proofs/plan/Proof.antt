@@ -20,16 +20,25 @@ enum-known-v : tie.Need-enum-known-v
 enum-known-v c = search needs
 
 returns-2 : tie.Need-returns-2
-returns-2 c = let a = (c .before .before .before .before .before .before .before .before .args) in plan-item (now (a .cells)) (now (a .items)) (a .locals) (sym ((c .before .before .before .before .before .bad-count) .ensures) ∙ (c .before .before .before .before .if1) .left) _ _ (sym ((c .before .before .before .items-named) .ensures) ∙ (c .before .v) .given .1)
+returns-2 c =
+    let a = (c .before .before .before .before .before .before .before .before .args) in
+    plan-item (now (a .cells)) (now (a .items)) (a .locals) (sym ((c .before .before .before .before .before .bad-count) .ensures) ∙ (c .before .before .before .before .if1) .left) _ _
+    (sym ((c .before .before .before .items-named) .ensures) ∙ (c .before .v) .given .1)
 
 enum-told : tie.Need-enum-told
 enum-told c = omega arith
 
 returns-3 : tie.Need-returns-3
-returns-3 c = let a = (c .before .before .before .before .before .before .before .before .args) in plan-surplus (now (a .cells)) (now (a .items)) (a .locals) (sym ((c .before .before .before .before .before .bad-count) .ensures) ∙ (c .before .before .before .before .if1) .left) (sym ((c .before .before .before .items-named) .ensures) ∙ (c .before .enum-told) .given .1) (omega arith)
+returns-3 c =
+    let a = (c .before .before .before .before .before .before .before .before .args) in
+    plan-surplus (now (a .cells)) (now (a .items)) (a .locals) (sym ((c .before .before .before .before .before .bad-count) .ensures) ∙ (c .before .before .before .before .if1) .left)
+    (sym ((c .before .before .before .items-named) .ensures) ∙ (c .before .enum-told) .given .1) (omega arith)
 
 returns-4 : tie.Need-returns-4
-returns-4 c = let a = (c .before .before .before .before .before .before .before .before .args) in plan-fine (now (a .cells)) (now (a .items)) (a .locals) (sym ((c .before .before .before .before .before .bad-count) .ensures) ∙ (c .before .before .before .before .if1) .left) (sym ((c .before .before .before .items-named) .ensures) ∙ (c .before .enum-told) .given .1) (omega arith)
+returns-4 c =
+    let a = (c .before .before .before .before .before .before .before .before .args) in
+    plan-fine (now (a .cells)) (now (a .items)) (a .locals) (sym ((c .before .before .before .before .before .bad-count) .ensures) ∙ (c .before .before .before .before .if1) .left)
+    (sym ((c .before .before .before .items-named) .ensures) ∙ (c .before .enum-told) .given .1) (omega arith)
 
 pub plan-spec : {M : Type 1} → statement M
 plan-spec =

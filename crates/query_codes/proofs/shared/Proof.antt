@@ -16,13 +16,20 @@ refused-requires : tie.Need-refused-requires
 refused-requires c κs = tt
 
 returns : tie.Need-returns
-returns c = let a = (c .before .before .before .before .before .before .before .before .args) in told-refused (now (a .cells)) (now (a .items)) (now (a .areas)) (a .locals) (a .i) (now (a .part)) Count 0 (told-count (now (a .cells)) (now (a .items)) (now (a .areas)) (a .locals) (length (now (a .part))) (sym ((c .before .before .counts) .ensures) ∙ (c .before .if2) .taken)) ((c .refused) .ensures)
+returns c =
+    let a = (c .before .before .before .before .before .before .before .before .args) in
+    told-refused (now (a .cells)) (now (a .items)) (now (a .areas)) (a .locals) (a .i) (now (a .part)) Count 0
+    (told-count (now (a .cells)) (now (a .items)) (now (a .areas)) (a .locals) (length (now (a .part))) (sym ((c .before .before .counts) .ensures) ∙ (c .before .if2) .taken))
+    ((c .refused) .ensures)
 
 refused-requires-2 : tie.Need-refused-requires-2
 refused-requires-2 c κs = tt
 
 returns-2 : tie.Need-returns-2
-returns-2 c = let a = (c .before .before .before .before .before .before .before .before .args) in told-refused (now (a .cells)) (now (a .items)) (now (a .areas)) (a .locals) (a .i) (now (a .part)) Space 0 (told-space (now (a .cells)) (now (a .items)) (now (a .areas)) (a .locals) (length (now (a .part))) (sym ((c .before .before .counts) .ensures) ∙ (c .before .if2) .left) ((c .before .before .before .if1) .taken)) ((c .refused2) .ensures)
+returns-2 c =
+    let a = (c .before .before .before .before .before .before .before .before .args) in
+    told-refused (now (a .cells)) (now (a .items)) (now (a .areas)) (a .locals) (a .i) (now (a .part)) Space 0 (told-space (now (a .cells)) (now (a .items)) (now (a .areas))
+    (a .locals) (length (now (a .part))) (sym ((c .before .before .counts) .ensures) ∙ (c .before .if2) .left) ((c .before .before .before .if1) .taken)) ((c .refused2) .ensures)
 
 shared-requires : tie.Need-shared-requires
 shared-requires c κs = tt
@@ -34,7 +41,11 @@ same-length : tie.Need-same-length
 same-length c = omega arith
 
 returns-3 : tie.Need-returns-3
-returns-3 c = let a = (c .before .before .before .before .before .before .before .before .before .before .args) in told-as (now (a .cells)) (now (a .items)) (now (a .areas)) (a .locals) (a .i) (now (a .part)) (c .before .before .before .before .shared .result) ((c .before .before .before .before .before .if1) .left) ((c .before .before .before .before .shared) .ensures) ((c .before .before .tell) .ensures)
+returns-3 c =
+    let s = c .before .before .before .before in
+    let a = (s .before .before .before .before .before .before .args) in
+    told-as (now (a .cells)) (now (a .items)) (now (a .areas)) (a .locals) (a .i) (now (a .part)) (s .shared .result) (s .before .if1 .left) (s .shared .ensures)
+    (c .before .before .tell .ensures)
 
 pub shared-spec : {M : Type 1} → statement M
 shared-spec =

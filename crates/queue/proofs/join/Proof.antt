@@ -21,16 +21,22 @@ sub-r : tie.Need-sub-r
 sub-r c = search needs
 
 test-requires : tie.Need-test-requires
-test-requires c κs = let q = ((c .before .before .before .before .pre)) .0 .def-le (((c .before .before .before .before .args)) .i) (((c .before .before .before .before .pre)) .1) in omega arith
+test-requires c κs =
+    let s = c .before .before .before .before in
+    let q = ((s .pre)) .0 .def-le (((s .args)) .i) (((s .pre)) .1) in omega arith
 
 same-length : tie.Need-same-length
 same-length c = search needs
 
 returns : tie.Need-returns
-returns c = joined-seen (((c .before .before .before .before .before .before .pre)) .0) (((c .before .before .before .before .before .before .args)) .i) (((c .before .before .before .before .before .before .pre)) .1) (((c .before .before .before .before .before .before .pre)) .2) (sym (((c .before .test)) .ensures) ∙ (c .if1) .taken)
+returns c =
+    let s = c .before .before .before .before .before .before in
+    joined-seen (((s .pre)) .0) (((s .args)) .i) (((s .pre)) .1) (((s .pre)) .2) (sym (((c .before .test)) .ensures) ∙ c .if1 .taken)
 
 set-requires : tie.Need-set-requires
-set-requires c κs = let q = ((c .before .before .before .before .before .before .before .pre)) .0 .def-le (((c .before .before .before .before .before .before .before .args)) .i) (((c .before .before .before .before .before .before .before .pre)) .1) in omega arith
+set-requires c κs =
+    let s = c .before .before .before .before .before .before .before in
+    let q = ((s .pre)) .0 .def-le (((s .args)) .i) (((s .pre)) .1) in omega arith
 
 add-work : tie.Need-add-work
 add-work c = search needs
@@ -39,7 +45,11 @@ mul-work : tie.Need-mul-work
 mul-work c = search needs
 
 slice-write-work : tie.Need-slice-write-work
-slice-write-work c = let q = held-room (((c .before .before .before .before .before .before .before .before .before .before .before .pre)) .0) (((c .before .before .before .before .before .before .before .before .before .before .before .args)) .i) (((c .before .before .before .before .before .before .before .before .before .before .before .pre)) .1) (sym (((c .before .before .before .before .before .before .test)) .ensures) ∙ ((c .before .before .before .before .before .if1)) .left) in omega (arith, ((c .before .before .before .set)) .ensures .len)
+slice-write-work c =
+    let s = c .before .before .before .before .before .before .before .before .before .before .before in
+    let q = held-room (((s .pre)) .0) (((s .args)) .i) (((s .pre)) .1)
+    (sym (((c .before .before .before .before .before .before .test)) .ensures) ∙ ((c .before .before .before .before .before .if1)) .left) in
+    omega (arith, ((c .before .before .before .set)) .ensures .len)
 
 add-result : tie.Need-add-result
 add-result c = search needs
@@ -48,7 +58,11 @@ same-length-2 : tie.Need-same-length-2
 same-length-2 c = simp length-set (((c .before .before .before .set)) .ensures .len)
 
 returns-2 : tie.Need-returns-2
-returns-2 c = joined-new (((c .before .before .before .before .before .before .before .before .before .before .before .pre)) .0) (((c .before .before .before .before .before .before .before .before .before .before .before .args)) .i) _ _ (((c .before .before .before .before .before .before .before .before .before .before .before .pre)) .1) (((c .before .before .before .before .before .before .before .before .before .before .before .pre)) .2) refl (sym (((c .before .before .before .before .before .before .test)) .ensures) ∙ ((c .before .before .before .before .before .if1)) .left) (((c .before .before .before .set)) .ensures) refl
+returns-2 c =
+    let s = c .before .before .before .before .before .before .before .before .before .before .before in
+    joined-new (((s .pre)) .0) (((s .args)) .i) _ _ (((s .pre)) .1) (((s .pre)) .2) refl
+    (sym (((c .before .before .before .before .before .before .test)) .ensures) ∙ ((c .before .before .before .before .before .if1)) .left)
+    (((c .before .before .before .set)) .ensures) refl
 
 pub join-spec : {M : Type 1} → statement M
 join-spec =

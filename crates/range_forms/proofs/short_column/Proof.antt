@@ -360,7 +360,9 @@ module _ {M : Type 1} (𝓤 : URA M) (H : Heap 𝓤) (A : Atoms 𝓤) (W : Given
 short-column-meets : {M : Type 1} (𝓤 : URA M) (H : Heap 𝓤) (A : Atoms 𝓤) (W : Given 𝓤 H A) (mem : Memory → SProp 𝓤) (run : Routine → Fun 𝓤) (𝓣 : Tables 𝓤 H)
     → Triple 𝓤 (𝓣 .C #range-forms·short-blank) (Blank 𝓤 H A mem run) → Triple 𝓤 (𝓣 .C #range-forms·short-within) (Within 𝓤 H A mem run) → Triple 𝓤 (𝓣 .C #range-forms·point) (Point 𝓤 H A mem run)
     → Meets 𝓤 H A f.signature (WpFn 𝓤 H (𝓣 .C) (𝓣 .Λ) code.function) (f.spec 𝓤 H A mem run)
-short-column-meets 𝓤 H A W mem run 𝓣 known-blank known-within known-point = walk-meets 𝓤 H A f.ended stayed W (goes 𝓤 H A W mem run) (f.clauses 𝓤 H A mem run) (WpFn 𝓤 H (𝓣 .C) (𝓣 .Λ) code.function) (WpFn-mono 𝓤 H (W .laws) 𝓣 code.function) (short-column-walks 𝓤 H A W mem run 𝓣 known-blank known-within known-point)
+short-column-meets 𝓤 H A W mem run 𝓣 known-blank known-within known-point =
+    walk-meets 𝓤 H A f.ended stayed W (goes 𝓤 H A W mem run) (f.clauses 𝓤 H A mem run) (WpFn 𝓤 H (𝓣 .C) (𝓣 .Λ) code.function) (WpFn-mono 𝓤 H (W .laws) 𝓣 code.function)
+    (short-column-walks 𝓤 H A W mem run 𝓣 known-blank known-within known-point)
 
 pub short-column-spec : {M : Type 1} → stated.statement M
 unfolding code.routine tablesOf

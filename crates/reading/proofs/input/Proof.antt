@@ -59,7 +59,9 @@ part-feed-start : tie.Need-part-feed-start Inv-loop μ-loop
 part-feed-start c = omega arith
 
 part-feed-end : tie.Need-part-feed-end Inv-loop μ-loop
-part-feed-end c = let p = (c .before .before .before .read-full) .kept .1 .0 in let q = (c .before .before .before .before .before .before .loop) .inv .1 in let r = (c .before .before .before .read-full) .ensures in omega arith
+part-feed-end c =
+    let s = c .before .before .before in
+    let p = s .read-full .kept .1 .0 in let q = s .before .before .before .loop .inv .1 in let r = s .read-full .ensures in omega arith
 
 slice-aggregate-feed : tie.Need-slice-aggregate-feed Inv-loop μ-loop
 slice-aggregate-feed c = search needs

@@ -8,10 +8,14 @@ returns : tie.Need-returns
 returns c = room-answer ((c .before .args) .lent) ((c .before .args) .most) ((c .before .args) .work) ((c .before .args) .words) (c .if1 .taken)
 
 returns-2 : tie.Need-returns-2
-returns-2 c = room-work ((c .before .before .args) .lent) ((c .before .before .args) .most) ((c .before .before .args) .work) ((c .before .before .args) .words) (omega arith) (c .if2 .taken)
+returns-2 c =
+    let s = c .before .before in
+    room-work (s .args .lent) (s .args .most) (s .args .work) (s .args .words) (omega arith) (c .if2 .taken)
 
 returns-3 : tie.Need-returns-3
-returns-3 c = room-fine ((c .before .before .args) .lent) ((c .before .before .args) .most) ((c .before .before .args) .work) ((c .before .before .args) .words) (omega arith) (omega arith)
+returns-3 c =
+    let s = c .before .before in
+    room-fine (s .args .lent) (s .args .most) (s .args .work) (s .args .words) (omega arith) (omega arith)
 
 pub room-spec : {M : Type 1} → statement M
 room-spec = tie.close (tie.spec returns returns-2 returns-3)

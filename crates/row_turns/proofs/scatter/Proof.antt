@@ -24,7 +24,9 @@ add-mark : tie.Need-add-mark Inv-loop μ-loop
 add-mark c = omega (arith, (c .before .before .before .before .before .pre) .1 ((c .before .lowest) .result) ((c .before .lowest) .ensures .within) ((c .before .before .before .loop) .inv .some _ ((c .before .lowest) .ensures .set)))
 
 mark-requires : tie.Need-mark-requires Inv-loop μ-loop
-mark-requires c κs = ((c .before .before .before .loop) .inv .fits, (c .before .before .before .before .before .pre) .1 ((c .before .lowest) .result) ((c .before .lowest) .ensures .within) ((c .before .before .before .loop) .inv .some _ ((c .before .lowest) .ensures .set)))
+mark-requires c κs =
+    let s = c .before .before .before in
+    (s .loop .inv .fits, s .before .before .pre .1 (c .before .lowest .result) (c .before .lowest .ensures .within) (s .loop .inv .some _ (c .before .lowest .ensures .set)))
 
 without-lowest-requires : tie.Need-without-lowest-requires Inv-loop μ-loop
 without-lowest-requires c κs = omega arith

@@ -14,16 +14,24 @@ abbrev μ-loop : tie.MeasureT-loop
 μ-loop work₀ t k one two c i₀ work i = t .words - i
 
 mul-one : tie.Need-mul-one Inv-loop μ-loop
-mul-one c = omega (arith, (c .before .before .pre) .0 .one-in, (c .before .before .pre) .0 .two-in, row-before ((c .before .before .args) .k) ((c .before .before .args) .t .n) ((c .before .before .args) .t .words) ((c .before .before .pre) .1))
+mul-one c =
+    let s = c .before .before in
+    omega (arith, s .pre .0 .one-in, s .pre .0 .two-in, row-before (s .args .k) (s .args .t .n) (s .args .t .words) (s .pre .1))
 
 add-one : tie.Need-add-one Inv-loop μ-loop
-add-one c = omega (arith, (c .before .before .before .pre) .0 .one-in, (c .before .before .before .pre) .0 .two-in, row-before ((c .before .before .before .args) .k) ((c .before .before .before .args) .t .n) ((c .before .before .before .args) .t .words) ((c .before .before .before .pre) .1))
+add-one c =
+    let s = c .before .before .before in
+    omega (arith, s .pre .0 .one-in, s .pre .0 .two-in, row-before (s .args .k) (s .args .t .n) (s .args .t .words) (s .pre .1))
 
 mul-two : tie.Need-mul-two Inv-loop μ-loop
-mul-two c = omega (arith, (c .before .before .before .before .pre) .0 .one-in, (c .before .before .before .before .pre) .0 .two-in, row-before ((c .before .before .before .before .args) .k) ((c .before .before .before .before .args) .t .n) ((c .before .before .before .before .args) .t .words) ((c .before .before .before .before .pre) .1))
+mul-two c =
+    let s = c .before .before .before .before in
+    omega (arith, s .pre .0 .one-in, s .pre .0 .two-in, row-before (s .args .k) (s .args .t .n) (s .args .t .words) (s .pre .1))
 
 add-two : tie.Need-add-two Inv-loop μ-loop
-add-two c = omega (arith, (c .before .before .before .before .before .pre) .0 .one-in, (c .before .before .before .before .before .pre) .0 .two-in, row-before ((c .before .before .before .before .before .args) .k) ((c .before .before .before .before .before .args) .t .n) ((c .before .before .before .before .before .args) .t .words) ((c .before .before .before .before .before .pre) .1))
+add-two c =
+    let s = c .before .before .before .before .before in
+    omega (arith, s .pre .0 .one-in, s .pre .0 .two-in, row-before (s .args .k) (s .args .t .n) (s .args .t .words) (s .pre .1))
 
 loop-holds : tie.Need-loop-holds Inv-loop μ-loop
 loop-holds c = row-start _ ((c .before .before .before .before .before .pre) .0) ((c .before .before .before .before .before .pre) .1)
@@ -47,7 +55,9 @@ slice-read-word-2 : tie.Need-slice-read-word-2 Inv-loop μ-loop
 slice-read-word-2 c = omega (arith, row-in ((c .before .before .before .before .loop) .inv) _ ((c .before .before .before .before .before .before .before .before .before .before .pre) .0 .two-in) (omega arith))
 
 scatter-requires : tie.Need-scatter-requires Inv-loop μ-loop
-scatter-requires c κs = (row-fits ((c .before .before .before .before .before .loop) .inv), row-word ((c .before .before .before .before .before .loop) .inv) (omega arith) _ refl)
+scatter-requires c κs =
+    let s = c .before .before .before .before .before in
+    (row-fits (s .loop .inv), row-word (s .loop .inv) (omega arith) _ refl)
 
 add-i : tie.Need-add-i Inv-loop μ-loop
 add-i c = omega arith

@@ -21,10 +21,30 @@ same-length : tie.Need-same-length
 same-length c = search needs
 
 returns : tie.Need-returns
-returns c = held-none ((c .before .before .before .before .before .before .before .before .before .before .before .args) .points) ((c .before .before .before .before .before .before .before .before .before .before .before .args) .blocks .now) ((c .before .before .before .before .before .before .before .before .before .before .before .args) .insts .now) ((c .before .before .before .before .before .before .before .before .before .before .before .args) .moves .now) ((c .before .before .before .before .before .before .before .before .before .before .before .args) .pieces .now) ((c .before .before .before .before .before .before .before .before .before .before .before .args) .slot) ((c .before .before .before .before .before .before .before .before .before .before .before .pre) .0 .2) _ refl (omega (arith, (c .before .before .before .before .before .before .before .before .before .before .before .pre) .1 .1 .2)) ((c .before .before .before .fetch) .ensures) (omega arith)
+returns c =
+    let s = c .before .before .before .before .before .before .before .before .before .before .before in
+    held-none (s .args .points) (s .args .blocks .now) (s .args .insts .now) (s .args .moves .now) (s .args .pieces .now) (s .args .slot) (s .pre .0 .2) _ refl
+    (omega (arith, s .pre .1 .1 .2)) (c .before .before .before .fetch .ensures) (omega arith)
 
 fetch-requires-2 : tie.Need-fetch-requires-2
-fetch-requires-2 c κs = (((c .before .before .before .before .before .before .before .before .before .before .before .before .pre) .0 .0, held-table ((c .before .before .before .before .before .before .before .before .before .before .before .before .args) .points) ((c .before .before .before .before .before .before .before .before .before .before .before .before .args) .blocks .now) ((c .before .before .before .before .before .before .before .before .before .before .before .before .args) .insts .now) ((c .before .before .before .before .before .before .before .before .before .before .before .before .args) .moves .now) ((c .before .before .before .before .before .before .before .before .before .before .before .before .args) .pieces .now) ((c .before .before .before .before .before .before .before .before .before .before .before .before .args) .slot) ((c .before .before .before .before .before .before .before .before .before .before .before .before .pre) .0 .2) _ refl (omega (arith, (c .before .before .before .before .before .before .before .before .before .before .before .before .pre) .1 .1 .2)) ((c .before .before .before .before .fetch) .ensures) ((c .before .before .before .before .before .before .before .before .before .before .before .before .pre) .0 .1), held-laid ((c .before .before .before .before .before .before .before .before .before .before .before .before .args) .points) ((c .before .before .before .before .before .before .before .before .before .before .before .before .args) .blocks .now) ((c .before .before .before .before .before .before .before .before .before .before .before .before .args) .insts .now) ((c .before .before .before .before .before .before .before .before .before .before .before .before .args) .moves .now) ((c .before .before .before .before .before .before .before .before .before .before .before .before .args) .pieces .now) ((c .before .before .before .before .before .before .before .before .before .before .before .before .args) .slot) ((c .before .before .before .before .before .before .before .before .before .before .before .before .pre) .0 .2) _ refl (omega (arith, (c .before .before .before .before .before .before .before .before .before .before .before .before .pre) .1 .1 .2)) ((c .before .before .before .before .fetch) .ensures)), ((c .before .before .before .before .before .before .before .before .before .before .before .before .pre) .1 .0 .0, held-chains ((c .before .before .before .before .before .before .before .before .before .before .before .before .args) .points) ((c .before .before .before .before .before .before .before .before .before .before .before .before .args) .blocks .now) ((c .before .before .before .before .before .before .before .before .before .before .before .before .args) .insts .now) ((c .before .before .before .before .before .before .before .before .before .before .before .before .args) .moves .now) ((c .before .before .before .before .before .before .before .before .before .before .before .before .args) .pieces .now) ((c .before .before .before .before .before .before .before .before .before .before .before .before .args) .slot) ((c .before .before .before .before .before .before .before .before .before .before .before .before .pre) .0 .2) _ refl (omega (arith, (c .before .before .before .before .before .before .before .before .before .before .before .before .pre) .1 .1 .2)) ((c .before .before .before .before .fetch) .ensures) ((c .before .before .before .before .before .before .before .before .before .before .before .before .pre) .1 .0 .1), (c .before .before .before .before .before .before .before .before .before .before .before .before .pre) .1 .0 .2))
+fetch-requires-2 c κs =
+    let s = c .before .before .before .before in
+    let t = s .before .before .before .before .before .before .before .before in (
+      (
+        t .pre .0 .0,
+        held-table (t .args .points) (t .args .blocks .now) (t .args .insts .now) (t .args .moves .now) (t .args .pieces .now) (t .args .slot) (t .pre .0 .2) _ refl
+            (omega (arith, t .pre .1 .1 .2)) (s .fetch .ensures) (t .pre .0 .1),
+        held-laid (t .args .points) (t .args .blocks .now) (t .args .insts .now) (t .args .moves .now)
+            (t .args .pieces .now) (t .args .slot) (t .pre .0 .2) _ refl (omega (arith, t .pre .1 .1 .2)) (s .fetch .ensures),
+      ),
+      (
+        t .pre .1 .0 .0,
+        held-chains (t .args .points)
+            (t .args .blocks .now) (t .args .insts .now) (t .args .moves .now) (t .args .pieces .now) (t .args .slot) (t .pre .0 .2) _ refl (omega (arith, t .pre .1 .1 .2)) (s .fetch .ensures)
+            (t .pre .1 .0 .1),
+        t .pre .1 .0 .2,
+      ),
+    )
 
 sub-merge : tie.Need-sub-merge
 sub-merge c = search needs
@@ -39,13 +59,25 @@ sub-t16 : tie.Need-sub-t16
 sub-t16 c = search needs
 
 add-t24 : tie.Need-add-t24
-add-t24 c = let q : (c .before .before .before .before .before .before .fetch2) .result ≤ moveCount ((c .before .before .before .before .before .before .before .before .before .before .before .before .before .before .before .before .before .before .before .args) .moves .now) + moveCount ((c .before .before .before .before .before .before .before .before .before .before .before .before .before .before .before .before .before .before .before .args) .moves .now) = (c .before .before .before .before .before .before .fetch2) .ensures .few in let u : (c .before .before .before .before .before .before .before .before .before .before .before .fetch) .result ≤ pieceCount ((c .before .before .before .before .before .before .before .before .before .before .before .before .before .before .before .before .before .before .before .args) .pieces .now) = (c .before .before .before .before .before .before .before .before .before .before .before .fetch) .ensures .count in let a : moveCount ((c .before .before .before .before .before .before .before .before .before .before .before .before .before .before .before .before .before .before .before .args) .moves .now) ≤ 65536 = (c .before .before .before .before .before .before .before .before .before .before .before .before .before .before .before .before .before .before .before .pre) .1 .1 .4 in let b : pieceCount ((c .before .before .before .before .before .before .before .before .before .before .before .before .before .before .before .before .before .before .before .args) .pieces .now) ≤ 65536 = (c .before .before .before .before .before .before .before .before .before .before .before .before .before .before .before .before .before .before .before .pre) .1 .1 .3 in omega (arith, (c .before .before .merge) .ensures .within)
+add-t24 c =
+    let s = c .before .before .before .before .before .before in
+    let t = s .before .before .before .before .before in
+    let p = t .before .before .before .before .before .before .before .before in
+    let q : (s .fetch2) .result ≤ moveCount (p .args .moves .now) + moveCount (p .args .moves .now) = s .fetch2 .ensures .few in
+    let u : (t .fetch) .result ≤ pieceCount (p .args .pieces .now) = t .fetch .ensures .count in
+    let a : moveCount (p .args .moves .now) ≤ 65536 = p .pre .1 .1 .4 in
+    let b : pieceCount (p .args .pieces .now) ≤ 65536 = p .pre .1 .1 .3 in
+    omega (arith, c .before .before .merge .ensures .within)
 
 same-length-2 : tie.Need-same-length-2
 same-length-2 c = search needs
 
 returns-2 : tie.Need-returns-2
-returns-2 c = held-some ((c .before .before .before .before .before .before .before .before .before .before .before .before .before .before .before .before .before .before .before .args) .points) ((c .before .before .before .before .before .before .before .before .before .before .before .before .before .before .before .before .before .before .before .args) .blocks .now) ((c .before .before .before .before .before .before .before .before .before .before .before .before .before .before .before .before .before .before .before .args) .insts .now) ((c .before .before .before .before .before .before .before .before .before .before .before .before .before .before .before .before .before .before .before .args) .moves .now) ((c .before .before .before .before .before .before .before .before .before .before .before .before .before .before .before .before .before .before .before .args) .pieces .now) ((c .before .before .before .before .before .before .before .before .before .before .before .before .before .before .before .before .before .before .before .args) .slot) ((c .before .before .before .before .before .before .before .before .before .before .before .before .before .before .before .before .before .before .before .pre) .0 .2) _ refl (omega (arith, (c .before .before .before .before .before .before .before .before .before .before .before .before .before .before .before .before .before .before .before .pre) .1 .1 .2)) ((c .before .before .before .before .before .before .before .before .before .before .before .fetch) .ensures) (omega arith) ((c .before .before .before .before .before .before .fetch2) .ensures) (omega arith) ((c .before .before .merge) .ensures)
+returns-2 c =
+    let s = c .before .before .before .before .before .before .before .before .before .before .before .before .before .before .before .before .before .before .before in
+    held-some (s .args .points) (s .args .blocks .now) (s .args .insts .now) (s .args .moves .now) (s .args .pieces .now) (s .args .slot) (s .pre .0 .2) _ refl
+    (omega (arith, s .pre .1 .1 .2)) (c .before .before .before .before .before .before .before .before .before .before .before .fetch .ensures) (omega arith)
+    (c .before .before .before .before .before .before .fetch2 .ensures) (omega arith) (c .before .before .merge .ensures)
 
 pub of-register-spec : {M : Type 1} → statement M
 of-register-spec =

@@ -42,10 +42,16 @@ sub-append : tie.Need-sub-append
 sub-append c = search needs
 
 append-requires : tie.Need-append-requires
-append-requires c κs = let z : (c .before .before .before .before .before .before .args) .f .plus ≡ suc ((c .before .before .before .before .before .before .args) .f .plus - 1) = omega (arith, (c .before .before .before .if1) .left) in (omega (arith, (c .before .before .before .before .before .before .pre) .small), simp length-set (areas-in _ _ _ _ (c .before .before .before .before .before .before .pre) _ z), simp length-set (from-in _ _ _ _ (c .before .before .before .before .before .before .pre) _ z), areas-clear _ _ _ _ (c .before .before .before .before .before .before .pre) _ z)
+append-requires c κs =
+    let s = c .before .before .before .before .before .before in
+    let z : (s .args) .f .plus ≡ suc (s .args .f .plus - 1) = omega (arith, c .before .before .before .if1 .left) in
+    (omega (arith, s .pre .small), simp length-set (areas-in _ _ _ _ (s .pre) _ z), simp length-set (from-in _ _ _ _ (s .pre) _ z), areas-clear _ _ _ _ (s .pre) _ z)
 
 returns-2 : tie.Need-returns-2
-returns-2 c = let z : (c .before .before .before .before .before .before .before .before .before .args) .f .plus ≡ suc ((c .before .before .before .before .before .before .before .before .before .args) .f .plus - 1) = omega (arith, (c .before .before .before .before .before .before .if1) .left) in present _ _ _ _ (c .before .before .before .before .before .before .before .before .before .pre) _ z refl ((c .before .before .append) .ensures)
+returns-2 c =
+    let s = c .before .before .before .before .before .before .before .before .before in
+    let z : (s .args) .f .plus ≡ suc (s .args .f .plus - 1) = omega (arith, c .before .before .before .before .before .before .if1 .left) in
+    present _ _ _ _ (s .pre) _ z refl (c .before .before .append .ensures)
 
 same-length-2 : tie.Need-same-length-2
 same-length-2 c = returns-2 c .len

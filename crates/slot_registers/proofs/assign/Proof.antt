@@ -65,7 +65,14 @@ loop-less : tie.Need-loop-less Inv-loop μ-loop
 loop-less c = omega arith
 
 loop-again : tie.Need-loop-again Inv-loop μ-loop
-loop-again c = (omega arith, omega arith, held-put (assignedAt ((c .before .before .before .before .before .args) .assigned .now)) ((c .before .before .before .before .before .args) .at) ((c .before .before .before .before .before .args) .slots) ((c .before .before .before .before .loop) .inv .2) _ _ _ refl (omega arith) refl (ap (λ (k : ℕ). getD ((c .before .before .before .before .before .args) .assigned .now) k 0 + 1) (sym (add-zero (assignedWidth * (c .before .before .before .before .loop) .i)))))
+loop-again c =
+    let s = c .before .before .before .before in
+    let t = s .before in (
+      omega arith,
+      omega arith,
+      held-put (assignedAt (t .args .assigned .now)) (t .args .at) (t .args .slots) (s .loop .inv .2) _ _ _ refl (omega arith) refl
+          (ap (λ (k : ℕ). getD (t .args .assigned .now) k 0 + 1) (sym (add-zero (assignedWidth * (s .loop) .i)))),
+    )
 
 add-i-2 : tie.Need-add-i-2 Inv-loop μ-loop
 add-i-2 c = omega arith
@@ -74,13 +81,17 @@ loop-less-2 : tie.Need-loop-less-2 Inv-loop μ-loop
 loop-less-2 c = omega arith
 
 loop-again-2 : tie.Need-loop-again-2 Inv-loop μ-loop
-loop-again-2 c = (omega arith, omega arith, held-skip (assignedAt ((c .before .before .before .before .args) .assigned .now)) ((c .before .before .before .before .args) .at) ((c .before .before .before .before .args) .slots) ((c .before .before .before .loop) .inv .2) (omega arith))
+loop-again-2 c =
+    let s = c .before .before .before .before in
+    (omega arith, omega arith, held-skip (assignedAt (s .args .assigned .now)) (s .args .at) (s .args .slots) (c .before .before .before .loop .inv .2) (omega arith))
 
 same-length : tie.Need-same-length Inv-loop μ-loop
 same-length c = (c .before .loop) .inv .2 .words .len
 
 returns : tie.Need-returns Inv-loop μ-loop
-returns c = held-done (assignedAt ((c .before .before .args) .assigned .now)) ((c .before .before .args) .at) ((c .before .before .args) .slots) ((c .before .loop) .inv .2) (assignedCount ((c .before .before .args) .assigned .now)) (omega arith)
+returns c =
+    let s = c .before .before in
+    held-done (assignedAt (s .args .assigned .now)) (s .args .at) (s .args .slots) (c .before .loop .inv .2) (assignedCount (s .args .assigned .now)) (omega arith)
 
 pub assign-spec : {M : Type 1} → statement M
 assign-spec =

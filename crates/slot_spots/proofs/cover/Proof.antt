@@ -46,7 +46,13 @@ enum-told : tie.Need-enum-told
 enum-told c = search needs
 
 returns : tie.Need-returns
-returns c = absurd (not-nowhere ((c .before .before .before .before .before .before .before .before .before .args) .points) (blocksOf ((c .before .before .before .before .before .before .before .before .before .args) .blocks .now)) (instsOf ((c .before .before .before .before .before .before .before .before .before .args) .insts .now) []) 0 (moveRow ((c .before .before .before .before .before .before .before .before .before .args) .moves .now) ((c .before .before .before .before .before .before .before .before .before .args) .i)) (move-fine (blocksOf ((c .before .before .before .before .before .before .before .before .before .args) .blocks .now)) (instsOf ((c .before .before .before .before .before .before .before .before .before .args) .insts .now) []) ((c .before .before .before .before .before .before .before .before .before .args) .moves .now) ((c .before .before .before .before .before .before .before .before .before .args) .i) ((c .before .before .before .before .before .before .before .before .before .pre) .1 .1) ((c .before .before .before .before .before .before .before .before .before .pre) .1 .0)) (sym ((c .enum-told) .given .1) ∙ (c .before .before .position) .ensures ∙ ap (λ (x : ℕ). positionAt (blocksOf ((c .before .before .before .before .before .before .before .before .before .args) .blocks .now)) (instsOf ((c .before .before .before .before .before .before .before .before .before .args) .insts .now) []) (getD ((c .before .before .before .before .before .before .before .before .before .args) .moves .now) x 0) (moveNumber ((c .before .before .before .before .before .before .before .before .before .args) .moves .now) ((c .before .before .before .before .before .before .before .before .before .args) .i))) (sym (add-zero (moveWidth * (c .before .before .before .before .before .before .before .before .before .args) .i)))))
+returns c =
+    let s = c .before .before .before .before .before .before .before .before .before in
+    absurd (not-nowhere (s .args .points) (blocksOf (s .args .blocks .now)) (instsOf (s .args .insts .now) []) 0 (moveRow (s .args .moves .now) (s .args .i)) (move-fine
+    (blocksOf (s .args .blocks .now)) (instsOf (s .args .insts .now) []) (s .args .moves .now) (s .args .i) (s .pre .1 .1) (s .pre .1 .0)) (sym (c .enum-told .given .1)
+    ∙ c .before .before .position .ensures ∙ ap
+    (λ (x : ℕ). positionAt (blocksOf (s .args .blocks .now)) (instsOf (s .args .insts .now) []) (getD (s .args .moves .now) x 0) (moveNumber (s .args .moves .now) (s .args .i)))
+    (sym (add-zero (moveWidth * (s .args) .i)))))
 
 preceding-requires : tie.Need-preceding-requires
 preceding-requires c κs = search needs
@@ -58,7 +64,13 @@ pack-requires : tie.Need-pack-requires
 pack-requires c κs = search needs
 
 returns-2 : tie.Need-returns-2
-returns-2 c = cover-is ((c .before .before .before .before .before .before .before .before .before .before .before .before .before .args) .points) (blocksOf ((c .before .before .before .before .before .before .before .before .before .before .before .before .before .args) .blocks .now)) (instsOf ((c .before .before .before .before .before .before .before .before .before .before .before .before .before .args) .insts .now) []) (moveRow ((c .before .before .before .before .before .before .before .before .before .before .before .before .before .args) .moves .now) ((c .before .before .before .before .before .before .before .before .before .before .before .before .before .args) .i)) _ _ _ _ (move-fine (blocksOf ((c .before .before .before .before .before .before .before .before .before .before .before .before .before .args) .blocks .now)) (instsOf ((c .before .before .before .before .before .before .before .before .before .before .before .before .before .args) .insts .now) []) ((c .before .before .before .before .before .before .before .before .before .before .before .before .before .args) .moves .now) ((c .before .before .before .before .before .before .before .before .before .before .before .before .before .args) .i) ((c .before .before .before .before .before .before .before .before .before .before .before .before .before .pre) .1 .1) ((c .before .before .before .before .before .before .before .before .before .before .before .before .before .pre) .1 .0)) (sym ((c .before .before .before .before .at) .given .1) ∙ (c .before .before .before .before .before .before .position) .ensures ∙ ap (λ (x : ℕ). positionAt (blocksOf ((c .before .before .before .before .before .before .before .before .before .before .before .before .before .args) .blocks .now)) (instsOf ((c .before .before .before .before .before .before .before .before .before .before .before .before .before .args) .insts .now) []) (getD ((c .before .before .before .before .before .before .before .before .before .before .before .before .before .args) .moves .now) x 0) (moveNumber ((c .before .before .before .before .before .before .before .before .before .before .before .before .before .args) .moves .now) ((c .before .before .before .before .before .before .before .before .before .before .before .before .before .args) .i))) (sym (add-zero (moveWidth * (c .before .before .before .before .before .before .before .before .before .before .before .before .before .args) .i)))) ((c .before .before .preceding) .ensures) ((c .before .beyond) .ensures) ((c .pack) .ensures)
+returns-2 c =
+    let s = c .before .before .before .before .before .before .before .before .before .before .before .before .before in
+    cover-is (s .args .points) (blocksOf (s .args .blocks .now)) (instsOf (s .args .insts .now) []) (moveRow (s .args .moves .now) (s .args .i)) _ _ _ _ (move-fine
+    (blocksOf (s .args .blocks .now)) (instsOf (s .args .insts .now) []) (s .args .moves .now) (s .args .i) (s .pre .1 .1) (s .pre .1 .0)) (sym
+    (c .before .before .before .before .at .given .1) ∙ c .before .before .before .before .before .before .position .ensures ∙ ap
+    (λ (x : ℕ). positionAt (blocksOf (s .args .blocks .now)) (instsOf (s .args .insts .now) []) (getD (s .args .moves .now) x 0) (moveNumber (s .args .moves .now) (s .args .i)))
+    (sym (add-zero (moveWidth * (s .args) .i)))) (c .before .before .preceding .ensures) (c .before .beyond .ensures) (c .pack .ensures)
 
 pub cover-spec : {M : Type 1} → statement M
 cover-spec =

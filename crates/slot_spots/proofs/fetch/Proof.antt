@@ -19,22 +19,34 @@ add-walk : tie.Need-add-walk
 add-walk c = omega arith
 
 walk-requires : tie.Need-walk-requires
-walk-requires c κs = (((c .before .before .before .before .before .before .before .before .pre) .0 .0, (c .before .before .before .before .before .before .before .before .pre) .0 .1, omega arith), ((c .before .before .before .before .before .before .before .before .pre) .1 .0, to-walkable ((c .before .before .before .before .before .before .before .before .args) .blocks .now) ((c .before .before .before .before .before .before .before .before .pre) .0 .2) ((c .before .before .before .before .before .before .before .before .pre) .1 .1) ((c .before .before .before .before .before .before .before .before .pre) .1 .2) _ refl))
+walk-requires c κs =
+    let s = c .before .before .before .before .before .before .before .before in
+    ((s .pre .0 .0, s .pre .0 .1, omega arith), (s .pre .1 .0, to-walkable (s .args .blocks .now) (s .pre .0 .2) (s .pre .1 .1) (s .pre .1 .2) _ refl))
 
 sub-walk : tie.Need-sub-walk
 sub-walk c = omega arith
 
 walk-requires-2 : tie.Need-walk-requires-2
-walk-requires-2 c κs = (((c .before .before .before .before .before .before .before .before .before .before .before .before .pre) .0 .0, from-table ((c .before .before .before .before .before .before .before .before .before .before .before .before .args) .blocks .now) ((c .before .before .before .before .before .before .before .before .before .before .before .before .pre) .0 .2) ((c .before .before .before .before .before .before .before .before .before .before .before .before .pre) .1 .1) ((c .before .before .before .before .before .before .before .before .before .before .before .before .pre) .1 .2) refl ((c .before .before .before .walk) .ensures) ((c .before .before .before .before .before .before .before .before .before .before .before .before .pre) .0 .1), omega arith), ((c .before .before .before .before .before .before .before .before .before .before .before .before .pre) .1 .0, from-walkable ((c .before .before .before .before .before .before .before .before .before .before .before .before .args) .blocks .now) ((c .before .before .before .before .before .before .before .before .before .before .before .before .pre) .0 .2) ((c .before .before .before .before .before .before .before .before .before .before .before .before .pre) .1 .1) ((c .before .before .before .before .before .before .before .before .before .before .before .before .pre) .1 .2) refl ((c .before .before .before .walk) .ensures) _ refl))
+walk-requires-2 c κs =
+    let s = c .before .before .before in
+    let t = s .before .before .before .before .before .before .before .before .before in (
+      (t .pre .0 .0, from-table (t .args .blocks .now) (t .pre .0 .2) (t .pre .1 .1) (t .pre .1 .2) refl (s .walk .ensures) (t .pre .0 .1), omega arith),
+      (t .pre .1 .0, from-walkable (t .args .blocks .now) (t .pre .0 .2) (t .pre .1 .1) (t .pre .1 .2) refl (s .walk .ensures) _ refl),
+    )
 
 add-result : tie.Need-add-result
-add-result c = omega (arith, (c .before .before .before .before .before .before .walk) .ensures .few, (c .before .before .walk2) .ensures .few, (c .before .before .before .before .before .before .before .before .before .before .before .before .before .before .before .pre) .0 .2 .fits, (c .before .before .before .before .before .before .before .before .before .before .before .before .before .before .before .pre) .0 .2)
+add-result c =
+    let s = c .before .before .before .before .before .before .before .before .before .before .before .before .before .before .before in
+    omega (arith, c .before .before .before .before .before .before .walk .ensures .few, c .before .before .walk2 .ensures .few, s .pre .0 .2 .fits, s .pre .0 .2)
 
 same-length : tie.Need-same-length
 same-length c = search needs
 
 returns : tie.Need-returns
-returns c = fetched ((c .before .before .before .before .before .before .before .before .before .before .before .before .before .before .before .args) .blocks .now) ((c .before .before .before .before .before .before .before .before .before .before .before .before .before .before .before .pre) .0 .2) ((c .before .before .before .before .before .before .before .before .before .before .before .before .before .before .before .pre) .1 .1) ((c .before .before .before .before .before .before .before .before .before .before .before .before .before .before .before .pre) .1 .2) refl ((c .before .before .before .before .before .before .walk) .ensures) refl ((c .before .before .before .before .before .before .before .before .before .before .before .before .before .before .before .args) .points) ((c .before .before .before .before .before .before .before .before .before .before .before .before .before .before .before .args) .insts .now) refl ((c .before .before .walk2) .ensures) (omega arith) _ refl
+returns c =
+    let s = c .before .before .before .before .before .before .before .before .before .before .before .before .before .before .before in
+    fetched (s .args .blocks .now) (s .pre .0 .2) (s .pre .1 .1) (s .pre .1 .2) refl (c .before .before .before .before .before .before .walk .ensures) refl (s .args .points)
+    (s .args .insts .now) refl (c .before .before .walk2 .ensures) (omega arith) _ refl
 
 pub fetch-spec : {M : Type 1} → statement M
 fetch-spec =

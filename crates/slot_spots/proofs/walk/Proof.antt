@@ -32,13 +32,20 @@ slice-read-next : tie.Need-slice-read-next Inv-loop μ-loop
 slice-read-next c = omega arith
 
 loop-holds : tie.Need-loop-holds Inv-loop μ-loop
-loop-holds c = walk-start (λ i. pack (coverOf ((c .before .before .before .before .before .before .args) .points) (blocksOf ((c .before .before .before .before .before .before .args) .blocks .now)) (instsOf ((c .before .before .before .before .before .before .args) .insts .now) []) (moveRow ((c .before .before .before .before .before .before .args) .moves .now) i))) ((c .before .before .before .before .before .before .pre) .1 .1) _ refl
+loop-holds c =
+    let s = c .before .before .before .before .before .before in
+    walk-start (λ i. pack (coverOf (s .args .points) (blocksOf (s .args .blocks .now)) (instsOf (s .args .insts .now) []) (moveRow (s .args .moves .now) i))) (s .pre .1 .1) _ refl
 
 sub-i : tie.Need-sub-i Inv-loop μ-loop
 sub-i c = omega arith
 
 cover-requires : tie.Need-cover-requires Inv-loop μ-loop
-cover-requires c κs = (((c .before .before .before .before .before .before .before .before .before .pre) .0 .0, table-kept ((c .before .before .before .before .before .before .before .before .before .args) .blocks .now) (omega arith) ((c .before .before .loop) .inv .kept) ((c .before .before .before .before .before .before .before .before .before .pre) .0 .1), omega arith), (walk-row ((c .before .before .loop) .inv) ((c .before .before .loop) .next - 1) (omega arith), (c .before .before .before .before .before .before .before .before .before .pre) .1 .0))
+cover-requires c κs =
+    let s = c .before .before in
+    let t = s .before .before .before .before .before .before .before in (
+      (t .pre .0 .0, table-kept (t .args .blocks .now) (omega arith) (s .loop .inv .kept) (t .pre .0 .1), omega arith),
+      (walk-row (s .loop .inv) (s .loop .next - 1) (omega arith), t .pre .1 .0),
+    )
 
 sub-to : tie.Need-sub-to Inv-loop μ-loop
 sub-to c = omega arith
@@ -59,10 +66,16 @@ slice-read-next-2 : tie.Need-slice-read-next-2 Inv-loop μ-loop
 slice-read-next-2 c = simp length-set (omega arith)
 
 loop-less : tie.Need-loop-less Inv-loop μ-loop
-loop-less c = walk-less ((c .before .before .before .before .before .loop) .inv) ((c .before .before .before .before .before .loop) .next - 1) _ (omega arith) (walk-back ((c .before .before .before .before .before .before .before .before .before .before .before .before .pre) .1 .1) ((c .before .before .before .before .before .loop) .inv) _ ((c .before .before .before .before .before .loop) .next - 1) ((c .before .before .before .before .before .loop) .to - 1) (omega arith) (omega arith))
+loop-less c =
+    let s = c .before .before .before .before .before in
+    walk-less (s .loop .inv) (s .loop .next - 1) _ (omega arith)
+    (walk-back (s .before .before .before .before .before .before .before .pre .1 .1) (s .loop .inv) _ (s .loop .next - 1) (s .loop .to - 1) (omega arith) (omega arith))
 
 loop-again : tie.Need-loop-again Inv-loop μ-loop
-loop-again c = walk-more ((c .before .before .before .before .before .loop) .inv) _ ((c .before .before .before .before .before .loop) .next - 1) ((c .before .before .before .before .before .loop) .to - 1) _ (omega arith) (omega arith) ((c .before .before .cover) .ensures) (walk-back ((c .before .before .before .before .before .before .before .before .before .before .before .before .pre) .1 .1) ((c .before .before .before .before .before .loop) .inv) _ ((c .before .before .before .before .before .loop) .next - 1) ((c .before .before .before .before .before .loop) .to - 1) (omega arith) (omega arith))
+loop-again c =
+    let s = c .before .before .before .before .before in
+    walk-more (s .loop .inv) _ (s .loop .next - 1) (s .loop .to - 1) _ (omega arith) (omega arith) (c .before .before .cover .ensures)
+    (walk-back (s .before .before .before .before .before .before .before .pre .1 .1) (s .loop .inv) _ (s .loop .next - 1) (s .loop .to - 1) (omega arith) (omega arith))
 
 sub-result : tie.Need-sub-result Inv-loop μ-loop
 sub-result c = omega arith

@@ -20,7 +20,9 @@ same-length-2 : tie.Need-same-length-2
 same-length-2 c = search needs
 
 returns : tie.Need-returns
-returns c = record { told = (c .before .before .before .before .before .flowed) .result; answer = (c .flowed2) .ensures; holds = rw (sym ((c .before .before .before .before .before .before .before .before .over) .ensures)) ((c .before .before .before .before .before .flowed) .ensures) }
+returns c =
+    let s = c .before .before .before .before .before in
+    record { told = s .flowed .result; answer = c .flowed2 .ensures; holds = rw (sym (s .before .before .before .over .ensures)) (s .flowed .ensures) }
 
 pub slots-flowed-spec : {M : Type 1} → statement M
 slots-flowed-spec =

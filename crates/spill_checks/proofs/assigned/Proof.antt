@@ -19,7 +19,10 @@ below-requires : tie.Need-below-requires
 below-requires c κs = omega arith
 
 returns : tie.Need-returns
-returns c = c .below .ensures ∙ ap (λ (x : ℕ). scan PieceWord (λ n. leb x (assignedRegister (((c .before .before .before .args) .assigned .now)) n)) (assignedCount (((c .before .before .before .args) .assigned .now)))) ((c .before .wide) .ensures) ∙ assigned-is ((c .before .before .before .args) .v) (((c .before .before .before .args) .assigned .now))
+returns c =
+    let s = c .before .before .before in
+    c .below .ensures ∙ ap (λ (x : ℕ). scan PieceWord (λ n. leb x (assignedRegister ((s .args .assigned .now)) n)) (assignedCount ((s .args .assigned .now))))
+    (c .before .wide .ensures) ∙ assigned-is (s .args .v) ((s .args .assigned .now))
 
 pub assigned-spec : {M : Type 1} → statement M
 assigned-spec = tie.close (tie.spec wide-requires below-requires returns)

@@ -30,19 +30,34 @@ enum-told-5 : tie.Need-enum-told-5
 enum-told-5 c = search needs
 
 returns : tie.Need-returns
-returns c = sym (told (blocksOf ((c .before .before .before .before .before .args) .blocks .now)) (instsOf ((c .before .before .before .before .before .args) .insts .now) []) ((c .before .before .before .before .before .args) .kind) ((c .before .before .before .before .before .args) .number) _ (sym ((c .before .before .locate) .ensures) ∙ (c .enum-told) .given .1) (λ e. let z : _≡_ {A = ℕ} 0 1 = cc in omega arith) .0)
+returns c =
+    let s = c .before .before .before .before .before in
+    sym (told (blocksOf (s .args .blocks .now)) (instsOf (s .args .insts .now) []) (s .args .kind) (s .args .number) _
+    (sym (c .before .before .locate .ensures) ∙ c .enum-told .given .1) (λ e. let z : _≡_ {A = ℕ} 0 1 = cc in omega arith) .0)
 
 returns-2 : tie.Need-returns-2
-returns-2 c = sym (told (blocksOf ((c .before .before .before .before .before .args) .blocks .now)) (instsOf ((c .before .before .before .before .before .args) .insts .now) []) ((c .before .before .before .before .before .args) .kind) ((c .before .before .before .before .before .args) .number) _ (sym ((c .before .before .locate) .ensures) ∙ (c .enum-told2) .given .1) (λ e. let z : _≡_ {A = ℕ} 0 1 = cc in omega arith) .0)
+returns-2 c =
+    let s = c .before .before .before .before .before in
+    sym (told (blocksOf (s .args .blocks .now)) (instsOf (s .args .insts .now) []) (s .args .kind) (s .args .number) _
+    (sym (c .before .before .locate .ensures) ∙ c .enum-told2 .given .1) (λ e. let z : _≡_ {A = ℕ} 0 1 = cc in omega arith) .0)
 
 returns-3 : tie.Need-returns-3
-returns-3 c = sym (told (blocksOf ((c .before .before .before .before .before .args) .blocks .now)) (instsOf ((c .before .before .before .before .before .args) .insts .now) []) ((c .before .before .before .before .before .args) .kind) ((c .before .before .before .before .before .args) .number) _ (sym ((c .before .before .locate) .ensures) ∙ (c .enum-told3) .given .1) (λ e. let z : _≡_ {A = ℕ} 0 1 = cc in omega arith) .0)
+returns-3 c =
+    let s = c .before .before .before .before .before in
+    sym (told (blocksOf (s .args .blocks .now)) (instsOf (s .args .insts .now) []) (s .args .kind) (s .args .number) _
+    (sym (c .before .before .locate .ensures) ∙ c .enum-told3 .given .1) (λ e. let z : _≡_ {A = ℕ} 0 1 = cc in omega arith) .0)
 
 returns-4 : tie.Need-returns-4
-returns-4 c = sym (told (blocksOf ((c .before .before .before .before .before .args) .blocks .now)) (instsOf ((c .before .before .before .before .before .args) .insts .now) []) ((c .before .before .before .before .before .args) .kind) ((c .before .before .before .before .before .args) .number) _ (sym ((c .before .before .locate) .ensures) ∙ (c .enum-told4) .given .1) (λ e. let z : _≡_ {A = ℕ} 0 1 = cc in omega arith) .0)
+returns-4 c =
+    let s = c .before .before .before .before .before in
+    sym (told (blocksOf (s .args .blocks .now)) (instsOf (s .args .insts .now) []) (s .args .kind) (s .args .number) _
+    (sym (c .before .before .locate .ensures) ∙ c .enum-told4 .given .1) (λ e. let z : _≡_ {A = ℕ} 0 1 = cc in omega arith) .0)
 
 returns-5 : tie.Need-returns-5
-returns-5 c = sym (stray-told (blocksOf ((c .before .before .before .before .before .args) .blocks .now)) (instsOf ((c .before .before .before .before .before .args) .insts .now) []) ((c .before .before .before .before .before .args) .kind) ((c .before .before .before .before .before .args) .number) (sym ((c .before .before .locate) .ensures) ∙ (c .enum-told5) .given .1))
+returns-5 c =
+    let s = c .before .before .before .before .before in
+    sym (stray-told (blocksOf (s .args .blocks .now)) (instsOf (s .args .insts .now) []) (s .args .kind) (s .args .number)
+    (sym (c .before .before .locate .ensures) ∙ c .enum-told5 .given .1))
 
 pub bad-move-spec : {M : Type 1} → statement M
 bad-move-spec = tie.close (tie.spec locate-requires enum-told enum-told-2 enum-told-3 enum-told-4 enum-told-5 returns returns-2 returns-3 returns-4 returns-5)

@@ -38,13 +38,19 @@ shared-slice-read-end : tie.Need-shared-slice-read-end
 shared-slice-read-end c = omega arith
 
 returns : tie.Need-returns
-returns c = piece-1 (blocksOf (((c .before .before .before .args) .blocks .now))) ((c .before .before .before .args) .v) (pieceAt (((c .before .before .before .args) .pieces .now)) ((c .before .before .before .args) .i)) (omega arith)
+returns c =
+    let s = c .before .before .before in
+    piece-1 (blocksOf ((s .args .blocks .now))) (s .args .v) (pieceAt ((s .args .pieces .now)) (s .args .i)) (omega arith)
 
 shared-slice-read-if2 : tie.Need-shared-slice-read-if2
 shared-slice-read-if2 c = omega arith
 
 returns-2 : tie.Need-returns-2
-returns-2 c = let a = line-start (((c .before .before .before .before .before .args) .blocks .now)) ((c .before .before .before .before .before .pre) .0) in let b = line-end (((c .before .before .before .before .before .args) .blocks .now)) ((c .before .before .before .before .before .pre) .0) in piece-2 (blocksOf (((c .before .before .before .before .before .args) .blocks .now))) ((c .before .before .before .before .before .args) .v) (pieceAt (((c .before .before .before .before .before .args) .pieces .now)) ((c .before .before .before .before .before .args) .i)) (omega arith) (omega arith)
+returns-2 c =
+    let s = c .before .before .before .before .before in
+    let a = line-start ((s .args .blocks .now)) (s .pre .0) in
+    let b = line-end ((s .args .blocks .now)) (s .pre .0) in
+    piece-2 (blocksOf ((s .args .blocks .now))) (s .args .v) (pieceAt ((s .args .pieces .now)) (s .args .i)) (omega arith) (omega arith)
 
 sub-last : tie.Need-sub-last
 sub-last c = omega arith
@@ -62,7 +68,11 @@ shared-slice-read-if3 : tie.Need-shared-slice-read-if3
 shared-slice-read-if3 c = omega arith
 
 returns-3 : tie.Need-returns-3
-returns-3 c = let a = line-start (((c .before .before .before .before .before .before .before .args) .blocks .now)) ((c .before .before .before .before .before .before .before .pre) .0) in let b = line-end (((c .before .before .before .before .before .before .before .args) .blocks .now)) ((c .before .before .before .before .before .before .before .pre) .0) in piece-3 (blocksOf (((c .before .before .before .before .before .before .before .args) .blocks .now))) ((c .before .before .before .before .before .before .before .args) .v) (pieceAt (((c .before .before .before .before .before .before .before .args) .pieces .now)) ((c .before .before .before .before .before .before .before .args) .i)) (omega arith) (omega arith) (omega arith)
+returns-3 c =
+    let s = c .before .before .before .before .before .before .before in
+    let a = line-start ((s .args .blocks .now)) (s .pre .0) in
+    let b = line-end ((s .args .blocks .now)) (s .pre .0) in
+    piece-3 (blocksOf ((s .args .blocks .now))) (s .args .v) (pieceAt ((s .args .pieces .now)) (s .args .i)) (omega arith) (omega arith) (omega arith)
 
 mul-result : tie.Need-mul-result
 mul-result c = omega arith
@@ -74,7 +84,12 @@ shared-slice-read-result : tie.Need-shared-slice-read-result
 shared-slice-read-result c = omega arith
 
 returns-4 : tie.Need-returns-4
-returns-4 c = let a = line-start (((c .before .before .before .before .before .before .before .before .args) .blocks .now)) ((c .before .before .before .before .before .before .before .before .pre) .0) in let b = line-end (((c .before .before .before .before .before .before .before .before .args) .blocks .now)) ((c .before .before .before .before .before .before .before .before .pre) .0) in ap (λ (k : ℕ). leb ((c .before .before .before .before .before .before .before .before .args) .v) (getD (((c .before .before .before .before .before .before .before .before .args) .pieces .now)) k 0)) (sym (add-zero (pieceWidth * (c .before .before .before .before .before .before .before .before .args) .i))) ∙ piece-4 (blocksOf (((c .before .before .before .before .before .before .before .before .args) .blocks .now))) ((c .before .before .before .before .before .before .before .before .args) .v) (pieceAt (((c .before .before .before .before .before .before .before .before .args) .pieces .now)) ((c .before .before .before .before .before .before .before .before .args) .i)) (omega arith) (omega arith) (omega arith)
+returns-4 c =
+    let s = c .before .before .before .before .before .before .before .before in
+    let a = line-start ((s .args .blocks .now)) (s .pre .0) in
+    let b = line-end ((s .args .blocks .now)) (s .pre .0) in
+    ap (λ (k : ℕ). leb (s .args .v) (getD ((s .args .pieces .now)) k 0)) (sym (add-zero (pieceWidth * (s .args) .i))) ∙ piece-4 (blocksOf ((s .args .blocks .now))) (s .args .v)
+    (pieceAt ((s .args .pieces .now)) (s .args .i)) (omega arith) (omega arith) (omega arith)
 
 pub bad-piece-spec : {M : Type 1} → statement M
 bad-piece-spec =

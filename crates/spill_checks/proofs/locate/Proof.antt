@@ -28,19 +28,37 @@ at-block-requires-2 : tie.Need-at-block-requires-2
 at-block-requires-2 c κs = search needs
 
 returns : tie.Need-returns
-returns c = by-kind (blocksOf ((c .before .before .before .before .args) .blocks .now)) (instsOf ((c .before .before .before .before .args) .insts .now) []) ((c .before .before .before .before .args) .kind) ((c .before .before .before .before .args) .number) 0 ((c .at-inst) .ensures) (omega arith) (kind-0 (blocksOf ((c .before .before .before .before .args) .blocks .now)) (instsOf ((c .before .before .before .before .args) .insts .now) []) ((c .before .before .before .before .args) .number) ((c .before .before .before .before .args) .kind) (omega arith) ∙ sym (unplaced-same ((c .before .before .before .before .args) .insts .now) [] [] ((c .before .before .before .before .args) .number)))
+returns c =
+    let s = c .before .before .before .before in
+    by-kind (blocksOf (s .args .blocks .now)) (instsOf (s .args .insts .now) []) (s .args .kind) (s .args .number) 0 (c .at-inst .ensures) (omega arith) (kind-0
+    (blocksOf (s .args .blocks .now)) (instsOf (s .args .insts .now) []) (s .args .number) (s .args .kind) (omega arith) ∙ sym
+    (unplaced-same (s .args .insts .now) [] [] (s .args .number)))
 
 returns-2 : tie.Need-returns-2
-returns-2 c = by-kind (blocksOf ((c .before .before .before .before .args) .blocks .now)) (instsOf ((c .before .before .before .before .args) .insts .now) []) ((c .before .before .before .before .args) .kind) ((c .before .before .before .before .args) .number) 1 ((c .at-inst2) .ensures) (omega arith) (kind-1 (blocksOf ((c .before .before .before .before .args) .blocks .now)) (instsOf ((c .before .before .before .before .args) .insts .now) []) ((c .before .before .before .before .args) .number) ((c .before .before .before .before .args) .kind) (omega arith) ∙ sym (unplaced-same ((c .before .before .before .before .args) .insts .now) [] [] ((c .before .before .before .before .args) .number)))
+returns-2 c =
+    let s = c .before .before .before .before in
+    by-kind (blocksOf (s .args .blocks .now)) (instsOf (s .args .insts .now) []) (s .args .kind) (s .args .number) 1 (c .at-inst2 .ensures) (omega arith) (kind-1
+    (blocksOf (s .args .blocks .now)) (instsOf (s .args .insts .now) []) (s .args .number) (s .args .kind) (omega arith) ∙ sym
+    (unplaced-same (s .args .insts .now) [] [] (s .args .number)))
 
 returns-3 : tie.Need-returns-3
-returns-3 c = by-kind (blocksOf ((c .before .before .before .before .args) .blocks .now)) (instsOf ((c .before .before .before .before .args) .insts .now) []) ((c .before .before .before .before .args) .kind) ((c .before .before .before .before .args) .number) 2 ((c .at-block) .ensures) (omega arith) (kind-2 (blocksOf ((c .before .before .before .before .args) .blocks .now)) (instsOf ((c .before .before .before .before .args) .insts .now) []) ((c .before .before .before .before .args) .number) ((c .before .before .before .before .args) .kind) (omega arith) ∙ ap (λ (x : ℕ). leb x ((c .before .before .before .before .args) .number)) (blocks-length ((c .before .before .before .before .args) .blocks .now)))
+returns-3 c =
+    let s = c .before .before .before .before in
+    by-kind (blocksOf (s .args .blocks .now)) (instsOf (s .args .insts .now) []) (s .args .kind) (s .args .number) 2 (c .at-block .ensures) (omega arith) (kind-2
+    (blocksOf (s .args .blocks .now)) (instsOf (s .args .insts .now) []) (s .args .number) (s .args .kind) (omega arith) ∙ ap (λ (x : ℕ). leb x (s .args .number))
+    (blocks-length (s .args .blocks .now)))
 
 returns-4 : tie.Need-returns-4
-returns-4 c = by-kind (blocksOf ((c .before .before .before .before .args) .blocks .now)) (instsOf ((c .before .before .before .before .args) .insts .now) []) ((c .before .before .before .before .args) .kind) ((c .before .before .before .before .args) .number) 3 ((c .at-block2) .ensures) (omega arith) (kind-3 (blocksOf ((c .before .before .before .before .args) .blocks .now)) (instsOf ((c .before .before .before .before .args) .insts .now) []) ((c .before .before .before .before .args) .number) ((c .before .before .before .before .args) .kind) (omega arith) ∙ ap (λ (x : ℕ). leb x ((c .before .before .before .before .args) .number)) (blocks-length ((c .before .before .before .before .args) .blocks .now)))
+returns-4 c =
+    let s = c .before .before .before .before in
+    by-kind (blocksOf (s .args .blocks .now)) (instsOf (s .args .insts .now) []) (s .args .kind) (s .args .number) 3 (c .at-block2 .ensures) (omega arith) (kind-3
+    (blocksOf (s .args .blocks .now)) (instsOf (s .args .insts .now) []) (s .args .number) (s .args .kind) (omega arith) ∙ ap (λ (x : ℕ). leb x (s .args .number))
+    (blocks-length (s .args .blocks .now)))
 
 returns-5 : tie.Need-returns-5
-returns-5 c = stray-over (blocksOf ((c .before .before .before .args) .blocks .now)) (instsOf ((c .before .before .before .args) .insts .now) []) ((c .before .before .before .args) .kind) ((c .before .before .before .args) .number) (omega arith)
+returns-5 c =
+    let s = c .before .before .before in
+    stray-over (blocksOf (s .args .blocks .now)) (instsOf (s .args .insts .now) []) (s .args .kind) (s .args .number) (omega arith)
 
 pub locate-spec : {M : Type 1} → statement M
 locate-spec = tie.close (tie.spec at-inst-requires at-inst-requires-2 at-block-requires at-block-requires-2 returns returns-2 returns-3 returns-4 returns-5)

@@ -51,7 +51,11 @@ bad-move-requires : tie.Need-bad-move-requires Inv-loop μ-loop
 bad-move-requires c κs = omega arith
 
 returns : tie.Need-returns Inv-loop μ-loop
-returns c = sym (scan-hit _ _ _ _ ((c .before .before .before .before .before .loop) .inv .2) (move-is (((c .before .before .before .before .before .before .before .before .before .args) .moves .now)) (blocksOf (((c .before .before .before .before .before .before .before .before .before .args) .blocks .now))) (instsOf (((c .before .before .before .before .before .before .before .before .before .args) .insts .now)) []) ((c .before .before .before .before .before .loop) .i) ((c .before .bad-move) .result) (omega arith) ((c .before .bad-move) .ensures) ∙ c .if1 .taken) (omega (arith, moves-length (((c .before .before .before .before .before .before .before .before .before .args) .moves .now)))))
+returns c =
+    let s = c .before .before .before .before .before in
+    let t = s .before .before .before .before in
+    sym (scan-hit _ _ _ _ (s .loop .inv .2) (move-is ((t .args .moves .now)) (blocksOf ((t .args .blocks .now))) (instsOf ((t .args .insts .now)) []) (s .loop .i)
+    (c .before .bad-move .result) (omega arith) (c .before .bad-move .ensures) ∙ c .if1 .taken) (omega (arith, moves-length ((t .args .moves .now)))))
 
 add-i : tie.Need-add-i Inv-loop μ-loop
 add-i c = omega arith
@@ -60,10 +64,19 @@ loop-less : tie.Need-loop-less Inv-loop μ-loop
 loop-less c = omega arith
 
 loop-again : tie.Need-loop-again Inv-loop μ-loop
-loop-again c = (omega arith, omega arith, scan-miss _ _ _ ((c .before .before .before .before .before .loop) .inv .2) (move-is (((c .before .before .before .before .before .before .before .before .before .args) .moves .now)) (blocksOf (((c .before .before .before .before .before .before .before .before .before .args) .blocks .now))) (instsOf (((c .before .before .before .before .before .before .before .before .before .args) .insts .now)) []) ((c .before .before .before .before .before .loop) .i) ((c .before .bad-move) .result) (omega arith) ((c .before .bad-move) .ensures) ∙ (c .if1) .left))
+loop-again c =
+    let s = c .before .before .before .before .before in
+    let t = s .before .before .before .before in (
+      omega arith,
+      omega arith,
+      scan-miss _ _ _ (s .loop .inv .2) (move-is ((t .args .moves .now)) (blocksOf ((t .args .blocks .now))) (instsOf ((t .args .insts .now)) []) (s .loop .i)
+          (c .before .bad-move .result) (omega arith) (c .before .bad-move .ensures) ∙ c .if1 .left),
+    )
 
 returns-2 : tie.Need-returns-2 Inv-loop μ-loop
-returns-2 c = sym (scan-end _ _ _ _ ((c .before .loop) .inv .2) (omega (arith, moves-length (((c .before .before .before .before .before .args) .moves .now)))) (omega (arith, moves-length (((c .before .before .before .before .before .args) .moves .now)))))
+returns-2 c =
+    let s = c .before .before .before .before .before in
+    sym (scan-end _ _ _ _ (c .before .loop .inv .2) (omega (arith, moves-length ((s .args .moves .now)))) (omega (arith, moves-length ((s .args .moves .now)))))
 
 pub moves-spec : {M : Type 1} → statement M
 moves-spec =

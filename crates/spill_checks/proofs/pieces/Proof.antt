@@ -29,7 +29,11 @@ bad-piece-requires : tie.Need-bad-piece-requires Inv-loop μ-loop
 bad-piece-requires c κs = ((c .before .before .before .before .pre), omega arith)
 
 returns : tie.Need-returns Inv-loop μ-loop
-returns c = sym (scan-hit _ _ _ _ ((c .before .before .before .loop) .inv .2) (ap (badPiece (blocksOf (((c .before .before .before .before .before .before .args) .blocks .now))) ((c .before .before .before .before .before .before .args) .v)) (piece-at (((c .before .before .before .before .before .before .args) .pieces .now)) ((c .before .before .before .loop) .i) (omega arith)) ∙ sym ((c .before .bad-piece) .ensures) ∙ c .if1 .taken) (omega (arith, pieces-length (((c .before .before .before .before .before .before .args) .pieces .now)))))
+returns c =
+    let s = c .before .before .before in
+    let t = s .before .before .before in
+    sym (scan-hit _ _ _ _ (s .loop .inv .2) (ap (badPiece (blocksOf ((t .args .blocks .now))) (t .args .v)) (piece-at ((t .args .pieces .now)) (s .loop .i) (omega arith)) ∙ sym
+    (c .before .bad-piece .ensures) ∙ c .if1 .taken) (omega (arith, pieces-length ((t .args .pieces .now)))))
 
 add-i : tie.Need-add-i Inv-loop μ-loop
 add-i c = omega arith
@@ -38,10 +42,19 @@ loop-less : tie.Need-loop-less Inv-loop μ-loop
 loop-less c = omega arith
 
 loop-again : tie.Need-loop-again Inv-loop μ-loop
-loop-again c = (omega arith, omega arith, scan-miss _ _ _ ((c .before .before .before .loop) .inv .2) (ap (badPiece (blocksOf (((c .before .before .before .before .before .before .args) .blocks .now))) ((c .before .before .before .before .before .before .args) .v)) (piece-at (((c .before .before .before .before .before .before .args) .pieces .now)) ((c .before .before .before .loop) .i) (omega arith)) ∙ sym ((c .before .bad-piece) .ensures) ∙ (c .if1) .left))
+loop-again c =
+    let s = c .before .before .before in
+    let t = s .before .before .before in (
+      omega arith,
+      omega arith,
+      scan-miss _ _ _ (s .loop .inv .2) (ap (badPiece (blocksOf ((t .args .blocks .now))) (t .args .v))
+          (piece-at ((t .args .pieces .now)) (s .loop .i) (omega arith)) ∙ sym (c .before .bad-piece .ensures) ∙ c .if1 .left),
+    )
 
 returns-2 : tie.Need-returns-2 Inv-loop μ-loop
-returns-2 c = sym (scan-end _ _ _ _ ((c .before .loop) .inv .2) (omega (arith, pieces-length (((c .before .before .before .before .args) .pieces .now)))) (omega (arith, pieces-length (((c .before .before .before .before .args) .pieces .now)))))
+returns-2 c =
+    let s = c .before .before .before .before in
+    sym (scan-end _ _ _ _ (c .before .loop .inv .2) (omega (arith, pieces-length ((s .args .pieces .now)))) (omega (arith, pieces-length ((s .args .pieces .now)))))
 
 pub pieces-spec : {M : Type 1} → statement M
 pieces-spec =

@@ -44,7 +44,9 @@ part-moved-start-3 : tie.Need-part-moved-start-3
 part-moved-start-3 c = (c .before .before .before .before .before .before .before .pre) .1 .in2 .0
 
 part-moved-end-3 : tie.Need-part-moved-end-3
-part-moved-end-3 c = stops ((c .before .before .before .before .before .before .before .pre) .0) ((c .before .before .before .before .before .before .before .pre) .1 .in2)
+part-moved-end-3 c =
+    let s = c .before .before .before .before .before .before .before in
+    stops (s .pre .0) (s .pre .1 .in2)
 
 mul-moved-4 : tie.Need-mul-moved-4
 mul-moved-4 c = begins ((c .before .before .before .before .before .before .before .before .pre) .1 .in3)
@@ -56,7 +58,9 @@ part-moved-start-4 : tie.Need-part-moved-start-4
 part-moved-start-4 c = (c .before .before .before .before .before .before .before .before .pre) .1 .in3 .0
 
 part-moved-end-4 : tie.Need-part-moved-end-4
-part-moved-end-4 c = stops ((c .before .before .before .before .before .before .before .before .pre) .0) ((c .before .before .before .before .before .before .before .before .pre) .1 .in3)
+part-moved-end-4 c =
+    let s = c .before .before .before .before .before .before .before .before in
+    stops (s .pre .0) (s .pre .1 .in3)
 
 shared-slice-read-moved-3 : tie.Need-shared-slice-read-moved-3
 shared-slice-read-moved-3 c = here 2 ((c .before .before .before .before .before .before .before .before .before .before .pre) .0) (lit≤ tt)

@@ -57,7 +57,14 @@ loop-less : tie.Need-loop-less Inv-loop μ-loop
 loop-less c = omega arith
 
 loop-again : tie.Need-loop-again Inv-loop μ-loop
-loop-again c = (omega arith, omega arith, held-store (assignedAt (((c .before .before .before .before .before .args) .assigned .now))) ((c .before .before .before .before .loop) .inv .2) _ _ (omega arith) (omega arith) refl (ap (λ (k : ℕ). getD (((c .before .before .before .before .before .args) .assigned .now)) k 0) (sym (add-zero (assignedWidth * (c .before .before .before .before .loop) .i)))))
+loop-again c =
+    let s = c .before .before .before .before in
+    let t = s .before in (
+      omega arith,
+      omega arith,
+      held-store (assignedAt ((t .args .assigned .now))) (s .loop .inv .2) _ _ (omega arith) (omega arith) refl
+          (ap (λ (k : ℕ). getD ((t .args .assigned .now)) k 0) (sym (add-zero (assignedWidth * (s .loop) .i)))),
+    )
 
 add-i-2 : tie.Need-add-i-2 Inv-loop μ-loop
 add-i-2 c = omega arith

@@ -22,7 +22,10 @@ earlier-requires-2 : tie.Need-earlier-requires-2
 earlier-requires-2 c κs = search needs
 
 returns : tie.Need-returns
-returns c = counts-chain ((c .before .before .before .before .before .before .args) .v) ((c .before .before .before .before .before .before .args) .slots) ((c .before .before .before .before .before .before .args) .assigned .now) ((c .before .before .before .before .most) .ensures) ((c .before .before .before .most2) .ensures) ((c .before .before .rows) .ensures) ((c .before .earlier) .ensures) ((c .earlier2) .ensures)
+returns c =
+    let s = c .before .before .before .before .before .before in
+    counts-chain (s .args .v) (s .args .slots) (s .args .assigned .now) (c .before .before .before .before .most .ensures) (c .before .before .before .most2 .ensures)
+    (c .before .before .rows .ensures) (c .before .earlier .ensures) (c .earlier2 .ensures)
 
 pub counts-spec : {M : Type 1} → statement M
 counts-spec =

@@ -15,7 +15,10 @@ enum-known-number : tie.Need-enum-known-number
 enum-known-number c = search needs
 
 returns : tie.Need-returns
-returns c = by-counts ((c .before .before .before .before .before .args) .v) ((c .before .before .before .before .before .args) .slots) ((c .before .before .before .before .before .args) .assigned .now) ((c .before .before .before .before .before .args) .lent) ((c .before .before .before .before .before .args) .work) _ _ (sym ((c .before .before .before .counts) .ensures) ∙ (c .before .number) .given .1)
+returns c =
+    let s = c .before .before .before .before .before in
+    by-counts (s .args .v) (s .args .slots) (s .args .assigned .now) (s .args .lent) (s .args .work) _ _
+    (sym (c .before .before .before .counts .ensures) ∙ c .before .number .given .1)
 
 enum-told : tie.Need-enum-told
 enum-told c = search needs
@@ -24,7 +27,9 @@ assigned-requires : tie.Need-assigned-requires
 assigned-requires c κs = search needs
 
 needed-requires : tie.Need-needed-requires
-needed-requires c κs = few-assigned ((c .before .before .before .before .before .args) .v) ((c .before .before .before .before .before .args) .slots) ((c .before .before .before .before .before .args) .assigned .now) (sym ((c .before .before .before .counts) .ensures) ∙ (c .before .enum-told) .given .1)
+needed-requires c κs =
+    let s = c .before .before .before .before .before in
+    few-assigned (s .args .v) (s .args .slots) (s .args .assigned .now) (sym (c .before .before .before .counts .ensures) ∙ c .before .enum-told .given .1)
 
 room-requires : tie.Need-room-requires
 room-requires c κs = search needs
@@ -33,7 +38,11 @@ earlier-requires : tie.Need-earlier-requires
 earlier-requires c κs = search needs
 
 returns-2 : tie.Need-returns-2
-returns-2 c = by-rest ((c .before .before .before .before .before .before .before .before .args) .v) ((c .before .before .before .before .before .before .before .before .args) .slots) ((c .before .before .before .before .before .before .before .before .args) .assigned .now) ((c .before .before .before .before .before .before .before .before .args) .lent) ((c .before .before .before .before .before .before .before .before .args) .work) (sym ((c .before .before .before .before .before .before .counts) .ensures) ∙ (c .before .before .before .before .enum-told) .given .1) ((c .before .before .before .assigned) .ensures) ((c .before .room) .ensures ∙ ap (spilledRoom ((c .before .before .before .before .before .before .before .before .args) .lent) ((c .before .before .before .before .before .before .before .before .args) .slots) ((c .before .before .before .before .before .before .before .before .args) .work)) ((c .before .before .needed) .ensures)) ((c .earlier) .ensures)
+returns-2 c =
+    let s = c .before .before .before .before .before .before .before .before in
+    by-rest (s .args .v) (s .args .slots) (s .args .assigned .now) (s .args .lent) (s .args .work)
+    (sym (c .before .before .before .before .before .before .counts .ensures) ∙ c .before .before .before .before .enum-told .given .1) (c .before .before .before .assigned .ensures)
+    (c .before .room .ensures ∙ ap (spilledRoom (s .args .lent) (s .args .slots) (s .args .work)) (c .before .before .needed .ensures)) (c .earlier .ensures)
 
 pub refusal-spec : {M : Type 1} → statement M
 refusal-spec =

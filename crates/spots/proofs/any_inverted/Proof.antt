@@ -43,7 +43,10 @@ inverted-requires : tie.Need-inverted-requires Inv-loop μ-loop
 inverted-requires c κs = (c .before .before .before .before .before .before .before .pre) .0
 
 returns : tie.Need-returns Inv-loop μ-loop
-returns c = λ es. any-hit ((c .before .before .before .before .before .before .before .before .before .args) .work .now) _ _ ((c .before .before .before .before .before .before .before .before .before .pre) .1) (inverted (lineOf ((c .before .before .before .before .before .before .before .before .before .args) .blocks .now) es)) _ (omega arith) (ap (inverted (lineOf ((c .before .before .before .before .before .before .before .before .before .args) .blocks .now) es)) (sym (unpack-is _ _ _ ((c .before .before .before .start-of) .ensures) ((c .before .before .end-of) .ensures))) ∙ sym ((c .before .inverted) .ensures es) ∙ c .if1 .taken)
+returns c =
+    let s = c .before .before .before .before .before .before .before .before .before in
+    λ es. any-hit (s .args .work .now) _ _ (s .pre .1) (inverted (lineOf (s .args .blocks .now) es)) _ (omega arith) (ap (inverted (lineOf (s .args .blocks .now) es))
+    (sym (unpack-is _ _ _ (c .before .before .before .start-of .ensures) (c .before .before .end-of .ensures))) ∙ sym (c .before .inverted .ensures es) ∙ c .if1 .taken)
 
 add-i : tie.Need-add-i Inv-loop μ-loop
 add-i c = omega arith
@@ -52,10 +55,17 @@ loop-less : tie.Need-loop-less Inv-loop μ-loop
 loop-less c = omega arith
 
 loop-again : tie.Need-loop-again Inv-loop μ-loop
-loop-again c = (omega arith, below-more _ _ ((c .before .before .before .before .before .before .loop) .inv .1) (λ es. ap (inverted (lineOf ((c .before .before .before .before .before .before .before .before .before .args) .blocks .now) es)) (sym (unpack-is _ _ _ ((c .before .before .before .start-of) .ensures) ((c .before .before .end-of) .ensures))) ∙ sym ((c .before .inverted) .ensures es) ∙ (c .if1) .left))
+loop-again c = (
+  omega arith,
+  below-more _ _ ((c .before .before .before .before .before .before .loop) .inv .1) (λ es. ap
+      (inverted (lineOf ((c .before .before .before .before .before .before .before .before .before .args) .blocks .now) es))
+      (sym (unpack-is _ _ _ ((c .before .before .before .start-of) .ensures) ((c .before .before .end-of) .ensures))) ∙ sym ((c .before .inverted) .ensures es) ∙ (c .if1) .left),
+)
 
 returns-2 : tie.Need-returns-2 Inv-loop μ-loop
-returns-2 c = λ es. any-none ((c .before .before .before .before .args) .work .now) _ _ ((c .before .before .before .before .pre) .1) (inverted (lineOf ((c .before .before .before .before .args) .blocks .now) es)) (λ j h. (c .before .loop) .inv .1 j (omega arith) es)
+returns-2 c =
+    let s = c .before .before .before .before in
+    λ es. any-none (s .args .work .now) _ _ (s .pre .1) (inverted (lineOf (s .args .blocks .now) es)) (λ j h. (c .before .loop) .inv .1 j (omega arith) es)
 
 pub any-inverted-spec : {M : Type 1} → statement M
 any-inverted-spec =

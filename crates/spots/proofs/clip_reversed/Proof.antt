@@ -35,7 +35,9 @@ larger-requires : tie.Need-larger-requires
 larger-requires c κs = search needs
 
 returns : tie.Need-returns
-returns c = λ es. clip-is ((c .before .before .before .before .before .args) .blocks .now) _ _ _ _ _ es ((c .before .before .before .before .before .pre)) ((c .before .smaller) .ensures) ((c .larger) .ensures)
+returns c =
+    let s = c .before .before .before .before .before in
+    λ es. clip-is (s .args .blocks .now) _ _ _ _ _ es ((s .pre)) (c .before .smaller .ensures) (c .larger .ensures)
 
 pub clip-reversed-spec : {M : Type 1} → statement M
 clip-reversed-spec =

@@ -14,7 +14,10 @@ clip-reversed-requires : tie.Need-clip-reversed-requires
 clip-reversed-requires c κs = search needs
 
 returns : tie.Need-returns
-returns c = λ es. inverted-first (lineOf ((c .before .before .before .before .args) .blocks .now) es) (range ((c .before .before .before .before .args) .start) ((c .before .before .before .before .args) .end)) _ ((c .before .before .holding) .ensures .is es) (sym (c .if1 .taken) ∙ (c .before .clip-reversed) .ensures es)
+returns c =
+    let s = c .before .before .before .before in
+    λ es. inverted-first (lineOf (s .args .blocks .now) es) (range (s .args .start) (s .args .end)) _ (c .before .before .holding .ensures .is es)
+    (sym (c .if1 .taken) ∙ c .before .clip-reversed .ensures es)
 
 holding-requires-2 : tie.Need-holding-requires-2
 holding-requires-2 c κs = search needs
@@ -23,7 +26,10 @@ clip-reversed-requires-2 : tie.Need-clip-reversed-requires-2
 clip-reversed-requires-2 c κs = search needs
 
 returns-2 : tie.Need-returns-2
-returns-2 c = λ es. inverted-last (lineOf ((c .before .before .before .before .before .before .args) .blocks .now) es) (range ((c .before .before .before .before .before .before .args) .start) ((c .before .before .before .before .before .before .args) .end)) _ ((c .before .before .before .before .holding) .ensures .is es) (sym ((c .before .before .if1) .left) ∙ (c .before .before .before .clip-reversed) .ensures es) _ _ ((c .before .holding2) .ensures .is es) ((c .clip-reversed2) .ensures es)
+returns-2 c =
+    let s = c .before .before .before .before .before .before in
+    λ es. inverted-last (lineOf (s .args .blocks .now) es) (range (s .args .start) (s .args .end)) _ (c .before .before .before .before .holding .ensures .is es)
+    (sym (c .before .before .if1 .left) ∙ c .before .before .before .clip-reversed .ensures es) _ _ (c .before .holding2 .ensures .is es) (c .clip-reversed2 .ensures es)
 
 pub inverted-spec : {M : Type 1} → statement M
 inverted-spec =

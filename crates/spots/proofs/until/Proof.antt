@@ -9,7 +9,9 @@ below-requires : tie.Need-below-requires
 below-requires c κs = search needs
 
 returns : tie.Need-returns
-returns c = until-none ((c .before .before .before .args) .work .now) _ _ ((c .before .before .before .pre) .0) ((c .before .before .before .pre) .1) _ _ _ ((c .before .below) .ensures) (omega arith)
+returns c =
+    let s = c .before .before .before in
+    until-none (s .args .work .now) _ _ (s .pre .0) (s .pre .1) _ _ _ (c .before .below .ensures) (omega arith)
 
 add-end : tie.Need-add-end
 add-end c = search needs
@@ -21,13 +23,17 @@ shared-slice-read-end : tie.Need-shared-slice-read-end
 shared-slice-read-end c = search needs
 
 returns-2 : tie.Need-returns-2
-returns-2 c = until-past ((c .before .before .before .before .before .args) .work .now) _ _ ((c .before .before .before .before .before .pre) .0) ((c .before .before .before .before .before .pre) .1) _ _ _ ((c .before .before .before .below) .ensures) (omega arith) (omega arith)
+returns-2 c =
+    let s = c .before .before .before .before .before in
+    until-past (s .args .work .now) _ _ (s .pre .0) (s .pre .1) _ _ _ (c .before .before .before .below .ensures) (omega arith) (omega arith)
 
 cast-result : tie.Need-cast-result
 cast-result c = search needs
 
 returns-3 : tie.Need-returns-3
-returns-3 c = until-at ((c .before .before .before .before .before .args) .work .now) _ _ ((c .before .before .before .before .before .pre) .0) ((c .before .before .before .before .before .pre) .1) _ _ _ ((c .before .before .before .below) .ensures) (omega arith) (omega arith)
+returns-3 c =
+    let s = c .before .before .before .before .before in
+    until-at (s .args .work .now) _ _ (s .pre .0) (s .pre .1) _ _ _ (c .before .before .before .below .ensures) (omega arith) (omega arith)
 
 pub until-spec : {M : Type 1} → statement M
 until-spec =

@@ -29,16 +29,23 @@ add-base-3 : tie.Need-add-base-3
 add-base-3 c = fit (c .before .before .before) .base
 
 successors-requires : tie.Need-successors-requires
-successors-requires c κs = ((c .before .before .before .before .pre .0 .0, c .before .before .before .before .pre .0 .1), omega (arith, some (c .before .before .before .before)))
+successors-requires c κs =
+    let s = c .before .before .before .before in
+    ((s .pre .0 .0, s .pre .0 .1), omega (arith, some (s)))
 
 order-requires : tie.Need-order-requires
-order-requires c κs = walkable (now (c .before .before .before .before .before .before .before .before .args .blocks)) (now (c .before .before .before .before .before .before .before .before .args .edges)) _ _ (some (c .before .before .before .before .before .before .before .before)) (c .before .before .before .before .before .before .before .before .pre .1) (c .before .before .before .successors .ensures)
+order-requires c κs =
+    let s = c .before .before .before .before .before .before .before .before in
+    walkable (now (s .args .blocks)) (now (s .args .edges)) _ _ (some (s)) (s .pre .1) (c .before .before .before .successors .ensures)
 
 same-length : tie.Need-same-length
 same-length c = c .before .before .order .ensures .kept .len ∙ c .before .before .before .before .before .before .successors .ensures .kept .len
 
 returns : tie.Need-returns
-returns c = prepared (now (c .before .before .before .before .before .before .before .before .before .before .before .args .blocks)) (now (c .before .before .before .before .before .before .before .before .before .before .before .args .edges)) _ _ (some (c .before .before .before .before .before .before .before .before .before .before .before)) (c .before .before .before .before .before .before .before .before .before .before .before .pre .1) (c .before .before .before .before .before .before .successors .ensures) (c .before .before .order .ensures)
+returns c =
+    let s = c .before .before .before .before .before .before .before .before .before .before .before in
+    prepared (now (s .args .blocks)) (now (s .args .edges)) _ _ (some (s)) (s .pre .1) (c .before .before .before .before .before .before .successors .ensures)
+    (c .before .before .order .ensures)
 
 pub prepare-spec : {M : Type 1} → statement M
 prepare-spec = tie.close

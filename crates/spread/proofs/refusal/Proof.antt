@@ -14,7 +14,10 @@ enum-known-v : tie.Need-enum-known-v
 enum-known-v c = search needs
 
 returns : tie.Need-returns
-returns c = passing-refused (now (c .before .before .before .before .before .before .args .blocks)) (now (c .before .before .before .before .before .before .args .edges)) (c .before .before .before .before .before .before .args .points) (c .before .before .before .before .before .before .args .leaving) (c .before .before .before .before .before .before .args .passing) (c .before .before .before .before .before .before .args .words) (c .before .before .before .before .before .before .args .answer) (c .before .before .before .before .before .before .args .work) _ _ (sym (c .before .before .before .rows .ensures) ∙ c .before .v .given .1)
+returns c =
+    let s = c .before .before .before .before .before .before in
+    passing-refused (now (s .args .blocks)) (now (s .args .edges)) (s .args .points) (s .args .leaving) (s .args .passing) (s .args .words) (s .args .answer) (s .args .work) _ _
+    (sym (c .before .before .before .rows .ensures) ∙ c .before .v .given .1)
 
 enum-told : tie.Need-enum-told
 enum-told c = search needs
@@ -23,7 +26,10 @@ refusal-requires : tie.Need-refusal-requires
 refusal-requires c κs = search needs
 
 returns-2 : tie.Need-returns-2
-returns-2 c = rest-last (now (c .before .before .before .before .before .before .args .blocks)) (now (c .before .before .before .before .before .before .args .edges)) (c .before .before .before .before .before .before .args .points) (c .before .before .before .before .before .before .args .leaving) (c .before .before .before .before .before .before .args .passing) (c .before .before .before .before .before .before .args .words) (c .before .before .before .before .before .before .args .answer) (c .before .before .before .before .before .before .args .work) _ (sym (c .before .before .before .rows .ensures) ∙ c .before .enum-told .given .1) (c .refusal .ensures)
+returns-2 c =
+    let s = c .before .before .before .before .before .before in
+    rest-last (now (s .args .blocks)) (now (s .args .edges)) (s .args .points) (s .args .leaving) (s .args .passing) (s .args .words) (s .args .answer) (s .args .work) _
+    (sym (c .before .before .before .rows .ensures) ∙ c .before .enum-told .given .1) (c .refusal .ensures)
 
 pub refusal-spec : {M : Type 1} → statement M
 refusal-spec =

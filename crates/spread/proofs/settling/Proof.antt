@@ -23,34 +23,73 @@ enum-known-v : tie.Need-enum-known-v
 enum-known-v c = search needs
 
 returns : tie.Need-returns
-returns c = order-refused (now (c .before .before .before .before .before .before .before .before .args .blocks)) (now (c .before .before .before .before .before .before .before .before .args .edges)) (c .before .before .before .before .before .before .before .before .args .points) (now (c .before .before .before .before .before .before .before .before .args .order)) (now (c .before .before .before .before .before .before .before .before .args .work)) _ _ (sym (c .before .before .before .refusal .ensures) ∙ c .before .v .given .1)
+returns c =
+    let s = c .before .before .before .before .before .before .before .before in
+    order-refused (now (s .args .blocks)) (now (s .args .edges)) (s .args .points) (now (s .args .order)) (now (s .args .work)) _ _
+    (sym (c .before .before .before .refusal .ensures) ∙ c .before .v .given .1)
 
 enum-told : tie.Need-enum-told
 enum-told c = search needs
 
 prepare-requires : tie.Need-prepare-requires
-prepare-requires c κs = let k = known (now (c .before .before .before .before .before .before .before .before .args .blocks)) (now (c .before .before .before .before .before .before .before .before .args .edges)) (c .before .before .before .before .before .before .before .before .args .points) (length (now (c .before .before .before .before .before .before .before .before .args .order))) (length (now (c .before .before .before .before .before .before .before .before .args .work))) (sym (c .before .before .before .refusal .ensures) ∙ c .before .enum-told .given .1) in ((k .graph .sound, k .graph .edges-fine), no-rows _ _ _ (k .work-fits))
+prepare-requires c κs =
+    let s = c .before .before .before .before .before .before .before .before in
+    let k = known (now (s .args .blocks)) (now (s .args .edges)) (s .args .points) (length (now (s .args .order))) (length (now (s .args .work)))
+    (sym (c .before .before .before .refusal .ensures) ∙ c .before .enum-told .given .1) in
+    ((k .graph .sound, k .graph .edges-fine), no-rows _ _ _ (k .work-fits))
 
 narrow-requires : tie.Need-narrow-requires
-narrow-requires c κs = let k = known (now (c .before .before .before .before .before .before .before .before .before .before .before .before .before .args .blocks)) (now (c .before .before .before .before .before .before .before .before .before .before .before .before .before .args .edges)) (c .before .before .before .before .before .before .before .before .before .before .before .before .before .args .points) (length (now (c .before .before .before .before .before .before .before .before .before .before .before .before .before .args .order))) (length (now (c .before .before .before .before .before .before .before .before .before .before .before .before .before .args .work))) (sym (c .before .before .before .before .before .before .before .before .refusal .ensures) ∙ c .before .before .before .before .before .before .enum-told .given .1) in (copied _ _ (k .answer-fits), order-inside (c .before .before .before .before .prepare .ensures) (no-rows _ _ _ (k .work-fits)) (k .graph .counts .some), small (c .before .before .before .before .prepare .ensures) (k .graph .counts .few))
+narrow-requires c κs =
+    let s = c .before .before .before .before in
+    let t = s .before .before .before .before .before .before .before .before .before in
+    let k = known (now (t .args .blocks)) (now (t .args .edges)) (t .args .points) (length (now (t .args .order))) (length (now (t .args .work)))
+    (sym (s .before .before .before .before .refusal .ensures) ∙ s .before .before .enum-told .given .1) in
+    (copied _ _ (k .answer-fits), order-inside (s .prepare .ensures) (no-rows _ _ _ (k .work-fits)) (k .graph .counts .some), small (s .prepare .ensures) (k .graph .counts .few))
 
 add-clear : tie.Need-add-clear
-add-clear c = let k = known (now (c .before .before .before .before .before .before .before .before .before .before .before .before .before .before .before .before .before .args .blocks)) (now (c .before .before .before .before .before .before .before .before .before .before .before .before .before .before .before .before .before .args .edges)) (c .before .before .before .before .before .before .before .before .before .before .before .before .before .before .before .before .before .args .points) (length (now (c .before .before .before .before .before .before .before .before .before .before .before .before .before .before .before .before .before .args .order))) (length (now (c .before .before .before .before .before .before .before .before .before .before .before .before .before .before .before .before .before .args .work))) (sym (c .before .before .before .before .before .before .before .before .before .before .before .before .refusal .ensures) ∙ c .before .before .before .before .before .before .before .before .before .before .enum-told .given .1) in fit (c .before .before .before .before .before .before .before .before .before .before .before .before .before .before .before .before .before) k .graph
+add-clear c =
+    let s = c .before .before .before .before .before .before .before .before .before .before .before .before .before .before .before .before .before in
+    let k = known (now (s .args .blocks)) (now (s .args .edges)) (s .args .points) (length (now (s .args .order))) (length (now (s .args .work))) (sym
+    (c .before .before .before .before .before .before .before .before .before .before .before .before .refusal .ensures)
+    ∙ c .before .before .before .before .before .before .before .before .before .before .enum-told .given .1) in
+    fit (s) k .graph
 
 mul-clear : tie.Need-mul-clear
-mul-clear c = let k = known (now (c .before .before .before .before .before .before .before .before .before .before .before .before .before .before .before .before .before .args .blocks)) (now (c .before .before .before .before .before .before .before .before .before .before .before .before .before .before .before .before .before .args .edges)) (c .before .before .before .before .before .before .before .before .before .before .before .before .before .before .before .before .before .args .points) (length (now (c .before .before .before .before .before .before .before .before .before .before .before .before .before .before .before .before .before .args .order))) (length (now (c .before .before .before .before .before .before .before .before .before .before .before .before .before .before .before .before .before .args .work))) (sym (c .before .before .before .before .before .before .before .before .before .before .before .before .refusal .ensures) ∙ c .before .before .before .before .before .before .before .before .before .before .enum-told .given .1) in fit (c .before .before .before .before .before .before .before .before .before .before .before .before .before .before .before .before .before) k .space
+mul-clear c =
+    let s = c .before .before .before .before .before .before .before .before .before .before .before .before .before .before .before .before .before in
+    let k = known (now (s .args .blocks)) (now (s .args .edges)) (s .args .points) (length (now (s .args .order))) (length (now (s .args .work))) (sym
+    (c .before .before .before .before .before .before .before .before .before .before .before .before .refusal .ensures)
+    ∙ c .before .before .before .before .before .before .before .before .before .before .enum-told .given .1) in
+    fit (s) k .space
 
 clear-requires : tie.Need-clear-requires
-clear-requires c κs = let k = known (now (c .before .before .before .before .before .before .before .before .before .before .before .before .before .before .before .before .before .args .blocks)) (now (c .before .before .before .before .before .before .before .before .before .before .before .before .before .before .before .before .before .args .edges)) (c .before .before .before .before .before .before .before .before .before .before .before .before .before .before .before .before .before .args .points) (length (now (c .before .before .before .before .before .before .before .before .before .before .before .before .before .before .before .before .before .args .order))) (length (now (c .before .before .before .before .before .before .before .before .before .before .before .before .before .before .before .before .before .args .work))) (sym (c .before .before .before .before .before .before .before .before .before .before .before .before .refusal .ensures) ∙ c .before .before .before .before .before .before .before .before .before .before .enum-told .given .1) in as-wide _ _ _ (c .before .before .before .before .before .before .before .before .prepare .ensures .kept .len) (no-rows _ _ _ (k .work-fits))
+clear-requires c κs =
+    let s = c .before .before .before .before .before .before .before .before .before .before .before .before .before .before .before .before .before in
+    let k = known (now (s .args .blocks)) (now (s .args .edges)) (s .args .points) (length (now (s .args .order))) (length (now (s .args .work))) (sym
+    (c .before .before .before .before .before .before .before .before .before .before .before .before .refusal .ensures)
+    ∙ c .before .before .before .before .before .before .before .before .before .before .enum-told .given .1) in
+    as-wide _ _ _ (c .before .before .before .before .before .before .before .before .prepare .ensures .kept .len) (no-rows _ _ _ (k .work-fits))
 
 same-length : tie.Need-same-length
 same-length c = c .before .before .before .before .before .before .narrow .ensures .len
 
 same-length-2 : tie.Need-same-length-2
-same-length-2 c = let k = known (now (c .before .before .before .before .before .before .before .before .before .before .before .before .before .before .before .before .before .before .before .before .args .blocks)) (now (c .before .before .before .before .before .before .before .before .before .before .before .before .before .before .before .before .before .before .before .before .args .edges)) (c .before .before .before .before .before .before .before .before .before .before .before .before .before .before .before .before .before .before .before .before .args .points) (length (now (c .before .before .before .before .before .before .before .before .before .before .before .before .before .before .before .before .before .before .before .before .args .order))) (length (now (c .before .before .before .before .before .before .before .before .before .before .before .before .before .before .before .before .before .before .before .before .args .work))) (sym (c .before .before .before .before .before .before .before .before .before .before .before .before .before .before .before .refusal .ensures) ∙ c .before .before .before .before .before .before .before .before .before .before .before .before .before .enum-told .given .1) in ap length (c .before .before .clear .ensures) ∙ cleared-length _ _ (as-wide _ _ _ (c .before .before .before .before .before .before .before .before .before .before .before .prepare .ensures .kept .len) (no-rows _ _ _ (k .work-fits))) ∙ c .before .before .before .before .before .before .before .before .before .before .before .prepare .ensures .kept .len
+same-length-2 c =
+    let s = c .before .before .before .before .before .before .before .before .before .before .before in
+    let t = s .before .before .before .before .before .before .before .before .before in
+    let k = known (now (t .args .blocks)) (now (t .args .edges)) (t .args .points) (length (now (t .args .order))) (length (now (t .args .work)))
+    (sym (s .before .before .before .before .refusal .ensures) ∙ s .before .before .enum-told .given .1) in
+    ap length (c .before .before .clear .ensures) ∙ cleared-length _ _ (as-wide _ _ _ (s .prepare .ensures .kept .len) (no-rows _ _ _ (k .work-fits))) ∙ s .prepare .ensures .kept .len
 
 returns-2 : tie.Need-returns-2
-returns-2 c = order-given (now (c .before .before .before .before .before .before .before .before .before .before .before .before .before .before .before .before .before .before .before .before .args .blocks)) (now (c .before .before .before .before .before .before .before .before .before .before .before .before .before .before .before .before .before .before .before .before .args .edges)) (c .before .before .before .before .before .before .before .before .before .before .before .before .before .before .before .before .before .before .before .before .args .points) _ _ _ _ _ (sym (c .before .before .before .before .before .before .before .before .before .before .before .before .before .before .before .refusal .ensures) ∙ c .before .before .before .before .before .before .before .before .before .before .before .before .before .enum-told .given .1) (known (now (c .before .before .before .before .before .before .before .before .before .before .before .before .before .before .before .before .before .before .before .before .args .blocks)) (now (c .before .before .before .before .before .before .before .before .before .before .before .before .before .before .before .before .before .before .before .before .args .edges)) (c .before .before .before .before .before .before .before .before .before .before .before .before .before .before .before .before .before .before .before .before .args .points) (length (now (c .before .before .before .before .before .before .before .before .before .before .before .before .before .before .before .before .before .before .before .before .args .order))) (length (now (c .before .before .before .before .before .before .before .before .before .before .before .before .before .before .before .before .before .before .before .before .args .work))) (sym (c .before .before .before .before .before .before .before .before .before .before .before .before .before .before .before .refusal .ensures) ∙ c .before .before .before .before .before .before .before .before .before .before .before .before .before .enum-told .given .1) .graph .counts .some) (c .before .before .before .before .before .before .before .before .before .before .before .prepare .ensures) (c .before .before .before .before .before .before .narrow .ensures) (c .before .before .clear .ensures)
+returns-2 c =
+    let s = c .before .before .before .before .before .before .before .before .before .before .before .before .before in
+    let t = s .before .before in
+    let u = t .before .before .before .before .before in
+    order-given (now (u .args .blocks)) (now (u .args .edges)) (u .args .points) _ _ _ _ _ (sym (t .refusal .ensures) ∙ s .enum-told .given .1) (known (now (u .args .blocks))
+    (now (u .args .edges)) (u .args .points) (length (now (u .args .order))) (length (now (u .args .work))) (sym (t .refusal .ensures) ∙ s .enum-told .given .1) .graph .counts .some)
+    (c .before .before .before .before .before .before .before .before .before .before .before .prepare .ensures) (c .before .before .before .before .before .before .narrow .ensures)
+    (c .before .before .clear .ensures)
 
 pub settling-spec : {M : Type 1} → statement M
 settling-spec =

@@ -19,7 +19,9 @@ fit : (c : tie.Start) {at : ℕ} → at ≡ baseOf (now (c .args .blocks)) (now 
 fit c e = rank-sums _ _ _ _ (length (now (c .args .work))) (some c) e (c .pre .1 .1) (omega (arith, c .good))
 
 prepare-requires : tie.Need-prepare-requires
-prepare-requires c κs = ((c .before .before .before .before .before .before .pre .0 .0, c .before .before .before .before .before .before .pre .0 .1), fewer-rows _ _ _ _ (c .before .before .before .before .before .before .pre .1 .1))
+prepare-requires c κs =
+    let s = c .before .before .before .before .before .before in
+    ((s .pre .0 .0, s .pre .0 .1), fewer-rows _ _ _ _ (s .pre .1 .1))
 
 add-rank : tie.Need-add-rank
 add-rank c = fit (c .before .before .before .before .before .before .before .before .before) (c .before .before .prepare .ensures .at-is) .rank
@@ -34,28 +36,55 @@ add-wait : tie.Need-add-wait
 add-wait c = fit (c .before .before .before .before .before .before .before .before .before) (c .before .before .prepare .ensures .at-is) .wait
 
 copy-from-requires : tie.Need-copy-from-requires
-copy-from-requires c κs = (leaves-in (now (c .before .before .before .before .before .before .before .before .before .before .args .blocks)) (now (c .before .before .before .before .before .before .before .before .before .before .args .edges)) (now (c .before .before .before .before .before .before .before .before .before .before .args .leaves)) (now (c .before .before .before .before .before .before .before .before .before .before .args .passes)) (c .before .before .before .before .before .before .before .before .before .before .args .words) _ _ (c .before .before .before .before .before .before .before .before .before .before .pre .0 .2) (some (c .before .before .before .before .before .before .before .before .before .before)) (c .before .before .before .before .before .before .before .before .before .before .pre .1 .0 .0) (c .before .before .before .before .before .before .before .before .before .before .pre .1 .0 .1) (c .before .before .before .before .before .before .before .before .before .before .pre .1 .1) (c .before .before .before .prepare .ensures), copied _ _ (omega arith))
+copy-from-requires c κs =
+    let s = c .before .before .before .before .before .before .before .before .before .before in (
+      leaves-in (now (s .args .blocks)) (now (s .args .edges)) (now (s .args .leaves)) (now (s .args .passes)) (s .args .words) _ _ (s .pre .0 .2) (some (s)) (s .pre .1 .0 .0)
+          (s .pre .1 .0 .1) (s .pre .1 .1) (c .before .before .before .prepare .ensures),
+      copied _ _ (omega arith),
+    )
 
 copy-from-requires-2 : tie.Need-copy-from-requires-2
-copy-from-requires-2 c κs = (passes-in (now (c .before .before .before .before .before .before .before .before .before .before .before .before .before .before .args .blocks)) (now (c .before .before .before .before .before .before .before .before .before .before .before .before .before .before .args .edges)) (now (c .before .before .before .before .before .before .before .before .before .before .before .before .before .before .args .leaves)) (now (c .before .before .before .before .before .before .before .before .before .before .before .before .before .before .args .passes)) (c .before .before .before .before .before .before .before .before .before .before .before .before .before .before .args .words) _ _ (c .before .before .before .before .before .before .before .before .before .before .before .before .before .before .pre .0 .2) (some (c .before .before .before .before .before .before .before .before .before .before .before .before .before .before)) (c .before .before .before .before .before .before .before .before .before .before .before .before .before .before .pre .1 .0 .0) (c .before .before .before .before .before .before .before .before .before .before .before .before .before .before .pre .1 .0 .1) (c .before .before .before .before .before .before .before .before .before .before .before .before .before .before .pre .1 .1) (c .before .before .before .before .before .before .before .prepare .ensures) _ (c .before .before .before .copy-from .ensures .len), copied _ _ (both _ _ _ (c .before .before .before .before .before .before .before .before .before .before .before .before .before .before .pre .1 .0 .0) (c .before .before .before .before .before .before .before .before .before .before .before .before .before .before .pre .1 .0 .1)))
+copy-from-requires-2 c κs =
+    let s = c .before .before .before .before .before .before .before .before .before .before .before .before .before .before in (
+      passes-in (now (s .args .blocks)) (now (s .args .edges)) (now (s .args .leaves)) (now (s .args .passes)) (s .args .words) _ _ (s .pre .0 .2) (some (s)) (s .pre .1 .0 .0)
+          (s .pre .1 .0 .1) (s .pre .1 .1) (c .before .before .before .before .before .before .before .prepare .ensures) _ (c .before .before .before .copy-from .ensures .len),
+      copied _ _
+          (both _ _ _ (s .pre .1 .0 .0) (s .pre .1 .0 .1)),
+    )
 
 add-result : tie.Need-add-result
 add-result c = fit (c .before .before .before .before .before .before .before .before .before .before .before .before .before .before .before .before .before .before) (c .before .before .before .before .before .before .before .before .before .before .before .prepare .ensures .at-is) .edges
 
 spread-requires : tie.Need-spread-requires
-spread-requires c κs = laid (now (c .before .before .before .before .before .before .before .before .before .before .before .before .before .before .before .before .before .before .args .blocks)) (now (c .before .before .before .before .before .before .before .before .before .before .before .before .before .before .before .before .before .before .args .edges)) (now (c .before .before .before .before .before .before .before .before .before .before .before .before .before .before .before .before .before .before .args .leaves)) (now (c .before .before .before .before .before .before .before .before .before .before .before .before .before .before .before .before .before .before .args .passes)) (c .before .before .before .before .before .before .before .before .before .before .before .before .before .before .before .before .before .before .args .words) _ _ (c .before .before .before .before .before .before .before .before .before .before .before .before .before .before .before .before .before .before .pre .0 .2) (some (c .before .before .before .before .before .before .before .before .before .before .before .before .before .before .before .before .before .before)) (c .before .before .before .before .before .before .before .before .before .before .before .before .before .before .before .before .before .before .pre .1 .0 .0) (c .before .before .before .before .before .before .before .before .before .before .before .before .before .before .before .before .before .before .pre .1 .0 .1) (c .before .before .before .before .before .before .before .before .before .before .before .before .before .before .before .before .before .before .pre .1 .1) (c .before .before .before .before .before .before .before .before .before .before .before .prepare .ensures) (c .before .before .before .before .before .before .before .copy-from .ensures) (c .before .before .before .copy-from2 .ensures)
+spread-requires c κs =
+    let s = c .before .before .before .before .before .before .before .before .before .before .before .before .before .before .before .before .before .before in
+    laid (now (s .args .blocks)) (now (s .args .edges)) (now (s .args .leaves)) (now (s .args .passes)) (s .args .words) _ _ (s .pre .0 .2) (some (s)) (s .pre .1 .0 .0)
+    (s .pre .1 .0 .1) (s .pre .1 .1) (c .before .before .before .before .before .before .before .before .before .before .before .prepare .ensures)
+    (c .before .before .before .before .before .before .before .copy-from .ensures) (c .before .before .before .copy-from2 .ensures)
 
 add-result-2 : tie.Need-add-result-2
-add-result-2 c = fit (c .before .before .before .before .before .before .before .before .before .before .before .before .before .before .before .before .before .before .before .before .before) (c .before .before .before .before .before .before .before .before .before .before .before .before .before .before .prepare .ensures .at-is) .words
+add-result-2 c =
+    fit (c .before .before .before .before .before .before .before .before .before .before .before .before .before .before .before .before .before .before .before .before .before)
+    (c .before .before .before .before .before .before .before .before .before .before .before .before .before .before .prepare .ensures .at-is) .words
 
 add-result-3 : tie.Need-add-result-3
-add-result-3 c = fit (c .before .before .before .before .before .before .before .before .before .before .before .before .before .before .before .before .before .before .before .before .before) (c .before .before .before .before .before .before .before .before .before .before .before .before .before .before .prepare .ensures .at-is) .answer
+add-result-3 c =
+    fit (c .before .before .before .before .before .before .before .before .before .before .before .before .before .before .before .before .before .before .before .before .before)
+    (c .before .before .before .before .before .before .before .before .before .before .before .before .before .before .prepare .ensures .at-is) .answer
 
 same-length : tie.Need-same-length
-same-length c = c .before .before .spread .ensures .kept .len ∙ c .before .before .before .before .before .before .copy-from2 .ensures .len ∙ c .before .before .before .before .before .before .before .before .before .before .copy-from .ensures .len ∙ c .before .before .before .before .before .before .before .before .before .before .before .before .before .before .prepare .ensures .kept .len
+same-length c =
+    c .before .before .spread .ensures .kept .len ∙ c .before .before .before .before .before .before .copy-from2 .ensures .len
+    ∙ c .before .before .before .before .before .before .before .before .before .before .copy-from .ensures .len
+    ∙ c .before .before .before .before .before .before .before .before .before .before .before .before .before .before .prepare .ensures .kept .len
 
 returns : tie.Need-returns
-returns c = solved (now (c .before .before .before .before .before .before .before .before .before .before .before .before .before .before .before .before .before .before .before .before .before .args .blocks)) (now (c .before .before .before .before .before .before .before .before .before .before .before .before .before .before .before .before .before .before .before .before .before .args .edges)) (now (c .before .before .before .before .before .before .before .before .before .before .before .before .before .before .before .before .before .before .before .before .before .args .leaves)) (now (c .before .before .before .before .before .before .before .before .before .before .before .before .before .before .before .before .before .before .before .before .before .args .passes)) (c .before .before .before .before .before .before .before .before .before .before .before .before .before .before .before .before .before .before .before .before .before .args .words) _ _ (c .before .before .before .before .before .before .before .before .before .before .before .before .before .before .before .before .before .before .before .before .before .pre .0 .2) (some (c .before .before .before .before .before .before .before .before .before .before .before .before .before .before .before .before .before .before .before .before .before)) (c .before .before .before .before .before .before .before .before .before .before .before .before .before .before .before .before .before .before .before .before .before .pre .1 .0 .0) (c .before .before .before .before .before .before .before .before .before .before .before .before .before .before .before .before .before .before .before .before .before .pre .1 .0 .1) (c .before .before .before .before .before .before .before .before .before .before .before .before .before .before .before .before .before .before .before .before .before .pre .1 .1) (c .before .before .before .before .before .before .before .before .before .before .before .before .before .before .prepare .ensures) (c .before .before .before .before .before .before .before .before .before .before .copy-from .ensures) (c .before .before .before .before .before .before .copy-from2 .ensures) (c .before .before .spread .ensures)
+returns c =
+    let s = c .before .before .before .before .before .before .before .before .before .before .before .before .before .before .before .before .before .before .before .before .before in
+    solved (now (s .args .blocks)) (now (s .args .edges)) (now (s .args .leaves)) (now (s .args .passes)) (s .args .words) _ _ (s .pre .0 .2) (some (s)) (s .pre .1 .0 .0)
+    (s .pre .1 .0 .1) (s .pre .1 .1) (c .before .before .before .before .before .before .before .before .before .before .before .before .before .before .prepare .ensures)
+    (c .before .before .before .before .before .before .before .before .before .before .copy-from .ensures) (c .before .before .before .before .before .before .copy-from2 .ensures)
+    (c .before .before .spread .ensures)
 
 pub solve-spec : {M : Type 1} → statement M
 solve-spec =

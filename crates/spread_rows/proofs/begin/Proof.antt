@@ -17,13 +17,19 @@ add-fill : tie.Need-add-fill Inv-loop μ-loop
 add-fill c = filled _ (c .before .before .before .args .s .wait) _ _ (c .before .before .before .pre .out-fits) (c .before .before .before .good .0 .1) .waits
 
 mul-fill : tie.Need-mul-fill Inv-loop μ-loop
-mul-fill c = filled _ (c .before .before .before .before .args .s .wait) _ _ (c .before .before .before .before .pre .out-fits) (c .before .before .before .before .good .0 .1) .rows
+mul-fill c =
+    let t = c .before .before .before .before in
+    filled _ (t .args .s .wait) _ _ (t .pre .out-fits) (t .good .0 .1) .rows
 
 add-fill-2 : tie.Need-add-fill-2 Inv-loop μ-loop
-add-fill-2 c = filled _ (c .before .before .before .before .args .s .wait) _ _ (c .before .before .before .before .pre .out-fits) (c .before .before .before .before .good .0 .1) .all
+add-fill-2 c =
+    let t = c .before .before .before .before in
+    filled _ (t .args .s .wait) _ _ (t .pre .out-fits) (t .good .0 .1) .all
 
 fill-requires : tie.Need-fill-requires Inv-loop μ-loop
-fill-requires c κs = filled _ (c .before .before .before .before .args .s .wait) _ _ (c .before .before .before .before .pre .out-fits) (c .before .before .before .before .good .0 .1) .inside
+fill-requires c κs =
+    let t = c .before .before .before .before in
+    filled _ (t .args .s .wait) _ _ (t .pre .out-fits) (t .good .0 .1) .inside
 
 loop-holds : tie.Need-loop-holds Inv-loop μ-loop
 loop-holds c = begin-start _ _ _ _ _ (c .before .before .before .before .before .before .before .pre .out-fits) (c .before .before .fill .ensures)

@@ -81,7 +81,9 @@ loop-less c = omega arith
 
 -- src/lib.rt:121:5
 loop-again : tie.Need-loop-again Inv-loop μ-loop
-loop-again c = (omega arith, begin-more _ _ _ _ _ _ (c .before .before .before .pre .0) (c .before .before .before .pre .1) (c .before .loop-test .taken) (c .before .before .loop .inv .1))
+loop-again c =
+    let s = c .before .before .before in
+    (omega arith, begin-more _ _ _ _ _ _ (s .pre .0) (s .pre .1) (c .before .loop-test .taken) (c .before .before .loop .inv .1))
 
 -- src/lib.rt:115:1
 same-length : tie.Need-same-length Inv-loop μ-loop

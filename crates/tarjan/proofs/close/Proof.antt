@@ -35,43 +35,81 @@ loop-holds : tie.Need-loop-holds Inv-loop μ-loop
 loop-holds c = (le-refl _, (c .pre) .p-le, close-start _ _ _ _ _ _)
 
 add-v : tie.Need-add-v Inv-loop μ-loop
-add-v c = at-held (c .before .before .pre) ((c .before .loop) .inv .2) ((c .before .loop) .inv .0) ((c .loop-test) .taken) ((c .before .before) .good .0 .1) .held .fits
+add-v c =
+    let s = c .before .before in
+    at-held (s .pre) (c .before .loop .inv .2) (c .before .loop .inv .0) (c .loop-test .taken) ((s) .good .0 .1) .held .fits
 
 mul-v : tie.Need-mul-v Inv-loop μ-loop
-mul-v c = at-held (c .before .before .pre) ((c .before .loop) .inv .2) ((c .before .loop) .inv .0) ((c .loop-test) .taken) ((c .before .before) .good .0 .1) .held .in-bytes
+mul-v c =
+    let s = c .before .before in
+    at-held (s .pre) (c .before .loop .inv .2) (c .before .loop .inv .0) (c .loop-test .taken) ((s) .good .0 .1) .held .in-bytes
 
 slice-read-v : tie.Need-slice-read-v Inv-loop μ-loop
-slice-read-v c = at-held (c .before .before .before .pre) ((c .before .before .loop) .inv .2) ((c .before .before .loop) .inv .0) ((c .before .loop-test) .taken) ((c .before .before .before) .good .0 .1) .held .inside
+slice-read-v c =
+    let s = c .before .before in
+    let t = s .before in
+    at-held (t .pre) (s .loop .inv .2) (s .loop .inv .0) (c .before .loop-test .taken) ((t) .good .0 .1) .held .inside
 
 add-to : tie.Need-add-to Inv-loop μ-loop
-add-to c = at-held (c .before .before .before .pre) ((c .before .before .loop) .inv .2) ((c .before .before .loop) .inv .0) ((c .before .loop-test) .taken) ((c .before .before .before) .good .0 .1) .num .fits
+add-to c =
+    let s = c .before .before in
+    let t = s .before in
+    at-held (t .pre) (s .loop .inv .2) (s .loop .inv .0) (c .before .loop-test .taken) ((t) .good .0 .1) .num .fits
 
 mul-w : tie.Need-mul-w Inv-loop μ-loop
-mul-w c = at-held (c .before .before .before .pre) ((c .before .before .loop) .inv .2) ((c .before .before .loop) .inv .0) ((c .before .loop-test) .taken) ((c .before .before .before) .good .0 .1) .num .in-bytes
+mul-w c =
+    let s = c .before .before in
+    let t = s .before in
+    at-held (t .pre) (s .loop .inv .2) (s .loop .inv .0) (c .before .loop-test .taken) ((t) .good .0 .1) .num .in-bytes
 
 slice-write-w : tie.Need-slice-write-w Inv-loop μ-loop
-slice-write-w c = at-held (c .before .before .before .pre) ((c .before .before .loop) .inv .2) ((c .before .before .loop) .inv .0) ((c .before .loop-test) .taken) ((c .before .before .before) .good .0 .1) .num .inside
+slice-write-w c =
+    let s = c .before .before in
+    let t = s .before in
+    at-held (t .pre) (s .loop .inv .2) (s .loop .inv .0) (c .before .loop-test .taken) ((t) .good .0 .1) .num .inside
 
 sub-w : tie.Need-sub-w Inv-loop μ-loop
 sub-w c = (c .before .before .loop) .inv .0
 
 add-w : tie.Need-add-w Inv-loop μ-loop
-add-w c = at-held (c .before .before .before .pre) ((c .before .before .loop) .inv .2) ((c .before .before .loop) .inv .0) ((c .before .loop-test) .taken) ((c .before .before .before) .good .0 .1) .put .fits
+add-w c =
+    let s = c .before .before in
+    let t = s .before in
+    at-held (t .pre) (s .loop .inv .2) (s .loop .inv .0) (c .before .loop-test .taken) ((t) .good .0 .1) .put .fits
 
 mul-w-2 : tie.Need-mul-w-2 Inv-loop μ-loop
-mul-w-2 c = at-held (c .before .before .before .pre) ((c .before .before .loop) .inv .2) ((c .before .before .loop) .inv .0) ((c .before .loop-test) .taken) ((c .before .before .before) .good .0 .1) .put .in-bytes
+mul-w-2 c =
+    let s = c .before .before in
+    let t = s .before in
+    at-held (t .pre) (s .loop .inv .2) (s .loop .inv .0) (c .before .loop-test .taken) ((t) .good .0 .1) .put .in-bytes
 
 slice-write-w-2 : tie.Need-slice-write-w-2 Inv-loop μ-loop
-slice-write-w-2 c = simp length-set (at-held (c .before .before .before .pre) ((c .before .before .loop) .inv .2) ((c .before .before .loop) .inv .0) ((c .before .loop-test) .taken) ((c .before .before .before) .good .0 .1) .put .inside)
+slice-write-w-2 c =
+    let s = c .before .before in
+    let t = s .before in
+    simp length-set (at-held (t .pre) (s .loop .inv .2) (s .loop .inv .0) (c .before .loop-test .taken) ((t) .good .0 .1) .put .inside)
 
 add-i : tie.Need-add-i Inv-loop μ-loop
-add-i c = at-held (c .before .before .before .pre) ((c .before .before .loop) .inv .2) ((c .before .before .loop) .inv .0) ((c .before .loop-test) .taken) ((c .before .before .before) .good .0 .1) .more
+add-i c =
+    let s = c .before .before in
+    let t = s .before in
+    at-held (t .pre) (s .loop .inv .2) (s .loop .inv .0) (c .before .loop-test .taken) ((t) .good .0 .1) .more
 
 loop-less : tie.Need-loop-less Inv-loop μ-loop
-loop-less c = at-held (c .before .before .before .pre) ((c .before .before .loop) .inv .2) ((c .before .before .loop) .inv .0) ((c .before .loop-test) .taken) ((c .before .before .before) .good .0 .1) .less
+loop-less c =
+    let s = c .before .before in
+    let t = s .before in
+    at-held (t .pre) (s .loop .inv .2) (s .loop .inv .0) (c .before .loop-test .taken) ((t) .good .0 .1) .less
 
 loop-again : tie.Need-loop-again Inv-loop μ-loop
-loop-again c = (at-held (c .before .before .before .pre) ((c .before .before .loop) .inv .2) ((c .before .before .loop) .inv .0) ((c .before .loop-test) .taken) ((c .before .before .before) .good .0 .1) .above, step-le _ _ ((c .before .loop-test) .taken), close-more (c .before .before .before .pre) ((c .before .before .loop) .inv .0) ((c .before .loop-test) .taken) ((c .before .before .loop) .inv .2))
+loop-again c =
+    let s = c .before .before in
+    let t = s .before in (
+      at-held (t .pre) (s .loop .inv .2) (s .loop .inv .0) (c .before .loop-test .taken) ((t) .good .0 .1) .above,
+      step-le _ _ (c .before .loop-test .taken),
+      close-more (t .pre)
+          (s .loop .inv .0) (c .before .loop-test .taken) (s .loop .inv .2),
+    )
 
 same-length : tie.Need-same-length Inv-loop μ-loop
 same-length c = c .before .loop .inv .2 .kept .len

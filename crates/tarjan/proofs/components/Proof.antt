@@ -53,10 +53,15 @@ loop-again c =
     (c .if1 .came)
 
 number-requires : tie.Need-number-requires Inv-loop μ-loop
-number-requires c κs = (roots-room ((c .before .before .loop) .inv) ((c .before .loop-test) .left), roots-shut ((c .before .before .loop) .inv) ((c .before .loop-test) .left))
+number-requires c κs =
+    let s = c .before .before in
+    (roots-room (s .loop .inv) (c .before .loop-test .left), roots-shut (s .loop .inv) (c .before .loop-test .left))
 
 returns : tie.Need-returns Inv-loop μ-loop
-returns c = found (roots-found ((c .before .before .before .before .before .loop) .inv) ((c .before .before .before .before .loop-test) .left) _ _ (rows-given (c .before .before .before .before .before .before .before .before .before .before .before .pre)) ((c .before .before .before .before .before .before .before .before .begin) .ensures) ((c .before .before .number) .ensures))
+returns c =
+    found (roots-found ((c .before .before .before .before .before .loop) .inv) ((c .before .before .before .before .loop-test) .left) _ _
+    (rows-given (c .before .before .before .before .before .before .before .before .before .before .before .pre))
+    ((c .before .before .before .before .before .before .before .before .begin) .ensures) ((c .before .before .number) .ensures))
 
 same-length : tie.Need-same-length Inv-loop μ-loop
 same-length c = returns c .kept .len

@@ -27,7 +27,9 @@ returns : tie.Need-returns
 returns c = rw ((c .before .before .lower) .ensures) (left-held (c .before .before .before .before .before .before .before .before .pre) ((c .before .before .before .before .if1) .taken))
 
 same-length : tie.Need-same-length
-same-length c = returns c ((c .before .before .before .before .before .before .before .before .pre) .at) ((c .before .before .before .before .before .before .before .before .pre) .to) ((c .before .before .before .before .before .before .before .before .pre) .ready) ((c .before .before .before .before .before .before .before .before .pre) .done) .kept .len
+same-length c =
+    let s = c .before .before .before .before .before .before .before .before in
+    returns c (s .pre .at) (s .pre .to) (s .pre .ready) (s .pre .done) .kept .len
 
 add-close : tie.Need-add-close
 add-close c = at-end (c .before .before .before .before .before) .shut
@@ -51,7 +53,9 @@ returns-2 : tie.Need-returns-2
 returns-2 c = left-closed (c .before .before .before .before .before .before .before .before .before .before .before .before .pre) ((c .before .before .before .before .before .before .before .before .if1) .left) ((c .before .before .before .before .before .close) .ensures)
 
 same-length-2 : tie.Need-same-length-2
-same-length-2 c = returns-2 c ((c .before .before .before .before .before .before .before .before .before .before .before .before .pre) .at) ((c .before .before .before .before .before .before .before .before .before .before .before .before .pre) .to) ((c .before .before .before .before .before .before .before .before .before .before .before .before .pre) .ready) ((c .before .before .before .before .before .before .before .before .before .before .before .before .pre) .done) .kept .len
+same-length-2 c =
+    let s = c .before .before .before .before .before .before .before .before .before .before .before .before in
+    returns-2 c (s .pre .at) (s .pre .to) (s .pre .ready) (s .pre .done) .kept .len
 
 pub leave-spec : {M : Type 1} → statement M
 leave-spec =

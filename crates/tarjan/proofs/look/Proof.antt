@@ -37,19 +37,32 @@ slice-write-w : tie.Need-slice-write-w
 slice-write-w c = at-edge (c .before .before .before) .next-at .inside
 
 push-requires : tie.Need-push-requires
-push-requires c κs = (at-edge (c .before .before .before .before .before) .node, fresh (c .before .before .before .before .before .pre) ((c .before .before .before .before .before) .good .0 .1) ((c .before .if1) .taken) .held, fresh (c .before .before .before .before .before .pre) ((c .before .before .before .before .before) .good .0 .1) ((c .before .if1) .taken) .frames, simp length-set (at-edge (c .before .before .before .before .before) .tables))
+push-requires c κs =
+    let s = c .before .before .before .before .before in (
+      at-edge (s) .node,
+      fresh (s .pre) ((s) .good .0 .1) (c .before .if1 .taken) .held,
+      fresh (s .pre) ((s) .good .0 .1) (c .before .if1 .taken) .frames,
+      simp length-set
+          (at-edge (s) .tables),
+    )
 
 add-t21 : tie.Need-add-t21
-add-t21 c = fresh (c .before .before .before .before .before .before .before .before .before .pre) ((c .before .before .before .before .before .before .before .before .before) .good .0 .1) ((c .before .before .before .before .before .if1) .taken) .more-held
+add-t21 c =
+    let s = c .before .before .before .before .before .before .before .before .before in
+    fresh (s .pre) ((s) .good .0 .1) (c .before .before .before .before .before .if1 .taken) .more-held
 
 add-t22 : tie.Need-add-t22
-add-t22 c = fresh (c .before .before .before .before .before .before .before .before .before .before .pre) ((c .before .before .before .before .before .before .before .before .before .before) .good .0 .1) ((c .before .before .before .before .before .before .if1) .taken) .more-frames
+add-t22 c =
+    let s = c .before .before .before .before .before .before .before .before .before .before in
+    fresh (s .pre) ((s) .good .0 .1) (c .before .before .before .before .before .before .if1 .taken) .more-frames
 
 returns : tie.Need-returns
 returns c = rw ((c .before .before .before .before .push) .ensures) (looked-new (c .before .before .before .before .before .before .before .before .before .before .pre) ((c .before .before .before .before .before .before .if1) .taken))
 
 same-length : tie.Need-same-length
-same-length c = returns c ((c .before .before .before .before .before .before .before .before .before .before .pre) .at) ((c .before .before .before .before .before .before .before .before .before .before .pre) .ready) ((c .before .before .before .before .before .before .before .before .before .before .pre) .more) .kept .len
+same-length c =
+    let s = c .before .before .before .before .before .before .before .before .before .before in
+    returns c (s .pre .at) (s .pre .ready) (s .pre .more) .kept .len
 
 sub-lower : tie.Need-sub-lower
 sub-lower c = not-none _ ((c .before .before .if1) .left)
@@ -61,13 +74,17 @@ returns-2 : tie.Need-returns-2
 returns-2 c = rw ((c .before .before .lower) .ensures) (looked-held (c .before .before .before .before .before .before .before .before .before .pre) ((c .before .before .before .before .before .if1) .left) ((c .before .before .before .before .if2) .taken))
 
 same-length-2 : tie.Need-same-length-2
-same-length-2 c = returns-2 c ((c .before .before .before .before .before .before .before .before .before .pre) .at) ((c .before .before .before .before .before .before .before .before .before .pre) .ready) ((c .before .before .before .before .before .before .before .before .before .pre) .more) .kept .len
+same-length-2 c =
+    let s = c .before .before .before .before .before .before .before .before .before in
+    returns-2 c (s .pre .at) (s .pre .ready) (s .pre .more) .kept .len
 
 returns-3 : tie.Need-returns-3
 returns-3 c = looked-shut (c .before .before .before .before .before .pre) ((c .if2) .left)
 
 same-length-3 : tie.Need-same-length-3
-same-length-3 c = returns-3 c ((c .before .before .before .before .before .pre) .at) ((c .before .before .before .before .before .pre) .ready) ((c .before .before .before .before .before .pre) .more) .kept .len
+same-length-3 c =
+    let s = c .before .before .before .before .before in
+    returns-3 c (s .pre .at) (s .pre .ready) (s .pre .more) .kept .len
 
 pub look-spec : {M : Type 1} → statement M
 look-spec =

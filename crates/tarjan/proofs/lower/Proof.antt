@@ -35,7 +35,9 @@ returns c = ap (λ (t : ℕ). set (c .before .before .args .w .now) (c .before .
 
 -- src/lib.rt:32:1
 returns-2 : tie.Need-returns-2
-returns-2 c = sym (set-getD (c .before .before .args .w .now) (c .before .before .args .i) 0) ∙ ap (λ (t : ℕ). set (c .before .before .args .w .now) (c .before .before .args .i) t) (omega arith)
+returns-2 c =
+    let s = c .before .before in
+    sym (set-getD (s .args .w .now) (s .args .i) 0) ∙ ap (λ (t : ℕ). set (s .args .w .now) (s .args .i) t) (omega arith)
 
 pub lower-spec : {M : Type 1} → statement M
 lower-spec =

@@ -36,7 +36,10 @@ add-w-2 c = omega arith
 
 -- src/lib.rt:135:23
 sub-w : tie.Need-sub-w Inv-loop μ-loop
-sub-w c = omega (arith, c .before .before .loop .inv .1 .rest (c .before .before .before .args .base + c .before .before .loop .v) (omega arith), c .before .before .before .pre .1 (c .before .before .loop .v) (c .before .loop-test .taken))
+sub-w c =
+    let s = c .before .before in
+    let t = s .before in
+    omega (arith, s .loop .inv .1 .rest (t .args .base + s .loop .v) (omega arith), t .pre .1 (s .loop .v) (c .before .loop-test .taken))
 
 -- src/lib.rt:135:11
 add-w-3 : tie.Need-add-w-3 Inv-loop μ-loop

@@ -66,7 +66,18 @@ add-look : tie.Need-add-look
 add-look c = turns (c .before .before .before .before .before .before .before .before) .low
 
 look-requires : tie.Need-look-requires
-look-requires c κs = record { at = (c .before .before .before .before .before .before .before .before) .args .at; some = (c .before .before .before .before .before .before .before .before .pre) .0; ready = (c .before .before .before .before .before .before .before .before .pre) .1; k-is = refl; low-is = low-at ((c .before .before .before .before .before .before .before .before) .args .base) ((c .before .before .before .before .before .before .before .before) .args .n) ((c .before .before .before .before .before .before .before .before) .args .z .d - 1); next-is = refl; more = (c .before .if1) .taken }
+look-requires c κs =
+    let s = c .before .before .before .before .before .before .before .before in
+    record {
+      at = (s) .args .at;
+      some = s .pre .0;
+      ready = s .pre .1;
+      k-is = refl;
+      low-is = low-at ((s) .args .base) ((s) .args .n)
+          ((s) .args .z .d - 1);
+      next-is = refl;
+      more = c .before .if1 .taken;
+    }
 
 returns : tie.Need-returns
 returns c = (c .before .before .look) .ensures _ ((c .before .before .before .before .before .before .before .before .before .before .before .pre) .1) ((c .before .before .before .before .if1) .taken)
@@ -78,7 +89,18 @@ add-leave : tie.Need-add-leave
 add-leave c = turns (c .before .before .before .before .before .before .before .before) .low
 
 leave-requires : tie.Need-leave-requires
-leave-requires c κs = record { at = (c .before .before .before .before .before .before .before .before) .args .at; to = (c .before .before .before .before .before .before .before .before) .args .to; some = (c .before .before .before .before .before .before .before .before .pre) .0; ready = (c .before .before .before .before .before .before .before .before .pre) .1; p-is = refl; low-is = low-at ((c .before .before .before .before .before .before .before .before) .args .base) ((c .before .before .before .before .before .before .before .before) .args .n) ((c .before .before .before .before .before .before .before .before) .args .z .d - 1); done = (c .before .if1) .left }
+leave-requires c κs =
+    let s = c .before .before .before .before .before .before .before .before in
+    record {
+      at = (s) .args .at;
+      to = (s) .args .to;
+      some = s .pre .0;
+      ready = s .pre .1;
+      p-is = refl;
+      low-is = low-at ((s) .args .base) ((s) .args .n)
+          ((s) .args .z .d - 1);
+      done = c .before .if1 .left;
+    }
 
 returns-2 : tie.Need-returns-2
 returns-2 c = (c .before .before .leave) .ensures _ _ ((c .before .before .before .before .before .before .before .before .before .before .before .pre) .1) ((c .before .before .before .before .if1) .left)

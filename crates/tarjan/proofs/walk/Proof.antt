@@ -21,7 +21,9 @@ push-requires c κs = (c .before .before .pre .0 .0, omega arith, omega arith, o
 
 -- src/lib.rt:108:5
 loop-holds : tie.Need-loop-holds Inv-loop μ-loop
-loop-holds c = rw (c .before .before .push .ensures) (root-ready _ _ _ _ _ _ _ _ (c .before .before .before .before .before .pre .1) (c .before .before .before .before .before .pre .0 .0) (c .before .before .before .before .before .pre .0 .1), going-start _ _ _ _ _ _ _ _ _)
+loop-holds c =
+    let s = c .before .before .before .before .before in
+    rw (c .before .before .push .ensures) (root-ready _ _ _ _ _ _ _ _ (s .pre .1) (s .pre .0 .0) (s .pre .0 .1), going-start _ _ _ _ _ _ _ _ _)
 
 -- src/lib.rt:109:9
 turn-requires : tie.Need-turn-requires Inv-loop μ-loop
@@ -33,11 +35,17 @@ loop-less c = c .before .before .turn .ensures .falls
 
 -- src/lib.rt:108:5
 loop-again : tie.Need-loop-again Inv-loop μ-loop
-loop-again c = (ready-more (c .before .before .before .before .before .before .loop .inv .0) (c .before .before .turn .ensures), going-more (c .before .before .before .before .before .before .loop .inv .1) (c .before .before .turn .ensures))
+loop-again c =
+    let s = c .before .before in
+    let t = s .before .before .before .before in
+    (ready-more (t .loop .inv .0) (s .turn .ensures), going-more (t .loop .inv .1) (s .turn .ensures))
 
 -- src/lib.rt:101:1
 returns : tie.Need-returns Inv-loop μ-loop
-returns c = walk-done _ _ _ _ _ _ _ _ (c .before .before .before .before .before .before .before .before .pre .1) (c .before .before .before .before .before .before .before .before .pre .0 .0) (c .before .before .before .before .before .before .before .before .pre .0 .1) _ _ _ _ _ (rw (c .before .before .before .before .before .push .ensures) at (c .before .before .loop .inv .1)) (omega arith)
+returns c =
+    let s = c .before .before .before .before .before .before .before .before in
+    walk-done _ _ _ _ _ _ _ _ (s .pre .1) (s .pre .0 .0) (s .pre .0 .1) _ _ _ _ _ (rw (c .before .before .before .before .before .push .ensures) at (c .before .before .loop .inv .1))
+    (omega arith)
 
 -- src/lib.rt:101:1
 same-length : tie.Need-same-length Inv-loop μ-loop

@@ -5,7 +5,9 @@ use Rattle.text_grammar.proofs.dash_at.Statement.{statement}
 use Rattle.text_grammar.proofs.dash_at.Tie as tie
 
 returns : tie.Need-returns
-returns c = dash-told ((c .before .before .args) .k) ((c .before .before .args) .j) (c .before .before .pre) _ (rw (eq-eqb _ _ ((c .before .if1) .taken), eq-eqb _ _ ((c .if2) .taken)))
+returns c =
+    let s = c .before .before in
+    dash-told (s .args .k) (s .args .j) (s .pre) _ (rw (eq-eqb _ _ (c .before .if1 .taken), eq-eqb _ _ (c .if2 .taken)))
 
 returns-2 : tie.Need-returns-2
 returns-2 c =

@@ -52,7 +52,12 @@ pack-requires : tie.Need-pack-requires
 pack-requires c κs = search needs
 
 returns : tie.Need-returns
-returns c = cover-is (now ((c .before .before .before .before .before .before .before .before .before .before .args) .blocks)) (endsAt ((c .before .before .before .before .before .before .before .before .before .before .args) .t) (now ((c .before .before .before .before .before .before .before .before .before .before .args) .work))) ((c .before .before .before .before .before .before .before .before .before .before .args) .k) _ ((c .before .before .before .before .before .before .before .before .before .before .pre) .0) (omega (arith, (c .before .before .before .before .before .before .before .shared-slice-known3) .given (blockWidth * (c .before .before .before .before .before .before .before .before .before .before .args) .k + 2))) ((c .before .before .before .before .before .before .before .before .before .before .args) .x) _ _ _ _ _ ((c .before .before .before .before .before .before .start-of) .ensures) ((c .before .before .before .end-of) .ensures) ((c .before .before .before .before .larger) .ensures) ((c .before .before .smaller) .ensures) ((c .before .until) .ensures) ((c .pack) .ensures)
+returns c =
+    let s = c .before .before .before .before .before .before .before .before .before .before in
+    cover-is (now (s .args .blocks)) (endsAt (s .args .t) (now (s .args .work))) (s .args .k) _ (s .pre .0)
+    (omega (arith, c .before .before .before .before .before .before .before .shared-slice-known3 .given (blockWidth * (s .args) .k + 2))) (s .args .x) _ _ _ _ _
+    (c .before .before .before .before .before .before .start-of .ensures) (c .before .before .before .end-of .ensures) (c .before .before .before .before .larger .ensures)
+    (c .before .before .smaller .ensures) (c .before .until .ensures) (c .pack .ensures)
 
 pub cover-spec : {M : Type 1} → statement M
 cover-spec =

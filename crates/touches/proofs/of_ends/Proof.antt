@@ -90,16 +90,28 @@ add-m : tie.Need-add-m Inv-loop μ-loop
 add-m c = bounds (c .before .before .before .before .before .before .loop .inv) (c .before .before .before .before .before .loop-test .taken) (room (c .before .before .before .before .before .before .before .before)) .more
 
 loop-less : tie.Need-loop-less Inv-loop μ-loop
-loop-less c = walk-less _ _ _ _ (c .before .before .before .before .before .before .loop .inv) (turn _ _ _ _ (c .before .before .before .before .before .before .loop .inv) _ (c .before .before .before .before .before .loop-test .taken) refl) _ refl
+loop-less c =
+    let s = c .before .before .before .before .before .before in
+    walk-less _ _ _ _ (s .loop .inv) (turn _ _ _ _ (s .loop .inv) _ (c .before .before .before .before .before .loop-test .taken) refl) _ refl
 
 loop-again : tie.Need-loop-again Inv-loop μ-loop
-loop-again c = walk-more _ _ _ _ (c .before .before .before .before .before .before .loop .inv) (turn _ _ _ _ (c .before .before .before .before .before .before .loop .inv) _ (c .before .before .before .before .before .loop-test .taken) refl) _ (end-given (c .before .before .before .before .before .before .before .before .args .insts .now) (c .before .before .before .before .before .before .before .before .args .ends .now) (c .before .before .before .before .before .before .loop .next - 1) _ refl (c .before .if1 .taken)) _ _ refl refl
+loop-again c =
+    let s = c .before .before .before .before .before .before in
+    let t = s .before .before in
+    walk-more _ _ _ _ (s .loop .inv) (turn _ _ _ _ (s .loop .inv) _ (c .before .before .before .before .before .loop-test .taken) refl) _
+    (end-given (t .args .insts .now) (t .args .ends .now) (s .loop .next - 1) _ refl (c .before .if1 .taken)) _ _ refl refl
 
 loop-less-2 : tie.Need-loop-less-2 Inv-loop μ-loop
-loop-less-2 c = walk-less _ _ _ _ (c .before .before .before .before .before .loop .inv) (turn _ _ _ _ (c .before .before .before .before .before .loop .inv) _ (c .before .before .before .before .loop-test .taken) refl) _ refl
+loop-less-2 c =
+    let s = c .before .before .before .before .before in
+    walk-less _ _ _ _ (s .loop .inv) (turn _ _ _ _ (s .loop .inv) _ (c .before .before .before .before .loop-test .taken) refl) _ refl
 
 loop-again-2 : tie.Need-loop-again-2 Inv-loop μ-loop
-loop-again-2 c = walk-skip _ _ _ _ (c .before .before .before .before .before .loop .inv) (turn _ _ _ _ (c .before .before .before .before .before .loop .inv) _ (c .before .before .before .before .loop-test .taken) refl) (end-none (c .before .before .before .before .before .before .before .args .insts .now) (c .before .before .before .before .before .before .before .args .ends .now) (c .before .before .before .before .before .loop .next - 1) _ refl (c .if1 .left)) _ refl
+loop-again-2 c =
+    let s = c .before .before .before .before .before in
+    let t = s .before .before in
+    walk-skip _ _ _ _ (s .loop .inv) (turn _ _ _ _ (s .loop .inv) _ (c .before .before .before .before .loop-test .taken) refl)
+    (end-none (t .args .insts .now) (t .args .ends .now) (s .loop .next - 1) _ refl (c .if1 .left)) _ refl
 
 same-length : tie.Need-same-length Inv-loop μ-loop
 same-length c = c .before .loop .inv .kept .len

@@ -93,10 +93,18 @@ slice-read-next-2 : tie.Need-slice-read-next-2 Inv-loop μ-loop
 slice-read-next-2 c = rw length-set (bounds (c .before .before .before .before .before .before .loop .inv) (c .before .before .before .before .before .loop-test .taken) (room (c .before .before .before .before .before .before .before .before .before .before .before)) .link .inside)
 
 loop-less : tie.Need-loop-less Inv-loop μ-loop
-loop-less c = walk-less _ _ _ _ (c .before .before .before .before .before .before .loop .inv) (turn _ _ _ _ (c .before .before .before .before .before .before .loop .inv) _ (c .before .before .before .before .before .loop-test .taken) refl) _ (link-stays _ _ _ _ (c .before .before .before .before .before .before .loop .inv) (turn _ _ _ _ (c .before .before .before .before .before .before .loop .inv) _ (c .before .before .before .before .before .loop-test .taken) refl) _ _ refl)
+loop-less c =
+    let s = c .before .before .before .before .before in
+    let t = s .before in
+    walk-less _ _ _ _ (t .loop .inv) (turn _ _ _ _ (t .loop .inv) _ (s .loop-test .taken) refl) _
+    (link-stays _ _ _ _ (t .loop .inv) (turn _ _ _ _ (t .loop .inv) _ (s .loop-test .taken) refl) _ _ refl)
 
 loop-again : tie.Need-loop-again Inv-loop μ-loop
-loop-again c = walk-more _ _ _ _ (c .before .before .before .before .before .before .loop .inv) (turn _ _ _ _ (c .before .before .before .before .before .before .loop .inv) _ (c .before .before .before .before .before .loop-test .taken) refl) _ (ap (λ z. z ∷ []) (sym (c .before .pack .ensures))) _ _ refl (link-stays _ _ _ _ (c .before .before .before .before .before .before .loop .inv) (turn _ _ _ _ (c .before .before .before .before .before .before .loop .inv) _ (c .before .before .before .before .before .loop-test .taken) refl) _ _ refl)
+loop-again c =
+    let s = c .before .before .before .before .before in
+    let t = s .before in
+    walk-more _ _ _ _ (t .loop .inv) (turn _ _ _ _ (t .loop .inv) _ (s .loop-test .taken) refl) _ (ap (λ z. z ∷ []) (sym (c .before .pack .ensures))) _ _ refl
+    (link-stays _ _ _ _ (t .loop .inv) (turn _ _ _ _ (t .loop .inv) _ (s .loop-test .taken) refl) _ _ refl)
 
 same-length : tie.Need-same-length Inv-loop μ-loop
 same-length c = c .before .loop .inv .kept .len

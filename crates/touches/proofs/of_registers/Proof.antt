@@ -12,7 +12,9 @@ abbrev μ-loop : tie.MeasureT-loop
 μ-loop pieces work₀ keys from count to m₀ k₀ work m k = count - k
 
 loop-holds : tie.Need-loop-holds Inv-loop μ-loop
-loop-holds c = gather-start _ _ _ _ _ _ ((c .before .before .pre) .0 .0) ((c .before .before .pre) .0 .1) ((c .before .before .pre) .0 .2) ((c .before .before .pre) .0 .3) ((c .before .before .pre) .0 .4) ((c .before .before .pre) .1 .0) ((c .before .before .pre) .1 .1)
+loop-holds c =
+    let s = c .before .before in
+    gather-start _ _ _ _ _ _ (s .pre .0 .0) (s .pre .0 .1) (s .pre .0 .2) (s .pre .0 .3) (s .pre .0 .4) (s .pre .1 .0) (s .pre .1 .1)
 
 add-register : tie.Need-add-register Inv-loop μ-loop
 add-register c = omega (arith, (c .before .loop) .inv .room, (c .before .loop) .inv .m-le, (c .before .loop) .inv .kept .len, (c .before .loop) .inv .from-fits, (c .before .loop) .inv .keys-fit, (c .before .loop) .inv .few)
@@ -21,19 +23,43 @@ mul-register : tie.Need-mul-register Inv-loop μ-loop
 mul-register c = omega arith
 
 slice-read-register : tie.Need-slice-read-register Inv-loop μ-loop
-slice-read-register c = omega (arith, (c .before .before .loop) .inv .room, (c .before .before .loop) .inv .m-le, (c .before .before .loop) .inv .kept .len, (c .before .before .loop) .inv .from-fits, (c .before .before .loop) .inv .keys-fit, (c .before .before .loop) .inv .few)
+slice-read-register c =
+    let s = c .before .before in
+    omega (arith, s .loop .inv .room, s .loop .inv .m-le, s .loop .inv .kept .len, s .loop .inv .from-fits, s .loop .inv .keys-fit, s .loop .inv .few)
 
 cast-register : tie.Need-cast-register Inv-loop μ-loop
-cast-register c = omega (arith, register-now ((c .before .before .loop) .inv) (omega arith), (c .before .before .loop) .inv .small ((c .before .before .loop) .k) (omega arith))
+cast-register c =
+    let s = c .before .before in
+    omega (arith, register-now (s .loop .inv) (omega arith), s .loop .inv .small (s .loop .k) (omega arith))
 
 add-fetch : tie.Need-add-fetch Inv-loop μ-loop
-add-fetch c = omega (arith, (c .before .before .before .loop) .inv .room, (c .before .before .before .loop) .inv .m-le, (c .before .before .before .loop) .inv .kept .len, (c .before .before .before .loop) .inv .from-fits, (c .before .before .before .loop) .inv .keys-fit, (c .before .before .before .loop) .inv .few)
+add-fetch c =
+    let s = c .before .before .before in
+    omega (arith, s .loop .inv .room, s .loop .inv .m-le, s .loop .inv .kept .len, s .loop .inv .from-fits, s .loop .inv .keys-fit, s .loop .inv .few)
 
 fetch-requires : tie.Need-fetch-requires Inv-loop μ-loop
-fetch-requires c κs = (order-now ((c .before .before .before .loop) .inv), omega (arith, (c .before .before .before .loop) .inv .room, (c .before .before .before .loop) .inv .m-le, (c .before .before .before .loop) .inv .kept .len, (c .before .before .before .loop) .inv .from-fits, (c .before .before .before .loop) .inv .keys-fit, (c .before .before .before .loop) .inv .few), omega (arith, (c .before .before .before .loop) .inv .room, (c .before .before .before .loop) .inv .m-le, (c .before .before .before .loop) .inv .kept .len, (c .before .before .before .loop) .inv .from-fits, (c .before .before .before .loop) .inv .keys-fit, (c .before .before .before .loop) .inv .few), (c .before .before .before .loop) .inv .few)
+fetch-requires c κs =
+    let s = c .before .before .before in (
+      order-now (s .loop .inv),
+      omega (arith, s .loop .inv .room, s .loop .inv .m-le, s .loop .inv .kept .len, s .loop .inv .from-fits, s .loop .inv .keys-fit, s .loop .inv .few),
+      omega
+          (arith, s .loop .inv .room, s .loop .inv .m-le, s .loop .inv .kept .len, s .loop .inv .from-fits, s .loop .inv .keys-fit, s .loop .inv .few),
+      s .loop .inv .few,
+    )
 
 add-m : tie.Need-add-m Inv-loop μ-loop
-add-m c = omega (arith, (c .before .before .before .before .before .before .loop) .inv .room, (c .before .before .before .before .before .before .loop) .inv .m-le, (c .before .before .before .before .before .before .loop) .inv .kept .len, (c .before .before .before .before .before .before .loop) .inv .from-fits, (c .before .before .before .before .before .before .loop) .inv .keys-fit, (c .before .before .before .before .before .before .loop) .inv .few, (c .before .before .fetch) .ensures .count)
+add-m c =
+    let s = c .before .before .before .before .before .before in
+    omega (
+      arith,
+      s .loop .inv .room,
+      s .loop .inv .m-le,
+      s .loop .inv .kept .len,
+      s .loop .inv .from-fits,
+      s .loop .inv .keys-fit,
+      s .loop .inv .few,
+      c .before .before .fetch .ensures .count,
+    )
 
 add-k : tie.Need-add-k Inv-loop μ-loop
 add-k c = omega arith
@@ -42,7 +68,9 @@ loop-less : tie.Need-loop-less Inv-loop μ-loop
 loop-less c = omega arith
 
 loop-again : tie.Need-loop-again Inv-loop μ-loop
-loop-again c = gather-more ((c .before .before .before .before .before .before .loop) .inv) (omega arith) (register-now ((c .before .before .before .before .before .before .loop) .inv) (omega arith)) ((c .before .before .fetch) .ensures)
+loop-again c =
+    let s = c .before .before .before .before .before .before in
+    gather-more (s .loop .inv) (omega arith) (register-now (s .loop .inv) (omega arith)) (c .before .before .fetch .ensures)
 
 same-length : tie.Need-same-length Inv-loop μ-loop
 same-length c = (c .before .loop) .inv .kept .len

@@ -20,7 +20,10 @@ apart-space-requires : tie.Need-apart-space-requires
 apart-space-requires c κs = tt
 
 returns-2 : tie.Need-returns-2
-returns-2 c = let a = (c .before .before .before .before .before .before .args) in apart-space (now (a .locals)) (now (a .slots)) (a .cells) (a .items) (sym ((c .before .before .before .apart-count) .ensures) ∙ (c .before .before .if1) .left) (sym ((c .before .apart-space) .ensures) ∙ (c .if2) .taken)
+returns-2 c =
+    let a = (c .before .before .before .before .before .before .args) in
+    apart-space (now (a .locals)) (now (a .slots)) (a .cells) (a .items) (sym ((c .before .before .before .apart-count) .ensures) ∙ (c .before .before .if1) .left)
+    (sym ((c .before .apart-space) .ensures) ∙ (c .if2) .taken)
 
 returns-3 : tie.Need-returns-3
 returns-3 c = let a = (c .before .before .before .before .before .before .args) in apart-fine (now (a .locals)) (now (a .slots)) (a .cells) (a .items) (sym ((c .before .before .before .apart-count) .ensures) ∙ (c .before .before .if1) .left) (sym ((c .before .apart-space) .ensures) ∙ (c .if2) .left)

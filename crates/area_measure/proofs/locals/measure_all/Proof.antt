@@ -14,10 +14,16 @@ abbrev μ-loop : tie.MeasureT-loop
 μ-loop blocks kinds touches ends work₀ p g mark o total₀ l₀ work total l = length kinds - l
 
 loop-holds : tie.Need-loop-holds Inv-loop μ-loop
-loop-holds c = let a = (c .before .before .before .before .before .args) in going-start (now (a .blocks)) (now (a .kinds)) (now (a .touches)) (now (a .ends)) (a .p) (a .g) (a .mark) (a .o) _ ((c .before .before .before .before .before .pre) .1)
+loop-holds c =
+    let s = c .before .before .before .before .before in
+    let a = (s .args) in going-start (now (a .blocks)) (now (a .kinds)) (now (a .touches)) (now (a .ends)) (a .p) (a .g) (a .mark) (a .o) _ (s .pre .1)
 
 measure-next-requires : tie.Need-measure-next-requires Inv-loop μ-loop
-measure-next-requires c κs = let a = (c .before .before .before .before .before .before .before .before .args) in (((c .before .before .before .before .before .before .before .before .pre) .0, going-ready (now (a .blocks)) (now (a .kinds)) (now (a .touches)) (now (a .ends)) (a .p) (a .g) (a .mark) (a .o) ((c .before .before .loop) .inv)), (omega arith, (c .before .before .loop) .inv .most))
+measure-next-requires c κs =
+    let s = c .before .before in
+    let t = s .before .before .before .before .before .before in
+    let a = (t .args) in
+    ((t .pre .0, going-ready (now (a .blocks)) (now (a .kinds)) (now (a .touches)) (now (a .ends)) (a .p) (a .g) (a .mark) (a .o) (s .loop .inv)), (omega arith, s .loop .inv .most))
 
 add-l : tie.Need-add-l Inv-loop μ-loop
 add-l c = omega arith
@@ -26,7 +32,10 @@ loop-less : tie.Need-loop-less Inv-loop μ-loop
 loop-less c = omega arith
 
 loop-again : tie.Need-loop-again Inv-loop μ-loop
-loop-again c = let a = (c .before .before .before .before .before .before .before .before .before .before .before .args) in going-more (now (a .blocks)) (now (a .kinds)) (now (a .touches)) (now (a .ends)) (a .p) (a .g) (a .mark) (a .o) ((c .before .before .before .before .before .loop) .inv) (omega arith) ((c .before .before .measure-next) .ensures)
+loop-again c =
+    let a = (c .before .before .before .before .before .before .before .before .before .before .before .args) in
+    going-more (now (a .blocks)) (now (a .kinds)) (now (a .touches)) (now (a .ends)) (a .p) (a .g) (a .mark) (a .o) ((c .before .before .before .before .before .loop) .inv)
+    (omega arith) ((c .before .before .measure-next) .ensures)
 
 same-length : tie.Need-same-length Inv-loop μ-loop
 same-length c = (c .before .loop) .inv .spared .len

@@ -16,25 +16,43 @@ shared-slice-read-kind : tie.Need-shared-slice-read-kind
 shared-slice-read-kind c = search needs
 
 add-work : tie.Need-add-work
-add-work c = let a = (c .before .before .before .before .before .before .before .before .args) in omega (arith, item-in (now (a .blocks)) (now (a .kinds)) (now (a .touches)) (now (a .ends)) (a .p) (a .g) (a .mark) (a .o) (a .l) (a .total) ((c .before .before .before .before .before .before .before .before .pre) .0 .1) ((c .before .before .before .before .before .before .before .before .pre) .1 .0) (omega arith))
+add-work c =
+    let s = c .before .before .before .before .before .before .before .before in
+    let a = (s .args) in
+    omega
+    (arith, item-in (now (a .blocks)) (now (a .kinds)) (now (a .touches)) (now (a .ends)) (a .p) (a .g) (a .mark) (a .o) (a .l) (a .total) (s .pre .0 .1) (s .pre .1 .0) (omega arith))
 
 mul-work : tie.Need-mul-work
-mul-work c = let a = (c .before .before .before .before .before .before .before .before .args) in omega (arith, item-in (now (a .blocks)) (now (a .kinds)) (now (a .touches)) (now (a .ends)) (a .p) (a .g) (a .mark) (a .o) (a .l) (a .total) ((c .before .before .before .before .before .before .before .before .pre) .0 .1) ((c .before .before .before .before .before .before .before .before .pre) .1 .0) (omega arith))
+mul-work c =
+    let s = c .before .before .before .before .before .before .before .before in
+    let a = (s .args) in
+    omega
+    (arith, item-in (now (a .blocks)) (now (a .kinds)) (now (a .touches)) (now (a .ends)) (a .p) (a .g) (a .mark) (a .o) (a .l) (a .total) (s .pre .0 .1) (s .pre .1 .0) (omega arith))
 
 slice-write-work : tie.Need-slice-write-work
-slice-write-work c = let a = (c .before .before .before .before .before .before .before .before .args) in item-in (now (a .blocks)) (now (a .kinds)) (now (a .touches)) (now (a .ends)) (a .p) (a .g) (a .mark) (a .o) (a .l) (a .total) ((c .before .before .before .before .before .before .before .before .pre) .0 .1) ((c .before .before .before .before .before .before .before .before .pre) .1 .0) (omega arith)
+slice-write-work c =
+    let s = c .before .before .before .before .before .before .before .before in
+    let a = (s .args) in
+    item-in (now (a .blocks)) (now (a .kinds)) (now (a .touches)) (now (a .ends)) (a .p) (a .g) (a .mark) (a .o) (a .l) (a .total) (s .pre .0 .1) (s .pre .1 .0) (omega arith)
 
 returns : tie.Need-returns
-returns c = let a = (c .before .before .before .before .before .before .before .before .args) in next-none (now (a .blocks)) (now (a .kinds)) (now (a .touches)) (now (a .ends)) (a .p) (a .g) (a .mark) (a .o) (a .l) (a .total) ((c .before .before .before .before .before .before .before .before .pre) .0 .1) ((c .before .before .before .before .before .before .before .before .pre) .1 .0) (omega arith)
+returns c =
+    let s = c .before .before .before .before .before .before .before .before in
+    let a = (s .args) in
+    next-none (now (a .blocks)) (now (a .kinds)) (now (a .touches)) (now (a .ends)) (a .p) (a .g) (a .mark) (a .o) (a .l) (a .total) (s .pre .0 .1) (s .pre .1 .0) (omega arith)
 
 same-length : tie.Need-same-length
 same-length c = returns c .spared .len
 
 mul-row : tie.Need-mul-row
-mul-row c = omega (arith, (c .before .before .before .before .before .before .before .before .pre) .0 .1 .laid .to-fits, (c .before .before .before .before .before .before .before .before .pre) .0 .1 .laid .fits, row-before ((c .before .before .before .before .before .before .before .before .args) .l) (length (now ((c .before .before .before .before .before .before .before .before .args) .kinds))) ((c .before .before .before .before .before .before .before .before .args) .g .width) ((c .before .before .before .before .before .before .before .before .pre) .1 .0))
+mul-row c =
+    let s = c .before .before .before .before .before .before .before .before in
+    omega (arith, s .pre .0 .1 .laid .to-fits, s .pre .0 .1 .laid .fits, row-before (s .args .l) (length (now (s .args .kinds))) (s .args .g .width) (s .pre .1 .0))
 
 add-row : tie.Need-add-row
-add-row c = omega (arith, (c .before .before .before .before .before .before .before .before .before .pre) .0 .1 .laid .to-fits, (c .before .before .before .before .before .before .before .before .before .pre) .0 .1 .laid .fits, row-before ((c .before .before .before .before .before .before .before .before .before .args) .l) (length (now ((c .before .before .before .before .before .before .before .before .before .args) .kinds))) ((c .before .before .before .before .before .before .before .before .before .args) .g .width) ((c .before .before .before .before .before .before .before .before .before .pre) .1 .0))
+add-row c =
+    let s = c .before .before .before .before .before .before .before .before .before in
+    omega (arith, s .pre .0 .1 .laid .to-fits, s .pre .0 .1 .laid .fits, row-before (s .args .l) (length (now (s .args .kinds))) (s .args .g .width) (s .pre .1 .0))
 
 add-span : tie.Need-add-span
 add-span c = omega (arith, (c .before .before .before .before .before .before .before .before .before .before .pre) .0 .1 .laid .small)
@@ -43,13 +61,28 @@ add-to : tie.Need-add-to
 add-to c = omega (arith, (c .before .before .before .before .before .before .before .before .before .before .pre) .0 .1 .laid .small)
 
 fetch-requires : tie.Need-fetch-requires
-fetch-requires c κs = ((c .before .before .before .before .before .before .before .before .before .before .before .pre) .0 .1 .laid .spots, (c .before .before .before .before .before .before .before .before .before .before .before .pre) .0 .1 .chains, omega (arith, (c .before .before .before .before .before .before .before .before .before .before .before .pre) .0 .1 .laid .locals-are))
+fetch-requires c κs =
+    let s = c .before .before .before .before .before .before .before .before .before .before .before in
+    (s .pre .0 .1 .laid .spots, s .pre .0 .1 .chains, omega (arith, s .pre .0 .1 .laid .locals-are))
 
 measure-one-requires : tie.Need-measure-one-requires
-measure-one-requires c κs = let a = (c .before .before .before .before .before .before .before .before .before .before .before .before .before .before .before .args) in ((c .before .before .before .before .before .before .before .before .before .before .before .before .before .before .before .pre) .0 .0, next-measurable (now (a .blocks)) (now (a .kinds)) (now (a .touches)) (now (a .ends)) (a .p) (a .g) (a .mark) (a .o) (a .l) (a .total) ((c .before .before .before .before .before .before .before .before .before .before .before .before .before .before .before .pre) .0 .1) ((c .before .before .before .before .before .before .before .before .before .before .before .before .before .before .before .pre) .1 .0) (omega arith) ((c .before .before .before .before .before .before .before .before .before .before .before .before .before .before .before .pre) .1 .1) ((c .before .before .before .fetch) .ensures), next-listable (now (a .blocks)) (now (a .kinds)) (now (a .touches)) (now (a .ends)) (a .p) (a .g) (a .mark) (a .o) (a .l) (a .total) ((c .before .before .before .before .before .before .before .before .before .before .before .before .before .before .before .pre) .0 .1) ((c .before .before .before .before .before .before .before .before .before .before .before .before .before .before .before .pre) .1 .0) (omega arith) ((c .before .before .before .before .before .before .before .before .before .before .before .before .before .before .before .pre) .1 .1) ((c .before .before .before .fetch) .ensures))
+measure-one-requires c κs =
+    let s = c .before .before .before in
+    let t = s .before .before .before .before .before .before .before .before .before .before .before .before in
+    let a = (t .args) in (
+      t .pre .0 .0,
+      next-measurable (now (a .blocks)) (now (a .kinds)) (now (a .touches)) (now (a .ends)) (a .p) (a .g) (a .mark) (a .o) (a .l) (a .total) (t .pre .0 .1) (t .pre .1 .0)
+          (omega arith) (t .pre .1 .1) (s .fetch .ensures),
+      next-listable (now (a .blocks)) (now (a .kinds)) (now (a .touches)) (now (a .ends)) (a .p) (a .g) (a .mark) (a .o) (a .l)
+          (a .total) (t .pre .0 .1) (t .pre .1 .0) (omega arith) (t .pre .1 .1) (s .fetch .ensures),
+    )
 
 returns-2 : tie.Need-returns-2
-returns-2 c = let a = (c .before .before .before .before .before .before .before .before .before .before .before .before .before .before .before .before .before .before .args) in next-done (now (a .blocks)) (now (a .kinds)) (now (a .touches)) (now (a .ends)) (a .p) (a .g) (a .mark) (a .o) (a .l) (a .total) ((c .before .before .before .before .before .before .before .before .before .before .before .before .before .before .before .before .before .before .pre) .0 .1) ((c .before .before .before .before .before .before .before .before .before .before .before .before .before .before .before .before .before .before .pre) .1 .0) (omega arith) ((c .before .before .before .before .before .before .before .before .before .before .before .before .before .before .before .before .before .before .pre) .1 .1) ((c .before .before .before .before .before .before .fetch) .ensures) ((c .before .before .measure-one) .ensures)
+returns-2 c =
+    let s = c .before .before .before .before .before .before .before .before .before .before .before .before .before .before .before .before .before .before in
+    let a = (s .args) in
+    next-done (now (a .blocks)) (now (a .kinds)) (now (a .touches)) (now (a .ends)) (a .p) (a .g) (a .mark) (a .o) (a .l) (a .total) (s .pre .0 .1) (s .pre .1 .0) (omega arith)
+    (s .pre .1 .1) (c .before .before .before .before .before .before .fetch .ensures) (c .before .before .measure-one .ensures)
 
 same-length-2 : tie.Need-same-length-2
 same-length-2 c = returns-2 c .spared .len

@@ -7,19 +7,27 @@ use Rattle.area_rows.proofs.marks.mark.Statement.{statement}
 use Rattle.area_rows.proofs.marks.mark.Tie as tie
 
 mul-row : tie.Need-mul-row
-mul-row c = omega (arith, (c .before .before .pre) .0 .rows-in, word-in ((c .before .before .args) .c) _ ((c .before .before .args) .k) ((c .before .before .pre) .0) ((c .before .before .pre) .1))
+mul-row c =
+    let s = c .before .before in
+    omega (arith, s .pre .0 .rows-in, word-in (s .args .c) _ (s .args .k) (s .pre .0) (s .pre .1))
 
 add-row : tie.Need-add-row
-add-row c = omega (arith, (c .before .before .before .pre) .0 .rows-in, word-in ((c .before .before .before .args) .c) _ ((c .before .before .before .args) .k) ((c .before .before .before .pre) .0) ((c .before .before .before .pre) .1))
+add-row c =
+    let s = c .before .before .before in
+    omega (arith, s .pre .0 .rows-in, word-in (s .args .c) _ (s .args .k) (s .pre .0) (s .pre .1))
 
 set-requires : tie.Need-set-requires
-set-requires c κs = omega (arith, (c .before .before .before .before .pre) .0 .rows-in, word-in ((c .before .before .before .before .args) .c) _ ((c .before .before .before .before .args) .k) ((c .before .before .before .before .pre) .0) ((c .before .before .before .before .pre) .1))
+set-requires c κs =
+    let s = c .before .before .before .before in
+    omega (arith, s .pre .0 .rows-in, word-in (s .args .c) _ (s .args .k) (s .pre .0) (s .pre .1))
 
 same-length : tie.Need-same-length
 same-length c = search needs
 
 returns : tie.Need-returns
-returns c = put-one ((c .before .before .before .before .before .before .before .pre) .0) ((c .before .before .before .before .before .before .before .pre) .1) ((c .before .before .set) .ensures)
+returns c =
+    let s = c .before .before .before .before .before .before .before in
+    put-one (s .pre .0) (s .pre .1) (c .before .before .set .ensures)
 
 pub mark-spec : {M : Type 1} → statement M
 mark-spec = tie.close (tie.spec mul-row add-row set-requires same-length returns)

@@ -18,13 +18,18 @@ add-mark-places : tie.Need-add-mark-places
 add-mark-places c = omega (arith, (c .before .holding2) .ensures .below)
 
 mark-places-requires : tie.Need-mark-places-requires
-mark-places-requires c κs = ((c .before .before .before .before .before .pre) .2, let z = (c .before .before .before .before .before .pre) .1 in omega (arith, (c .before .holding2) .ensures .below))
+mark-places-requires c κs =
+    let s = c .before .before .before .before .before in
+    (s .pre .2, let z = s .pre .1 in omega (arith, c .before .holding2 .ensures .below))
 
 same-length : tie.Need-same-length
 same-length c = search needs
 
 returns : tie.Need-returns
-returns c = touch-spans (lineOf ((c .before .before .before .before .before .before .before .before .args) .blocks .now) []) (range ((c .before .before .before .before .before .before .before .before .args) .start) ((c .before .before .before .before .before .before .before .before .args) .end)) _ _ ((c .before .before .before .before .before .holding) .ensures .is []) ((c .before .before .before .before .holding2) .ensures .is []) ((c .before .before .mark-places) .ensures)
+returns c =
+    let s = c .before .before .before .before .before .before .before .before in
+    touch-spans (lineOf (s .args .blocks .now) []) (range (s .args .start) (s .args .end)) _ _ (c .before .before .before .before .before .holding .ensures .is [])
+    (c .before .before .before .before .holding2 .ensures .is []) (c .before .before .mark-places .ensures)
 
 pub mark-touch-spec : {M : Type 1} → statement M
 mark-touch-spec =

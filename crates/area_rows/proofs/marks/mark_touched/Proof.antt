@@ -34,7 +34,9 @@ end-of-requires : tie.Need-end-of-requires Inv-loop μ-loop
 end-of-requires c κs = omega arith
 
 mark-touch-requires : tie.Need-mark-touch-requires Inv-loop μ-loop
-mark-touch-requires c κs = ((c .before .before .before .before .before .before .before .before .before .pre) .0 .line, (c .before .before .before .before .before .before .before .before .before .pre) .0 .places, (c .before .before .before .before .before .before .loop) .inv .0 .fits)
+mark-touch-requires c κs =
+    let s = c .before .before .before .before .before .before .before .before .before in
+    (s .pre .0 .line, s .pre .0 .places, c .before .before .before .before .before .before .loop .inv .0 .fits)
 
 add-i : tie.Need-add-i Inv-loop μ-loop
 add-i c = omega arith
@@ -49,7 +51,9 @@ same-length : tie.Need-same-length Inv-loop μ-loop
 same-length c = (c .before .before .loop) .inv .0 .put .kept .len
 
 returns : tie.Need-returns Inv-loop μ-loop
-returns c = touched-done ((c .before .before .before .before .before .pre) .0) ((c .before .before .before .before .before .pre) .1) (sweep-done ((c .before .before .loop) .inv .0) (omega arith))
+returns c =
+    let s = c .before .before .before .before .before in
+    touched-done (s .pre .0) (s .pre .1) (sweep-done (c .before .before .loop .inv .0) (omega arith))
 
 pub mark-touched-spec : {M : Type 1} → statement M
 mark-touched-spec =

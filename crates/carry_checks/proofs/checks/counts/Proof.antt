@@ -15,7 +15,10 @@ earlier-requires : tie.Need-earlier-requires
 earlier-requires c κs = search needs
 
 returns : tie.Need-returns
-returns c = counts-chain ((c .before .before .before .before .before .before .before .before .before .before .args) .v) ((c .before .before .before .before .before .before .before .before .before .before .args) .blocks .now) ((c .before .before .before .before .before .before .before .before .before .before .args) .insts .now) ((c .before .before .before .before .before .before .before .before .before .before .args) .operands .now) ((c .before .before .before .before .before .before .before .before .before .before .args) .crossings .now) ((c .before .before .before .before .before .before .before .before .before .before .args) .locals .now) ((c .before .before .before .before .before .before .before .before .before .before .args) .addresses .now) ((c .before .before .before .before .before .before .before .before .before .before .args) .ends .now) ((c .before .before .blocks2) .ensures) ((c .before .code) .ensures) ((c .earlier) .ensures)
+returns c =
+    let s = c .before .before .before .before .before .before .before .before .before .before in
+    counts-chain (s .args .v) (s .args .blocks .now) (s .args .insts .now) (s .args .operands .now) (s .args .crossings .now) (s .args .locals .now) (s .args .addresses .now)
+    (s .args .ends .now) (c .before .before .blocks2 .ensures) (c .before .code .ensures) (c .earlier .ensures)
 
 pub counts-spec : {M : Type 1} → statement M
 counts-spec = tie.close (tie.spec blocks-requires code-requires earlier-requires returns)

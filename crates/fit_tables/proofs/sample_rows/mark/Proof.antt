@@ -40,7 +40,9 @@ same-length-2 : tie.Need-same-length-2
 same-length-2 c = omega arith
 
 returns-2 : tie.Need-returns-2
-returns-2 c = marked-bit ((c .before .before .set) .ensures) (omega (arith, (c .before .before .before .before .before .before .pre) .1, (c .before .before .before .before .before .before .pre) .2))
+returns-2 c =
+    let s = c .before .before .before .before .before .before in
+    marked-bit (c .before .before .set .ensures) (omega (arith, s .pre .1, s .pre .2))
 
 pub mark-spec : {M : Type 1} → statement M
 mark-spec =

@@ -45,10 +45,14 @@ shared-slice-read-w-2 : tie.Need-shared-slice-read-w-2 Inv-loop μ-loop
 shared-slice-read-w-2 c = omega arith
 
 cast-w-2 : tie.Need-cast-w-2 Inv-loop μ-loop
-cast-w-2 c = omega (arith, (c .before .shared-slice-known) .given (2 * (c .before .before .before .loop) .i), (c .shared-slice-known2) .given (2 * (c .before .before .before .loop) .i + 1))
+cast-w-2 c =
+    let s = c .before .before .before in
+    omega (arith, c .before .shared-slice-known .given (2 * (s .loop) .i), c .shared-slice-known2 .given (2 * (s .loop) .i + 1))
 
 add-w-2 : tie.Need-add-w-2 Inv-loop μ-loop
-add-w-2 c = omega (arith, (c .before .shared-slice-known) .given (2 * (c .before .before .before .loop) .i), (c .shared-slice-known2) .given (2 * (c .before .before .before .loop) .i + 1))
+add-w-2 c =
+    let s = c .before .before .before in
+    omega (arith, c .before .shared-slice-known .given (2 * (s .loop) .i), c .shared-slice-known2 .given (2 * (s .loop) .i + 1))
 
 mul-w-6 : tie.Need-mul-w-6 Inv-loop μ-loop
 mul-w-6 c = omega arith
@@ -63,7 +67,9 @@ loop-less : tie.Need-loop-less Inv-loop μ-loop
 loop-less c = omega arith
 
 loop-again : tie.Need-loop-again Inv-loop μ-loop
-loop-again c = done-more ((c .before .before .before .loop) .inv) _ _ (omega arith) (omega arith) (area-word (now ((c .before .before .before .before .args) .areas)) ((c .before .before .before .loop) .i))
+loop-again c =
+    let s = c .before .before .before in
+    done-more (s .loop .inv) _ _ (omega arith) (omega arith) (area-word (now (s .before .args .areas)) (s .loop .i))
 
 same-length : tie.Need-same-length Inv-loop μ-loop
 same-length c = omega arith

@@ -19,7 +19,12 @@ abbrev μ-loop : tie.MeasureT-loop
 μ-loop items₀ w wants from n i₀ items i = n - i
 
 loop-holds : tie.Need-loop-holds Inv-loop μ-loop
-loop-holds c = let a = (c .before .before .before .args) in (omega arith, flat-start 4 (a .n) (λ j. itemRow (getD (now (a .w)) (a .from + j) 0) (wantPresent (now (a .wants)) j) (wantFirst (now (a .wants)) j) (wantRanges (now (a .wants)) j)) (now (a .items)) (λ j h. item-row-wide (now (a .w)) (now (a .wants)) (a .from) j) (omega arith))
+loop-holds c =
+    let a = (c .before .before .before .args) in (
+      omega arith,
+      flat-start 4 (a .n) (λ j. itemRow (getD (now (a .w)) (a .from + j) 0) (wantPresent (now (a .wants)) j) (wantFirst (now (a .wants)) j) (wantRanges (now (a .wants)) j))
+          (now (a .items)) (λ j h. item-row-wide (now (a .w)) (now (a .wants)) (a .from) j) (omega arith),
+    )
 
 add-cell : tie.Need-add-cell Inv-loop μ-loop
 add-cell c = omega arith
@@ -58,7 +63,15 @@ loop-less : tie.Need-loop-less Inv-loop μ-loop
 loop-less c = omega arith
 
 loop-again : tie.Need-loop-again Inv-loop μ-loop
-loop-again c = let a = (c .before .before .before .before .before .before .before .before .before .before .before .before .args) in (omega arith, rw ((c .before .before .put-row) .ensures) (four-more (a .n) (λ j. itemRow (getD (now (a .w)) (a .from + j) 0) (wantPresent (now (a .wants)) j) (wantFirst (now (a .wants)) j) (wantRanges (now (a .wants)) j)) _ _ ((c .before .before .before .before .before .before .before .before .loop) .i) (omega arith) (λ j h. item-row-wide (now (a .w)) (now (a .wants)) (a .from) j) ((c .before .before .before .before .before .before .before .before .loop) .inv .1) _ _ _ _ (row-absent (getD (now (a .w)) (a .from + (c .before .before .before .before .before .before .before .before .loop) .i) 0) (wantPresent (now (a .wants)) ((c .before .before .before .before .before .before .before .before .loop) .i)) (wantFirst (now (a .wants)) ((c .before .before .before .before .before .before .before .before .loop) .i)) (wantRanges (now (a .wants)) ((c .before .before .before .before .before .before .before .before .loop) .i)) ((c .before .before .before .before .if1) .taken))))
+loop-again c =
+    let s = c .before .before .before .before .before .before .before .before in
+    let a = (s .before .before .before .before .args) in (
+      omega arith,
+      rw (c .before .before .put-row .ensures) (four-more (a .n) (λ j. itemRow (getD (now (a .w)) (a .from + j) 0) (wantPresent (now (a .wants)) j)
+          (wantFirst (now (a .wants)) j) (wantRanges (now (a .wants)) j)) _ _ (s .loop .i) (omega arith) (λ j h. item-row-wide (now (a .w)) (now (a .wants)) (a .from) j)
+          (s .loop .inv .1) _ _ _ _ (row-absent (getD (now (a .w)) (a .from + (s .loop) .i) 0) (wantPresent (now (a .wants)) (s .loop .i)) (wantFirst (now (a .wants)) (s .loop .i))
+          (wantRanges (now (a .wants)) (s .loop .i)) (c .before .before .before .before .if1 .taken))),
+    )
 
 mul-put-row-2 : tie.Need-mul-put-row-2 Inv-loop μ-loop
 mul-put-row-2 c = omega arith
@@ -91,13 +104,24 @@ loop-less-2 : tie.Need-loop-less-2 Inv-loop μ-loop
 loop-less-2 c = omega arith
 
 loop-again-2 : tie.Need-loop-again-2 Inv-loop μ-loop
-loop-again-2 c = let a = (c .before .before .before .before .before .before .before .before .before .before .before .before .before .before .args) in (omega arith, rw ((c .before .before .put-row2) .ensures) (four-more (a .n) (λ j. itemRow (getD (now (a .w)) (a .from + j) 0) (wantPresent (now (a .wants)) j) (wantFirst (now (a .wants)) j) (wantRanges (now (a .wants)) j)) _ _ ((c .before .before .before .before .before .before .before .before .before .before .loop) .i) (omega arith) (λ j h. item-row-wide (now (a .w)) (now (a .wants)) (a .from) j) ((c .before .before .before .before .before .before .before .before .before .before .loop) .inv .1) _ _ _ _ (row-present (getD (now (a .w)) (a .from + (c .before .before .before .before .before .before .before .before .before .before .loop) .i) 0) (wantPresent (now (a .wants)) ((c .before .before .before .before .before .before .before .before .before .before .loop) .i)) (wantFirst (now (a .wants)) ((c .before .before .before .before .before .before .before .before .before .before .loop) .i)) (wantRanges (now (a .wants)) ((c .before .before .before .before .before .before .before .before .before .before .loop) .i)) ((c .before .before .before .before .before .before .if1) .left))))
+loop-again-2 c =
+    let s = c .before .before .before .before .before .before .before .before .before .before in
+    let a = (s .before .before .before .before .args) in (
+      omega arith,
+      rw (c .before .before .put-row2 .ensures) (four-more (a .n) (λ j. itemRow (getD (now (a .w)) (a .from + j) 0) (wantPresent (now (a .wants)) j)
+          (wantFirst (now (a .wants)) j) (wantRanges (now (a .wants)) j)) _ _ (s .loop .i) (omega arith) (λ j h. item-row-wide (now (a .w)) (now (a .wants)) (a .from) j)
+          (s .loop .inv .1) _ _ _ _ (row-present (getD (now (a .w)) (a .from + (s .loop) .i) 0) (wantPresent (now (a .wants)) (s .loop .i)) (wantFirst (now (a .wants)) (s .loop .i))
+          (wantRanges (now (a .wants)) (s .loop .i)) (c .before .before .before .before .before .before .if1 .left))),
+    )
 
 same-length : tie.Need-same-length Inv-loop μ-loop
 same-length c = (c .before .loop) .inv .1 .len
 
 returns : tie.Need-returns Inv-loop μ-loop
-returns c = let a = (c .before .before .before .before .before .args) in flat-done 4 (a .n) (λ j. itemRow (getD (now (a .w)) (a .from + j) 0) (wantPresent (now (a .wants)) j) (wantFirst (now (a .wants)) j) (wantRanges (now (a .wants)) j)) _ _ _ (λ j h. item-row-wide (now (a .w)) (now (a .wants)) (a .from) j) ((c .before .loop) .inv .1) (omega arith)
+returns c =
+    let a = (c .before .before .before .before .before .args) in
+    flat-done 4 (a .n) (λ j. itemRow (getD (now (a .w)) (a .from + j) 0) (wantPresent (now (a .wants)) j) (wantFirst (now (a .wants)) j) (wantRanges (now (a .wants)) j)) _ _ _
+    (λ j h. item-row-wide (now (a .w)) (now (a .wants)) (a .from) j) ((c .before .loop) .inv .1) (omega arith)
 
 pub write-items-spec : {M : Type 1} → statement M
 write-items-spec =

@@ -13,49 +13,87 @@ abbrev μ-loop : tie.MeasureT-loop
 μ-loop insts addresses work₀ lay z local b₀ c₀ work b c = c
 
 add-c : tie.Need-add-c Inv-loop μ-loop
-add-c c = head-at ((c .before .before .before .before .pre) .0) ((c .before .before .before .before) .good .1 .1 .0 .1) ((c .before .before .before .before) .args .local) ((c .before .before .before .before .pre) .2 .here) .fits
+add-c c =
+    let s = c .before .before .before .before in
+    head-at (s .pre .0) ((s) .good .1 .1 .0 .1) ((s) .args .local) (s .pre .2 .here) .fits
 
 mul-c : tie.Need-mul-c Inv-loop μ-loop
-mul-c c = head-at ((c .before .before .before .before .pre) .0) ((c .before .before .before .before) .good .1 .1 .0 .1) ((c .before .before .before .before) .args .local) ((c .before .before .before .before .pre) .2 .here) .in-bytes
+mul-c c =
+    let s = c .before .before .before .before in
+    head-at (s .pre .0) ((s) .good .1 .1 .0 .1) ((s) .args .local) (s .pre .2 .here) .in-bytes
 
 slice-read-c : tie.Need-slice-read-c Inv-loop μ-loop
-slice-read-c c = head-at ((c .before .before .before .before .before .pre) .0) ((c .before .before .before .before .before) .good .1 .1 .0 .1) ((c .before .before .before .before .before) .args .local) ((c .before .before .before .before .before .pre) .2 .here) .inside
+slice-read-c c =
+    let s = c .before .before .before .before .before in
+    head-at (s .pre .0) ((s) .good .1 .1 .0 .1) ((s) .args .local) (s .pre .2 .here) .inside
 
 loop-holds : tie.Need-loop-holds Inv-loop μ-loop
-loop-holds c = begin-start ((c .before .before .before .before .before) .args .lay) ((c .before .before .before .before .before) .args .z) ((c .before .before .before .before .before) .args .insts .now) ((c .before .before .before .before .before) .args .addresses .now) ((c .before .before .before .before .before) .args .local) ((c .before .before .before .before .before) .args .work .now) _ ((c .before .before .before .before .before .pre) .0) ((c .before .before .before .before .before .pre) .1) ((c .before .before .before .before .before .pre) .2) refl
+loop-holds c =
+    let s = c .before .before .before .before .before in
+    begin-start ((s) .args .lay) ((s) .args .z) ((s) .args .insts .now) ((s) .args .addresses .now) ((s) .args .local) ((s) .args .work .now) _ (s .pre .0) (s .pre .1) (s .pre .2) refl
 
 sub-a : tie.Need-sub-a Inv-loop μ-loop
 sub-a c = (c .loop-test) .taken
 
 mul-take : tie.Need-mul-take Inv-loop μ-loop
-mul-take c = entry-at ((c .before .before .loop) .inv) ((c .before .before .before .before .before .before .before .before) .good .1 .0 .1) ((c .before .before .before .before .before .before .before .before) .good .1 .1 .0 .1) ((c .before .loop-test) .taken) .twice
+mul-take c =
+    let s = c .before .before .before .before .before .before .before .before in
+    entry-at (c .before .before .loop .inv) ((s) .good .1 .0 .1) ((s) .good .1 .1 .0 .1) (c .before .loop-test .taken) .twice
 
 mul-take-2 : tie.Need-mul-take-2 Inv-loop μ-loop
-mul-take-2 c = entry-at ((c .before .before .loop) .inv) ((c .before .before .before .before .before .before .before .before) .good .1 .0 .1) ((c .before .before .before .before .before .before .before .before) .good .1 .1 .0 .1) ((c .before .loop-test) .taken) .in-bytes
+mul-take-2 c =
+    let s = c .before .before .before .before .before .before .before .before in
+    entry-at (c .before .before .loop .inv) ((s) .good .1 .0 .1) ((s) .good .1 .1 .0 .1) (c .before .loop-test .taken) .in-bytes
 
 shared-slice-read-take : tie.Need-shared-slice-read-take Inv-loop μ-loop
-shared-slice-read-take c = entry-at ((c .before .before .before .loop) .inv) ((c .before .before .before .before .before .before .before .before .before) .good .1 .0 .1) ((c .before .before .before .before .before .before .before .before .before) .good .1 .1 .0 .1) ((c .before .before .loop-test) .taken) .inside
+shared-slice-read-take c =
+    let s = c .before .before .before .before .before .before .before .before .before in
+    entry-at (c .before .before .before .loop .inv) ((s) .good .1 .0 .1) ((s) .good .1 .1 .0 .1) (c .before .before .loop-test .taken) .inside
 
 cast-take : tie.Need-cast-take Inv-loop μ-loop
-cast-take c = entry-at ((c .before .before .before .loop) .inv) ((c .before .before .before .before .before .before .before .before .before) .good .1 .0 .1) ((c .before .before .before .before .before .before .before .before .before) .good .1 .1 .0 .1) ((c .before .before .loop-test) .taken) .inst
+cast-take c =
+    let s = c .before .before .before .before .before .before .before .before .before in
+    entry-at (c .before .before .before .loop .inv) ((s) .good .1 .0 .1) ((s) .good .1 .1 .0 .1) (c .before .before .loop-test .taken) .inst
 
 take-requires : tie.Need-take-requires Inv-loop μ-loop
-take-requires c κs = let a = entry-at ((c .before .before .before .loop) .inv) ((c .before .before .before .before .before .before .before .before .before) .good .1 .0 .1) ((c .before .before .before .before .before .before .before .before .before) .good .1 .1 .0 .1) ((c .before .before .loop-test) .taken) in (a .listed, a .low, (c .before .before .before .loop) .inv .grew .held)
+take-requires c κs =
+    let s = c .before .before .before in
+    let t = s .before .before .before .before .before .before in
+    let a = entry-at (s .loop .inv) ((t) .good .1 .0 .1) ((t) .good .1 .1 .0 .1) (c .before .before .loop-test .taken) in (a .listed, a .low, s .loop .inv .grew .held)
 
 add-c-2 : tie.Need-add-c-2 Inv-loop μ-loop
-add-c-2 c = entry-at ((c .before .before .before .before .before .before .before .loop) .inv) ((c .before .before .before .before .before .before .before .before .before .before .before .before .before) .good .1 .0 .1) ((c .before .before .before .before .before .before .before .before .before .before .before .before .before) .good .1 .1 .0 .1) ((c .before .before .before .before .before .before .loop-test) .taken) .next .fits
+add-c-2 c =
+    let s = c .before .before .before .before .before .before .before .before .before .before .before .before .before in
+    entry-at (c .before .before .before .before .before .before .before .loop .inv) ((s) .good .1 .0 .1) ((s) .good .1 .1 .0 .1)
+    (c .before .before .before .before .before .before .loop-test .taken) .next .fits
 
 mul-c-2 : tie.Need-mul-c-2 Inv-loop μ-loop
-mul-c-2 c = entry-at ((c .before .before .before .before .before .before .before .loop) .inv) ((c .before .before .before .before .before .before .before .before .before .before .before .before .before) .good .1 .0 .1) ((c .before .before .before .before .before .before .before .before .before .before .before .before .before) .good .1 .1 .0 .1) ((c .before .before .before .before .before .before .loop-test) .taken) .next .in-bytes
+mul-c-2 c =
+    let s = c .before .before .before .before .before .before .before .before .before .before .before .before .before in
+    entry-at (c .before .before .before .before .before .before .before .loop .inv) ((s) .good .1 .0 .1) ((s) .good .1 .1 .0 .1)
+    (c .before .before .before .before .before .before .loop-test .taken) .next .in-bytes
 
 slice-read-c-2 : tie.Need-slice-read-c-2 Inv-loop μ-loop
-slice-read-c-2 c = rw ((c .before .before .before .before .take) .ensures .grew .len) (entry-at ((c .before .before .before .before .before .before .before .before .loop) .inv) ((c .before .before .before .before .before .before .before .before .before .before .before .before .before .before) .good .1 .0 .1) ((c .before .before .before .before .before .before .before .before .before .before .before .before .before .before) .good .1 .1 .0 .1) ((c .before .before .before .before .before .before .before .loop-test) .taken) .next .inside)
+slice-read-c-2 c =
+    let s = c .before .before .before .before .before .before .before .before .before .before .before .before .before .before in
+    rw (c .before .before .before .before .take .ensures .grew .len) (entry-at (c .before .before .before .before .before .before .before .before .loop .inv) ((s) .good .1 .0 .1)
+    ((s) .good .1 .1 .0 .1) (c .before .before .before .before .before .before .before .loop-test .taken) .next .inside)
 
 loop-less : tie.Need-loop-less Inv-loop μ-loop
-loop-less c = begin-more ((c .before .before .before .before .before .before .before .before .loop) .inv) ((c .before .before .before .before .before .before .before .before .loop) .c - 1) _ _ (entry-at ((c .before .before .before .before .before .before .before .before .loop) .inv) ((c .before .before .before .before .before .before .before .before .before .before .before .before .before .before) .good .1 .0 .1) ((c .before .before .before .before .before .before .before .before .before .before .before .before .before .before) .good .1 .1 .0 .1) ((c .before .before .before .before .before .before .before .loop-test) .taken) .is) refl ((c .before .before .before .before .take) .ensures) refl .1
+loop-less c =
+    let s = c .before .before .before .before .before .before .before .before in
+    let t = s .before .before .before .before .before .before in
+    begin-more (s .loop .inv) (s .loop .c - 1) _ _
+    (entry-at (s .loop .inv) ((t) .good .1 .0 .1) ((t) .good .1 .1 .0 .1) (c .before .before .before .before .before .before .before .loop-test .taken) .is) refl
+    (c .before .before .before .before .take .ensures) refl .1
 
 loop-again : tie.Need-loop-again Inv-loop μ-loop
-loop-again c = begin-more ((c .before .before .before .before .before .before .before .before .loop) .inv) ((c .before .before .before .before .before .before .before .before .loop) .c - 1) _ _ (entry-at ((c .before .before .before .before .before .before .before .before .loop) .inv) ((c .before .before .before .before .before .before .before .before .before .before .before .before .before .before) .good .1 .0 .1) ((c .before .before .before .before .before .before .before .before .before .before .before .before .before .before) .good .1 .1 .0 .1) ((c .before .before .before .before .before .before .before .loop-test) .taken) .is) refl ((c .before .before .before .before .take) .ensures) refl .0
+loop-again c =
+    let s = c .before .before .before .before .before .before .before .before in
+    let t = s .before .before .before .before .before .before in
+    begin-more (s .loop .inv) (s .loop .c - 1) _ _
+    (entry-at (s .loop .inv) ((t) .good .1 .0 .1) ((t) .good .1 .1 .0 .1) (c .before .before .before .before .before .before .before .loop-test .taken) .is) refl
+    (c .before .before .before .before .take .ensures) refl .0
 
 same-length : tie.Need-same-length Inv-loop μ-loop
 same-length c = (c .before .loop) .inv .grew .len

@@ -8,28 +8,48 @@ use Rattle.follow.proofs.walks.follow.Statement.{statement}
 use Rattle.follow.proofs.walks.follow.Tie as tie
 
 add-none : tie.Need-add-none
-add-none c = head-at ((c .before .before .before .before .pre) .0 .tables) ((c .before .before .before .before) .good .1 .1 .0 .1) ((c .before .before .before .before) .args .local) ((c .before .before .before .before .pre) .1) .fits
+add-none c =
+    let s = c .before .before .before .before in
+    head-at (s .pre .0 .tables) ((s) .good .1 .1 .0 .1) ((s) .args .local) (s .pre .1) .fits
 
 mul-none : tie.Need-mul-none
-mul-none c = head-at ((c .before .before .before .before .pre) .0 .tables) ((c .before .before .before .before) .good .1 .1 .0 .1) ((c .before .before .before .before) .args .local) ((c .before .before .before .before .pre) .1) .in-bytes
+mul-none c =
+    let s = c .before .before .before .before in
+    head-at (s .pre .0 .tables) ((s) .good .1 .1 .0 .1) ((s) .args .local) (s .pre .1) .in-bytes
 
 slice-read-none : tie.Need-slice-read-none
-slice-read-none c = head-at ((c .before .before .before .before .before .pre) .0 .tables) ((c .before .before .before .before .before) .good .1 .1 .0 .1) ((c .before .before .before .before .before) .args .local) ((c .before .before .before .before .before .pre) .1) .inside
+slice-read-none c =
+    let s = c .before .before .before .before .before in
+    head-at (s .pre .0 .tables) ((s) .good .1 .1 .0 .1) ((s) .args .local) (s .pre .1) .inside
 
 add-endless : tie.Need-add-endless
-add-endless c = ended-at ((c .before .before .before .before .before .before .pre) .0 .tables) ((c .before .before .before .before .before .before) .good .1 .1 .0 .1) ((c .before .before .before .before .before .before) .args .local) ((c .before .before .before .before .before .before .pre) .1) .fits
+add-endless c =
+    let s = c .before .before .before .before .before .before in
+    ended-at (s .pre .0 .tables) ((s) .good .1 .1 .0 .1) ((s) .args .local) (s .pre .1) .fits
 
 mul-endless : tie.Need-mul-endless
-mul-endless c = ended-at ((c .before .before .before .before .before .before .pre) .0 .tables) ((c .before .before .before .before .before .before) .good .1 .1 .0 .1) ((c .before .before .before .before .before .before) .args .local) ((c .before .before .before .before .before .before .pre) .1) .in-bytes
+mul-endless c =
+    let s = c .before .before .before .before .before .before in
+    ended-at (s .pre .0 .tables) ((s) .good .1 .1 .0 .1) ((s) .args .local) (s .pre .1) .in-bytes
 
 slice-read-endless : tie.Need-slice-read-endless
-slice-read-endless c = ended-at ((c .before .before .before .before .before .before .before .pre) .0 .tables) ((c .before .before .before .before .before .before .before) .good .1 .1 .0 .1) ((c .before .before .before .before .before .before .before) .args .local) ((c .before .before .before .before .before .before .before .pre) .1) .inside
+slice-read-endless c =
+    let s = c .before .before .before .before .before .before .before in
+    ended-at (s .pre .0 .tables) ((s) .good .1 .1 .0 .1) ((s) .args .local) (s .pre .1) .inside
 
 begin-requires : tie.Need-begin-requires
-begin-requires c κs = (((c .before .before .before .before .before .before .before .before .pre)) .0 .tables, held-none (((c .before .before .before .before .before .before .before .before .args)) .lay) (((c .before .before .before .before .before .before .before .before .args)) .z) (((c .before .before .before .before .before .before .before .before .args)) .work .now) (((c .before .before .before .before .before .before .before .before .pre)) .0 .tables) (((c .before .before .before .before .before .before .before .before .pre)) .0 .unseen), ((c .before .before .before .before .before .before .before .before .pre)) .0 .chain (((c .before .before .before .before .before .before .before .before .args)) .local) (((c .before .before .before .before .before .before .before .before .pre)) .1))
+begin-requires c κs =
+    let s = c .before .before .before .before .before .before .before .before in (
+      ((s .pre)) .0 .tables,
+      held-none (((s .args)) .lay) (((s .args)) .z) (((s .args)) .work .now) (((s .pre)) .0 .tables) (((s .pre)) .0 .unseen),
+      ((s .pre)) .0 .chain
+          (((s .args)) .local) (((s .pre)) .1),
+    )
 
 walk-requires : tie.Need-walk-requires
-walk-requires c κs = (walkable-still (((c .before .before .before .before .before .before .before .before .before .before .before .before .pre)) .0 .tables) (((c .before .before .before .begin)) .ensures .grew), ((c .before .before .before .begin)) .ensures .grew .held)
+walk-requires c κs =
+    let s = c .before .before .before in
+    (walkable-still (((s .before .before .before .before .before .before .before .before .before .pre)) .0 .tables) (((s .begin)) .ensures .grew), ((s .begin)) .ensures .grew .held)
 
 unsee-requires : tie.Need-unsee-requires
 unsee-requires c κs = ((c .before .before .before .walk)) .ensures .walking .grew .held
@@ -41,7 +61,18 @@ same-length : tie.Need-same-length
 same-length c = ((c .before .before .before .unsee)) .ensures .len ∙ ((c .before .before .before .before .before .before .before .walk)) .ensures .walking .grew .len ∙ ((c .before .before .before .before .before .before .before .before .before .before .before .begin)) .ensures .grew .len
 
 returns : tie.Need-returns
-returns c = record { kept = follow-kept (((c .before .before .before .before .before .before .before .before .before .before .before .before .before .before .before .before .before .before .before .before .pre)) .0 .tables) (((c .before .before .before .before .before .before .before .before .before .before .before .before .before .before .before .before .before .before .before .before .pre)) .0 .unseen) (((c .before .before .before .before .before .before .before .before .before .before .before .begin)) .ensures) (((c .before .before .before .before .before .before .before .walk)) .ensures) (((c .before .before .before .unsee)) .ensures); code = λ operands crossings ends p. follows (((c .before .before .before .before .before .before .before .before .before .before .before .before .before .before .before .before .before .before .before .before .args)) .insts .now) operands crossings (((c .before .before .before .before .before .before .before .before .before .before .before .before .before .before .before .before .before .before .before .before .args)) .addresses .now) ends (((c .before .before .before .before .before .before .before .before .before .before .before .before .before .before .before .before .before .before .before .before .args)) .lay) (((c .before .before .before .before .before .before .before .before .before .before .before .before .before .before .before .before .before .before .before .before .args)) .z) (((c .before .before .before .before .before .before .before .before .before .before .before .before .before .before .before .before .before .before .before .before .args)) .local) (((c .before .before .before .before .before .before .before .before .before .before .before .before .before .before .before .before .before .before .before .before .args)) .whole) p (((c .before .before .before .before .before .before .before .before .before .before .before .before .before .before .before .before .before .before .before .before .pre)) .0 .tables) (((c .before .before .before .before .before .before .before .before .before .before .before .before .before .before .before .before .before .before .before .before .pre)) .0 .chain (((c .before .before .before .before .before .before .before .before .before .before .before .before .before .before .before .before .before .before .before .before .args)) .local) (((c .before .before .before .before .before .before .before .before .before .before .before .before .before .before .before .before .before .before .before .before .pre)) .1)) (((c .before .before .before .before .before .before .before .before .before .before .before .begin)) .ensures) (((c .before .before .before .before .before .before .before .walk)) .ensures) (((c .before .before .before .unsee)) .ensures) _ _ refl refl _ (((c .kind)) .ensures) }
+returns c =
+    let s = c .before .before .before in
+    let t = s .before .before .before .before in
+    let u = t .before .before .before .before in
+    let q = u .before .before .before .before .before .before .before .before .before in
+    record {
+      kept = follow-kept (((q .pre)) .0 .tables) (((q .pre)) .0 .unseen) (((u .begin)) .ensures) (((t .walk)) .ensures) (((s .unsee)) .ensures);
+      code =
+          λ operands crossings ends p. follows (((q .args)) .insts .now) operands crossings (((q .args)) .addresses .now) ends (((q .args)) .lay) (((q .args)) .z) (((q .args)) .local)
+          (((q .args)) .whole) p (((q .pre)) .0 .tables) (((q .pre)) .0 .chain (((q .args)) .local) (((q .pre)) .1)) (((u .begin)) .ensures) (((t .walk)) .ensures)
+          (((s .unsee)) .ensures) _ _ refl refl _ (((c .kind)) .ensures);
+    }
 
 pub follow-spec : {M : Type 1} → statement M
 follow-spec =

@@ -40,10 +40,14 @@ add-work-2 : tie.Need-add-work-2
 add-work-2 c = forgotten (c .before .before .before .before .before .before .pre) ((c .before .before .before .before .before .before) .good .0 .1) .mark .fits
 
 mul-work-2 : tie.Need-mul-work-2
-mul-work-2 c = forgotten (c .before .before .before .before .before .before .pre) ((c .before .before .before .before .before .before) .good .0 .1) .mark .in-bytes
+mul-work-2 c =
+    let s = c .before .before .before .before .before .before in
+    forgotten (s .pre) ((s) .good .0 .1) .mark .in-bytes
 
 slice-write-work-2 : tie.Need-slice-write-work-2
-slice-write-work-2 c = simp length-set (forgotten (c .before .before .before .before .before .before .pre) ((c .before .before .before .before .before .before) .good .0 .1) .mark .inside)
+slice-write-work-2 c =
+    let s = c .before .before .before .before .before .before in
+    simp length-set (forgotten (s .pre) ((s) .good .0 .1) .mark .inside)
 
 same-length : tie.Need-same-length
 same-length c = simp length-set

@@ -20,22 +20,32 @@ mul-q : tie.Need-mul-q Inv-loop μ-loop
 mul-q c = def-at ((c .before .before .pre) .0) ((c .before .before) .good .0 .1) ((c .before .before) .args .i) ((c .before .before .pre) .2) .in-bytes
 
 slice-read-q : tie.Need-slice-read-q Inv-loop μ-loop
-slice-read-q c = def-at ((c .before .before .before .pre) .0) ((c .before .before .before) .good .0 .1) ((c .before .before .before) .args .i) ((c .before .before .before .pre) .2) .inside
+slice-read-q c =
+    let s = c .before .before .before in
+    def-at (s .pre .0) ((s) .good .0 .1) ((s) .args .i) (s .pre .2) .inside
 
 sub-q : tie.Need-sub-q Inv-loop μ-loop
 sub-q c = (c .before .before .before .pre) .3
 
 add-x : tie.Need-add-x Inv-loop μ-loop
-add-x c = first-at ((c .before .before .before .before .pre) .0) ((c .before .before .before .before) .good .0 .1) ((c .before .before .before .before) .args .i) ((c .before .before .before .before .pre) .2) .fits
+add-x c =
+    let s = c .before .before .before .before in
+    first-at (s .pre .0) ((s) .good .0 .1) ((s) .args .i) (s .pre .2) .fits
 
 mul-x : tie.Need-mul-x Inv-loop μ-loop
-mul-x c = first-at ((c .before .before .before .before .pre) .0) ((c .before .before .before .before) .good .0 .1) ((c .before .before .before .before) .args .i) ((c .before .before .before .before .pre) .2) .in-bytes
+mul-x c =
+    let s = c .before .before .before .before in
+    first-at (s .pre .0) ((s) .good .0 .1) ((s) .args .i) (s .pre .2) .in-bytes
 
 slice-read-x : tie.Need-slice-read-x Inv-loop μ-loop
-slice-read-x c = first-at ((c .before .before .before .before .before .pre) .0) ((c .before .before .before .before .before) .good .0 .1) ((c .before .before .before .before .before) .args .i) ((c .before .before .before .before .before .pre) .2) .inside
+slice-read-x c =
+    let s = c .before .before .before .before .before in
+    first-at (s .pre .0) ((s) .good .0 .1) ((s) .args .i) (s .pre .2) .inside
 
 loop-holds : tie.Need-loop-holds Inv-loop μ-loop
-loop-holds c = grow-start (((c .before .before .before .before .before .args)) .lay) (((c .before .before .before .before .before .args)) .z) (((c .before .before .before .before .before .args)) .work .now) (((c .before .before .before .before .before .args)) .i) _ _ _ (((c .before .before .before .before .before .pre)) .0) (((c .before .before .before .before .before .pre)) .1) (((c .before .before .before .before .before .pre)) .2) (((c .before .before .before .before .before .pre)) .3) refl refl
+loop-holds c =
+    let s = c .before .before .before .before .before in
+    grow-start (((s .args)) .lay) (((s .args)) .z) (((s .args)) .work .now) (((s .args)) .i) _ _ _ (((s .pre)) .0) (((s .pre)) .1) (((s .pre)) .2) (((s .pre)) .3) refl refl
 
 add-y : tie.Need-add-y Inv-loop μ-loop
 add-y c = edge-at ((c .before .before .before .loop) .inv) ((c .before .before .before .before .before .before .before .before .before) .good .0 .1) ((c .before .if1) .taken) .key .fits
@@ -53,16 +63,24 @@ returns : tie.Need-returns Inv-loop μ-loop
 returns c = grow-stop ((c .before .before .before .before .before .loop) .inv) _ ((c .before .before .before .if1) .taken) refl ((c .if2) .taken)
 
 join-requires : tie.Need-join-requires Inv-loop μ-loop
-join-requires c κs = let u = grow-turn ((c .before .before .before .before .before .before .loop) .inv) _ _ ((c .before .before .before .before .if1) .taken) refl ((c .before .if2) .left) refl in ((c .before .before .before .before .before .before .loop) .inv .grew .held, u .low, u .has-def)
+join-requires c κs =
+    let s = c .before .before .before .before .before .before in
+    let u = grow-turn (s .loop .inv) _ _ (c .before .before .before .before .if1 .taken) refl (c .before .if2 .left) refl in (s .loop .inv .grew .held, u .low, u .has-def)
 
 add-x-2 : tie.Need-add-x-2 Inv-loop μ-loop
-add-x-2 c = edge-at ((c .before .before .before .before .before .before .before .before .before .loop) .inv) ((c .before .before .before .before .before .before .before .before .before .before .before .before .before .before .before) .good .0 .1) ((c .before .before .before .before .before .before .before .if1) .taken) .more
+add-x-2 c =
+    edge-at ((c .before .before .before .before .before .before .before .before .before .loop) .inv)
+    ((c .before .before .before .before .before .before .before .before .before .before .before .before .before .before .before) .good .0 .1)
+    ((c .before .before .before .before .before .before .before .if1) .taken) .more
 
 loop-less : tie.Need-loop-less Inv-loop μ-loop
 loop-less c = less-left _ _ ((c .before .before .before .before .before .before .before .if1) .taken)
 
 loop-again : tie.Need-loop-again Inv-loop μ-loop
-loop-again c = grow-more ((c .before .before .before .before .before .before .before .before .before .loop) .inv) ((c .before .before .before .before .before .before .before .if1) .taken) (grow-turn ((c .before .before .before .before .before .before .before .before .before .loop) .inv) _ _ ((c .before .before .before .before .before .before .before .if1) .taken) refl ((c .before .before .before .before .if2) .left) refl) ((c .before .before .join) .ensures)
+loop-again c =
+    let s = c .before .before .before .before .before .before .before in
+    let t = s .before .before in
+    grow-more (t .loop .inv) (s .if1 .taken) (grow-turn (t .loop .inv) _ _ (s .if1 .taken) refl (c .before .before .before .before .if2 .left) refl) (c .before .before .join .ensures)
 
 same-length-2 : tie.Need-same-length-2 Inv-loop μ-loop
 same-length-2 c = ((c .before .before .loop)) .inv .grew .len

@@ -23,25 +23,35 @@ same-length : tie.Need-same-length Inv-loop μ-loop
 same-length c = (c .before .before .before .before .loop) .inv .1 .grew .len
 
 returns : tie.Need-returns Inv-loop μ-loop
-returns c = walk-stop ((c .before .before .before .before .loop) .inv .0) ((c .before .before .before .before .loop) .inv .1) ((c .before .before .before .before .before .before .args) .whole) (sym ((c .before .stops) .ensures) ∙ (c .if2) .taken)
+returns c =
+    let s = c .before .before .before .before in
+    walk-stop (s .loop .inv .0) (s .loop .inv .1) (s .before .before .args .whole) (sym (c .before .stops .ensures) ∙ c .if2 .taken)
 
 step-requires : tie.Need-step-requires Inv-loop μ-loop
-step-requires c κs = (walk-tables ((c .before .before .before .before .before .loop) .inv .0) ((c .before .before .before .before .before .loop) .inv .1), (c .before .before .before .before .before .loop) .inv .1 .grew .held, (c .before .before .before .if1) .taken)
+step-requires c κs =
+    let s = c .before .before .before .before .before in
+    (walk-tables (s .loop .inv .0) (s .loop .inv .1), s .loop .inv .1 .grew .held, c .before .before .before .if1 .taken)
 
 add-h : tie.Need-add-h Inv-loop μ-loop
-add-h c = more-in _ _ _ ((c .before .before .before .before .before .before .if1) .taken) ((c .before .before .before .before .before .before .before .before .loop) .inv .1 .grew .held .n-le) ((c .before .before .before .before .before .before .before .before .loop) .inv .0 .few-insts)
+add-h c =
+    let s = c .before .before .before .before .before .before .before .before in
+    more-in _ _ _ (c .before .before .before .before .before .before .if1 .taken) (s .loop .inv .1 .grew .held .n-le) (s .loop .inv .0 .few-insts)
 
 loop-less : tie.Need-loop-less Inv-loop μ-loop
 loop-less c = less-in _ _ _ ((c .before .before .before .before .before .before .if1) .taken) ((c .before .before .before .before .before .before .before .before .loop) .inv .1 .grew .held .n-le)
 
 loop-again : tie.Need-loop-again Inv-loop μ-loop
-loop-again c = ((c .before .before .before .before .before .before .before .before .loop) .inv .0, walk-more ((c .before .before .before .before .before .before .before .before .loop) .inv .0) ((c .before .before .before .before .before .before .before .before .loop) .inv .1) ((c .before .before .before .before .before .before .if1) .taken) ((c .before .before .step) .ensures))
+loop-again c =
+    let s = c .before .before .before .before .before .before .before .before in
+    (s .loop .inv .0, walk-more (s .loop .inv .0) (s .loop .inv .1) (c .before .before .before .before .before .before .if1 .taken) (c .before .before .step .ensures))
 
 same-length-2 : tie.Need-same-length-2 Inv-loop μ-loop
 same-length-2 c = (c .before .before .loop) .inv .1 .grew .len
 
 returns-2 : tie.Need-returns-2 Inv-loop μ-loop
-returns-2 c = walk-done ((c .before .before .loop) .inv .0) ((c .before .before .loop) .inv .1) ((c .before .before .before .before) .args .whole) ((c .if1) .left)
+returns-2 c =
+    let s = c .before .before in
+    walk-done (s .loop .inv .0) (s .loop .inv .1) (s .before .before .args .whole) (c .if1 .left)
 
 pub walk-spec : {M : Type 1} → statement M
 walk-spec =

@@ -40,7 +40,12 @@ unplaced-requires : tie.Need-unplaced-requires Inv-loop μ-loop
 unplaced-requires c κs = omega arith
 
 returns : tie.Need-returns Inv-loop μ-loop
-returns c = sym (scan-hit _ _ _ _ ((c .before .before .before .before .loop) .inv .2) (address-is (((c .before .before .before .before .before .before .before .args) .insts .now)) [] (((c .before .before .before .before .before .before .before .args) .addresses .now)) ((c .before .before .before .before .loop) .i) ((c .before .unplaced) .result) (omega arith) ((c .before .unplaced) .ensures) ∙ c .if1 .taken) (omega (arith, mentions-length (((c .before .before .before .before .before .before .before .args) .insts .now)) [] (((c .before .before .before .before .before .before .before .args) .addresses .now)))))
+returns c =
+    let s = c .before .before .before .before in
+    let t = s .before .before .before in
+    sym (scan-hit _ _ _ _ (s .loop .inv .2)
+    (address-is ((t .args .insts .now)) [] ((t .args .addresses .now)) (s .loop .i) (c .before .unplaced .result) (omega arith) (c .before .unplaced .ensures) ∙ c .if1 .taken)
+    (omega (arith, mentions-length ((t .args .insts .now)) [] ((t .args .addresses .now)))))
 
 add-i : tie.Need-add-i Inv-loop μ-loop
 add-i c = omega arith
@@ -49,10 +54,20 @@ loop-less : tie.Need-loop-less Inv-loop μ-loop
 loop-less c = omega arith
 
 loop-again : tie.Need-loop-again Inv-loop μ-loop
-loop-again c = (omega arith, omega arith, scan-miss _ _ _ ((c .before .before .before .before .loop) .inv .2) (address-is (((c .before .before .before .before .before .before .before .args) .insts .now)) [] (((c .before .before .before .before .before .before .before .args) .addresses .now)) ((c .before .before .before .before .loop) .i) ((c .before .unplaced) .result) (omega arith) ((c .before .unplaced) .ensures) ∙ (c .if1) .left))
+loop-again c =
+    let s = c .before .before .before .before in
+    let t = s .before .before .before in (
+      omega arith,
+      omega arith,
+      scan-miss _ _ _ (s .loop .inv .2)
+          (address-is ((t .args .insts .now)) [] ((t .args .addresses .now)) (s .loop .i) (c .before .unplaced .result) (omega arith) (c .before .unplaced .ensures) ∙ c .if1 .left),
+    )
 
 returns-2 : tie.Need-returns-2 Inv-loop μ-loop
-returns-2 c = sym (scan-end _ _ _ _ ((c .before .loop) .inv .2) (omega (arith, mentions-length (((c .before .before .before .before .args) .insts .now)) [] (((c .before .before .before .before .args) .addresses .now)))) (omega (arith, mentions-length (((c .before .before .before .before .args) .insts .now)) [] (((c .before .before .before .before .args) .addresses .now)))))
+returns-2 c =
+    let s = c .before .before .before .before in
+    sym (scan-end _ _ _ _ (c .before .loop .inv .2) (omega (arith, mentions-length ((s .args .insts .now)) [] ((s .args .addresses .now))))
+    (omega (arith, mentions-length ((s .args .insts .now)) [] ((s .args .addresses .now)))))
 
 pub address-spec : {M : Type 1} → statement M
 address-spec =

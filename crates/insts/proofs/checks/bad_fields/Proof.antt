@@ -21,7 +21,12 @@ shared-slice-read-if1 : tie.Need-shared-slice-read-if1
 shared-slice-read-if1 c = omega arith
 
 returns : tie.Need-returns
-returns c = (let z : instPlaced (((c .before .before .args) .insts .now)) ((c .before .before .args) .i) ≡ getD (((c .before .before .args) .insts .now)) (instWidth * (c .before .before .args) .i) 0 = ap (λ (k : ℕ). getD (((c .before .before .args) .insts .now)) k 0) (add-zero (instWidth * (c .before .before .args) .i)) in fields-1 (instPlaced (((c .before .before .args) .insts .now)) ((c .before .before .args) .i)) (instLea (((c .before .before .args) .insts .now)) ((c .before .before .args) .i)) (instMem (((c .before .before .args) .insts .now)) ((c .before .before .args) .i)) (instBase (((c .before .before .args) .insts .now)) ((c .before .before .args) .i)) (instIndex (((c .before .before .args) .insts .now)) ((c .before .before .args) .i)) (omega arith))
+returns c =
+    let s = c .before .before in
+    (let z : instPlaced ((s .args .insts .now)) (s .args .i) ≡ getD ((s .args .insts .now)) (instWidth * (s .args) .i) 0 = ap (λ (k : ℕ). getD ((s .args .insts .now)) k 0)
+    (add-zero (instWidth * (s .args) .i)) in
+    fields-1 (instPlaced ((s .args .insts .now)) (s .args .i)) (instLea ((s .args .insts .now)) (s .args .i)) (instMem ((s .args .insts .now)) (s .args .i))
+    (instBase ((s .args .insts .now)) (s .args .i)) (instIndex ((s .args .insts .now)) (s .args .i)) (omega arith))
 
 add-if2 : tie.Need-add-if2
 add-if2 c = omega arith
@@ -33,7 +38,12 @@ shared-slice-read-if2 : tie.Need-shared-slice-read-if2
 shared-slice-read-if2 c = omega arith
 
 returns-2 : tie.Need-returns-2
-returns-2 c = (let z : instPlaced (((c .before .before .before .before .args) .insts .now)) ((c .before .before .before .before .args) .i) ≡ getD (((c .before .before .before .before .args) .insts .now)) (instWidth * (c .before .before .before .before .args) .i) 0 = ap (λ (k : ℕ). getD (((c .before .before .before .before .args) .insts .now)) k 0) (add-zero (instWidth * (c .before .before .before .before .args) .i)) in fields-2 (instPlaced (((c .before .before .before .before .args) .insts .now)) ((c .before .before .before .before .args) .i)) (instLea (((c .before .before .before .before .args) .insts .now)) ((c .before .before .before .before .args) .i)) (instMem (((c .before .before .before .before .args) .insts .now)) ((c .before .before .before .before .args) .i)) (instBase (((c .before .before .before .before .args) .insts .now)) ((c .before .before .before .before .args) .i)) (instIndex (((c .before .before .before .before .args) .insts .now)) ((c .before .before .before .before .args) .i)) (omega arith) (omega arith))
+returns-2 c =
+    let s = c .before .before .before .before in
+    (let z : instPlaced ((s .args .insts .now)) (s .args .i) ≡ getD ((s .args .insts .now)) (instWidth * (s .args) .i) 0 = ap (λ (k : ℕ). getD ((s .args .insts .now)) k 0)
+    (add-zero (instWidth * (s .args) .i)) in
+    fields-2 (instPlaced ((s .args .insts .now)) (s .args .i)) (instLea ((s .args .insts .now)) (s .args .i)) (instMem ((s .args .insts .now)) (s .args .i))
+    (instBase ((s .args .insts .now)) (s .args .i)) (instIndex ((s .args .insts .now)) (s .args .i)) (omega arith) (omega arith))
 
 add-if3 : tie.Need-add-if3
 add-if3 c = omega arith
@@ -45,7 +55,12 @@ shared-slice-read-if3 : tie.Need-shared-slice-read-if3
 shared-slice-read-if3 c = omega arith
 
 returns-3 : tie.Need-returns-3
-returns-3 c = (let z : instPlaced (((c .before .before .before .before .before .before .args) .insts .now)) ((c .before .before .before .before .before .before .args) .i) ≡ getD (((c .before .before .before .before .before .before .args) .insts .now)) (instWidth * (c .before .before .before .before .before .before .args) .i) 0 = ap (λ (k : ℕ). getD (((c .before .before .before .before .before .before .args) .insts .now)) k 0) (add-zero (instWidth * (c .before .before .before .before .before .before .args) .i)) in fields-3 (instPlaced (((c .before .before .before .before .before .before .args) .insts .now)) ((c .before .before .before .before .before .before .args) .i)) (instLea (((c .before .before .before .before .before .before .args) .insts .now)) ((c .before .before .before .before .before .before .args) .i)) (instMem (((c .before .before .before .before .before .before .args) .insts .now)) ((c .before .before .before .before .before .before .args) .i)) (instBase (((c .before .before .before .before .before .before .args) .insts .now)) ((c .before .before .before .before .before .before .args) .i)) (instIndex (((c .before .before .before .before .before .before .args) .insts .now)) ((c .before .before .before .before .before .before .args) .i)) (omega arith) (omega arith) (omega arith))
+returns-3 c =
+    let s = c .before .before .before .before .before .before in
+    (let z : instPlaced ((s .args .insts .now)) (s .args .i) ≡ getD ((s .args .insts .now)) (instWidth * (s .args) .i) 0 = ap (λ (k : ℕ). getD ((s .args .insts .now)) k 0)
+    (add-zero (instWidth * (s .args) .i)) in
+    fields-3 (instPlaced ((s .args .insts .now)) (s .args .i)) (instLea ((s .args .insts .now)) (s .args .i)) (instMem ((s .args .insts .now)) (s .args .i))
+    (instBase ((s .args .insts .now)) (s .args .i)) (instIndex ((s .args .insts .now)) (s .args .i)) (omega arith) (omega arith) (omega arith))
 
 add-if4 : tie.Need-add-if4
 add-if4 c = omega arith
@@ -57,7 +72,12 @@ shared-slice-read-if4 : tie.Need-shared-slice-read-if4
 shared-slice-read-if4 c = omega arith
 
 returns-4 : tie.Need-returns-4
-returns-4 c = (let z : instPlaced (((c .before .before .before .before .before .before .before .before .args) .insts .now)) ((c .before .before .before .before .before .before .before .before .args) .i) ≡ getD (((c .before .before .before .before .before .before .before .before .args) .insts .now)) (instWidth * (c .before .before .before .before .before .before .before .before .args) .i) 0 = ap (λ (k : ℕ). getD (((c .before .before .before .before .before .before .before .before .args) .insts .now)) k 0) (add-zero (instWidth * (c .before .before .before .before .before .before .before .before .args) .i)) in fields-4 (instPlaced (((c .before .before .before .before .before .before .before .before .args) .insts .now)) ((c .before .before .before .before .before .before .before .before .args) .i)) (instLea (((c .before .before .before .before .before .before .before .before .args) .insts .now)) ((c .before .before .before .before .before .before .before .before .args) .i)) (instMem (((c .before .before .before .before .before .before .before .before .args) .insts .now)) ((c .before .before .before .before .before .before .before .before .args) .i)) (instBase (((c .before .before .before .before .before .before .before .before .args) .insts .now)) ((c .before .before .before .before .before .before .before .before .args) .i)) (instIndex (((c .before .before .before .before .before .before .before .before .args) .insts .now)) ((c .before .before .before .before .before .before .before .before .args) .i)) (omega arith) (omega arith) (omega arith) (omega arith))
+returns-4 c =
+    let s = c .before .before .before .before .before .before .before .before in
+    (let z : instPlaced ((s .args .insts .now)) (s .args .i) ≡ getD ((s .args .insts .now)) (instWidth * (s .args) .i) 0 = ap (λ (k : ℕ). getD ((s .args .insts .now)) k 0)
+    (add-zero (instWidth * (s .args) .i)) in
+    fields-4 (instPlaced ((s .args .insts .now)) (s .args .i)) (instLea ((s .args .insts .now)) (s .args .i)) (instMem ((s .args .insts .now)) (s .args .i))
+    (instBase ((s .args .insts .now)) (s .args .i)) (instIndex ((s .args .insts .now)) (s .args .i)) (omega arith) (omega arith) (omega arith) (omega arith))
 
 add-result : tie.Need-add-result
 add-result c = omega arith
@@ -69,7 +89,12 @@ shared-slice-read-result : tie.Need-shared-slice-read-result
 shared-slice-read-result c = omega arith
 
 returns-5 : tie.Need-returns-5
-returns-5 c = (let z : instPlaced (((c .before .before .before .before .before .before .before .before .before .args) .insts .now)) ((c .before .before .before .before .before .before .before .before .before .args) .i) ≡ getD (((c .before .before .before .before .before .before .before .before .before .args) .insts .now)) (instWidth * (c .before .before .before .before .before .before .before .before .before .args) .i) 0 = ap (λ (k : ℕ). getD (((c .before .before .before .before .before .before .before .before .before .args) .insts .now)) k 0) (add-zero (instWidth * (c .before .before .before .before .before .before .before .before .before .args) .i)) in fields-5 (instPlaced (((c .before .before .before .before .before .before .before .before .before .args) .insts .now)) ((c .before .before .before .before .before .before .before .before .before .args) .i)) (instLea (((c .before .before .before .before .before .before .before .before .before .args) .insts .now)) ((c .before .before .before .before .before .before .before .before .before .args) .i)) (instMem (((c .before .before .before .before .before .before .before .before .before .args) .insts .now)) ((c .before .before .before .before .before .before .before .before .before .args) .i)) (instBase (((c .before .before .before .before .before .before .before .before .before .args) .insts .now)) ((c .before .before .before .before .before .before .before .before .before .args) .i)) (instIndex (((c .before .before .before .before .before .before .before .before .before .args) .insts .now)) ((c .before .before .before .before .before .before .before .before .before .args) .i)) (omega arith) (omega arith) (omega arith) (omega arith))
+returns-5 c =
+    let s = c .before .before .before .before .before .before .before .before .before in
+    (let z : instPlaced ((s .args .insts .now)) (s .args .i) ≡ getD ((s .args .insts .now)) (instWidth * (s .args) .i) 0 = ap (λ (k : ℕ). getD ((s .args .insts .now)) k 0)
+    (add-zero (instWidth * (s .args) .i)) in
+    fields-5 (instPlaced ((s .args .insts .now)) (s .args .i)) (instLea ((s .args .insts .now)) (s .args .i)) (instMem ((s .args .insts .now)) (s .args .i))
+    (instBase ((s .args .insts .now)) (s .args .i)) (instIndex ((s .args .insts .now)) (s .args .i)) (omega arith) (omega arith) (omega arith) (omega arith))
 
 pub bad-fields-spec : {M : Type 1} → statement M
 bad-fields-spec =

@@ -17,13 +17,19 @@ bad-points-requires : tie.Need-bad-points-requires
 bad-points-requires c κs = ((c .before .before .before .pre) .0 .0, (c .before .before .before .pre) .0 .1, (c .before .before .before .pre) .1 .2)
 
 returns : tie.Need-returns
-returns c = by-points (blocksOf (((c .before .before .before .before .before .args) .blocks .now))) ((c .before .before .before .before .before .args) .v) (((c .before .before .before .before .before .args) .insts .now)) (((c .before .before .before .before .before .args) .operands .now)) ((c .before .before .before .before .before .args) .i) ((c .before .before .before .before .before .pre) .0 .2) (omega arith) (sym ((c .before .bad-points) .ensures) ∙ c .if1 .taken)
+returns c =
+    let s = c .before .before .before .before .before in
+    by-points (blocksOf ((s .args .blocks .now))) (s .args .v) ((s .args .insts .now)) ((s .args .operands .now)) (s .args .i) (s .pre .0 .2) (omega arith)
+    (sym (c .before .bad-points .ensures) ∙ c .if1 .taken)
 
 bad-fields-requires : tie.Need-bad-fields-requires
 bad-fields-requires c κs = omega arith
 
 returns-2 : tie.Need-returns-2
-returns-2 c = by-fields (blocksOf (((c .before .before .before .before .before .before .before .args) .blocks .now))) ((c .before .before .before .before .before .before .before .args) .v) (((c .before .before .before .before .before .before .before .args) .insts .now)) (((c .before .before .before .before .before .before .before .args) .operands .now)) ((c .before .before .before .before .before .before .before .args) .i) ((c .before .before .before .before .before .before .before .pre) .0 .2) (omega arith) (sym ((c .before .before .before .bad-points) .ensures) ∙ (c .before .before .if1) .left) (sym ((c .before .bad-fields) .ensures) ∙ c .if2 .taken)
+returns-2 c =
+    let s = c .before .before .before .before .before .before .before in
+    by-fields (blocksOf ((s .args .blocks .now))) (s .args .v) ((s .args .insts .now)) ((s .args .operands .now)) (s .args .i) (s .pre .0 .2) (omega arith)
+    (sym (c .before .before .before .bad-points .ensures) ∙ c .before .before .if1 .left) (sym (c .before .bad-fields .ensures) ∙ c .if2 .taken)
 
 mul-wide : tie.Need-mul-wide
 mul-wide c = omega arith
@@ -41,10 +47,18 @@ wide-requires : tie.Need-wide-requires
 wide-requires c κs = omega arith
 
 bad-operands-requires : tie.Need-bad-operands-requires
-bad-operands-requires c κs = (omega (arith, operands-within (((c .before .before .before .before .before .before .before .before .before .args) .insts .now)) (((c .before .before .before .before .before .before .before .before .before .args) .operands .now)) ((c .before .before .before .before .before .before .before .before .before .pre) .0 .2) ((c .before .before .before .before .before .before .before .before .before .args) .i) (omega arith), (c .before .before .before .before .before .before .before .before .before .pre) .1 .0), (c .before .before .before .before .before .before .before .before .before .pre) .1 .1)
+bad-operands-requires c κs =
+    let s = c .before .before .before .before .before .before .before .before .before in
+    (omega (arith, operands-within ((s .args .insts .now)) ((s .args .operands .now)) (s .pre .0 .2) (s .args .i) (omega arith), s .pre .1 .0), s .pre .1 .1)
 
 returns-3 : tie.Need-returns-3
-returns-3 c = c .bad-operands .ensures ∙ ap (λ (x : ℕ). any (badOperand ((c .before .before .before .before .before .before .before .before .before .before .args) .v)) (operandsFrom (((c .before .before .before .before .before .before .before .before .before .before .args) .operands .now)) x ((c .before .wide) .result))) ((c .before .before .before .before .before .before .before .before .before .before .pre) .1 .0) ∙ ap (λ (x : ℕ). any (badOperand ((c .before .before .before .before .before .before .before .before .before .before .args) .v)) (operandsFrom (((c .before .before .before .before .before .before .before .before .before .before .args) .operands .now)) (offset (((c .before .before .before .before .before .before .before .before .before .before .args) .insts .now)) ((c .before .before .before .before .before .before .before .before .before .before .args) .i)) x)) ((c .before .wide) .ensures) ∙ by-operands (blocksOf (((c .before .before .before .before .before .before .before .before .before .before .args) .blocks .now))) ((c .before .before .before .before .before .before .before .before .before .before .args) .v) (((c .before .before .before .before .before .before .before .before .before .before .args) .insts .now)) (((c .before .before .before .before .before .before .before .before .before .before .args) .operands .now)) ((c .before .before .before .before .before .before .before .before .before .before .args) .i) ((c .before .before .before .before .before .before .before .before .before .before .pre) .0 .2) (omega arith) (sym ((c .before .before .before .before .before .before .bad-points) .ensures) ∙ (c .before .before .before .before .before .if1) .left) (sym ((c .before .before .before .before .bad-fields) .ensures) ∙ (c .before .before .before .if2) .left)
+returns-3 c =
+    let s = c .before .before .before .before .before .before .before .before .before .before in
+    c .bad-operands .ensures ∙ ap (λ (x : ℕ). any (badOperand (s .args .v)) (operandsFrom ((s .args .operands .now)) x (c .before .wide .result))) (s .pre .1 .0) ∙ ap
+    (λ (x : ℕ). any (badOperand (s .args .v)) (operandsFrom ((s .args .operands .now)) (offset ((s .args .insts .now)) (s .args .i)) x)) (c .before .wide .ensures) ∙ by-operands
+    (blocksOf ((s .args .blocks .now))) (s .args .v) ((s .args .insts .now)) ((s .args .operands .now)) (s .args .i) (s .pre .0 .2) (omega arith)
+    (sym (c .before .before .before .before .before .before .bad-points .ensures) ∙ c .before .before .before .before .before .if1 .left)
+    (sym (c .before .before .before .before .bad-fields .ensures) ∙ c .before .before .before .if2 .left)
 
 pub bad-inst-spec : {M : Type 1} → statement M
 bad-inst-spec =

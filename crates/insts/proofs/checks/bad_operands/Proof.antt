@@ -26,7 +26,10 @@ bad-operand-requires : tie.Need-bad-operand-requires Inv-loop μ-loop
 bad-operand-requires c κs = omega arith
 
 returns : tie.Need-returns Inv-loop μ-loop
-returns c = sym (any-hit (badOperand ((c .before .before .before .before .before .args) .v)) (λ p. operandAt ((c .before .before .before .before .before .args) .operands .now) ((c .before .before .before .before .before .args) .from + p)) ((c .before .before .before .loop) .p) ((c .before .before .before .before .before .args) .n) ((c .before .before .loop-test) .taken) (sym ((c .before .bad-operand) .ensures) ∙ (c .if1) .taken))
+returns c =
+    let s = c .before .before .before .before .before in
+    sym (any-hit (badOperand (s .args .v)) (λ p. operandAt (s .args .operands .now) (s .args .from + p)) (c .before .before .before .loop .p) (s .args .n)
+    (c .before .before .loop-test .taken) (sym (c .before .bad-operand .ensures) ∙ c .if1 .taken))
 
 add-p : tie.Need-add-p Inv-loop μ-loop
 add-p c = omega arith
@@ -35,10 +38,19 @@ loop-less : tie.Need-loop-less Inv-loop μ-loop
 loop-less c = omega arith
 
 loop-again : tie.Need-loop-again Inv-loop μ-loop
-loop-again c = (omega arith, any-miss (badOperand ((c .before .before .before .before .before .args) .v)) (λ p. operandAt ((c .before .before .before .before .before .args) .operands .now) ((c .before .before .before .before .before .args) .from + p)) ((c .before .before .before .loop) .p) ((c .before .before .before .loop) .inv .1) (sym ((c .before .bad-operand) .ensures) ∙ (c .if1) .left))
+loop-again c =
+    let s = c .before .before .before in
+    let t = s .before .before in (
+      omega arith,
+      any-miss (badOperand (t .args .v)) (λ p. operandAt (t .args .operands .now) (t .args .from + p)) (s .loop .p) (s .loop .inv .1)
+          (sym (c .before .bad-operand .ensures) ∙ c .if1 .left),
+    )
 
 returns-2 : tie.Need-returns-2 Inv-loop μ-loop
-returns-2 c = let q : (c .before .before .before .args) .n ≡ (c .before .loop) .p = omega arith in sym (ap (λ (k : ℕ). any (badOperand ((c .before .before .before .args) .v)) (operandsFrom ((c .before .before .before .args) .operands .now) ((c .before .before .before .args) .from) k)) q ∙ (c .before .loop) .inv .1)
+returns-2 c =
+    let s = c .before .before .before in
+    let q : (s .args) .n ≡ (c .before .loop) .p = omega arith in
+    sym (ap (λ (k : ℕ). any (badOperand (s .args .v)) (operandsFrom (s .args .operands .now) (s .args .from) k)) q ∙ c .before .loop .inv .1)
 
 pub bad-operands-spec : {M : Type 1} → statement M
 bad-operands-spec =

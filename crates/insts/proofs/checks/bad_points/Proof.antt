@@ -36,7 +36,9 @@ shared-slice-read-late : tie.Need-shared-slice-read-late
 shared-slice-read-late c = omega arith
 
 returns : tie.Need-returns
-returns c = points-1 (instLate (((c .before .before .before .before .before .args) .insts .now)) ((c .before .before .before .before .before .args) .i)) (instEarly (((c .before .before .before .before .before .args) .insts .now)) ((c .before .before .before .before .before .args) .i)) _ (omega arith)
+returns c =
+    let s = c .before .before .before .before .before in
+    points-1 (instLate ((s .args .insts .now)) (s .args .i)) (instEarly ((s .args .insts .now)) (s .args .i)) _ (omega arith)
 
 mul-if2 : tie.Need-mul-if2
 mul-if2 c = omega arith
@@ -45,7 +47,12 @@ shared-slice-read-if2 : tie.Need-shared-slice-read-if2
 shared-slice-read-if2 c = omega arith
 
 returns-2 : tie.Need-returns-2
-returns-2 c = (let z : instPlaced (((c .before .before .before .before .before .before .before .args) .insts .now)) ((c .before .before .before .before .before .before .before .args) .i) ≡ getD (((c .before .before .before .before .before .before .before .args) .insts .now)) (instWidth * (c .before .before .before .before .before .before .before .args) .i) 0 = ap (λ (k : ℕ). getD (((c .before .before .before .before .before .before .before .args) .insts .now)) k 0) (add-zero (instWidth * (c .before .before .before .before .before .before .before .args) .i)) in points-2 (instLate (((c .before .before .before .before .before .before .before .args) .insts .now)) ((c .before .before .before .before .before .before .before .args) .i)) (instEarly (((c .before .before .before .before .before .before .before .args) .insts .now)) ((c .before .before .before .before .before .before .before .args) .i)) (instPlaced (((c .before .before .before .before .before .before .before .args) .insts .now)) ((c .before .before .before .before .before .before .before .args) .i)) _ (omega arith) (λ q. (c .if2) .taken (omega arith)))
+returns-2 c =
+    let s = c .before .before .before .before .before .before .before in
+    (let z : instPlaced ((s .args .insts .now)) (s .args .i) ≡ getD ((s .args .insts .now)) (instWidth * (s .args) .i) 0 = ap (λ (k : ℕ). getD ((s .args .insts .now)) k 0)
+    (add-zero (instWidth * (s .args) .i)) in
+    points-2 (instLate ((s .args .insts .now)) (s .args .i)) (instEarly ((s .args .insts .now)) (s .args .i)) (instPlaced ((s .args .insts .now)) (s .args .i)) _ (omega arith)
+    (λ q. (c .if2) .taken (omega arith)))
 
 add-outside : tie.Need-add-outside
 add-outside c = omega arith
@@ -57,10 +64,17 @@ shared-slice-read-outside : tie.Need-shared-slice-read-outside
 shared-slice-read-outside c = omega arith
 
 outside-requires : tie.Need-outside-requires
-outside-requires c κs = ((c .before .before .before .before .before .before .before .before .pre) .0, omega arith, (c .before .before .before .before .before .before .before .before .pre) .2)
+outside-requires c κs =
+    let s = c .before .before .before .before .before .before .before .before in
+    (s .pre .0, omega arith, s .pre .2)
 
 returns-3 : tie.Need-returns-3
-returns-3 c = (let z : instPlaced (((c .before .before .before .before .before .before .before .before .before .args) .insts .now)) ((c .before .before .before .before .before .before .before .before .before .args) .i) ≡ getD (((c .before .before .before .before .before .before .before .before .before .args) .insts .now)) (instWidth * (c .before .before .before .before .before .before .before .before .before .args) .i) 0 = ap (λ (k : ℕ). getD (((c .before .before .before .before .before .before .before .before .before .args) .insts .now)) k 0) (add-zero (instWidth * (c .before .before .before .before .before .before .before .before .before .args) .i)) in points-3 (instLate (((c .before .before .before .before .before .before .before .before .before .args) .insts .now)) ((c .before .before .before .before .before .before .before .before .before .args) .i)) (instEarly (((c .before .before .before .before .before .before .before .before .before .args) .insts .now)) ((c .before .before .before .before .before .before .before .before .before .args) .i)) (instPlaced (((c .before .before .before .before .before .before .before .before .before .args) .insts .now)) ((c .before .before .before .before .before .before .before .before .before .args) .i)) (misplaced (blocksOf (((c .before .before .before .before .before .before .before .before .before .args) .blocks .now))) (rowInst (((c .before .before .before .before .before .before .before .before .before .args) .insts .now)) ((c .before .before .before .before .before .before .before .before .before .args) .i))) _ (omega arith) (omega arith) ((c .outside) .ensures))
+returns-3 c =
+    let s = c .before .before .before .before .before .before .before .before .before in
+    (let z : instPlaced ((s .args .insts .now)) (s .args .i) ≡ getD ((s .args .insts .now)) (instWidth * (s .args) .i) 0 = ap (λ (k : ℕ). getD ((s .args .insts .now)) k 0)
+    (add-zero (instWidth * (s .args) .i)) in
+    points-3 (instLate ((s .args .insts .now)) (s .args .i)) (instEarly ((s .args .insts .now)) (s .args .i)) (instPlaced ((s .args .insts .now)) (s .args .i))
+    (misplaced (blocksOf ((s .args .blocks .now))) (rowInst ((s .args .insts .now)) (s .args .i))) _ (omega arith) (omega arith) (c .outside .ensures))
 
 pub bad-points-spec : {M : Type 1} → statement M
 bad-points-spec =

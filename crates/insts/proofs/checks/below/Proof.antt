@@ -48,16 +48,24 @@ wide-requires : tie.Need-wide-requires Inv-loop μ-loop
 wide-requires c κs = omega arith
 
 returns : tie.Need-returns Inv-loop μ-loop
-returns c = sym (scan-hit _ _ _ _ ((c .before .before .before .before .loop) .inv .2) (le-leb ((c .before .before .before .before .before .before .args) .limit) (field ((c .before .before .before .before .before .before .args) .width) (((c .before .before .before .before .before .before .args) .s .now)) ((c .before .before .before .before .loop) .i) ((c .before .before .before .before .before .before .args) .f)) (omega arith)) (omega arith))
+returns c =
+    let t = c .before .before .before .before in
+    let u = t .before .before in
+    sym (scan-hit _ _ _ _ (t .loop .inv .2) (le-leb (u .args .limit) (field (u .args .width) ((u .args .s .now)) (t .loop .i) (u .args .f)) (omega arith)) (omega arith))
 
 add-i : tie.Need-add-i Inv-loop μ-loop
-add-i c = omega (arith, div-le-self (length (((c .before .before .before .before .before .before .args) .s .now))) ((c .before .before .before .before .before .before .args) .width))
+add-i c =
+    let t = c .before .before .before .before .before .before in
+    omega (arith, div-le-self (length ((t .args .s .now))) (t .args .width))
 
 loop-less : tie.Need-loop-less Inv-loop μ-loop
 loop-less c = omega arith
 
 loop-again : tie.Need-loop-again Inv-loop μ-loop
-loop-again c = (omega arith, omega arith, scan-miss _ _ _ ((c .before .before .before .before .loop) .inv .2) (lt-leb ((c .before .before .before .before .before .before .args) .limit) (field ((c .before .before .before .before .before .before .args) .width) (((c .before .before .before .before .before .before .args) .s .now)) ((c .before .before .before .before .loop) .i) ((c .before .before .before .before .before .before .args) .f)) (omega arith)))
+loop-again c =
+    let t = c .before .before .before .before in
+    let u = t .before .before in
+    (omega arith, omega arith, scan-miss _ _ _ (t .loop .inv .2) (lt-leb (u .args .limit) (field (u .args .width) ((u .args .s .now)) (t .loop .i) (u .args .f)) (omega arith)))
 
 returns-2 : tie.Need-returns-2 Inv-loop μ-loop
 returns-2 c = sym (scan-end _ _ _ _ ((c .before .loop) .inv .2) (omega arith) (omega arith))

@@ -21,7 +21,10 @@ below-requires : tie.Need-below-requires
 below-requires c κs = omega arith
 
 returns : tie.Need-returns
-returns c = c .below .ensures ∙ ap (λ (x : ℕ). scan InstWord (λ n. leb (x + 256) (field 1 (((c .before .before .before .args) .crossings .now)) n 0)) (rowCount 1 (((c .before .before .before .args) .crossings .now)))) ((c .before .wide) .ensures) ∙ crossing-is ((c .before .before .before .args) .v) (((c .before .before .before .args) .crossings .now))
+returns c =
+    let s = c .before .before .before in
+    c .below .ensures ∙ ap (λ (x : ℕ). scan InstWord (λ n. leb (x + 256) (field 1 ((s .args .crossings .now)) n 0)) (rowCount 1 ((s .args .crossings .now)))) (c .before .wide .ensures)
+    ∙ crossing-is (s .args .v) ((s .args .crossings .now))
 
 pub crossing-spec : {M : Type 1} → statement M
 crossing-spec = tie.close (tie.spec wide-requires add-below below-requires returns)

@@ -43,10 +43,15 @@ near-requires : tie.Need-near-requires Inv-loop μ-loop
 near-requires c κs = ((c .before .before .before .before .before .before .pre) .0, (c .before .before .loop) .inv .0)
 
 bad-inst-requires : tie.Need-bad-inst-requires Inv-loop μ-loop
-bad-inst-requires c κs = (((c .before .before .before .before .before .before .before .pre) .0, omega arith, (c .before .before .before .before .before .before .before .pre) .1), ((c .before .before .before .loop) .inv .3, (c .before .before .before .before .before .before .before .pre) .2, (c .near) .ensures))
+bad-inst-requires c κs =
+    let s = c .before .before .before .before .before .before .before in
+    ((s .pre .0, omega arith, s .pre .1), (c .before .before .before .loop .inv .3, s .pre .2, c .near .ensures))
 
 returns : tie.Need-returns Inv-loop μ-loop
-returns c = sym (scan-hit _ _ _ _ ((c .before .before .before .before .before .loop) .inv .4) (sym ((c .before .bad-inst) .ensures) ∙ c .if1 .taken) (omega (arith, insts-length (((c .before .before .before .before .before .before .before .before .before .args) .insts .now)) (((c .before .before .before .before .before .before .before .before .before .args) .operands .now)))))
+returns c =
+    let s = c .before .before .before .before .before .before .before .before .before in
+    sym (scan-hit _ _ _ _ (c .before .before .before .before .before .loop .inv .4) (sym (c .before .bad-inst .ensures) ∙ c .if1 .taken)
+    (omega (arith, insts-length ((s .args .insts .now)) ((s .args .operands .now)))))
 
 mul-wide : tie.Need-mul-wide Inv-loop μ-loop
 mul-wide c = omega arith
@@ -64,7 +69,9 @@ wide-requires : tie.Need-wide-requires Inv-loop μ-loop
 wide-requires c κs = omega arith
 
 add-from : tie.Need-add-from Inv-loop μ-loop
-add-from c = omega (arith, operands-within (((c .before .before .before .before .before .before .before .before .before .before .before .args) .insts .now)) (((c .before .before .before .before .before .before .before .before .before .before .before .args) .operands .now)) ((c .before .before .before .before .before .before .before .before .before .before .before .pre) .1) ((c .before .before .before .before .before .before .before .loop) .i) (omega arith))
+add-from c =
+    let s = c .before .before .before .before .before .before .before .before .before .before .before in
+    omega (arith, operands-within ((s .args .insts .now)) ((s .args .operands .now)) (s .pre .1) (c .before .before .before .before .before .before .before .loop .i) (omega arith))
 
 add-i : tie.Need-add-i Inv-loop μ-loop
 add-i c = omega arith
@@ -73,10 +80,23 @@ loop-less : tie.Need-loop-less Inv-loop μ-loop
 loop-less c = omega arith
 
 loop-again : tie.Need-loop-again Inv-loop μ-loop
-loop-again c = ((c .before .before .before .before .near) .ensures .within, omega arith, omega arith, ap (λ (x : ℕ). x + (c .wide) .result) ((c .before .before .before .before .before .before .before .loop) .inv .3) ∙ ap (λ (x : ℕ). offset (((c .before .before .before .before .before .before .before .before .before .before .before .args) .insts .now)) ((c .before .before .before .before .before .before .before .loop) .i) + x) ((c .wide) .ensures) ∙ sym (sum-next (λ k. instOperands (((c .before .before .before .before .before .before .before .before .before .before .before .args) .insts .now)) k) ((c .before .before .before .before .before .before .before .loop) .i)), scan-miss _ _ _ ((c .before .before .before .before .before .before .before .loop) .inv .4) (sym ((c .before .before .before .bad-inst) .ensures) ∙ (c .before .before .if1) .left))
+loop-again c =
+    let s = c .before .before .before .before .before .before .before in
+    let t = s .before .before .before .before in (
+      c .before .before .before .before .near .ensures .within,
+      omega arith,
+      omega arith,
+      ap (λ (x : ℕ). x + (c .wide) .result) (s .loop .inv .3) ∙ ap
+          (λ (x : ℕ). offset ((t .args .insts .now)) (s .loop .i) + x) (c .wide .ensures) ∙ sym (sum-next (λ k. instOperands ((t .args .insts .now)) k) (s .loop .i)),
+      scan-miss _ _ _
+          (s .loop .inv .4) (sym (c .before .before .before .bad-inst .ensures) ∙ c .before .before .if1 .left),
+    )
 
 returns-2 : tie.Need-returns-2 Inv-loop μ-loop
-returns-2 c = sym (scan-end _ _ _ _ ((c .before .loop) .inv .4) (omega (arith, insts-length (((c .before .before .before .before .before .args) .insts .now)) (((c .before .before .before .before .before .args) .operands .now)))) (omega (arith, insts-length (((c .before .before .before .before .before .args) .insts .now)) (((c .before .before .before .before .before .args) .operands .now)))))
+returns-2 c =
+    let s = c .before .before .before .before .before in
+    sym (scan-end _ _ _ _ (c .before .loop .inv .4) (omega (arith, insts-length ((s .args .insts .now)) ((s .args .operands .now))))
+    (omega (arith, insts-length ((s .args .insts .now)) ((s .args .operands .now)))))
 
 pub inst-spec : {M : Type 1} → statement M
 inst-spec =

@@ -23,7 +23,13 @@ enum-told : tie.Need-enum-told
 enum-told c = search needs
 
 inst-requires : tie.Need-inst-requires
-inst-requires c κs = ((line-sound (blocksOf (((c .before .before .before .before .before .before .args) .blocks .now))) ((c .before .before .before .before .before .before .args) .points) (let n = blocks-length (((c .before .before .before .before .before .before .args) .blocks .now)) in omega arith) (sym ((c .before .before .line) .ensures) ∙ (c .enum-told) .given .1)), (c .before .before .before .before .before .before .pre) .2, (c .before .before .before .before .before .before .pre) .3)
+inst-requires c κs =
+    let s = c .before .before .before .before .before .before in (
+      (line-sound (blocksOf ((s .args .blocks .now))) (s .args .points) (let n = blocks-length ((s .args .blocks .now)) in omega arith)
+          (sym (c .before .before .line .ensures) ∙ c .enum-told .given .1)),
+      s .pre .2,
+      s .pre .3,
+    )
 
 returns-2 : tie.Need-returns-2
 returns-2 c = c .inst .ensures ∙ sym (first-fine _ _ (sym ((c .before .before .before .line) .ensures) ∙ (c .before .enum-told) .given .1))

@@ -12,7 +12,9 @@ use Rattle.insts.proofs.checks.outside.Statement.{statement}
 use Rattle.insts.proofs.checks.outside.Tie as tie
 
 returns : tie.Need-returns
-returns c = not-in (((c .before .args) .blocks .now)) ((c .before .pre) .0) ((c .before .args) .number) ((c .before .args) .early) ((c .before .args) .late) (λ k h e a b. let q = search-found (((c .before .args) .blocks .now)) ((c .before .pre) .0) _ k ((c .before .args) .early) ((c .before .pre) .2) h a (omega arith) in omega arith)
+returns c =
+    not-in (((c .before .args) .blocks .now)) ((c .before .pre) .0) ((c .before .args) .number) ((c .before .args) .early) ((c .before .args) .late)
+    (λ k h e a b. let q = search-found (((c .before .args) .blocks .now)) ((c .before .pre) .0) _ k ((c .before .args) .early) ((c .before .pre) .2) h a (omega arith) in omega arith)
 
 sub-at : tie.Need-sub-at
 sub-at c = omega arith
@@ -27,7 +29,12 @@ shared-slice-read-if2 : tie.Need-shared-slice-read-if2
 shared-slice-read-if2 c = let w = (c .before .before .pre) .2 .within in omega arith
 
 returns-2 : tie.Need-returns-2
-returns-2 c = not-in (((c .before .before .before .args) .blocks .now)) ((c .before .before .before .pre) .0) ((c .before .before .before .args) .number) ((c .before .before .before .args) .early) ((c .before .before .before .args) .late) (λ k h e a b. let q = search-found (((c .before .before .before .args) .blocks .now)) ((c .before .before .before .pre) .0) _ k ((c .before .before .before .args) .early) ((c .before .before .before .pre) .2) h a (omega arith) in let z : (c .before .before .before .args) .k - 1 ≡ k = omega arith in (c .if2) .taken (ap (λ (j : ℕ). getD (((c .before .before .before .args) .blocks .now)) (blockWidth * j) 0) z ∙ sym (number-is (((c .before .before .before .args) .blocks .now)) k h) ∙ e))
+returns-2 c =
+    let s = c .before .before .before in
+    not-in ((s .args .blocks .now)) (s .pre .0) (s .args .number) (s .args .early) (s .args .late) (λ k h e a b. let q = search-found ((s .args .blocks .now)) (s .pre .0) _ k
+    (s .args .early) (s .pre .2) h a (omega arith) in
+    let z : (s .args) .k - 1 ≡ k = omega arith in
+    (c .if2) .taken (ap (λ (j : ℕ). getD ((s .args .blocks .now)) (blockWidth * j) 0) z ∙ sym (number-is ((s .args .blocks .now)) k h) ∙ e))
 
 mul-result : tie.Need-mul-result
 mul-result c = let w = (c .before .before .before .pre) .2 .within in omega arith
@@ -42,7 +49,11 @@ shared-slice-read-result : tie.Need-shared-slice-read-result
 shared-slice-read-result c = let w = (c .before .before .before .before .pre) .2 .within in omega arith
 
 returns-3 : tie.Need-returns-3
-returns-3 c = let w = (c .before .before .before .before .pre) .2 .within in found-in (((c .before .before .before .before .args) .blocks .now)) ((c .before .before .before .before .pre) .0) ((c .before .before .before .before .args) .number) ((c .before .before .before .before .args) .early) ((c .before .before .before .before .args) .late) ((c .before .before .before .before .args) .k - 1) (omega arith) ((c .before .if2) .left) (leb-true (blockStart (((c .before .before .before .before .args) .blocks .now)) ((c .before .before .before .before .args) .k - 1)) ((c .before .before .before .before .args) .early) ((c .before .before .before .before .pre) .2 .holds ((c .before .before .before .before .args) .k - 1) (omega arith)))
+returns-3 c =
+    let s = c .before .before .before .before in
+    let w = s .pre .2 .within in
+    found-in ((s .args .blocks .now)) (s .pre .0) (s .args .number) (s .args .early) (s .args .late) (s .args .k - 1) (omega arith) (c .before .if2 .left)
+    (leb-true (blockStart ((s .args .blocks .now)) (s .args .k - 1)) (s .args .early) (s .pre .2 .holds (s .args .k - 1) (omega arith)))
 
 pub outside-spec : {M : Type 1} → statement M
 outside-spec =

@@ -18,7 +18,9 @@ wide-requires : tie.Need-wide-requires
 wide-requires c κs = omega arith
 
 returns : tie.Need-returns
-returns c = unplaced-1 (instCount (((c .before .before .before .args) .insts .now))) ((c .before .before .before .args) .number) (not (isSet (instPlaced (((c .before .before .before .args) .insts .now)) ((c .before .before .before .args) .number)))) (omega arith)
+returns c =
+    let s = c .before .before .before in
+    unplaced-1 (instCount ((s .args .insts .now))) (s .args .number) (not (isSet (instPlaced ((s .args .insts .now)) (s .args .number)))) (omega arith)
 
 mul-result : tie.Need-mul-result
 mul-result c = omega arith
@@ -30,7 +32,11 @@ shared-slice-read-result : tie.Need-shared-slice-read-result
 shared-slice-read-result c = omega arith
 
 returns-2 : tie.Need-returns-2
-returns-2 c = ap (λ (x : ℕ). not (eqb (getD (((c .before .before .before .before .args) .insts .now)) (instWidth * x) 0) 1)) ((c .before .before .wide) .ensures) ∙ unplaced-2 (instCount (((c .before .before .before .before .args) .insts .now))) ((c .before .before .before .before .args) .number) (getD (((c .before .before .before .before .args) .insts .now)) (instWidth * (c .before .before .before .before .args) .number) 0) (omega arith) ∙ ap (λ (k : ℕ). leb (instCount (((c .before .before .before .before .args) .insts .now))) ((c .before .before .before .before .args) .number) || not (isSet (getD (((c .before .before .before .before .args) .insts .now)) k 0))) (sym (add-zero (instWidth * (c .before .before .before .before .args) .number)))
+returns-2 c =
+    let s = c .before .before .before .before in
+    ap (λ (x : ℕ). not (eqb (getD ((s .args .insts .now)) (instWidth * x) 0) 1)) (c .before .before .wide .ensures) ∙ unplaced-2 (instCount ((s .args .insts .now))) (s .args .number)
+    (getD ((s .args .insts .now)) (instWidth * (s .args) .number) 0) (omega arith) ∙ ap
+    (λ (k : ℕ). leb (instCount ((s .args .insts .now))) (s .args .number) || not (isSet (getD ((s .args .insts .now)) k 0))) (sym (add-zero (instWidth * (s .args) .number)))
 
 pub unplaced-spec : {M : Type 1} → statement M
 unplaced-spec =

@@ -10,10 +10,14 @@ operand-sum-requires : tie.Need-operand-sum-requires
 operand-sum-requires c κs = (c .before .before .pre)
 
 returns : tie.Need-returns
-returns c = sum-off (((c .before .before .before .before .args) .insts .now)) (((c .before .before .before .before .args) .operands .now)) (λ q. c .if1 .taken ((c .before .operand-sum) .ensures ∙ q))
+returns c =
+    let s = c .before .before .before .before in
+    sum-off ((s .args .insts .now)) ((s .args .operands .now)) (λ q. c .if1 .taken (c .before .operand-sum .ensures ∙ q))
 
 returns-2 : tie.Need-returns-2
-returns-2 c = sum-fine (((c .before .before .before .before .args) .insts .now)) (((c .before .before .before .before .args) .operands .now)) (sym ((c .before .operand-sum) .ensures) ∙ c .if1 .left)
+returns-2 c =
+    let s = c .before .before .before .before in
+    sum-fine ((s .args .insts .now)) ((s .args .operands .now)) (sym (c .before .operand-sum .ensures) ∙ c .if1 .left)
 
 pub add-up-spec : {M : Type 1} → statement M
 add-up-spec = tie.close (tie.spec operand-sum-requires returns returns-2)

@@ -40,7 +40,14 @@ earlier-requires-5 : tie.Need-earlier-requires-5
 earlier-requires-5 c κs = search needs
 
 returns : tie.Need-returns
-returns c = counts-chain ((c .before .before .before .before .before .before .before .before .before .before .before .before .before .before .before .before .before .args) .v) (((c .before .before .before .before .before .before .before .before .before .before .before .before .before .before .before .before .before .args) .insts .now)) (((c .before .before .before .before .before .before .before .before .before .before .before .before .before .before .before .before .before .args) .operands .now)) (((c .before .before .before .before .before .before .before .before .before .before .before .before .before .before .before .before .before .args) .crossings .now)) (((c .before .before .before .before .before .before .before .before .before .before .before .before .before .before .before .before .before .args) .locals .now)) (((c .before .before .before .before .before .before .before .before .before .before .before .before .before .before .before .before .before .args) .addresses .now)) (((c .before .before .before .before .before .before .before .before .before .before .before .before .before .before .before .before .before .args) .ends .now)) ((c .before .before .before .before .before .before .before .before .before .before .most) .ensures) ((c .before .before .before .before .before .before .before .before .before .insts) .ensures) ((c .before .before .before .before .before .before .before .before .most2) .ensures) ((c .before .before .before .before .before .before .before .rows) .ensures) ((c .before .before .before .before .before .before .rows2) .ensures) ((c .before .before .before .before .before .rows3) .ensures) ((c .before .before .before .before .earlier) .ensures) ((c .before .before .before .earlier2) .ensures) ((c .before .before .earlier3) .ensures) ((c .before .earlier4) .ensures) ((c .earlier5) .ensures)
+returns c =
+    let s = c .before .before .before .before .before .before .before .before .before .before .before .before .before .before .before .before .before in
+    counts-chain (s .args .v) ((s .args .insts .now)) ((s .args .operands .now)) ((s .args .crossings .now)) ((s .args .locals .now)) ((s .args .addresses .now)) ((s .args .ends .now))
+    (c .before .before .before .before .before .before .before .before .before .before .most .ensures)
+    (c .before .before .before .before .before .before .before .before .before .insts .ensures) (c .before .before .before .before .before .before .before .before .most2 .ensures)
+    (c .before .before .before .before .before .before .before .rows .ensures) (c .before .before .before .before .before .before .rows2 .ensures)
+    (c .before .before .before .before .before .rows3 .ensures) (c .before .before .before .before .earlier .ensures) (c .before .before .before .earlier2 .ensures)
+    (c .before .before .earlier3 .ensures) (c .before .earlier4 .ensures) (c .earlier5 .ensures)
 
 pub code-spec : {M : Type 1} → statement M
 code-spec =

@@ -44,10 +44,21 @@ loop-less : tie.Need-loop-less Inv-loop μ-loop
 loop-less c = omega arith
 
 loop-again : tie.Need-loop-again Inv-loop μ-loop
-loop-again c = (omega arith, omega arith, omega arith, ap (λ (x : ℕ). x + instOperands (((c .before .before .before .args) .insts .now)) ((c .before .before .loop) .i)) ((c .before .before .loop) .inv .3) ∙ sym (sum-next (λ k. instOperands (((c .before .before .before .args) .insts .now)) k) ((c .before .before .loop) .i)), omega (arith, (c .shared-slice-known) .given (instWidth * (c .before .before .loop) .i + 8)))
+loop-again c =
+    let s = c .before .before in
+    let t = s .before in (
+      omega arith,
+      omega arith,
+      omega arith,
+      ap (λ (x : ℕ). x + instOperands ((t .args .insts .now)) (s .loop .i)) (s .loop .inv .3) ∙ sym
+          (sum-next (λ k. instOperands ((t .args .insts .now)) k) (s .loop .i)),
+      omega (arith, c .shared-slice-known .given (instWidth * (s .loop) .i + 8)),
+    )
 
 returns : tie.Need-returns Inv-loop μ-loop
-returns c = let q : (c .before .loop) .i ≡ instCount (((c .before .before .args) .insts .now)) = omega arith in (c .before .loop) .inv .3 ∙ ap (offset (((c .before .before .args) .insts .now))) q
+returns c =
+    let s = c .before .before in
+    let q : (c .before .loop) .i ≡ instCount ((s .args .insts .now)) = omega arith in (c .before .loop) .inv .3 ∙ ap (offset ((s .args .insts .now))) q
 
 pub operand-sum-spec : {M : Type 1} → statement M
 operand-sum-spec =

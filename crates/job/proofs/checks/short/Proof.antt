@@ -9,22 +9,30 @@ needed-requires : tie.Need-needed-requires
 needed-requires c κs = small-counted (c .pre)
 
 returns : tie.Need-returns
-returns c = short-work ((c .before .before .args) .z) ((c .before .before .args) .cells) ((c .before .before .args) .items) ((c .before .before .args) .work) (omega (arith, (c .before .needed) .ensures))
+returns c =
+    let s = c .before .before in
+    short-work (s .args .z) (s .args .cells) (s .args .items) (s .args .work) (omega (arith, c .before .needed .ensures))
 
 add-if2 : tie.Need-add-if2
 add-if2 c = omega (arith, (c .before .before .before .pre) .few-locals, (c .before .before .before .pre) .few-slots)
 
 returns-2 : tie.Need-returns-2
-returns-2 c = short-cells ((c .before .before .before .before .args) .z) ((c .before .before .before .before .args) .cells) ((c .before .before .before .before .args) .items) ((c .before .before .before .before .args) .work) (omega (arith, (c .before .before .before .needed) .ensures)) (omega arith)
+returns-2 c =
+    let s = c .before .before .before .before in
+    short-cells (s .args .z) (s .args .cells) (s .args .items) (s .args .work) (omega (arith, c .before .before .before .needed .ensures)) (omega arith)
 
 add-if3 : tie.Need-add-if3
 add-if3 c = omega (arith, (c .before .before .before .before .before .pre) .few-locals, (c .before .before .before .before .before .pre) .few-slots)
 
 returns-3 : tie.Need-returns-3
-returns-3 c = short-items ((c .before .before .before .before .before .before .args) .z) ((c .before .before .before .before .before .before .args) .cells) ((c .before .before .before .before .before .before .args) .items) ((c .before .before .before .before .before .before .args) .work) (omega (arith, (c .before .before .before .before .before .needed) .ensures)) (omega arith) (omega arith)
+returns-3 c =
+    let s = c .before .before .before .before .before .before in
+    short-items (s .args .z) (s .args .cells) (s .args .items) (s .args .work) (omega (arith, c .before .before .before .before .before .needed .ensures)) (omega arith) (omega arith)
 
 returns-4 : tie.Need-returns-4
-returns-4 c = enough ((c .before .before .before .before .before .before .args) .z) ((c .before .before .before .before .before .before .args) .cells) ((c .before .before .before .before .before .before .args) .items) ((c .before .before .before .before .before .before .args) .work) (omega (arith, (c .before .before .before .before .before .needed) .ensures)) (omega arith) (omega arith)
+returns-4 c =
+    let s = c .before .before .before .before .before .before in
+    enough (s .args .z) (s .args .cells) (s .args .items) (s .args .work) (omega (arith, c .before .before .before .before .before .needed .ensures)) (omega arith) (omega arith)
 
 pub short-spec : {M : Type 1} → statement M
 short-spec =

@@ -12,13 +12,32 @@ table-requires : tie.Need-table-requires
 table-requires c κs = let Q = (c .before .before .before .before .before .before .before .before .before .before .before .pre) in let L = Q .laid in (Q .sound, omega (arith, L .table-fits, L .heads-fit, L .nexts-fit, L .fits, (c .before .before .before .held) .ensures .len))
 
 chains-requires : tie.Need-chains-requires
-chains-requires c κs = let Q = (c .before .before .before .before .before .before .before .before .before .before .before .before .before .before .before .pre) in let L = Q .laid in (L .heads-fit, omega (arith, L .nexts-fit, L .fits, (c .before .before .before .before .before .before .before .held) .ensures .len, (c .before .before .before .table) .ensures .kept .len))
+chains-requires c κs =
+    let Q = (c .before .before .before .before .before .before .before .before .before .before .before .before .before .before .before .pre) in
+    let L = Q .laid in (
+      L .heads-fit,
+      omega
+          (arith, L .nexts-fit, L .fits, (c .before .before .before .before .before .before .before .held) .ensures .len, (c .before .before .before .table) .ensures .kept .len),
+    )
 
 measure-slots-requires : tie.Need-measure-slots-requires
-measure-slots-requires c κs = let a = (c .before .before .before .before .before .before .before .before .before .before .before .before .before .before .before .before .before .before .before .args) in (slots-ready (a .points) (now (a .blocks)) (now (a .insts)) (now (a .moves)) (now (a .pieces)) (now (a .assigned)) (a .p) (a .keys) (a .held) (a .o) (a .first) (a .total) (c .before .before .before .before .before .before .before .before .before .before .before .before .before .before .before .before .before .before .before .pre) ((c .before .before .before .before .before .before .before .before .before .before .before .held) .ensures) ((c .before .before .before .before .before .before .before .table) .ensures) ((c .before .before .before .chains) .ensures), (c .before .before .before .before .before .before .before .before .before .before .before .before .before .before .before .before .before .before .before .pre) .few)
+measure-slots-requires c κs =
+    let s = c .before .before .before .before .before .before .before .before .before .before .before .before .before .before .before .before .before .before .before in
+    let a = (s .args) in (
+      slots-ready (a .points) (now (a .blocks)) (now (a .insts)) (now (a .moves)) (now (a .pieces)) (now (a .assigned)) (a .p) (a .keys) (a .held) (a .o) (a .first) (a .total) (s .pre)
+          (c .before .before .before .before .before .before .before .before .before .before .before .held .ensures)
+          (c .before .before .before .before .before .before .before .table .ensures) (c .before .before .before .chains .ensures),
+      s .pre .few,
+    )
 
 returns : tie.Need-returns
-returns c = let a = (c .before .before .before .before .before .before .before .before .before .before .before .before .before .before .before .before .before .before .before .before .before .before .args) in slots-in (a .points) (now (a .blocks)) (now (a .insts)) (now (a .moves)) (now (a .pieces)) (now (a .assigned)) (a .p) (a .keys) (a .held) (a .o) (a .first) (a .total) (c .before .before .before .before .before .before .before .before .before .before .before .before .before .before .before .before .before .before .before .before .before .before .pre) ((c .before .before .before .before .before .before .before .before .before .before .before .before .before .before .held) .ensures) ((c .before .before .before .before .before .before .before .before .before .before .table) .ensures) ((c .before .before .before .before .before .before .chains) .ensures) ((c .before .before .measure-slots) .ensures)
+returns c =
+    let s = c .before .before .before .before .before .before .before .before .before .before .before .before .before .before .before .before .before .before .before .before .before .before in
+    let a = (s .args) in
+    slots-in (a .points) (now (a .blocks)) (now (a .insts)) (now (a .moves)) (now (a .pieces)) (now (a .assigned)) (a .p) (a .keys) (a .held) (a .o) (a .first) (a .total) (s .pre)
+    (c .before .before .before .before .before .before .before .before .before .before .before .before .before .before .held .ensures)
+    (c .before .before .before .before .before .before .before .before .before .before .table .ensures) (c .before .before .before .before .before .before .chains .ensures)
+    (c .before .before .measure-slots .ensures)
 
 same-length : tie.Need-same-length
 same-length c = returns c .kept .len

@@ -13,7 +13,10 @@ enum-known-line : tie.Need-enum-known-line
 enum-known-line c = search needs
 
 returns : tie.Need-returns
-returns c = by-line ((c .before .before .before .before .before .before .before .before .args) .points) ((c .before .before .before .before .before .before .before .before .args) .v) ((c .before .before .before .before .before .before .before .before .args) .blocks .now) ((c .before .before .before .before .before .before .before .before .args) .edges .now) ((c .before .before .before .before .before .before .before .before .args) .insts .now) ((c .before .before .before .before .before .before .before .before .args) .operands .now) _ _ (sym ((c .before .before .before .line) .ensures) ∙ (c .before .line2) .given .1)
+returns c =
+    let s = c .before .before .before .before .before .before .before .before in
+    by-line (s .args .points) (s .args .v) (s .args .blocks .now) (s .args .edges .now) (s .args .insts .now) (s .args .operands .now) _ _
+    (sym (c .before .before .before .line .ensures) ∙ c .before .line2 .given .1)
 
 enum-told : tie.Need-enum-told
 enum-told c = search needs
@@ -22,13 +25,19 @@ edge-requires : tie.Need-edge-requires
 edge-requires c κs = search needs
 
 inst-requires : tie.Need-inst-requires
-inst-requires c κs = (some-sound ((c .before .before .before .before .before .before .before .before .args) .blocks .now) ((c .before .before .before .before .before .before .before .before .args) .points) ((c .before .before .before .before .before .before .before .before .pre) .0) (sym ((c .before .before .before .line) .ensures) ∙ (c .before .enum-told) .given .1), (c .before .before .before .before .before .before .before .before .pre) .2, (c .before .before .before .before .before .before .before .before .pre) .3)
+inst-requires c κs =
+    let s = c .before .before .before .before .before .before .before .before in
+    (some-sound (s .args .blocks .now) (s .args .points) (s .pre .0) (sym (c .before .before .before .line .ensures) ∙ c .before .enum-told .given .1), s .pre .2, s .pre .3)
 
 earlier-requires : tie.Need-earlier-requires
 earlier-requires c κs = search needs
 
 returns-2 : tie.Need-returns-2
-returns-2 c = by-edge ((c .before .before .before .before .before .before .before .before .before .before .args) .points) ((c .before .before .before .before .before .before .before .before .before .before .args) .v) ((c .before .before .before .before .before .before .before .before .before .before .args) .blocks .now) ((c .before .before .before .before .before .before .before .before .before .before .args) .edges .now) ((c .before .before .before .before .before .before .before .before .before .before .args) .insts .now) ((c .before .before .before .before .before .before .before .before .before .before .args) .operands .now) (sym ((c .before .before .before .before .before .line) .ensures) ∙ (c .before .before .before .enum-told) .given .1) ((c .before .before .edge) .ensures) ((c .before .inst) .ensures) ((c .earlier) .ensures)
+returns-2 c =
+    let s = c .before .before .before .before .before .before .before .before .before .before in
+    by-edge (s .args .points) (s .args .v) (s .args .blocks .now) (s .args .edges .now) (s .args .insts .now) (s .args .operands .now)
+    (sym (c .before .before .before .before .before .line .ensures) ∙ c .before .before .before .enum-told .given .1) (c .before .before .edge .ensures) (c .before .inst .ensures)
+    (c .earlier .ensures)
 
 pub located-spec : {M : Type 1} → statement M
 located-spec =

@@ -39,7 +39,14 @@ earlier-requires-5 : tie.Need-earlier-requires-5
 earlier-requires-5 c κs = search needs
 
 returns : tie.Need-returns
-returns c = others-chain ((c .before .before .before .before .before .before .before .before .before .before .before .args) .edges) ((c .before .before .before .before .before .before .before .before .before .before .before .args) .slots) ((c .before .before .before .before .before .before .before .before .before .before .before .args) .pieces) ((c .before .before .before .before .before .before .before .before .before .before .before .args) .assigned) ((c .before .before .before .before .before .before .before .before .before .before .before .args) .moves) ((c .before .before .before .before .before .before .before .before .before .before .before .args) .areas) ((c .before .before .before .before .before .before .before .before .before .before .rows) .ensures) ((c .before .before .before .before .before .before .before .before .before .most) .ensures) ((c .before .before .before .before .before .before .before .before .rows2) .ensures) ((c .before .before .before .before .before .before .before .rows3) .ensures) ((c .before .before .before .before .before .before .rows4) .ensures) ((c .before .before .before .before .before .rows5) .ensures) ((c .before .before .before .before .earlier) .ensures) ((c .before .before .before .earlier2) .ensures) ((c .before .before .earlier3) .ensures) ((c .before .earlier4) .ensures) ((c .earlier5) .ensures)
+returns c =
+    let s = c .before .before .before .before .before .before .before .before .before .before .before in
+    others-chain (s .args .edges) (s .args .slots) (s .args .pieces) (s .args .assigned) (s .args .moves) (s .args .areas)
+    (c .before .before .before .before .before .before .before .before .before .before .rows .ensures)
+    (c .before .before .before .before .before .before .before .before .before .most .ensures) (c .before .before .before .before .before .before .before .before .rows2 .ensures)
+    (c .before .before .before .before .before .before .before .rows3 .ensures) (c .before .before .before .before .before .before .rows4 .ensures)
+    (c .before .before .before .before .before .rows5 .ensures) (c .before .before .before .before .earlier .ensures) (c .before .before .before .earlier2 .ensures)
+    (c .before .before .earlier3 .ensures) (c .before .earlier4 .ensures) (c .earlier5 .ensures)
 
 pub others-spec : {M : Type 1} → statement M
 others-spec =

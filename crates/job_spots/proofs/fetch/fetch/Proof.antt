@@ -15,19 +15,33 @@ same-length : tie.Need-same-length
 same-length c = (c .before .before .before .before .follow) .ensures .kept .len
 
 returns : tie.Need-returns
-returns c = unfollowed-fetched ((c .before .before .before .before .before .before .before .before .before .before .before .pre) .0) ((c .before .before .before .before .before .before .before .before .before .before .before .pre) .1) ((c .before .before .before .before .follow) .ensures) (cc)
+returns c =
+    let s = c .before .before .before .before .before .before .before .before .before .before .before in
+    unfollowed-fetched (s .pre .0) (s .pre .1) (c .before .before .before .before .follow .ensures) (cc)
 
 touches-requires : tie.Need-touches-requires
-touches-requires c κs = (pieces-asked ((c .before .before .before .before .before .before .before .before .before .before .before .before .pre) .0) ((c .before .before .before .before .before .before .before .before .before .before .before .before .pre) .1) ((c .before .before .before .before .before .follow) .ensures), (registers-asked ((c .before .before .before .before .before .before .before .before .before .before .before .before .pre) .0) ((c .before .before .before .before .before .before .before .before .before .before .before .before .pre) .1) ((c .before .before .before .before .before .follow) .ensures), entries-asked ((c .before .before .before .before .before .before .before .before .before .before .before .before .pre) .0) ((c .before .before .before .before .before .before .before .before .before .before .before .before .pre) .1) ((c .before .before .before .before .before .follow) .ensures)))
+touches-requires c κs =
+    let s = c .before .before .before .before .before in
+    let t = s .before .before .before .before .before .before .before in (
+      pieces-asked (t .pre .0) (t .pre .1) (s .follow .ensures),
+      (registers-asked (t .pre .0) (t .pre .1) (s .follow .ensures), entries-asked (t .pre .0) (t .pre .1) (s .follow .ensures)),
+    )
 
 ends-requires : tie.Need-ends-requires
-ends-requires c κs = ends-asked ((c .before .before .before .before .before .before .before .before .before .before .before .before .before .before .before .before .pre) .0) ((c .before .before .before .before .before .before .before .before .before .before .before .before .before .before .before .before .pre) .1) ((c .before .before .before .before .before .before .before .before .before .follow) .ensures) ((c .before .before .before .touches) .ensures)
+ends-requires c κs =
+    let s = c .before .before .before .before .before .before .before .before .before .before .before .before .before .before .before .before in
+    ends-asked (s .pre .0) (s .pre .1) (c .before .before .before .before .before .before .before .before .before .follow .ensures) (c .before .before .before .touches .ensures)
 
 same-length-2 : tie.Need-same-length-2
 same-length-2 c = search needs
 
 returns-2 : tie.Need-returns-2
-returns-2 c = fetched ((c .before .before .before .before .before .before .before .before .before .before .before .before .before .before .before .before .before .before .before .pre) .0) ((c .before .before .before .before .before .before .before .before .before .before .before .before .before .before .before .before .before .before .before .pre) .1) ((c .before .before .before .before .before .before .before .before .before .before .before .before .follow) .ensures) ((c .before .before .before .before .before .before .touches) .ensures) ((c .before .before .ends) .ensures) (λ y. let x = (c .before .before .before .before .before .before .before .before .before .before .before .before .before .before .before .before .before .before .shared-slice-known) .given y in omega arith)
+returns-2 c =
+    let s = c .before .before .before .before .before .before .before .before .before .before .before .before .before .before .before .before .before .before .before in
+    fetched (s .pre .0) (s .pre .1) (c .before .before .before .before .before .before .before .before .before .before .before .before .follow .ensures)
+    (c .before .before .before .before .before .before .touches .ensures) (c .before .before .ends .ensures)
+    (λ y. let x = c .before .before .before .before .before .before .before .before .before .before .before .before .before .before .before .before .before .before .shared-slice-known .given y in
+    omega arith)
 
 pub fetch-spec : {M : Type 1} → statement M
 fetch-spec =

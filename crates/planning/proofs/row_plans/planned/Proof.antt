@@ -8,13 +8,19 @@ use Rattle.planning.proofs.row_plans.planned.Statement.{statement}
 use Rattle.planning.proofs.row_plans.planned.Tie as tie
 
 shared-slice-read-points : tie.Need-shared-slice-read-points
-shared-slice-read-points c = reads-in (now ((c .before .before .before .before .before .before .before .args) .rows)) 0 (lit< tt) ((c .before .before .before .before .before .before .before .pre) .0)
+shared-slice-read-points c =
+    let s = c .before .before .before .before .before .before .before in
+    reads-in (now (s .args .rows)) 0 (lit< tt) (s .pre .0)
 
 shared-slice-read-v : tie.Need-shared-slice-read-v
-shared-slice-read-v c = reads-in (now ((c .before .before .before .before .before .before .before .before .args) .rows)) 1 (lit< tt) ((c .before .before .before .before .before .before .before .before .pre) .0)
+shared-slice-read-v c =
+    let s = c .before .before .before .before .before .before .before .before in
+    reads-in (now (s .args .rows)) 1 (lit< tt) (s .pre .0)
 
 shared-slice-read-budget : tie.Need-shared-slice-read-budget
-shared-slice-read-budget c = reads-in (now ((c .before .before .before .before .before .before .before .before .before .args) .rows)) 2 (lit< tt) ((c .before .before .before .before .before .before .before .before .before .pre) .0)
+shared-slice-read-budget c =
+    let s = c .before .before .before .before .before .before .before .before .before in
+    reads-in (now (s .args .rows)) 2 (lit< tt) (s .pre .0)
 
 records-requires : tie.Need-records-requires
 records-requires c κs =

@@ -9,7 +9,9 @@ unplaced-requires : tie.Need-unplaced-requires
 unplaced-requires c κs = (c .before .before .before .pre) .0
 
 returns : tie.Need-returns
-returns c = marked-none _ _ _ _ (unplaced-stray ((c .before .before .before .before .before .args) .insts .now) ((c .before .before .before .before .before .args) .operands .now) ((c .before .before .before .before .before .args) .i) ((c .before .before .before .before .before .args) .from) (sym ((c .before .unplaced) .ensures) ∙ (c .if1) .taken))
+returns c =
+    let s = c .before .before .before .before .before in
+    marked-none _ _ _ _ (unplaced-stray (s .args .insts .now) (s .args .operands .now) (s .args .i) (s .args .from) (sym (c .before .unplaced .ensures) ∙ c .if1 .taken))
 
 mul-at : tie.Need-mul-at
 mul-at c = omega arith
@@ -42,13 +44,18 @@ shared-slice-read-escape-3 : tie.Need-shared-slice-read-escape-3
 shared-slice-read-escape-3 c = omega arith
 
 escape-requires : tie.Need-escape-requires
-escape-requires c κs = ((c .before .before .before .before .before .before .before .before .before .pre) .2, (c .before .before .before .before .before .before .before .before .before .pre) .3)
+escape-requires c κs =
+    let s = c .before .before .before .before .before .before .before .before .before in
+    (s .pre .2, s .pre .3)
 
 same-length : tie.Need-same-length
 same-length c = (c .before .before .escape) .ensures .kept .len
 
 returns-2 : tie.Need-returns-2
-returns-2 c = marked-same ((c .before .before .escape) .ensures) _ (placed-stray ((c .before .before .before .before .before .before .before .before .before .before .before .before .args) .insts .now) ((c .before .before .before .before .before .before .before .before .before .before .before .before .args) .operands .now) ((c .before .before .before .before .before .before .before .before .before .before .before .before .args) .i) ((c .before .before .before .before .before .before .before .before .before .before .before .before .args) .from) (sym ((c .before .before .before .before .before .before .before .before .unplaced) .ensures) ∙ (c .before .before .before .before .before .before .before .if1) .left) _ ((c .before .before .before .before .before .before .before .before .before .before .before .before .pre) .1))
+returns-2 c =
+    let s = c .before .before .before .before .before .before .before .before .before .before .before .before in
+    marked-same (c .before .before .escape .ensures) _ (placed-stray (s .args .insts .now) (s .args .operands .now) (s .args .i) (s .args .from)
+    (sym (c .before .before .before .before .before .before .before .before .unplaced .ensures) ∙ c .before .before .before .before .before .before .before .if1 .left) _ (s .pre .1))
 
 pub escapes-spec : {M : Type 1} → statement M
 escapes-spec =

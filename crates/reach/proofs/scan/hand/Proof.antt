@@ -38,19 +38,36 @@ same-length : tie.Need-same-length
 same-length c = (c .before .before .stick) .ensures .kept .len
 
 returns : tie.Need-returns
-returns c = hand-stuck ((c .before .before .before .before .before .before .before .before .before .before .before .before .args) .lay) ((c .before .before .before .before .before .before .before .before .before .before .before .before .args) .v) _ ((c .before .before .before .before .before .before .before .before .before .before .before .before .args) .i) _ ((c .before .before .stick) .ensures) _ (placed-lea ((c .before .before .before .before .before .before .before .before .before .before .before .before .args) .insts .now) ((c .before .before .before .before .before .before .before .before .before .before .before .before .args) .operands .now) ((c .before .before .before .before .before .before .before .before .before .before .before .before .args) .i) ((c .before .before .before .before .before .before .before .before .before .before .before .before .args) .from) (sym ((c .before .before .before .before .before .before .before .before .handing) .ensures) ∙ (c .before .before .before .before .before .before .before .if1) .taken) _ ((c .before .before .before .before .before .before .before .before .before .before .before .before .pre) .0 .1)) (none-number (defOf ((c .before .before .before .before .before .before .before .before .before .before .before .before .args) .v) (rowOf ((c .before .before .before .before .before .before .before .before .before .before .before .before .args) .insts .now) ((c .before .before .before .before .before .before .before .before .before .before .before .before .args) .operands .now) ((c .before .before .before .before .before .before .before .before .before .before .before .before .args) .i) ((c .before .before .before .before .before .before .before .before .before .before .before .before .args) .from))) (sym ((c .before .before .before .before .before .before .before .before .before .before .before .before .pre) .1 .1) ∙ (c .before .before .before .before .if2) .taken))
+returns c =
+    let s = c .before .before .before .before .before .before .before .before .before .before .before .before in
+    hand-stuck (s .args .lay) (s .args .v) _ (s .args .i) _ (c .before .before .stick .ensures) _ (placed-lea (s .args .insts .now) (s .args .operands .now) (s .args .i)
+    (s .args .from)
+    (sym (c .before .before .before .before .before .before .before .before .handing .ensures) ∙ c .before .before .before .before .before .before .before .if1 .taken) _
+    (s .pre .0 .1)) (none-number (defOf (s .args .v) (rowOf (s .args .insts .now) (s .args .operands .now) (s .args .i) (s .args .from)))
+    (sym (s .pre .1 .1) ∙ c .before .before .before .before .if2 .taken))
 
 link-requires : tie.Need-link-requires
-link-requires c κs = ((c .before .before .before .before .before .before .before .before .before .pre) .0 .2, (c .before .before .before .before .before .before .before .before .before .pre) .1 .0 .1, (c .before .before .before .before .before .before .before .before .before .pre) .0 .3, (c .before .before .before .before .before .before .before .before .before .pre) .0 .4)
+link-requires c κs =
+    let s = c .before .before .before .before .before .before .before .before .before in
+    (s .pre .0 .2, s .pre .1 .0 .1, s .pre .0 .3, s .pre .0 .4)
 
 same-length-2 : tie.Need-same-length-2
 same-length-2 c = (c .before .before .link) .ensures .kept .len
 
 returns-2 : tie.Need-returns-2
-returns-2 c = hand-linked ((c .before .before .before .before .before .before .before .before .before .before .before .before .args) .lay) ((c .before .before .before .before .before .before .before .before .before .before .before .before .args) .v) _ ((c .before .before .before .before .before .before .before .before .before .before .before .before .args) .i) _ ((c .before .before .link) .ensures) ((c .before .before .before .before .before .before .before .before .before .before .before .before .pre) .0 .1) ((c .before .before .before .before .before .before .before .before .before .before .before .before .pre) .1 .0 .0) (placed-lea ((c .before .before .before .before .before .before .before .before .before .before .before .before .args) .insts .now) ((c .before .before .before .before .before .before .before .before .before .before .before .before .args) .operands .now) ((c .before .before .before .before .before .before .before .before .before .before .before .before .args) .i) ((c .before .before .before .before .before .before .before .before .before .before .before .before .args) .from) (sym ((c .before .before .before .before .before .before .before .before .handing) .ensures) ∙ (c .before .before .before .before .before .before .before .if1) .taken) _ ((c .before .before .before .before .before .before .before .before .before .before .before .before .pre) .0 .1)) (some-number (defOf ((c .before .before .before .before .before .before .before .before .before .before .before .before .args) .v) (rowOf ((c .before .before .before .before .before .before .before .before .before .before .before .before .args) .insts .now) ((c .before .before .before .before .before .before .before .before .before .before .before .before .args) .operands .now) ((c .before .before .before .before .before .before .before .before .before .before .before .before .args) .i) ((c .before .before .before .before .before .before .before .before .before .before .before .before .args) .from))) (λ q. (c .before .before .before .before .if2) .left ((c .before .before .before .before .before .before .before .before .before .before .before .before .pre) .1 .1 ∙ q)))
+returns-2 c =
+    let s = c .before .before .before .before .before .before .before .before .before .before .before .before in
+    hand-linked (s .args .lay) (s .args .v) _ (s .args .i) _ (c .before .before .link .ensures) (s .pre .0 .1) (s .pre .1 .0 .0) (placed-lea (s .args .insts .now)
+    (s .args .operands .now) (s .args .i) (s .args .from)
+    (sym (c .before .before .before .before .before .before .before .before .handing .ensures) ∙ c .before .before .before .before .before .before .before .if1 .taken) _
+    (s .pre .0 .1)) (some-number (defOf (s .args .v) (rowOf (s .args .insts .now) (s .args .operands .now) (s .args .i) (s .args .from)))
+    (λ q. (c .before .before .before .before .if2) .left (s .pre .1 .1 ∙ q)))
 
 returns-3 : tie.Need-returns-3
-returns-3 c = hand-none ((c .before .before .before .before .before .args) .lay) ((c .before .before .before .before .before .args) .v) _ ((c .before .before .before .before .before .args) .i) _ _ _ (no-lea ((c .before .before .before .before .before .args) .insts .now) ((c .before .before .before .before .before .args) .operands .now) ((c .before .before .before .before .before .args) .i) ((c .before .before .before .before .before .args) .from) (sym ((c .before .handing) .ensures) ∙ (c .if1) .left))
+returns-3 c =
+    let s = c .before .before .before .before .before in
+    hand-none (s .args .lay) (s .args .v) _ (s .args .i) _ _ _
+    (no-lea (s .args .insts .now) (s .args .operands .now) (s .args .i) (s .args .from) (sym (c .before .handing .ensures) ∙ c .if1 .left))
 
 pub hand-spec : {M : Type 1} → statement M
 hand-spec =

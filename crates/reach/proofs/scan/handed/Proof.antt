@@ -23,7 +23,9 @@ shared-slice-read-if1 : tie.Need-shared-slice-read-if1
 shared-slice-read-if1 c = omega arith
 
 returns : tie.Need-returns
-returns c = test-def ((c .before .before .before .args) .operands .now) ((c .before .before .before .args) .from + (c .before .before .before .args) .p) ((c .before .before .before .args) .v) _ (c .if1 .taken)
+returns c =
+    let s = c .before .before .before in
+    test-def (s .args .operands .now) (s .args .from + (s .args) .p) (s .args .v) _ (c .if1 .taken)
 
 mul-r : tie.Need-mul-r
 mul-r c = omega arith
@@ -38,7 +40,11 @@ shared-slice-read-r : tie.Need-shared-slice-read-r
 shared-slice-read-r c = omega arith
 
 returns-2 : tie.Need-returns-2
-returns-2 c = test-physical ((c .before .before .before .before .before .args) .operands .now) ((c .before .before .before .before .before .args) .from + (c .before .before .before .before .before .args) .p) ((c .before .before .before .before .before .args) .v) ((addressPosition (addressing ((c .before .before .before .before .before .args) .base) ((c .before .before .before .before .before .args) .index)) ((c .before .before .before .before .before .args) .p)) && (eachAddress (addressing ((c .before .before .before .before .before .args) .base) ((c .before .before .before .before .before .args) .index)) (operandAt ((c .before .before .before .before .before .args) .operands .now) ((c .before .before .before .before .before .args) .from + (c .before .before .before .before .before .args) .p) .register) 0 (operandsFrom ((c .before .before .before .before .before .args) .operands .now) ((c .before .before .before .before .before .args) .from) ((c .before .before .before .before .before .args) .n)))) ((c .before .before .if1) .left) (omega arith)
+returns-2 c =
+    let s = c .before .before .before .before .before in
+    test-physical (s .args .operands .now) (s .args .from + (s .args) .p) (s .args .v) ((addressPosition (addressing (s .args .base) (s .args .index)) (s .args .p)) && (eachAddress
+    (addressing (s .args .base) (s .args .index)) (operandAt (s .args .operands .now) (s .args .from + (s .args) .p) .register) 0
+    (operandsFrom (s .args .operands .now) (s .args .from) (s .args .n)))) (c .before .before .if1 .left) (omega arith)
 
 part-requires : tie.Need-part-requires
 part-requires c κs = tt
@@ -47,10 +53,24 @@ addressed-requires : tie.Need-addressed-requires
 addressed-requires c κs = omega arith
 
 returns-3 : tie.Need-returns-3
-returns-3 c = test-use ((c .before .before .before .before .before .before .before .before .args) .operands .now) ((c .before .before .before .before .before .before .before .before .args) .from + (c .before .before .before .before .before .before .before .before .args) .p) ((c .before .before .before .before .before .before .before .before .args) .v) ((addressPosition (addressing ((c .before .before .before .before .before .before .before .before .args) .base) ((c .before .before .before .before .before .before .before .before .args) .index)) ((c .before .before .before .before .before .before .before .before .args) .p)) && (eachAddress (addressing ((c .before .before .before .before .before .before .before .before .args) .base) ((c .before .before .before .before .before .before .before .before .args) .index)) (operandAt ((c .before .before .before .before .before .before .before .before .args) .operands .now) ((c .before .before .before .before .before .before .before .before .args) .from + (c .before .before .before .before .before .before .before .before .args) .p) .register) 0 (operandsFrom ((c .before .before .before .before .before .before .before .before .args) .operands .now) ((c .before .before .before .before .before .before .before .before .args) .from) ((c .before .before .before .before .before .before .before .before .args) .n)))) _ ((c .before .before .before .before .before .if1) .left) (omega arith) (c .addressed .ensures ∙ both-of (addressPosition (addressing ((c .before .before .before .before .before .before .before .before .args) .base) ((c .before .before .before .before .before .before .before .before .args) .index)) ((c .before .before .before .before .before .before .before .before .args) .p)) (eachAddress (addressing ((c .before .before .before .before .before .before .before .before .args) .base) ((c .before .before .before .before .before .before .before .before .args) .index)) (operandAt ((c .before .before .before .before .before .before .before .before .args) .operands .now) ((c .before .before .before .before .before .before .before .before .args) .from + (c .before .before .before .before .before .before .before .before .args) .p) .register) 0 (operandsFrom ((c .before .before .before .before .before .before .before .before .args) .operands .now) ((c .before .before .before .before .before .before .before .before .args) .from) ((c .before .before .before .before .before .before .before .before .args) .n))) (sym ((c .before .before .part) .ensures) ∙ (c .before .if3) .taken))
+returns-3 c =
+    let s = c .before .before .before .before .before .before .before .before in
+    test-use (s .args .operands .now) (s .args .from + (s .args) .p) (s .args .v) ((addressPosition (addressing (s .args .base) (s .args .index)) (s .args .p)) && (eachAddress
+    (addressing (s .args .base) (s .args .index)) (operandAt (s .args .operands .now) (s .args .from + (s .args) .p) .register) 0
+    (operandsFrom (s .args .operands .now) (s .args .from) (s .args .n)))) _ (c .before .before .before .before .before .if1 .left) (omega arith) (c .addressed .ensures ∙ both-of
+    (addressPosition (addressing (s .args .base) (s .args .index)) (s .args .p)) (eachAddress (addressing (s .args .base) (s .args .index))
+    (operandAt (s .args .operands .now) (s .args .from + (s .args) .p) .register) 0 (operandsFrom (s .args .operands .now) (s .args .from) (s .args .n))) (sym
+    (c .before .before .part .ensures) ∙ c .before .if3 .taken))
 
 returns-4 : tie.Need-returns-4
-returns-4 c = test-use ((c .before .before .before .before .before .before .before .args) .operands .now) ((c .before .before .before .before .before .before .before .args) .from + (c .before .before .before .before .before .before .before .args) .p) ((c .before .before .before .before .before .before .before .args) .v) ((addressPosition (addressing ((c .before .before .before .before .before .before .before .args) .base) ((c .before .before .before .before .before .before .before .args) .index)) ((c .before .before .before .before .before .before .before .args) .p)) && (eachAddress (addressing ((c .before .before .before .before .before .before .before .args) .base) ((c .before .before .before .before .before .before .before .args) .index)) (operandAt ((c .before .before .before .before .before .before .before .args) .operands .now) ((c .before .before .before .before .before .before .before .args) .from + (c .before .before .before .before .before .before .before .args) .p) .register) 0 (operandsFrom ((c .before .before .before .before .before .before .before .args) .operands .now) ((c .before .before .before .before .before .before .before .args) .from) ((c .before .before .before .before .before .before .before .args) .n)))) _ ((c .before .before .before .before .if1) .left) (omega arith) (neither-of (addressPosition (addressing ((c .before .before .before .before .before .before .before .args) .base) ((c .before .before .before .before .before .before .before .args) .index)) ((c .before .before .before .before .before .before .before .args) .p)) (eachAddress (addressing ((c .before .before .before .before .before .before .before .args) .base) ((c .before .before .before .before .before .before .before .args) .index)) (operandAt ((c .before .before .before .before .before .before .before .args) .operands .now) ((c .before .before .before .before .before .before .before .args) .from + (c .before .before .before .before .before .before .before .args) .p) .register) 0 (operandsFrom ((c .before .before .before .before .before .before .before .args) .operands .now) ((c .before .before .before .before .before .before .before .args) .from) ((c .before .before .before .before .before .before .before .args) .n))) (sym ((c .before .part) .ensures) ∙ c .if3 .left))
+returns-4 c =
+    let s = c .before .before .before .before .before .before .before in
+    test-use (s .args .operands .now) (s .args .from + (s .args) .p) (s .args .v) ((addressPosition (addressing (s .args .base) (s .args .index)) (s .args .p)) && (eachAddress
+    (addressing (s .args .base) (s .args .index)) (operandAt (s .args .operands .now) (s .args .from + (s .args) .p) .register) 0
+    (operandsFrom (s .args .operands .now) (s .args .from) (s .args .n)))) _ (c .before .before .before .before .if1 .left) (omega arith) (neither-of (addressPosition
+    (addressing (s .args .base) (s .args .index)) (s .args .p)) (eachAddress (addressing (s .args .base) (s .args .index))
+    (operandAt (s .args .operands .now) (s .args .from + (s .args) .p) .register) 0 (operandsFrom (s .args .operands .now) (s .args .from) (s .args .n))) (sym
+    (c .before .part .ensures) ∙ c .if3 .left))
 
 pub handed-spec : {M : Type 1} → statement M
 handed-spec =

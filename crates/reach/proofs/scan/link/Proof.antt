@@ -26,28 +26,50 @@ handed-requires : tie.Need-handed-requires Inv-loop μ-loop
 handed-requires c κs = (c .before .before .before .before .pre .0, c .loop-test .taken)
 
 add-r : tie.Need-add-r Inv-loop μ-loop
-add-r c = operand-at _ _ _ _ (c .before .before .before .before .before .before .pre .0) (c .before .before .loop-test .taken) (room (c .before .before .before .before .before .before) .0) .place
+add-r c =
+    let s = c .before .before .before .before .before .before in
+    operand-at _ _ _ _ (s .pre .0) (c .before .before .loop-test .taken) (room (s) .0) .place
 
 mul-r : tie.Need-mul-r Inv-loop μ-loop
-mul-r c = operand-at _ _ _ _ (c .before .before .before .before .before .before .pre .0) (c .before .before .loop-test .taken) (room (c .before .before .before .before .before .before) .0) .row
+mul-r c =
+    let s = c .before .before .before .before .before .before in
+    operand-at _ _ _ _ (s .pre .0) (c .before .before .loop-test .taken) (room (s) .0) .row
 
 add-r-2 : tie.Need-add-r-2 Inv-loop μ-loop
-add-r-2 c = operand-at _ _ _ _ (c .before .before .before .before .before .before .pre .0) (c .before .before .loop-test .taken) (room (c .before .before .before .before .before .before) .0) .fits
+add-r-2 c =
+    let s = c .before .before .before .before .before .before in
+    operand-at _ _ _ _ (s .pre .0) (c .before .before .loop-test .taken) (room (s) .0) .fits
 
 mul-r-2 : tie.Need-mul-r-2 Inv-loop μ-loop
-mul-r-2 c = operand-at _ _ _ _ (c .before .before .before .before .before .before .pre .0) (c .before .before .loop-test .taken) (room (c .before .before .before .before .before .before) .0) .in-bytes
+mul-r-2 c =
+    let s = c .before .before .before .before .before .before in
+    operand-at _ _ _ _ (s .pre .0) (c .before .before .loop-test .taken) (room (s) .0) .in-bytes
 
 shared-slice-read-r : tie.Need-shared-slice-read-r Inv-loop μ-loop
-shared-slice-read-r c = operand-at _ _ _ _ (c .before .before .before .before .before .before .before .pre .0) (c .before .before .before .loop-test .taken) (room (c .before .before .before .before .before .before .before) .0) .inside
+shared-slice-read-r c =
+    let s = c .before .before .before .before .before .before .before in
+    operand-at _ _ _ _ (s .pre .0) (c .before .before .before .loop-test .taken) (room (s) .0) .inside
 
 cast-r : tie.Need-cast-r Inv-loop μ-loop
-cast-r c = key-fits _ _ (c .before .before .before .before .before .before .before .args .inst) (handing-reads (c .before .before .before .before .before .before .before .args .v) (c .before .before .before .before .before .before .before .args .base) (c .before .before .before .before .before .before .before .args .index) (c .before .before .before .before .before .before .before .args .n) (λ k. operandAt (c .before .before .before .before .before .before .before .args .operands .now) (c .before .before .before .before .before .before .before .args .from + k)) (c .before .before .before .before .loop .p) (c .before .before .before .loop-test .taken) (sym (c .before .before .handed .ensures) ∙ c .before .if1 .taken) .0) (c .before .before .before .before .before .before .before .pre .3) (c .before .before .before .before .before .before .before .pre .2) .register
+cast-r c =
+    let s = c .before .before .before .before .before .before .before in
+    key-fits _ _ (s .args .inst) (handing-reads (s .args .v) (s .args .base) (s .args .index) (s .args .n) (λ k. operandAt (s .args .operands .now) (s .args .from + k))
+    (c .before .before .before .before .loop .p) (c .before .before .before .loop-test .taken) (sym (c .before .before .handed .ensures) ∙ c .before .if1 .taken) .0) (s .pre .3)
+    (s .pre .2) .register
 
 mul-work : tie.Need-mul-work Inv-loop μ-loop
-mul-work c = key-fits _ _ (c .before .before .before .before .before .before .before .args .inst) (handing-reads (c .before .before .before .before .before .before .before .args .v) (c .before .before .before .before .before .before .before .args .base) (c .before .before .before .before .before .before .before .args .index) (c .before .before .before .before .before .before .before .args .n) (λ k. operandAt (c .before .before .before .before .before .before .before .args .operands .now) (c .before .before .before .before .before .before .before .args .from + k)) (c .before .before .before .before .loop .p) (c .before .before .before .loop-test .taken) (sym (c .before .before .handed .ensures) ∙ c .before .if1 .taken) .0) (c .before .before .before .before .before .before .before .pre .3) (c .before .before .before .before .before .before .before .pre .2) .high
+mul-work c =
+    let s = c .before .before .before .before .before .before .before in
+    key-fits _ _ (s .args .inst) (handing-reads (s .args .v) (s .args .base) (s .args .index) (s .args .n) (λ k. operandAt (s .args .operands .now) (s .args .from + k))
+    (c .before .before .before .before .loop .p) (c .before .before .before .loop-test .taken) (sym (c .before .before .handed .ensures) ∙ c .before .if1 .taken) .0) (s .pre .3)
+    (s .pre .2) .high
 
 add-work : tie.Need-add-work Inv-loop μ-loop
-add-work c = key-fits _ _ (c .before .before .before .before .before .before .before .args .inst) (handing-reads (c .before .before .before .before .before .before .before .args .v) (c .before .before .before .before .before .before .before .args .base) (c .before .before .before .before .before .before .before .args .index) (c .before .before .before .before .before .before .before .args .n) (λ k. operandAt (c .before .before .before .before .before .before .before .args .operands .now) (c .before .before .before .before .before .before .before .args .from + k)) (c .before .before .before .before .loop .p) (c .before .before .before .loop-test .taken) (sym (c .before .before .handed .ensures) ∙ c .before .if1 .taken) .0) (c .before .before .before .before .before .before .before .pre .3) (c .before .before .before .before .before .before .before .pre .2) .all
+add-work c =
+    let s = c .before .before .before .before .before .before .before in
+    key-fits _ _ (s .args .inst) (handing-reads (s .args .v) (s .args .base) (s .args .index) (s .args .n) (λ k. operandAt (s .args .operands .now) (s .args .from + k))
+    (c .before .before .before .before .loop .p) (c .before .before .before .loop-test .taken) (sym (c .before .before .handed .ensures) ∙ c .before .if1 .taken) .0) (s .pre .3)
+    (s .pre .2) .all
 
 add-work-2 : tie.Need-add-work-2 Inv-loop μ-loop
 add-work-2 c = put-at (c .before .before .before .before .loop .inv) (c .before .before .before .loop-test .taken) (room (c .before .before .before .before .before .before .before) .1) .fits
@@ -62,7 +84,9 @@ add-k : tie.Need-add-k Inv-loop μ-loop
 add-k c = put-more (c .before .before .before .before .loop .inv) (c .before .before .before .loop-test .taken) (room (c .before .before .before .before .before .before .before) .1)
 
 add-p : tie.Need-add-p Inv-loop μ-loop
-add-p c = operand-at _ _ _ _ (c .before .before .before .before .before .before .before .pre .0) (c .before .before .before .loop-test .taken) (room (c .before .before .before .before .before .before .before) .0) .next
+add-p c =
+    let s = c .before .before .before .before .before .before .before in
+    operand-at _ _ _ _ (s .pre .0) (c .before .before .before .loop-test .taken) (room (s) .0) .next
 
 loop-less : tie.Need-loop-less Inv-loop μ-loop
 loop-less c = omega arith
@@ -71,7 +95,9 @@ loop-again : tie.Need-loop-again Inv-loop μ-loop
 loop-again c = link-put (c .before .before .before .before .loop .inv) _ _ (c .before .before .before .loop-test .taken) (sym (c .before .before .handed .ensures) ∙ c .before .if1 .taken) refl refl
 
 add-p-2 : tie.Need-add-p-2 Inv-loop μ-loop
-add-p-2 c = operand-at _ _ _ _ (c .before .before .before .before .before .before .pre .0) (c .before .before .loop-test .taken) (room (c .before .before .before .before .before .before) .0) .next
+add-p-2 c =
+    let s = c .before .before .before .before .before .before in
+    operand-at _ _ _ _ (s .pre .0) (c .before .before .loop-test .taken) (room (s) .0) .next
 
 loop-less-2 : tie.Need-loop-less-2 Inv-loop μ-loop
 loop-less-2 c = omega arith
@@ -83,7 +109,11 @@ same-length : tie.Need-same-length Inv-loop μ-loop
 same-length c = c .before .loop .inv .kept .len
 
 returns : tie.Need-returns Inv-loop μ-loop
-returns c = link-done (c .before .loop .inv) _ _ (c .loop-test .left) (handing-reads (c .before .before .before .before .args .v) (c .before .before .before .before .args .base) (c .before .before .before .before .args .index) (c .before .before .before .before .args .n) (λ k. operandAt (c .before .before .before .before .args .operands .now) (c .before .before .before .before .args .from + k))) (reads-handing (c .before .before .before .before .args .v) (c .before .before .before .before .args .base) (c .before .before .before .before .args .index) (c .before .before .before .before .args .n) (λ k. operandAt (c .before .before .before .before .args .operands .now) (c .before .before .before .before .args .from + k)))
+returns c =
+    let s = c .before .before .before .before in
+    link-done (c .before .loop .inv) _ _ (c .loop-test .left)
+    (handing-reads (s .args .v) (s .args .base) (s .args .index) (s .args .n) (λ k. operandAt (s .args .operands .now) (s .args .from + k)))
+    (reads-handing (s .args .v) (s .args .base) (s .args .index) (s .args .n) (λ k. operandAt (s .args .operands .now) (s .args .from + k)))
 
 pub link-spec : {M : Type 1} → statement M
 link-spec =

@@ -33,25 +33,41 @@ cast-work : tie.Need-cast-work
 cast-work c = omega arith
 
 add-work : tie.Need-add-work
-add-work c = def-at _ _ _ _ _ _ (c .before .before .before .before .before .before .pre .1 .2) (c .before .before .before .before .before .before .pre .1 .3) (room (c .before .before .before .before .before .before) .1) .fits
+add-work c =
+    let s = c .before .before .before .before .before .before in
+    def-at _ _ _ _ _ _ (s .pre .1 .2) (s .pre .1 .3) (room (s) .1) .fits
 
 mul-work : tie.Need-mul-work
-mul-work c = def-at _ _ _ _ _ _ (c .before .before .before .before .before .before .pre .1 .2) (c .before .before .before .before .before .before .pre .1 .3) (room (c .before .before .before .before .before .before) .1) .in-bytes
+mul-work c =
+    let s = c .before .before .before .before .before .before in
+    def-at _ _ _ _ _ _ (s .pre .1 .2) (s .pre .1 .3) (room (s) .1) .in-bytes
 
 slice-write-work : tie.Need-slice-write-work
-slice-write-work c = def-at _ _ _ _ _ _ (c .before .before .before .before .before .before .pre .1 .2) (c .before .before .before .before .before .before .pre .1 .3) (room (c .before .before .before .before .before .before) .1) .inside
+slice-write-work c =
+    let s = c .before .before .before .before .before .before in
+    def-at _ _ _ _ _ _ (s .pre .1 .2) (s .pre .1 .3) (room (s) .1) .inside
 
 escapes-requires : tie.Need-escapes-requires
-escapes-requires c κs = (c .before .before .before .before .before .before .before .pre .0 .0, c .before .before .wide .ensures, omega (arith, c .before .before .wide .ensures), simp length-set (omega arith))
+escapes-requires c κs =
+    let s = c .before .before in
+    (s .before .before .before .before .before .pre .0 .0, s .wide .ensures, omega (arith, s .wide .ensures), simp length-set (omega arith))
 
 hand-requires : tie.Need-hand-requires
-hand-requires c κs = let z = c .before .before .before .before .before .before .wide .ensures in let l = simp length-set at (c .before .before .before .escapes .ensures .kept .len) in ((c .before .before .before .before .before .before .before .before .before .before .before .pre .0 .0, z, omega arith, c .before .before .before .before .before .before .before .before .before .before .before .pre .0 .2, c .before .before .before .before .before .before .before .before .before .before .before .pre .0 .3), ((omega arith, omega arith), rw z at (c .before .before .before .before .before .def .ensures)))
+hand-requires c κs =
+    let s = c .before .before .before .before .before .before .before .before .before .before .before in
+    let z = c .before .before .before .before .before .before .wide .ensures in
+    let l = simp length-set at (c .before .before .before .escapes .ensures .kept .len) in
+    ((s .pre .0 .0, z, omega arith, s .pre .0 .2, s .pre .0 .3), ((omega arith, omega arith), rw z at (c .before .before .before .before .before .def .ensures)))
 
 same-length : tie.Need-same-length
 same-length c = c .before .before .hand .ensures .len ∙ c .before .before .before .before .before .before .escapes .ensures .kept .len ∙ simp length-set
 
 returns : tie.Need-returns
-returns c = let z = c .before .before .before .before .before .before .before .before .before .wide .ensures in added (c .before .before .before .before .before .before .before .before .before .before .before .before .before .before .args .lay) (c .before .before .before .before .before .before .before .before .before .before .before .before .before .before .args .v) _ (c .before .before .before .before .before .before .before .before .before .before .before .before .before .before .args .i) _ _ _ refl (rw z at (c .before .before .before .before .before .before .before .before .def .ensures)) (omega arith) (omega arith) (omega arith) (omega arith) (c .before .before .before .before .before .before .escapes .ensures) (c .before .before .hand .ensures)
+returns c =
+    let s = c .before .before .before .before .before .before .before .before .before .before .before .before .before .before in
+    let z = c .before .before .before .before .before .before .before .before .before .wide .ensures in
+    added (s .args .lay) (s .args .v) _ (s .args .i) _ _ _ refl (rw z at (c .before .before .before .before .before .before .before .before .def .ensures)) (omega arith) (omega arith)
+    (omega arith) (omega arith) (c .before .before .before .before .before .before .escapes .ensures) (c .before .before .hand .ensures)
 
 pub one-spec : {M : Type 1} → statement M
 one-spec =

@@ -26,10 +26,18 @@ room : (c : tie.Start Inv-loop μ-loop) → length (c .args .insts .now) * 4 < 2
 room c = omega (arith, c .good)
 
 loop-holds : tie.Need-loop-holds Inv-loop μ-loop
-loop-holds c = (refl, omega arith, sum-start _, scan-start (c .before .before .before .args .v) (c .before .before .before .args .insts .now) (c .before .before .before .args .operands .now) (c .before .before .before .args .lay) (c .before .before .before .args .work .now) (c .before .before .before .pre .0 .3))
+loop-holds c =
+    let s = c .before .before .before in
+    (refl, omega arith, sum-start _, scan-start (s .args .v) (s .args .insts .now) (s .args .operands .now) (s .args .lay) (s .args .work .now) (s .pre .0 .3))
 
 one-requires : tie.Need-one-requires Inv-loop μ-loop
-one-requires c κs = let z = operands-within (c .before .before .before .before .before .before .args .insts .now) (c .before .before .before .before .before .before .args .operands .now) (c .before .before .before .before .before .before .pre .0 .0) (c .before .before .loop .i) (within _ _ _ (c .before .before .loop .inv .0) (c .before .loop-test .taken)) in let q = c .before .before .loop .inv .3 .few in let l = c .before .before .loop .inv .3 .kept .len in omega arith
+one-requires c κs =
+    let s = c .before .before in
+    let t = s .before .before .before .before in
+    let z = operands-within (t .args .insts .now) (t .args .operands .now) (t .pre .0 .0) (s .loop .i) (within _ _ _ (s .loop .inv .0) (c .before .loop-test .taken)) in
+    let q = s .loop .inv .3 .few in
+    let l = s .loop .inv .3 .kept .len in
+    omega arith
 
 mul-wide : tie.Need-mul-wide Inv-loop μ-loop
 mul-wide c = count-at _ _ (within _ _ _ (c .before .before .before .before .before .loop .inv .0) (c .before .before .before .before .loop-test .taken)) (room (c .before .before .before .before .before .before .before .before .before)) .row
@@ -47,7 +55,13 @@ wide-requires : tie.Need-wide-requires Inv-loop μ-loop
 wide-requires c κs = tt
 
 add-from : tie.Need-add-from Inv-loop μ-loop
-add-from c = let z = operands-within (c .before .before .before .before .before .before .before .before .before .before .before .args .insts .now) (c .before .before .before .before .before .before .before .before .before .before .before .args .operands .now) (c .before .before .before .before .before .before .before .before .before .before .before .pre .0 .0) (c .before .before .before .before .before .before .before .loop .i) (within _ _ _ (c .before .before .before .before .before .before .before .loop .inv .0) (c .before .before .before .before .before .before .loop-test .taken)) in let y = c .wide .ensures in omega arith
+add-from c =
+    let s = c .before .before .before .before .before .before .before in
+    let t = s .before .before .before .before in
+    let z = operands-within (t .args .insts .now) (t .args .operands .now) (t .pre .0 .0) (s .loop .i)
+    (within _ _ _ (s .loop .inv .0) (c .before .before .before .before .before .before .loop-test .taken)) in
+    let y = c .wide .ensures in
+    omega arith
 
 add-i : tie.Need-add-i Inv-loop μ-loop
 add-i c = omega arith
@@ -56,7 +70,17 @@ loop-less : tie.Need-loop-less Inv-loop μ-loop
 loop-less c = omega arith
 
 loop-again : tie.Need-loop-again Inv-loop μ-loop
-loop-again c = let z = sum-next (λ k. instOperands (c .before .before .before .before .before .before .before .before .before .before .before .args .insts .now) k) (c .before .before .before .before .before .before .before .loop .i) in let y = c .wide .ensures in (omega arith, omega arith, omega arith, scan-more _ (c .before .before .before .before .before .before .before .before .before .before .before .args .insts .now) (c .before .before .before .before .before .before .before .before .before .before .before .args .operands .now) _ (c .before .before .before .before .before .before .before .before .before .before .before .pre .0 .0) (omega arith) (c .before .before .before .before .before .before .before .loop .inv .3) (omega arith) (c .before .before .before .before .before .before .before .loop .from) (c .before .before .before .before .before .before .before .loop .inv .2) (c .before .before .before .before .one .ensures))
+loop-again c =
+    let s = c .before .before .before .before .before .before .before in
+    let t = s .before .before .before .before in
+    let z = sum-next (λ k. instOperands (t .args .insts .now) k) (s .loop .i) in
+    let y = c .wide .ensures in (
+      omega arith,
+      omega arith,
+      omega arith,
+      scan-more _ (t .args .insts .now) (t .args .operands .now) _ (t .pre .0 .0) (omega arith) (s .loop .inv .3) (omega arith) (s .loop .from)
+          (s .loop .inv .2) (c .before .before .before .before .one .ensures),
+    )
 
 same-length : tie.Need-same-length Inv-loop μ-loop
 same-length c = c .before .loop .inv .3 .kept .len

@@ -26,37 +26,66 @@ handed-requires : tie.Need-handed-requires Inv-loop μ-loop
 handed-requires c κs = (c .before .before .before .before .pre .0, c .loop-test .taken)
 
 add-wide : tie.Need-add-wide Inv-loop μ-loop
-add-wide c = operand-at _ _ _ _ (c .before .before .before .before .before .before .pre .0) (c .before .before .loop-test .taken) (room (c .before .before .before .before .before .before)) .place
+add-wide c =
+    let s = c .before .before .before .before .before .before in
+    operand-at _ _ _ _ (s .pre .0) (c .before .before .loop-test .taken) (room (s)) .place
 
 mul-wide : tie.Need-mul-wide Inv-loop μ-loop
-mul-wide c = operand-at _ _ _ _ (c .before .before .before .before .before .before .pre .0) (c .before .before .loop-test .taken) (room (c .before .before .before .before .before .before)) .row
+mul-wide c =
+    let s = c .before .before .before .before .before .before in
+    operand-at _ _ _ _ (s .pre .0) (c .before .before .loop-test .taken) (room (s)) .row
 
 add-wide-2 : tie.Need-add-wide-2 Inv-loop μ-loop
-add-wide-2 c = operand-at _ _ _ _ (c .before .before .before .before .before .before .pre .0) (c .before .before .loop-test .taken) (room (c .before .before .before .before .before .before)) .fits
+add-wide-2 c =
+    let s = c .before .before .before .before .before .before in
+    operand-at _ _ _ _ (s .pre .0) (c .before .before .loop-test .taken) (room (s)) .fits
 
 mul-wide-2 : tie.Need-mul-wide-2 Inv-loop μ-loop
-mul-wide-2 c = operand-at _ _ _ _ (c .before .before .before .before .before .before .pre .0) (c .before .before .loop-test .taken) (room (c .before .before .before .before .before .before)) .in-bytes
+mul-wide-2 c =
+    let s = c .before .before .before .before .before .before in
+    operand-at _ _ _ _ (s .pre .0) (c .before .before .loop-test .taken) (room (s)) .in-bytes
 
 shared-slice-read-wide : tie.Need-shared-slice-read-wide Inv-loop μ-loop
-shared-slice-read-wide c = operand-at _ _ _ _ (c .before .before .before .before .before .before .before .pre .0) (c .before .before .before .loop-test .taken) (room (c .before .before .before .before .before .before .before)) .inside
+shared-slice-read-wide c =
+    let s = c .before .before .before .before .before .before .before in
+    operand-at _ _ _ _ (s .pre .0) (c .before .before .before .loop-test .taken) (room (s)) .inside
 
 wide-requires : tie.Need-wide-requires Inv-loop μ-loop
 wide-requires c κs = tt
 
 set-requires : tie.Need-set-requires Inv-loop μ-loop
-set-requires c κs = let q = handing-reads (c .before .before .before .before .before .before .before .before .before .args .v) (c .before .before .before .before .before .before .before .before .before .args .base) (c .before .before .before .before .before .before .before .before .before .args .index) (c .before .before .before .before .before .before .before .before .before .args .n) (λ k. operandAt (c .before .before .before .before .before .before .before .before .before .args .operands .now) (c .before .before .before .before .before .before .before .before .before .args .from + k)) (c .before .before .before .before .before .before .loop .p) (c .before .before .before .before .before .loop-test .taken) (sym (c .before .before .before .before .handed .ensures) ∙ c .before .before .before .if1 .taken) .0 in let r = c .before .before .before .before .before .before .loop .inv .room in let l = c .before .before .before .before .before .before .loop .inv .kept .len in omega arith
+set-requires c κs =
+    let s = c .before .before .before .before .before .before in
+    let t = s .before .before .before in
+    let q = handing-reads (t .args .v) (t .args .base) (t .args .index) (t .args .n) (λ k. operandAt (t .args .operands .now) (t .args .from + k)) (s .loop .p)
+    (c .before .before .before .before .before .loop-test .taken) (sym (c .before .before .before .before .handed .ensures) ∙ c .before .before .before .if1 .taken) .0 in
+    let r = s .loop .inv .room in
+    let l = s .loop .inv .kept .len in
+    omega arith
 
 add-p : tie.Need-add-p Inv-loop μ-loop
-add-p c = operand-at _ _ _ _ (c .before .before .before .before .before .before .before .before .before .before .before .before .pre .0) (c .before .before .before .before .before .before .before .before .loop-test .taken) (room (c .before .before .before .before .before .before .before .before .before .before .before .before)) .next
+add-p c =
+    let s = c .before .before .before .before .before .before .before .before .before .before .before .before in
+    operand-at _ _ _ _ (s .pre .0) (c .before .before .before .before .before .before .before .before .loop-test .taken) (room (s)) .next
 
 loop-less : tie.Need-loop-less Inv-loop μ-loop
 loop-less c = omega arith
 
 loop-again : tie.Need-loop-again Inv-loop μ-loop
-loop-again c = mark-put (c .before .before .before .before .before .before .before .before .before .loop .inv) (c .before .before .set .ensures) (c .before .before .before .before .before .before .before .before .loop-test .taken) (sym (c .before .before .before .before .before .before .before .handed .ensures) ∙ c .before .before .before .before .before .before .if1 .taken) (c .before .before .before .before .wide .ensures) (handing-reads (c .before .before .before .before .before .before .before .before .before .before .before .before .args .v) (c .before .before .before .before .before .before .before .before .before .before .before .before .args .base) (c .before .before .before .before .before .before .before .before .before .before .before .before .args .index) (c .before .before .before .before .before .before .before .before .before .before .before .before .args .n) (λ k. operandAt (c .before .before .before .before .before .before .before .before .before .before .before .before .args .operands .now) (c .before .before .before .before .before .before .before .before .before .before .before .before .args .from + k)) (c .before .before .before .before .before .before .before .before .before .loop .p) (c .before .before .before .before .before .before .before .before .loop-test .taken) (sym (c .before .before .before .before .before .before .before .handed .ensures) ∙ c .before .before .before .before .before .before .if1 .taken) .0)
+loop-again c =
+    let s = c .before .before .before .before .before .before in
+    let t = s .before in
+    let u = t .before in
+    let q = u .before in
+    let z = q .before .before .before in
+    mark-put (q .loop .inv) (c .before .before .set .ensures) (u .loop-test .taken) (sym (t .handed .ensures) ∙ s .if1 .taken) (c .before .before .before .before .wide .ensures)
+    (handing-reads (z .args .v) (z .args .base) (z .args .index) (z .args .n) (λ k. operandAt (z .args .operands .now) (z .args .from + k)) (q .loop .p) (u .loop-test .taken)
+    (sym (t .handed .ensures) ∙ s .if1 .taken) .0)
 
 add-p-2 : tie.Need-add-p-2 Inv-loop μ-loop
-add-p-2 c = operand-at _ _ _ _ (c .before .before .before .before .before .before .pre .0) (c .before .before .loop-test .taken) (room (c .before .before .before .before .before .before)) .next
+add-p-2 c =
+    let s = c .before .before .before .before .before .before in
+    operand-at _ _ _ _ (s .pre .0) (c .before .before .loop-test .taken) (room (s)) .next
 
 loop-less-2 : tie.Need-loop-less-2 Inv-loop μ-loop
 loop-less-2 c = omega arith
@@ -68,7 +97,10 @@ same-length : tie.Need-same-length Inv-loop μ-loop
 same-length c = c .before .loop .inv .kept .len
 
 returns : tie.Need-returns Inv-loop μ-loop
-returns c = mark-done (c .before .loop .inv) (c .loop-test .left) _ (handing-found (c .before .before .before .before .args .v) (c .before .before .before .before .args .base) (c .before .before .before .before .args .index) (c .before .before .before .before .args .n) (λ k. operandAt (c .before .before .before .before .args .operands .now) (c .before .before .before .before .args .from + k)))
+returns c =
+    let s = c .before .before .before .before in
+    mark-done (c .before .loop .inv) (c .loop-test .left) _
+    (handing-found (s .args .v) (s .args .base) (s .args .index) (s .args .n) (λ k. operandAt (s .args .operands .now) (s .args .from + k)))
 
 pub stick-spec : {M : Type 1} → statement M
 stick-spec =

@@ -19,7 +19,9 @@ shared-slice-read-if1 : tie.Need-shared-slice-read-if1
 shared-slice-read-if1 c = omega arith
 
 returns : tie.Need-returns
-returns c = test-def ((c .before .before .before .args) .operands .now) ((c .before .before .before .args) .i) ((c .before .before .before .args) .v) _ (c .if1 .taken)
+returns c =
+    let s = c .before .before .before in
+    test-def (s .args .operands .now) (s .args .i) (s .args .v) _ (c .if1 .taken)
 
 mul-if2 : tie.Need-mul-if2
 mul-if2 c = omega arith
@@ -34,16 +36,26 @@ shared-slice-read-if2 : tie.Need-shared-slice-read-if2
 shared-slice-read-if2 c = omega arith
 
 returns-2 : tie.Need-returns-2
-returns-2 c = test-physical ((c .before .before .before .before .before .args) .operands .now) ((c .before .before .before .before .before .args) .i) ((c .before .before .before .before .before .args) .v) (not (isSet ((c .before .before .before .before .before .args) .mem) && addressPosition (addressing ((c .before .before .before .before .before .args) .base) ((c .before .before .before .before .before .args) .index)) ((c .before .before .before .before .before .args) .p))) ((c .before .before .if1) .left) (omega arith)
+returns-2 c =
+    let s = c .before .before .before .before .before in
+    test-physical (s .args .operands .now) (s .args .i) (s .args .v) (not (isSet (s .args .mem) && addressPosition (addressing (s .args .base) (s .args .index)) (s .args .p)))
+    (c .before .before .if1 .left) (omega arith)
 
 returns-3 : tie.Need-returns-3
-returns-3 c = test-use ((c .before .before .before .before .before .before .args) .operands .now) ((c .before .before .before .before .before .before .args) .i) ((c .before .before .before .before .before .before .args) .v) (not (isSet ((c .before .before .before .before .before .before .args) .mem) && addressPosition (addressing ((c .before .before .before .before .before .before .args) .base) ((c .before .before .before .before .before .before .args) .index)) ((c .before .before .before .before .before .before .args) .p))) _ ((c .before .before .before .if1) .left) (omega arith) (not-memory ((c .before .before .before .before .before .before .args) .mem) (addressPosition (addressing ((c .before .before .before .before .before .before .args) .base) ((c .before .before .before .before .before .before .args) .index)) ((c .before .before .before .before .before .before .args) .p)) (c .if3 .taken))
+returns-3 c =
+    let s = c .before .before .before .before .before .before in
+    test-use (s .args .operands .now) (s .args .i) (s .args .v) (not (isSet (s .args .mem) && addressPosition (addressing (s .args .base) (s .args .index)) (s .args .p))) _
+    (c .before .before .before .if1 .left) (omega arith) (not-memory (s .args .mem) (addressPosition (addressing (s .args .base) (s .args .index)) (s .args .p)) (c .if3 .taken))
 
 part-requires : tie.Need-part-requires
 part-requires c κs = tt
 
 returns-4 : tie.Need-returns-4
-returns-4 c = test-use ((c .before .before .before .before .before .before .before .args) .operands .now) ((c .before .before .before .before .before .before .before .args) .i) ((c .before .before .before .before .before .before .before .args) .v) (not (isSet ((c .before .before .before .before .before .before .before .args) .mem) && addressPosition (addressing ((c .before .before .before .before .before .before .before .args) .base) ((c .before .before .before .before .before .before .before .args) .index)) ((c .before .before .before .before .before .before .before .args) .p))) _ ((c .before .before .before .before .if1) .left) (omega arith) (in-memory ((c .before .before .before .before .before .before .before .args) .mem) (addressPosition (addressing ((c .before .before .before .before .before .before .before .args) .base) ((c .before .before .before .before .before .before .before .args) .index)) ((c .before .before .before .before .before .before .before .args) .p)) _ (omega arith) (ap not (c .part .ensures)))
+returns-4 c =
+    let s = c .before .before .before .before .before .before .before in
+    test-use (s .args .operands .now) (s .args .i) (s .args .v) (not (isSet (s .args .mem) && addressPosition (addressing (s .args .base) (s .args .index)) (s .args .p))) _
+    (c .before .before .before .before .if1 .left) (omega arith)
+    (in-memory (s .args .mem) (addressPosition (addressing (s .args .base) (s .args .index)) (s .args .p)) _ (omega arith) (ap not (c .part .ensures)))
 
 pub strays-spec : {M : Type 1} → statement M
 strays-spec =

@@ -28,13 +28,21 @@ add-place c =
     omega (arith, (c .before .before .before .before .before .before .before .before .before .before .pre) .1 .0, R .items-fit, R .keys-fit, R .held-fits, L .table-fits, L .heads-fit, L .nexts-fit, L .fits)
 
 place-requires : tie.Need-place-requires
-place-requires c κs = let a = (c .before .before .before .before .before .before .before .before .before .before .args) in placeable (a .points) (now (a .blocks)) (now (a .insts)) (now (a .moves)) (now (a .pieces)) (a .p) (a .keys) (a .held) (a .o) (a .first) (a .s) (a .total) ((c .before .before .before .before .before .before .before .before .before .before .pre) .0) ((c .before .before .before .before .before .before .before .before .before .before .pre) .1 .0) ((c .before .before .before .before .before .before .before .before .before .before .pre) .1 .1) ((c .before .before .before .slot-area) .ensures)
+place-requires c κs =
+    let t = c .before .before .before .before .before .before .before .before .before .before in
+    let a = (t .args) in
+    placeable (a .points) (now (a .blocks)) (now (a .insts)) (now (a .moves)) (now (a .pieces)) (a .p) (a .keys) (a .held) (a .o) (a .first) (a .s) (a .total) (t .pre .0)
+    (t .pre .1 .0) (t .pre .1 .1) (c .before .before .before .slot-area .ensures)
 
 same-length : tie.Need-same-length
 same-length c = (c .before .before .place) .ensures .len ∙ (c .before .before .before .before .before .before .slot-area) .ensures .kept .len
 
 returns : tie.Need-returns
-returns c = let a = (c .before .before .before .before .before .before .before .before .before .before .before .before .before .args) in next-done (a .points) (now (a .blocks)) (now (a .insts)) (now (a .moves)) (now (a .pieces)) (a .p) (a .keys) (a .held) (a .o) (a .first) (a .s) (a .total) ((c .before .before .before .before .before .before .before .before .before .before .before .before .before .pre) .0) ((c .before .before .before .before .before .before .before .before .before .before .before .before .before .pre) .1 .0) ((c .before .before .before .before .before .before .before .before .before .before .before .before .before .pre) .1 .1) ((c .before .before .before .before .before .before .slot-area) .ensures) ((c .before .before .place) .ensures)
+returns c =
+    let t = c .before .before .before .before .before .before .before .before .before .before .before .before .before in
+    let a = (t .args) in
+    next-done (a .points) (now (a .blocks)) (now (a .insts)) (now (a .moves)) (now (a .pieces)) (a .p) (a .keys) (a .held) (a .o) (a .first) (a .s) (a .total) (t .pre .0)
+    (t .pre .1 .0) (t .pre .1 .1) (c .before .before .before .before .before .before .slot-area .ensures) (c .before .before .place .ensures)
 
 pub measure-next-spec : {M : Type 1} → statement M
 measure-next-spec = tie.close (tie.spec slot-area-requires add-place place-requires same-length returns)

@@ -13,10 +13,18 @@ abbrev μ-loop : tie.MeasureT-loop
 μ-loop points blocks insts moves pieces work₀ p keys held o first total n₀ s₀ work n s = p .slots - s
 
 loop-holds : tie.Need-loop-holds Inv-loop μ-loop
-loop-holds c = let a = (c .before .before .before .before .before .args) in going-start (a .points) (now (a .blocks)) (now (a .insts)) (now (a .moves)) (now (a .pieces)) (a .p) (a .keys) (a .held) (a .o) (a .first) (a .total) _ ((c .before .before .before .before .before .pre) .0) ((c .before .before .before .before .before .pre) .1)
+loop-holds c =
+    let s = c .before .before .before .before .before in
+    let a = (s .args) in
+    going-start (a .points) (now (a .blocks)) (now (a .insts)) (now (a .moves)) (now (a .pieces)) (a .p) (a .keys) (a .held) (a .o) (a .first) (a .total) _ (s .pre .0) (s .pre .1)
 
 measure-next-requires : tie.Need-measure-next-requires Inv-loop μ-loop
-measure-next-requires c κs = let a = (c .before .before .before .before .before .before .before .before .before .args) in let G = (c .before .before .before .loop) .inv in (going-ready (a .points) (now (a .blocks)) (now (a .insts)) (now (a .moves)) (now (a .pieces)) (a .p) (a .keys) (a .held) (a .o) (a .first) G, (omega arith, going-small (a .points) (now (a .blocks)) (now (a .insts)) (now (a .moves)) (now (a .pieces)) (a .p) (a .keys) (a .held) (a .o) (a .first) G (omega arith)))
+measure-next-requires c κs =
+    let a = (c .before .before .before .before .before .before .before .before .before .args) in
+    let G = (c .before .before .before .loop) .inv in (
+      going-ready (a .points) (now (a .blocks)) (now (a .insts)) (now (a .moves)) (now (a .pieces)) (a .p) (a .keys) (a .held) (a .o) (a .first) G,
+      (omega arith, going-small (a .points) (now (a .blocks)) (now (a .insts)) (now (a .moves)) (now (a .pieces)) (a .p) (a .keys) (a .held) (a .o) (a .first) G (omega arith)),
+    )
 
 add-s : tie.Need-add-s Inv-loop μ-loop
 add-s c = omega arith
@@ -25,7 +33,10 @@ loop-less : tie.Need-loop-less Inv-loop μ-loop
 loop-less c = omega arith
 
 loop-again : tie.Need-loop-again Inv-loop μ-loop
-loop-again c = let a = (c .before .before .before .before .before .before .before .before .before .before .before .before .args) in going-more (a .points) (now (a .blocks)) (now (a .insts)) (now (a .moves)) (now (a .pieces)) (a .p) (a .keys) (a .held) (a .o) (a .first) ((c .before .before .before .before .before .before .loop) .inv) (omega arith) ((c .before .before .measure-next) .ensures)
+loop-again c =
+    let a = (c .before .before .before .before .before .before .before .before .before .before .before .before .args) in
+    going-more (a .points) (now (a .blocks)) (now (a .insts)) (now (a .moves)) (now (a .pieces)) (a .p) (a .keys) (a .held) (a .o) (a .first)
+    ((c .before .before .before .before .before .before .loop) .inv) (omega arith) ((c .before .before .measure-next) .ensures)
 
 same-length : tie.Need-same-length Inv-loop μ-loop
 same-length c = (c .before .before .loop) .inv .spared .len

@@ -16,7 +16,9 @@ same-length-2 : tie.Need-same-length-2
 same-length-2 c = search needs
 
 returns : tie.Need-returns
-returns c = record { told = (c .before .before .before .before .before .carried) .result; answer = (c .carried-code) .ensures; holds = (c .before .before .before .before .before .carried) .ensures }
+returns c =
+    let s = c .before .before .before .before .before in
+    record { told = s .carried .result; answer = c .carried-code .ensures; holds = s .carried .ensures }
 
 pub slots-carried-spec : {M : Type 1} → statement M
 slots-carried-spec = tie.close (tie.spec carried-requires carried-code-requires same-length same-length-2 returns)

@@ -16,7 +16,9 @@ same-length-2 : tie.Need-same-length-2
 same-length-2 c = search needs
 
 returns : tie.Need-returns
-returns c = record { told = (c .before .before .before .before .before .moved) .result; answer = (c .spill-code) .ensures; holds = (c .before .before .before .before .before .moved) .ensures }
+returns c =
+    let s = c .before .before .before .before .before in
+    record { told = s .moved .result; answer = c .spill-code .ensures; holds = s .moved .ensures }
 
 pub slots-moved-spec : {M : Type 1} → statement M
 slots-moved-spec = tie.close (tie.spec moved-requires spill-code-requires same-length same-length-2 returns)

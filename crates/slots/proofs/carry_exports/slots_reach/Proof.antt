@@ -16,7 +16,9 @@ same-length-2 : tie.Need-same-length-2
 same-length-2 c = search needs
 
 returns : tie.Need-returns
-returns c = record { told = (c .before .before .before .before .before .reach) .result; answer = (c .reach-code) .ensures; holds = (c .before .before .before .before .before .reach) .ensures }
+returns c =
+    let s = c .before .before .before .before .before in
+    record { told = s .reach .result; answer = c .reach-code .ensures; holds = s .reach .ensures }
 
 pub slots-reach-spec : {M : Type 1} → statement M
 slots-reach-spec = tie.close (tie.spec reach-requires reach-code-requires same-length same-length-2 returns)

@@ -16,7 +16,9 @@ same-length-2 : tie.Need-same-length-2
 same-length-2 c = search needs
 
 returns : tie.Need-returns
-returns c = record { told = (c .before .before .before .before .before .spilled) .result; answer = (c .spill-code) .ensures; holds = (c .before .before .before .before .before .spilled) .ensures }
+returns c =
+    let s = c .before .before .before .before .before in
+    record { told = s .spilled .result; answer = c .spill-code .ensures; holds = s .spilled .ensures }
 
 pub slots-spilled-spec : {M : Type 1} → statement M
 slots-spilled-spec = tie.close (tie.spec spilled-requires spill-code-requires same-length same-length-2 returns)

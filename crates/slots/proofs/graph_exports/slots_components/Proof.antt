@@ -16,7 +16,9 @@ same-length-2 : tie.Need-same-length-2
 same-length-2 c = search needs
 
 returns : tie.Need-returns
-returns c = record { told = (c .before .before .before .before .before .components) .result; answer = (c .components2) .ensures; holds = (c .before .before .before .before .before .components) .ensures }
+returns c =
+    let s = c .before .before .before .before .before in
+    record { told = s .components .result; answer = c .components2 .ensures; holds = s .components .ensures }
 
 pub slots-components-spec : {M : Type 1} → statement M
 slots-components-spec = tie.close (tie.spec components-requires components-requires-2 same-length same-length-2 returns)

@@ -16,7 +16,9 @@ same-length-2 : tie.Need-same-length-2
 same-length-2 c = search needs
 
 returns : tie.Need-returns
-returns c = record { told = (c .before .before .before .before .before .settling) .result; answer = (c .spread) .ensures; holds = (c .before .before .before .before .before .settling) .ensures }
+returns c =
+    let s = c .before .before .before .before .before in
+    record { told = s .settling .result; answer = c .spread .ensures; holds = s .settling .ensures }
 
 pub slots-settling-spec : {M : Type 1} → statement M
 slots-settling-spec = tie.close (tie.spec settling-requires spread-requires same-length same-length-2 returns)

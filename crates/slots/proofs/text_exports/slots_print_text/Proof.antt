@@ -13,7 +13,9 @@ same-length : tie.Need-same-length
 same-length c = search needs
 
 returns : tie.Need-returns
-returns c = record { told = (c .before .before .before .print-text) .result; answer = (c .text-code) .ensures; holds = (c .before .before .before .print-text) .ensures }
+returns c =
+    let s = c .before .before .before in
+    record { told = s .print-text .result; answer = c .text-code .ensures; holds = s .print-text .ensures }
 
 pub slots-print-text-spec : {M : Type 1} → statement M
 slots-print-text-spec = tie.close (tie.spec print-text-requires text-code-requires same-length returns)

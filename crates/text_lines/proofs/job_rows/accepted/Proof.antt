@@ -14,7 +14,9 @@ follows-requires : tie.Need-follows-requires
 follows-requires c κs = search needs
 
 returns-2 : tie.Need-returns-2
-returns-2 c = ((c .follows) .ensures) ∙ sym (ap (λ (b : Bool). not b && (ltb ((c .before .before .args) .k) groupCount && mayFollow ((c .before .before .args) .r .place) ((c .before .before .args) .k))) ((c .before .if1) .left))
+returns-2 c =
+    let s = c .before .before in
+    (c .follows .ensures) ∙ sym (ap (λ (b : Bool). not b && (ltb (s .args .k) groupCount && mayFollow (s .args .r .place) (s .args .k))) (c .before .if1 .left))
 
 pub accepted-spec : {M : Type 1} → statement M
 accepted-spec = tie.close (tie.spec returns follows-requires returns-2)

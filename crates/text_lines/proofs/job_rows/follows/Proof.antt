@@ -12,7 +12,9 @@ entry-of-requires : tie.Need-entry-of-requires
 entry-of-requires c κs = search needs
 
 returns-2 : tie.Need-returns-2
-returns-2 c = follow-early ((c .before .before .before .before .args) .k) ((c .before .before .before .before .args) .place) _ (omega arith) ((c .before .before .entry-of) .ensures .least) ((c .if2) .taken)
+returns-2 c =
+    let s = c .before .before .before .before in
+    follow-early (s .args .k) (s .args .place) _ (omega arith) (c .before .before .entry-of .ensures .least) (c .if2 .taken)
 
 returns-3 : tie.Need-returns-3
 returns-3 c =

@@ -26,7 +26,9 @@ slice-write-rows : tie.Need-slice-write-rows
 slice-write-rows c = let h = (c .before .before .before .before .before .before .pre) .1 in let l = (c .before .before .put-numbers) .ensures .len in omega arith
 
 shared-slice-read-if1 : tie.Need-shared-slice-read-if1
-shared-slice-read-if1 c = let e : 7 ≤ length (now ((c .before .before .before .before .before .before .before .args) .fields)) = (c .before .before .before .before .before .before .before .pre) .0 .enough in omega arith
+shared-slice-read-if1 c =
+    let s = c .before .before .before .before .before .before .before in
+    let e : 7 ≤ length (now (s .args .fields)) = s .pre .0 .enough in omega arith
 
 mul-rows-2 : tie.Need-mul-rows-2
 mul-rows-2 c = let h = (c .before .before .before .before .before .before .before .before .pre) .1 in omega arith

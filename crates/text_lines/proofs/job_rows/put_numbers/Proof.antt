@@ -25,10 +25,14 @@ mul-number : tie.Need-mul-number Inv-loop μ-loop
 mul-number c = let e = (c .before .before .before .before .pre) .0 .enough in let q = (c .before .before .before .before .pre) .1 in omega arith
 
 shared-slice-read-number : tie.Need-shared-slice-read-number Inv-loop μ-loop
-shared-slice-read-number c = let e = (c .before .before .before .before .before .pre) .0 .enough in let q = (c .before .before .before .before .before .pre) .1 in omega arith
+shared-slice-read-number c =
+    let s = c .before .before .before .before .before in
+    let e = s .pre .0 .enough in let q = s .pre .1 in omega arith
 
 dash-at-requires : tie.Need-dash-at-requires Inv-loop μ-loop
-dash-at-requires c κs = ((c .before .before .before .before .before .pre) .0 .group, (let q = (c .before .before .before .before .before .pre) .1 in omega arith))
+dash-at-requires c κs =
+    let s = c .before .before .before .before .before in
+    (s .pre .0 .group, (let q = s .pre .1 in omega arith))
 
 number-requires : tie.Need-number-requires Inv-loop μ-loop
 number-requires c κs =
@@ -41,7 +45,9 @@ add-rows : tie.Need-add-rows Inv-loop μ-loop
 add-rows c = let h = (c .before .before .before .before .before .before .before .pre) .2 in omega arith
 
 mul-rows : tie.Need-mul-rows Inv-loop μ-loop
-mul-rows c = let e = (c .before .before .before .before .before .before .before .pre) .0 .enough in let q = (c .before .before .before .before .before .before .before .pre) .1 in omega arith
+mul-rows c =
+    let s = c .before .before .before .before .before .before .before in
+    let e = s .pre .0 .enough in let q = s .pre .1 in omega arith
 
 slice-write-rows : tie.Need-slice-write-rows Inv-loop μ-loop
 slice-write-rows c = let h = (c .before .before .before .before .before .before .before .pre) .2 in let l = (c .before .before .before .before .loop) .inv .now-is .len in omega arith

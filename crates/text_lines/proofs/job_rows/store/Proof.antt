@@ -13,7 +13,9 @@ entry-of-requires : tie.Need-entry-of-requires
 entry-of-requires c κs = (c .before .before .before .pre) .meant .group
 
 mul-n : tie.Need-mul-n
-mul-n c = let g = (c .before .before .before .before .pre) .meant .group in let l = (c .before .before .before .before .pre) .counts-length in let f = few (c .before .before .before .before .pre) in omega arith
+mul-n c =
+    let s = c .before .before .before .before in
+    let g = s .pre .meant .group in let l = s .pre .counts-length in let f = few (s .pre) in omega arith
 
 slice-read-n : tie.Need-slice-read-n
 slice-read-n c =

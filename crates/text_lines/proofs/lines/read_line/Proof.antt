@@ -21,7 +21,9 @@ shared-slice-read-if3 : tie.Need-shared-slice-read-if3
 shared-slice-read-if3 c = omega arith
 
 returns-3 : tie.Need-returns-3
-returns-3 c = line-open (now ((c .before .before .before .before .before .before .args) .line)) (now ((c .before .before .before .before .before .before .args) .out)) ((c .if3) .taken)
+returns-3 c =
+    let s = c .before .before .before .before .before .before in
+    line-open (now (s .args .line)) (now (s .args .out)) (c .if3 .taken)
 
 sub-body : tie.Need-sub-body
 sub-body c = omega arith

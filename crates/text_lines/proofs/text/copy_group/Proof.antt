@@ -20,10 +20,14 @@ loop-holds : tie.Need-loop-holds Inv-loop μ-loop
 loop-holds c = done-start _ _ _ _ ((c .pre) .1)
 
 add-rows : tie.Need-add-rows Inv-loop μ-loop
-add-rows c = let r = (c .before .before .before .pre) .0 in let w = (c .before .before .before .pre) .1 in let l = (c .before .before .loop) .inv .now-is .len in let t = (c .before .loop-test) .taken in omega arith
+add-rows c =
+    let s = c .before .before .before in
+    let r = s .pre .0 in let w = s .pre .1 in let l = c .before .before .loop .inv .now-is .len in let t = c .before .loop-test .taken in omega arith
 
 mul-rows : tie.Need-mul-rows Inv-loop μ-loop
-mul-rows c = let r = (c .before .before .before .pre) .0 in let w = (c .before .before .before .pre) .1 in let l = (c .before .before .loop) .inv .now-is .len in let t = (c .before .loop-test) .taken in omega arith
+mul-rows c =
+    let s = c .before .before .before in
+    let r = s .pre .0 in let w = s .pre .1 in let l = c .before .before .loop .inv .now-is .len in let t = c .before .loop-test .taken in omega arith
 
 shared-slice-read-rows : tie.Need-shared-slice-read-rows Inv-loop μ-loop
 shared-slice-read-rows c =
@@ -99,16 +103,24 @@ loop-again c =
     done-more (loop .inv) _ _ ((s2 .loop-test) .taken) refl (group-held (now (a .held)) (a .base) (a .len) (loop .j) _ ((s1 .if1) .taken) refl)
 
 add-rows-3 : tie.Need-add-rows-3 Inv-loop μ-loop
-add-rows-3 c = let r = (c .before .before .before .pre) .0 in let w = (c .before .before .before .pre) .1 in let l = (c .before .before .loop) .inv .now-is .len in let t = (c .before .loop-test) .taken in omega arith
+add-rows-3 c =
+    let s = c .before .before .before in
+    let r = s .pre .0 in let w = s .pre .1 in let l = c .before .before .loop .inv .now-is .len in let t = c .before .loop-test .taken in omega arith
 
 mul-rows-3 : tie.Need-mul-rows-3 Inv-loop μ-loop
-mul-rows-3 c = let r = (c .before .before .before .pre) .0 in let w = (c .before .before .before .pre) .1 in let l = (c .before .before .loop) .inv .now-is .len in let t = (c .before .loop-test) .taken in omega arith
+mul-rows-3 c =
+    let s = c .before .before .before in
+    let r = s .pre .0 in let w = s .pre .1 in let l = c .before .before .loop .inv .now-is .len in let t = c .before .loop-test .taken in omega arith
 
 slice-write-rows-2 : tie.Need-slice-write-rows-2 Inv-loop μ-loop
-slice-write-rows-2 c = let r = (c .before .before .before .pre) .0 in let w = (c .before .before .before .pre) .1 in let l = (c .before .before .loop) .inv .now-is .len in let t = (c .before .loop-test) .taken in omega arith
+slice-write-rows-2 c =
+    let s = c .before .before .before in
+    let r = s .pre .0 in let w = s .pre .1 in let l = c .before .before .loop .inv .now-is .len in let t = c .before .loop-test .taken in omega arith
 
 add-j-2 : tie.Need-add-j-2 Inv-loop μ-loop
-add-j-2 c = let r = (c .before .before .before .pre) .0 in let w = (c .before .before .before .pre) .1 in let l = (c .before .before .loop) .inv .now-is .len in let t = (c .before .loop-test) .taken in omega arith
+add-j-2 c =
+    let s = c .before .before .before in
+    let r = s .pre .0 in let w = s .pre .1 in let l = c .before .before .loop .inv .now-is .len in let t = c .before .loop-test .taken in omega arith
 
 loop-less-2 : tie.Need-loop-less-2 Inv-loop μ-loop
 loop-less-2 c = let t = (c .before .loop-test) .taken in omega arith

@@ -23,7 +23,9 @@ abbrev μ-loop : tie.MeasureT-loop
 μ-loop areas local start n out₀ at next₀ j₀ out next j = n - j
 
 loop-holds : tie.Need-loop-holds Inv-loop μ-loop
-loop-holds c = lines-start (λ j. rowLine (now ((c .before .before .args) .areas)) ((c .before .before .args) .local) ((c .before .before .args) .start + j)) 128 _ _ _ (λ j. line-length 71 _ (lit≤ tt))
+loop-holds c =
+    let s = c .before .before in
+    lines-start (λ j. rowLine (now (s .args .areas)) (s .args .local) (s .args .start + j)) 128 _ _ _ (λ j. line-length 71 _ (lit≤ tt))
 
 add-k : tie.Need-add-k Inv-loop μ-loop
 add-k c = omega arith

@@ -23,7 +23,9 @@ abbrev μ-loop : tie.MeasureT-loop
 μ-loop letter items base n out₀ at next₀ i₀ out next i = n - i
 
 loop-holds : tie.Need-loop-holds Inv-loop μ-loop
-loop-holds c = lines-start (itemLine ((c .before .before .args) .letter) (now ((c .before .before .args) .items)) ((c .before .before .args) .base)) 128 _ _ _ (λ j. line-length ((c .before .before .args) .letter) _ (lit≤ tt))
+loop-holds c =
+    let s = c .before .before in
+    lines-start (itemLine (s .args .letter) (now (s .args .items)) (s .args .base)) 128 _ _ _ (λ j. line-length (s .args .letter) _ (lit≤ tt))
 
 add-t12 : tie.Need-add-t12 Inv-loop μ-loop
 add-t12 c = omega arith

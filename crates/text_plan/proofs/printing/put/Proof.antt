@@ -36,7 +36,10 @@ loop-less : tie.Need-loop-less Inv-loop μ-loop
 loop-less c = omega arith
 
 loop-again : tie.Need-loop-again Inv-loop μ-loop
-loop-again c = (omega arith, byte-in (now ((c .before .before .before .before .args) .s)) ((c .before .before .before .before .args) .at) ((c .before .before .before .loop) .i) (omega arith) ((c .before .before .before .loop) .inv .1))
+loop-again c =
+    let t = c .before .before .before in
+    let u = t .before in
+    (omega arith, byte-in (now (u .args .s)) (u .args .at) (t .loop .i) (omega arith) (t .loop .inv .1))
 
 add-i-2 : tie.Need-add-i-2 Inv-loop μ-loop
 add-i-2 c = omega arith
@@ -45,7 +48,10 @@ loop-less-2 : tie.Need-loop-less-2 Inv-loop μ-loop
 loop-less-2 c = omega arith
 
 loop-again-2 : tie.Need-loop-again-2 Inv-loop μ-loop
-loop-again-2 c = (omega arith, byte-out (now ((c .before .before .before .args) .s)) ((c .before .before .before .args) .at) ((c .before .before .loop) .i) (omega arith) ((c .before .before .loop) .inv .1) (omega arith))
+loop-again-2 c =
+    let t = c .before .before in
+    let u = t .before in
+    (omega arith, byte-out (now (u .args .s)) (u .args .at) (t .loop .i) (omega arith) (t .loop .inv .1) (omega arith))
 
 add-result : tie.Need-add-result Inv-loop μ-loop
 add-result c = let h = (c .before .before .pre) in omega arith

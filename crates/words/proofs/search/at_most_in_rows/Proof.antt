@@ -20,11 +20,15 @@ loop-holds c = between-all _ _ (front-le (λ i. field ((c .before .args) .width)
 
 -- the row that is looked at
 within : (c : tie.In-loop Inv-loop μ-loop) → (c .before .before .before .args) .width * ((c .before .loop) .lo + (c .before .loop) .left / 2) + (c .before .before .before .args) .f < length ((c .before .before .before .args) .s .now)
-within c = field-within ((c .before .before .before .args) .width) ((c .before .before .before .args) .n) ((c .before .loop) .lo + (c .before .loop) .left / 2) ((c .before .before .before .args) .f) (length ((c .before .before .before .args) .s .now)) (omega arith) (omega arith) (omega arith)
+within c =
+    let t = c .before .before .before in
+    field-within (t .args .width) (t .args .n) (c .before .loop .lo + (c .before .loop) .left / 2) (t .args .f) (length (t .args .s .now)) (omega arith) (omega arith) (omega arith)
 
 -- the last one
 lastly : (c : tie.Else1 Inv-loop μ-loop) → (c .before .before .before .before .args) .width * (c .before .before .loop) .lo + (c .before .before .before .before .args) .f < length ((c .before .before .before .before .args) .s .now)
-lastly c = field-within ((c .before .before .before .before .args) .width) ((c .before .before .before .before .args) .n) ((c .before .before .loop) .lo) ((c .before .before .before .before .args) .f) (length ((c .before .before .before .before .args) .s .now)) (omega arith) (omega arith) (omega arith)
+lastly c =
+    let t = c .before .before .before .before in
+    field-within (t .args .width) (t .args .n) (c .before .before .loop .lo) (t .args .f) (length (t .args .s .now)) (omega arith) (omega arith) (omega arith)
 
 add-x : tie.Need-add-x Inv-loop μ-loop
 add-x c = omega arith
@@ -45,10 +49,24 @@ no-more-requires : tie.Need-no-more-requires Inv-loop μ-loop
 no-more-requires c κs = tt
 
 mul-lo : tie.Need-mul-lo Inv-loop μ-loop
-mul-lo c = omega (arith, taken-le ((c .before .before .before .loop) .left / 2) (c .no-more .result) (leb (field ((c .before .before .before .before .before .args) .width) ((c .before .before .before .before .before .args) .s .now) ((c .before .before .before .loop) .lo + (c .before .before .before .loop) .left / 2) ((c .before .before .before .before .before .args) .f)) ((c .before .before .before .before .before .args) .point)) (c .no-more .ensures))
+mul-lo c =
+    let t = c .before .before .before in
+    let u = t .before .before in
+    omega (
+      arith,
+      taken-le (t .loop .left / 2) (c .no-more .result) (leb (field (u .args .width) (u .args .s .now) (t .loop .lo + (t .loop) .left / 2) (u .args .f)) (u .args .point))
+          (c .no-more .ensures),
+    )
 
 add-lo : tie.Need-add-lo Inv-loop μ-loop
-add-lo c = omega (arith, taken-le ((c .before .before .before .loop) .left / 2) (c .no-more .result) (leb (field ((c .before .before .before .before .before .args) .width) ((c .before .before .before .before .before .args) .s .now) ((c .before .before .before .loop) .lo + (c .before .before .before .loop) .left / 2) ((c .before .before .before .before .before .args) .f)) ((c .before .before .before .before .before .args) .point)) (c .no-more .ensures))
+add-lo c =
+    let t = c .before .before .before in
+    let u = t .before .before in
+    omega (
+      arith,
+      taken-le (t .loop .left / 2) (c .no-more .result) (leb (field (u .args .width) (u .args .s .now) (t .loop .lo + (t .loop) .left / 2) (u .args .f)) (u .args .point))
+          (c .no-more .ensures),
+    )
 
 sub-left : tie.Need-sub-left Inv-loop μ-loop
 sub-left c = omega arith
@@ -57,7 +75,9 @@ loop-less : tie.Need-loop-less Inv-loop μ-loop
 loop-less c = omega arith
 
 loop-again : tie.Need-loop-again Inv-loop μ-loop
-loop-again c = between-turn ((c .before .before .before .loop) .inv) ((c .before .before .before .loop) .left / 2) (c .no-more .result) (omega arith) (omega arith) (c .no-more .ensures)
+loop-again c =
+    let s = c .before .before .before in
+    between-turn (s .loop .inv) (s .loop .left / 2) (c .no-more .result) (omega arith) (omega arith) (c .no-more .ensures)
 
 returns : tie.Need-returns Inv-loop μ-loop
 returns c = between-none ((c .before .before .loop) .inv) (omega arith)
@@ -78,7 +98,13 @@ no-more-requires-2 : tie.Need-no-more-requires-2 Inv-loop μ-loop
 no-more-requires-2 c κs = tt
 
 add-result : tie.Need-add-result Inv-loop μ-loop
-add-result c = omega (arith, one-at-most (c .no-more2 .result) (leb (field ((c .before .before .before .before .before .before .args) .width) ((c .before .before .before .before .before .before .args) .s .now) ((c .before .before .before .before .loop) .lo) ((c .before .before .before .before .before .before .args) .f)) ((c .before .before .before .before .before .before .args) .point)) (c .no-more2 .ensures))
+add-result c =
+    let t = c .before .before .before .before .before .before in
+    omega (
+      arith,
+      one-at-most (c .no-more2 .result) (leb (field (t .args .width) (t .args .s .now) (c .before .before .before .before .loop .lo) (t .args .f)) (t .args .point))
+          (c .no-more2 .ensures),
+    )
 
 returns-2 : tie.Need-returns-2 Inv-loop μ-loop
 returns-2 c = between-last ((c .before .before .before .before .loop) .inv) (c .no-more2 .result) (omega arith) (c .no-more2 .ensures)
