@@ -11,7 +11,7 @@ use Rattle.refusals.specs.declared.Verdict.{Verdict}
 use Rattle.refusals.specs.declared.Verdict.the-variants.{Fine, Bad}
 use Rattle.refusals.specs.declared.Refusal.{Refusal}
 use Rattle.refusals.specs.declared.Refusal.the-variants.{Stray}
-use Rattle.refusals.specs.Verdicts.{first, inOrder}
+use Rattle.refusals.specs.Verdicts.{first, inOrder, roomVerdict}
 use Rattle.refusals.proofs.Laws.{first-fine, first-bad, first-left, first-right, first-assoc, scan-fine, bad-fine, check-last}
 use Rattle.words.proofs.Points.{cut}
 use Rattle.words.proofs.Bools.{or-neither}
@@ -23,8 +23,8 @@ use Rattle.insts.specs.Rows.{AddsUp}
 use Rattle.insts.proofs.DealtLaws.{insts-length}
 use Rattle.insts.proofs.CheckLaws.{most-few, rows-few, blocks-few, blocks-some, insts-counted, inst-is, address-whatever, end-whatever}
 use Rattle.reach.proofs.ReadyLaws.{mentions-count}
-use Rattle.rooms.proofs.RoomLaws.{room-answer, room-work}
-use Rattle.carry_checks.specs.Checks.{carryCounts, carrySpace, roomVerdict, carryVerdict}
+use Rattle.refusals.proofs.RoomLaws.{room-answer, room-work}
+use Rattle.carry_checks.specs.Checks.{carryCounts, carrySpace, carryVerdict}
 use Rattle.carry_checks.specs.Inner.{placeVerdict, strayVerdict, Checked}
 use Rattle.words.specs.Widths.{blockCount, instCount, operandCount, localWidth, localCount, mentionWidth, addressCount, endCount}
 use Rattle.words.specs.Regions.{rowWords}

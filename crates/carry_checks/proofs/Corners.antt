@@ -1,9 +1,10 @@
 -- The corners of the definitions, by computation: W of `reach` and `carried`, and number 7 at it and one word under.
 use mathlib.Core.Path.{_≡_, refl}
 use mathlib.Core.List.{[], _∷_}
+use Rattle.refusals.specs.Verdicts.{roomVerdict}
 use Rattle.refusals.specs.declared.Verdict.the-variants.{Fine, Bad}
 use Rattle.refusals.specs.declared.Refusal.the-variants.{Space}
-use Rattle.carry_checks.specs.Checks.{carryWords, carrySpace, roomVerdict}
+use Rattle.carry_checks.specs.Checks.{carryWords, carrySpace}
 
 -- one block with one local and no register; no local; 65 locals and 65 registers; counts that are all different
 pub space : (carryWords 0 1 0 0 0 1 0 0 ≡ 24) × (carryWords 0 1 0 0 0 0 0 0 ≡ 8) × (carryWords 65 2 0 0 0 65 0 0 ≡ 584) × (carryWords 65 3 10 20 40 129 300 700 ≡ 9704)

@@ -28,10 +28,6 @@ abbrev pub carrySpace : ℕ → List ℕ → List ℕ → List ℕ → List ℕ 
 carrySpace v blocks insts operands crossings locals addresses ends =
     carryWords v (blockCount blocks) (instCount insts) (operandCount operands) (length crossings) (localCount locals) (addressCount addresses) (endCount ends)
 
--- number 7: an answer list under the most that the answer can be, or work space under W
-abbrev pub roomVerdict : ℕ → ℕ → ℕ → ℕ → Verdict
-roomVerdict lent most work space = check Space (ltb lent most || ltb work space)
-
 -- the checks of `reach` and `carried` in their order: numbers 1, 2, 4, 5 and 7
 abbrev pub carryChecks : ℕ → ℕ → List ℕ → List ℕ → List ℕ → List ℕ → List ℕ → List ℕ → List ℕ → ℕ → ℕ → ℕ → List Verdict
 carryChecks points v blocks insts operands crossings locals addresses ends lent most work =

@@ -132,6 +132,6 @@ pub fn refusal(
         addresses,
         ends,
     );
-    let short = rooms::room(lent, most, work, w);
+    let short = refusals::room(lent, most, work, w);
     refusals::earlier(crossed, refusals::earlier(astray, short))
 }

@@ -11,7 +11,7 @@ use Rattle.refusals.specs.declared.Refusal.{Refusal}
 use Rattle.refusals.specs.declared.Verdict.{Verdict}
 use Rattle.refusals.specs.declared.Verdict.the-variants.{Fine, Bad}
 use Rattle.refusals.specs.declared.Refusal.the-variants.{Count, Line, Edge as EdgeWord, Space}
-use Rattle.refusals.specs.Verdicts.{numberOf, first, inOrder}
+use Rattle.refusals.specs.Verdicts.{numberOf, first, inOrder, roomVerdict}
 use Rattle.refusals.specs.Orders.{Ordered}
 use Rattle.refusals.proofs.Laws.{first-fine, first-bad, first-left, first-right, bad-fine, check-last}
 use Rattle.refusals.proofs.Orders.{check-gives, order-append, giving-append}
@@ -19,7 +19,7 @@ use Rattle.words.specs.Regions.{cleared}
 use Rattle.words.specs.Inner.{Region}
 use Rattle.words.specs.Widths.{blockCount, edgeCount}
 use Rattle.graph.specs.Line.{blocksOf, jumpsOf}
-use Rattle.graph.specs.Checks.{graphChecks, graphVerdict, spaceOf, spaceVerdict}
+use Rattle.graph.specs.Checks.{graphChecks, graphVerdict, spaceOf}
 use Rattle.graph.specs.Paths.{Between}
 use Rattle.graph.specs.Inner.Work.{Within, EdgeRows, Neighbours}
 use Rattle.graph.proofs.CheckLaws.{graph-gives}
@@ -38,22 +38,22 @@ module _ (blocks edges : List ℕ) (points answer work : ℕ) where
   -- "lowest number wins": 1, 2, 3, then 7
   pub components-ordered : Ordered numberOf (Count ∷ Line ∷ EdgeWord ∷ Space ∷ []) (componentsChecks blocks edges points answer work)
   components-ordered = record {
-    gives = giving-append (Count ∷ Line ∷ EdgeWord ∷ []) (Space ∷ []) (graphChecks blocks edges points) (spaceVerdict answer (blockCount blocks) work (spaceOf (blockCount blocks) (edgeCount edges) 0) ∷ [])
+    gives = giving-append (Count ∷ Line ∷ EdgeWord ∷ []) (Space ∷ []) (graphChecks blocks edges points) (roomVerdict answer (blockCount blocks) work (spaceOf (blockCount blocks) (edgeCount edges) 0) ∷ [])
         (graph-gives blocks edges points) (check-gives Space (ltb answer (blockCount blocks) || ltb work (spaceOf (blockCount blocks) (edgeCount edges) 0)), tt);
     rises = refl;
   }
 
   -- the graph's checks, then the space
-  verdict-as : verdictOf blocks edges points answer work ≡ first (graphVerdict blocks edges points) (spaceVerdict answer (blockCount blocks) work (spaceOf (blockCount blocks) (edgeCount edges) 0))
+  verdict-as : verdictOf blocks edges points answer work ≡ first (graphVerdict blocks edges points) (roomVerdict answer (blockCount blocks) work (spaceOf (blockCount blocks) (edgeCount edges) 0))
   unfolding verdictOf graphVerdict
   verdict-as =
-      order-append (graphChecks blocks edges points) (spaceVerdict answer (blockCount blocks) work (spaceOf (blockCount blocks) (edgeCount edges) 0) ∷ [])
-      ∙ ap (first (inOrder (graphChecks blocks edges points))) (check-last (spaceVerdict answer (blockCount blocks) work (spaceOf (blockCount blocks) (edgeCount edges) 0)))
+      order-append (graphChecks blocks edges points) (roomVerdict answer (blockCount blocks) work (spaceOf (blockCount blocks) (edgeCount edges) 0) ∷ [])
+      ∙ ap (first (inOrder (graphChecks blocks edges points))) (check-last (roomVerdict answer (blockCount blocks) work (spaceOf (blockCount blocks) (edgeCount edges) 0)))
 
   pub graph-bad : (r : Refusal) (i : ℕ) → graphVerdict blocks edges points ≡ Bad r i → Bad r i ≡ verdictOf blocks edges points answer work
   graph-bad r i e = sym (verdict-as ∙ first-bad _ _ r i e)
 
-  pub space-last : (v : Verdict) → graphVerdict blocks edges points ≡ Fine → v ≡ spaceVerdict answer (blockCount blocks) work (spaceOf (blockCount blocks) (edgeCount edges) 0)
+  pub space-last : (v : Verdict) → graphVerdict blocks edges points ≡ Fine → v ≡ roomVerdict answer (blockCount blocks) work (spaceOf (blockCount blocks) (edgeCount edges) 0)
       → v ≡ verdictOf blocks edges points answer work
   space-last v f e = e ∙ sym (verdict-as ∙ first-fine _ _ f)
 

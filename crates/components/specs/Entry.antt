@@ -6,13 +6,13 @@ use lib.ListN.{length, getD}
 use Rattle.refusals.specs.declared.Refusal.{Refusal}
 use Rattle.refusals.specs.declared.Verdict.{Verdict}
 use Rattle.refusals.specs.declared.Verdict.the-variants.{Fine, Bad}
-use Rattle.refusals.specs.Verdicts.{numberOf, inOrder}
+use Rattle.refusals.specs.Verdicts.{numberOf, inOrder, roomVerdict}
 use Rattle.refusals.specs.Outcomes.{Outcome, given, refused}
 use Rattle.words.specs.Regions.{cleared}
 use Rattle.words.specs.Widths.{blockCount, edgeCount}
 use Rattle.graph.specs.Paths.{Edge}
 use Rattle.graph.specs.Line.{blocksOf, jumpsOf, edgesOf}
-use Rattle.graph.specs.Checks.{graphChecks, spaceOf, spaceVerdict}
+use Rattle.graph.specs.Checks.{graphChecks, spaceOf}
 use Rattle.tarjan.specs.Components.{Components}
 use Rattle.components.specs.declared.Answer.{Answer}
 use Rattle.components.specs.declared.Answer.the-variants.{Given, Refused}
@@ -25,7 +25,7 @@ outcomeOf (Refused r i) = refused (numberOf r) i
 -- the checks of `components`, and of `settling`, which is lent the same: numbers 1, 2, 3 and 7, in this order; W is 8 × the records lent
 abbrev pub componentsChecks : List ℕ → List ℕ → ℕ → ℕ → ℕ → List Verdict
 componentsChecks blocks edges points answer work =
-    graphChecks blocks edges points ++ (spaceVerdict answer (blockCount blocks) work (spaceOf (blockCount blocks) (edgeCount edges) 0) ∷ [])
+    graphChecks blocks edges points ++ (roomVerdict answer (blockCount blocks) work (spaceOf (blockCount blocks) (edgeCount edges) 0) ∷ [])
 
 unfoldable pub verdictOf : List ℕ → List ℕ → ℕ → ℕ → ℕ → Verdict
 verdictOf blocks edges points answer work = inOrder (componentsChecks blocks edges points answer work)

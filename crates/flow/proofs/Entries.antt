@@ -13,7 +13,7 @@ use Rattle.refusals.specs.declared.Refusal.{Refusal}
 use Rattle.refusals.specs.declared.Verdict.{Verdict}
 use Rattle.refusals.specs.declared.Verdict.the-variants.{Fine, Bad}
 use Rattle.refusals.specs.declared.Refusal.the-variants.{Count, Line, Edge as EdgeWord, Space}
-use Rattle.refusals.specs.Verdicts.{numberOf, first, inOrder}
+use Rattle.refusals.specs.Verdicts.{numberOf, first, inOrder, roomVerdict}
 use Rattle.refusals.specs.Orders.{Ordered}
 use Rattle.refusals.proofs.Laws.{first-fine, first-bad, first-left, first-right, bad-fine, check-last}
 use Rattle.refusals.proofs.Orders.{check-gives, order-append, giving-append}
@@ -25,7 +25,7 @@ use Rattle.bits.specs.Bits.{bit, bitOf}
 use Rattle.bits.proofs.WordLaws.{rows-by-bits}
 use Rattle.graph.specs.Paths.{Edge, Between}
 use Rattle.graph.specs.Line.{blocksOf, jumpsOf}
-use Rattle.graph.specs.Checks.{graphChecks, graphVerdict, rowsVerdict, spaceOf, spaceVerdict}
+use Rattle.graph.specs.Checks.{graphChecks, graphVerdict, rowsVerdict, spaceOf}
 use Rattle.graph.specs.Inner.Work.{EdgeRows, Neighbours}
 use Rattle.graph.proofs.CheckLaws.{graph-gives}
 use Rattle.graph.proofs.Line.{blocks-length, edges-between}
@@ -47,7 +47,7 @@ use Rattle.flow.proofs.Ways.{flows-as, rows-as}
 
 module _ (blocks edges : List ℕ) (points lent words answer work : ℕ) where
   abbrev space : Verdict
-  space = spaceVerdict answer (blockCount blocks * words) work (spaceOf (blockCount blocks) (edgeCount edges) (blockCount blocks * words))
+  space = roomVerdict answer (blockCount blocks * words) work (spaceOf (blockCount blocks) (edgeCount edges) (blockCount blocks * words))
 
   -- "lowest number wins": 1, 2, 3, then 7
   pub flowed-ordered : Ordered numberOf (Count ∷ Count ∷ Line ∷ EdgeWord ∷ Space ∷ []) (flowedChecks blocks edges points lent words answer work)
@@ -74,9 +74,9 @@ module _ (blocks edges : List ℕ) (points lent words answer work : ℕ) where
   graph-refused r i f e = sym (verdict-as ∙ first-fine _ _ f ∙ first-bad _ _ r i e)
 
   pub space-last : (v : Verdict) → rowsVerdict lent (blockCount blocks) words ≡ Fine → graphVerdict blocks edges points ≡ Fine
-      → v ≡ spaceVerdict answer lent work (spaceOf (blockCount blocks) (edgeCount edges) lent) → v ≡ verdictOf blocks edges points lent words answer work
+      → v ≡ roomVerdict answer lent work (spaceOf (blockCount blocks) (edgeCount edges) lent) → v ≡ verdictOf blocks edges points lent words answer work
   space-last v f g e = e
-      ∙ ap (λ (y : ℕ). spaceVerdict answer y work (spaceOf (blockCount blocks) (edgeCount edges) y)) (rows-told lent (blockCount blocks) words f)
+      ∙ ap (λ (y : ℕ). roomVerdict answer y work (spaceOf (blockCount blocks) (edgeCount edges) y)) (rows-told lent (blockCount blocks) words f)
       ∙ sym (verdict-as ∙ first-fine _ _ f ∙ first-fine _ _ g)
 
   -- what is known of an input that is not refused

@@ -8,7 +8,7 @@ use lib.ListN.{length}
 use Rattle.refusals.specs.declared.Refusal.{Refusal}
 use Rattle.refusals.specs.declared.Verdict.{Verdict}
 use Rattle.refusals.specs.declared.Verdict.the-variants.{Fine, Bad}
-use Rattle.refusals.specs.Verdicts.{numberOf, inOrder}
+use Rattle.refusals.specs.Verdicts.{numberOf, inOrder, roomVerdict}
 use Rattle.refusals.specs.Outcomes.{Outcome, given, refused, after}
 use Rattle.words.specs.Regions.{cleared}
 use Rattle.words.specs.Widths.{blockCount, edgeCount}
@@ -17,7 +17,7 @@ use Rattle.bits.specs.Words.{rowsOf}
 use Rattle.graph.specs.Paths.{Edge}
 use Rattle.graph.specs.Flow.{Reached, Reaching}
 use Rattle.graph.specs.Rounds.{reachedRow, reachingRow}
-use Rattle.graph.specs.Checks.{graphChecks, rowsVerdict, spaceOf, spaceVerdict}
+use Rattle.graph.specs.Checks.{graphChecks, rowsVerdict, spaceOf}
 use Rattle.components.specs.Entry.{edgesIn}
 use Rattle.flow.specs.declared.Over.{Over}
 use Rattle.flow.specs.declared.Over.the-variants.{Predecessors, Successors}
@@ -43,7 +43,7 @@ outcomeOf (Refused r i) = refused (numberOf r) i
 abbrev pub flowedChecks : List ℕ → List ℕ → ℕ → ℕ → ℕ → ℕ → ℕ → List Verdict
 flowedChecks blocks edges points lent words answer work =
     rowsVerdict lent (blockCount blocks) words ∷ graphChecks blocks edges points
-    ++ (spaceVerdict answer (blockCount blocks * words) work (spaceOf (blockCount blocks) (edgeCount edges) (blockCount blocks * words)) ∷ [])
+    ++ (roomVerdict answer (blockCount blocks * words) work (spaceOf (blockCount blocks) (edgeCount edges) (blockCount blocks * words)) ∷ [])
 
 unfoldable pub verdictOf : List ℕ → List ℕ → ℕ → ℕ → ℕ → ℕ → ℕ → Verdict
 verdictOf blocks edges points lent words answer work = inOrder (flowedChecks blocks edges points lent words answer work)

@@ -6,13 +6,13 @@ use mathlib.Core.List.{List, [], _∷_}
 use lib.ListN.{length}
 use Rattle.refusals.specs.declared.Verdict.the-variants.{Fine, Bad}
 use Rattle.refusals.specs.declared.Refusal.the-variants.{Count, Line, Edge as EdgeWord, Space}
-use Rattle.refusals.specs.Verdicts.{first, scan}
+use Rattle.refusals.specs.Verdicts.{first, scan, roomVerdict}
 use Rattle.words.specs.Rows.{tabulate}
 use Rattle.words.specs.Widths.{blockWidth, edgeWidth, wantWidth}
 use Rattle.graph.specs.Paths.{edge, turned}
 use Rattle.graph.specs.Line.{Stretch, Jump, blocksOf, jumpsOf, blockAt, placeIn, edgesOf, usedBefore, badBlock, lineVerdict, edgeVerdict}
 use Rattle.graph.specs.Inner.Line.{placeOf, numberAt}
-use Rattle.graph.specs.Checks.{badCount, rowsVerdict, spaceOf, spaceVerdict}
+use Rattle.graph.specs.Checks.{badCount, rowsVerdict, spaceOf}
 use Rattle.graph.specs.Inner.Checks.{badSpan}
 use Rattle.graph.specs.Inner.Work.{tally, before, spot}
 use Rattle.graph.specs.Work.{sumOf}
@@ -76,7 +76,7 @@ counts = (refl, refl, refl, refl)
 
 -- number 1 of rows of bits: blocks × row words, a word less and a word more; W; number 7: at what is asked and one short
 pub spaces : (rowsVerdict 6 2 3 ≡ Fine) × (rowsVerdict wantWidth 2 3 ≡ Bad Count 0) × (rowsVerdict 7 2 3 ≡ Bad Count 0) × (spaceOf 2 3 5 ≡ 80)
-    × (spaceVerdict 3 3 5 5 ≡ Fine) × (spaceVerdict 2 3 5 5 ≡ Bad Space 0) × (spaceVerdict 3 3 4 5 ≡ Bad Space 0)
+    × (roomVerdict 3 3 5 5 ≡ Fine) × (roomVerdict 2 3 5 5 ≡ Bad Space 0) × (roomVerdict 3 3 4 5 ≡ Bad Space 0)
 spaces = (refl, refl, refl, refl, refl, refl, refl)
 
 -- the values 1, 0, 1: how many are 1, how many are below 1, their sum, and where the last of them goes

@@ -32,7 +32,3 @@ rowsVerdict lent n words = check Count (not (eqb lent (n * words)))
 -- W: 8 × (the records lent + blocks × row words)
 abbrev pub spaceOf : ℕ → ℕ → ℕ → ℕ
 spaceOf n e rows = 8 * (n + e + rows)
-
--- number 7: "work space under W", or an answer list shorter than its answer
-abbrev pub spaceVerdict : ℕ → ℕ → ℕ → ℕ → Verdict
-spaceVerdict answer most work space = check Space (ltb answer most || ltb work space)

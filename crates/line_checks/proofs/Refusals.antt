@@ -14,7 +14,7 @@ use Rattle.refusals.specs.declared.Verdict.{Verdict}
 use Rattle.refusals.specs.declared.Verdict.the-variants.{Fine, Bad}
 use Rattle.refusals.specs.declared.Refusal.{Refusal}
 use Rattle.refusals.specs.declared.Refusal.the-variants.{Count, Space}
-use Rattle.refusals.specs.Verdicts.{inOrder}
+use Rattle.refusals.specs.Verdicts.{inOrder, roomVerdict}
 use Rattle.refusals.proofs.Laws.{first-fine, first-bad, first-left, first-right, check-last}
 use Rattle.bits.specs.Bits.{bit, bitOf}
 use Rattle.bits.specs.Inner.{PutBit}
@@ -22,7 +22,7 @@ use Rattle.bits.proofs.DigitLaws.{bit-zero}
 use Rattle.words.proofs.Points.{cut, same}
 use Rattle.words.proofs.Bools.{or-cond}
 use Rattle.graph.specs.Line.{Stretch, blocksOf, jumpsOf, blockAt, usedBefore, gapAt, badBlock, lineVerdict, badEdge, edgeVerdict, Sound}
-use Rattle.graph.specs.Checks.{badCount, countVerdict, graphVerdict, rowsVerdict, spaceOf, spaceVerdict}
+use Rattle.graph.specs.Checks.{badCount, countVerdict, graphVerdict, rowsVerdict, spaceOf}
 use Rattle.graph.specs.Inner.Checks.{badSpan}
 use Rattle.graph.proofs.Line.{blocks-length, from-is, to-is, line-sound}
 use Rattle.words.specs.Widths.{blockWidth, blockCount, edgeWidth, edgeCount}
@@ -207,16 +207,16 @@ pub remainder-not : (a n w : ℕ) → 0 < w → a / w ≡ n → a % w ≢ 0 → 
 remainder-not a n w p q r e = r (let s = div-add-mod' a w in let t : a / w * w ≡ n * w = ap (λ (y : ℕ). y * w) q in omega arith)
 
 module _ (answer most work n e rows : ℕ) where
-  pub short-answer : answer < most → Bad Space 0 ≡ spaceVerdict answer most work (spaceOf n e rows)
+  pub short-answer : answer < most → Bad Space 0 ≡ roomVerdict answer most work (spaceOf n e rows)
   short-answer h = simp (lt-ltb answer most h)
 
-  pub short-work : most ≤ answer → work < spaceOf n e rows → Bad Space 0 ≡ spaceVerdict answer most work (spaceOf n e rows)
+  pub short-work : most ≤ answer → work < spaceOf n e rows → Bad Space 0 ≡ roomVerdict answer most work (spaceOf n e rows)
   short-work h l = simp (le-ltb answer most h, lt-ltb work (8 * (n + e + rows)) l)
 
-  pub enough : most ≤ answer → spaceOf n e rows ≤ work → Fine ≡ spaceVerdict answer most work (spaceOf n e rows)
+  pub enough : most ≤ answer → spaceOf n e rows ≤ work → Fine ≡ roomVerdict answer most work (spaceOf n e rows)
   enough h l = simp (le-ltb answer most h, le-ltb work (8 * (n + e + rows)) l)
 
-  pub space-told : spaceVerdict answer most work (spaceOf n e rows) ≡ Fine → (most ≤ answer) × (spaceOf n e rows ≤ work)
+  pub space-told : roomVerdict answer most work (spaceOf n e rows) ≡ Fine → (most ≤ answer) × (spaceOf n e rows ≤ work)
   space-told v = cut most answer
       (λ a. cut (spaceOf n e rows) work
       (λ b. (a, b))

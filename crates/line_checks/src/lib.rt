@@ -4,10 +4,10 @@ ghost use Prim.Native.Nat.{_+_, _*_, _/_, _≤_, _<_};
 ghost use lib.ListN.{length};
 ghost use lib.Dec.{eqb};
 ghost use Rattle.refusals.specs.declared.Refusal.the-variants.{Edge as EdgeWord};
-ghost use Rattle.refusals.specs.Verdicts.{scan};
+ghost use Rattle.refusals.specs.Verdicts.{scan, roomVerdict};
 ghost use Rattle.graph.specs.Line.{blocksOf, jumpsOf, lineVerdict, badEdge};
 ghost use Rattle.graph.specs.Inner.Checks.{badSpan};
-ghost use Rattle.graph.specs.Checks.{countVerdict, graphVerdict, rowsVerdict, spaceOf, spaceVerdict};
+ghost use Rattle.graph.specs.Checks.{countVerdict, graphVerdict, rowsVerdict, spaceOf};
 ghost use Rattle.words.specs.Widths.{blockCount};
 use refusals::Refusal;
 use refusals::Verdict;
@@ -148,7 +148,7 @@ pub fn rows(lent: usize, n: usize, words: usize) -> Verdict
 // Refusal 7: an answer list of `answer` where `most` are needed, or `work` words of work space under W. W is not computed where it might not fit.
 pub fn space(answer: usize, most: usize, work: usize, n: usize, e: usize, rows: usize) -> Verdict
     requires { ⌜ n + e ≤ 20480 ⌝ }
-    ensures { λ r. ⌜ r ≡ spaceVerdict answer most work (spaceOf n e rows) ⌝ }
+    ensures { λ r. ⌜ r ≡ roomVerdict answer most work (spaceOf n e rows) ⌝ }
 {
     if answer < most {
         return Verdict::Bad(Refusal::Space, 0);

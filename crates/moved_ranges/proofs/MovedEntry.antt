@@ -27,7 +27,7 @@ use Rattle.carrying.specs.Checks.{instVerdict}
 use Rattle.insts.specs.Counts.{rowsVerdict, mostVerdict, blockCounts, instCounts}
 use Rattle.insts.specs.Rows.{AddsUp}
 use Rattle.insts.proofs.CheckLaws.{most-few, rows-few, blocks-few, blocks-some, insts-counted}
-use Rattle.rooms.proofs.RoomLaws.{room-answer, room-work}
+use Rattle.refusals.proofs.RoomLaws.{room-answer, room-work}
 use Rattle.areas.specs.Slots.{movesOf, moved, moveVerdict}
 use Rattle.spill_checks.specs.declared.Answer.the-variants.{Given, Refused}
 use Rattle.moved_ranges.specs.Moved.{rowsOf, Wrote, movedCounts, movedSpace, movedRoom, movedVerdict, movedOf, MovedTo}

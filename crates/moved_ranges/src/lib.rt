@@ -122,7 +122,7 @@ fn refusal(
     }
     let stray = spill_checks::moves(blocks, insts, moves);
     let w = needed(v, blocks, insts, operands, moves);
-    let short = rooms::room(lent, 4 * (moves.len() / moving::WIDTH), work, w);
+    let short = refusals::room(lent, 4 * (moves.len() / moving::WIDTH), work, w);
     refusals::earlier(stray, short)
 }
 

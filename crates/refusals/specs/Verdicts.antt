@@ -1,7 +1,8 @@
 -- Refusals by number, and which one is given: checks are made in an order, and the first that refuses wins.
 use Prim.Native.Nat.{ℕ, zero, suc, _+_}
-use mathlib.Core.Bool.{Bool, true, false, cond}
+use mathlib.Core.Bool.{Bool, true, false, cond, _||_}
 use mathlib.Core.List.{List, [], _∷_}
+use lib.Dec.{ltb}
 use Rattle.refusals.specs.declared.Refusal.{Refusal}
 use Rattle.refusals.specs.declared.Refusal.the-variants.{Count, Line, Edge, Inst, Stray, Piece, Space, Inverted, List as ListFull, Want, Text}
 use Rattle.refusals.specs.declared.Verdict.{Verdict}
@@ -39,6 +40,10 @@ scan r t (suc n) = first (scan r t n) (cond (t n) (Bad r n) Fine)
 -- a check of one fact, whose index is 0
 abbrev pub check : Refusal → Bool → Verdict
 check r t = cond t (Bad r 0) Fine
+
+-- number 7: an answer list under the most that the answer can be, or work space under W
+abbrev pub roomVerdict : ℕ → ℕ → ℕ → ℕ → Verdict
+roomVerdict lent most work space = check Space (ltb lent most || ltb work space)
 
 -- whether a verdict refuses
 abbrev pub refuses : Verdict → Bool

@@ -1,6 +1,6 @@
 // The refusals of document 01, and the verdict of a check.
 ghost use mathlib.Core.Path.{_≡_};
-ghost use Rattle.refusals.specs.Verdicts.{numberOf, first};
+ghost use Rattle.refusals.specs.Verdicts.{numberOf, first, roomVerdict};
 
 // What is turned back, by the words of document 01's table.
 pub enum Refusal {
@@ -50,4 +50,17 @@ pub fn earlier(v: Verdict, w: Verdict) -> Verdict
         Verdict::Fine => w,
         Verdict::Bad(r, i) => Verdict::Bad(r, i),
     }
+}
+
+// Refusal 7: an answer list of `lent` numbers where `most` may be needed, or `work` words of work space where `space` are.
+pub fn room(lent: usize, most: usize, work: usize, space: usize) -> Verdict
+    ensures { λ r. ⌜ r ≡ roomVerdict lent most work space ⌝ }
+{
+    if lent < most {
+        return Verdict::Bad(Refusal::Space, 0);
+    }
+    if work < space {
+        return Verdict::Bad(Refusal::Space, 0);
+    }
+    Verdict::Fine
 }

@@ -20,7 +20,7 @@ use Rattle.words.proofs.Points.{cut, same}
 use Rattle.words.proofs.RegionLaws.{region-front}
 use Rattle.insts.specs.Counts.{rowsVerdict, mostVerdict}
 use Rattle.insts.proofs.CheckLaws.{rows-few}
-use Rattle.rooms.proofs.RoomLaws.{room-answer, room-work}
+use Rattle.refusals.proofs.RoomLaws.{room-answer, room-work}
 use Rattle.areas.specs.Slots.{Assigned, assignedOf, spilled, assignedVerdict}
 use Rattle.spill_checks.specs.declared.Answer.the-variants.{Given, Refused}
 use Rattle.spill_checks.proofs.AssignedLaws.{next-same, next-other}

@@ -47,7 +47,7 @@ fn refusal(v: u32, slots: usize, assigned: &[u32], lent: usize, work: usize) -> 
     }
     let piece = spill_checks::assigned(v, assigned);
     let w = needed(v, assigned);
-    let short = rooms::room(lent, slots, work, w);
+    let short = refusals::room(lent, slots, work, w);
     refusals::earlier(piece, short)
 }
 

@@ -3,9 +3,10 @@ use Prim.Native.Nat.{_-_}
 use mathlib.Core.Path.{_≡_, sym, ap, _∙_}
 use denote.Ref.{now}
 use borrow.Author.Needs.{needs}
+use Rattle.refusals.specs.Verdicts.{roomVerdict}
 use Rattle.refusals.specs.declared.Verdict.{Verdict}
 use Rattle.refusals.specs.declared.Verdict.the-variants.{Fine}
-use Rattle.carry_checks.specs.Checks.{carryCounts, roomVerdict}
+use Rattle.carry_checks.specs.Checks.{carryCounts}
 use Rattle.carry_checks.proofs.CheckLaws.{Counted, counted, by-counts, by-place, by-rest}
 use Rattle.carry_checks.proofs.checks.refusal.Statement.{statement}
 use Rattle.carry_checks.proofs.checks.refusal.Tie as tie
