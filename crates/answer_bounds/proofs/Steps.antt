@@ -17,7 +17,8 @@ use Rattle.carrying.specs.Insts.{Inst}
 use Rattle.carrying.specs.Carried.{Mention, Piece}
 use Rattle.carrying.specs.Checks.{instVerdict, crossingVerdict, addressVerdict, endVerdict}
 use Rattle.areas.specs.Slots.{Assigned, Move, moveVerdict, pieceVerdict, assignedVerdict}
-use Rattle.insts.specs.Counts.{badRows, rowsVerdict, mostVerdict, blockCounts, offset, instCounts, codeCounts}
+use Rattle.insts.specs.Inner.{badRows}
+use Rattle.insts.specs.Counts.{rowsVerdict, mostVerdict, blockCounts, offset, instCounts, codeCounts}
 use Rattle.carry_checks.specs.Checks.{carryCounts}
 use Rattle.codes.specs.Inner.{Fits}
 use Rattle.codes.proofs.IndexLaws.{check-fits, first-fits, order-fits, none-fits, scan-fits}

@@ -18,7 +18,8 @@ use Rattle.words.specs.Rows.{rowCount, field}
 use Rattle.words.specs.Widths.{touchWidth, stopWidth, partWidth, rangeWidth}
 use Rattle.graph.specs.Checks.{graphVerdict}
 use Rattle.line_checks.proofs.Refusals.{passed}
-use Rattle.insts.specs.Counts.{badRows, rowsVerdict, mostVerdict}
+use Rattle.insts.specs.Inner.{badRows}
+use Rattle.insts.specs.Counts.{rowsVerdict, mostVerdict}
 use Rattle.insts.proofs.DealtLaws.{scan-same}
 use Rattle.area_layout.specs.declared.Sizes.{Sizes}
 use Rattle.area_layout.specs.Layout.{spaceFor}

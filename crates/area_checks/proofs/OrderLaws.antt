@@ -11,7 +11,8 @@ use Rattle.refusals.specs.Verdicts.{numberOf, first, inOrder}
 use Rattle.refusals.specs.Orders.{Giving, Ordered}
 use Rattle.refusals.proofs.Orders.{check-gives, scan-gives, order-two, order-more, order-append}
 use Rattle.graph.specs.Checks.{badCount, graphChecks, graphVerdict}
-use Rattle.insts.specs.Counts.{badRows, rowsVerdict, mostVerdict}
+use Rattle.insts.specs.Inner.{badRows}
+use Rattle.insts.specs.Counts.{rowsVerdict, mostVerdict}
 use Rattle.area_layout.specs.Layout.{spaceFor}
 use Rattle.area_checks.specs.Checks.{rowCounts, sizesOf, kindsVerdict, spaceVerdict, lentVerdict, lentChecks, lentGive}
 use Rattle.words.specs.Widths.{touchWidth, stopWidth, partWidth, rangeWidth}

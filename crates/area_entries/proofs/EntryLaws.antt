@@ -18,8 +18,8 @@ use Rattle.graph.specs.Inner.Work.{Within}
 use Rattle.components.proofs.Entries.{cleared-same}
 use Rattle.area_measure.specs.Locals.{areaFor}
 use Rattle.area_measure.specs.Inner.Locals.{wordOf, ListedBy}
-use Rattle.item_lists.specs.declared.Answer.{Answer}
-use Rattle.item_lists.specs.declared.Answer.the-variants.{Refused}
+use Rattle.refusals.specs.declared.Answer.{Answer}
+use Rattle.refusals.specs.declared.Answer.the-variants.{Refused}
 use Rattle.lent_areas.specs.declared.Found.{Found}
 use Rattle.lent_areas.specs.declared.Found.the-variants.{Inverted, Ranges}
 use Rattle.area_layout.specs.Layout.{spaceFor}

@@ -15,7 +15,7 @@ use Rattle.areas.specs.Job.{Job, graphOf, touchesIn, areaBy, localArea}
 use Rattle.local_kinds.specs.Entry.{kindsOf}
 use Rattle.local_spots.specs.Locals.{kindFor, touchesFor, endsFor}
 use Rattle.area_measure.specs.Locals.{areaFor}
-use Rattle.item_lists.specs.declared.Answer.{Answer}
+use Rattle.refusals.specs.declared.Answer.{Answer}
 use Rattle.item_lists.specs.Lists.{AnsweredBy}
 use Rattle.item_lists.proofs.TableLaws.{answered-same}
 use Rattle.lent_areas.specs.Areas.{graphFor}

@@ -10,7 +10,7 @@ use Rattle.refusals.specs.Verdicts.{inOrder, check}
 use Rattle.refusals.specs.Outcomes.{unless, after}
 use Rattle.local_marks.specs.Marks.{someInverted}
 use Rattle.area_measure.specs.Locals.{areaFor}
-use Rattle.item_lists.specs.declared.Answer.{Answer}
+use Rattle.refusals.specs.declared.Answer.{Answer}
 use Rattle.item_lists.specs.Lists.{AnsweredBy}
 use Rattle.area_layout.specs.Layout.{spaceFor}
 use Rattle.area_checks.specs.Checks.{sizesOf, lentVerdict, lentChecks, lentGive}

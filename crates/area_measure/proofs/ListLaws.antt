@@ -18,7 +18,7 @@ use Rattle.areas.specs.Job.{rangesIn, rangesOf}
 use Rattle.area_pieces.proofs.AreaLaws.{unpacked-both}
 use Rattle.area_pieces.proofs.HullLaws.{gather-append, gather-one}
 use Rattle.area_measure.specs.declared.Listing.{Listing}
-use Rattle.area_measure.specs.Locals.{listed}
+use Rattle.ranges.specs.Points.{listed}
 use Rattle.area_measure.specs.Inner.Locals.{ListedBy}
 
 pub ranges-append : (l m : List (Option (List Range))) → rangesOf (l ++ m) ≡ rangesOf l + rangesOf m

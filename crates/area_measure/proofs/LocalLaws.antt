@@ -35,7 +35,8 @@ use Rattle.local_spots.specs.Inner.{Laid, Chains, Fetched}
 use Rattle.local_spots.proofs.OrderLaws.{arrives-sorted, ending-sorted}
 use Rattle.area_measure.specs.declared.Listing.{Listing}
 use Rattle.area_measure.specs.Inner.Measure.{itemWord, RowsFor, Measurable, Listable, Measured}
-use Rattle.area_measure.specs.Locals.{listed, areaFor}
+use Rattle.ranges.specs.Points.{listed}
+use Rattle.area_measure.specs.Locals.{areaFor}
 use Rattle.area_measure.specs.Inner.Locals.{wordOf, localAt, mostIn, Fits, Ready, RowsOf, Spared, Next, ListedFor, MeasuredAll}
 use Rattle.area_measure.proofs.ListLaws.{listed-none, listed-more}
 

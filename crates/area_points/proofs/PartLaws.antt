@@ -12,12 +12,11 @@ use Rattle.words.specs.Widths.{rangeWidth, rangeStart, rangeEnd}
 use Rattle.words.proofs.RowLaws.{tabulate-getD, map-tabulate, tabulate-add}
 use Rattle.words.proofs.FlatLaws.{flat-length, flat-at}
 use Rattle.ranges.specs.declared.Range.{Range}
-use Rattle.ranges.specs.Points.{range, rangeAt, Point}
+use Rattle.ranges.specs.Points.{range, rangeAt, Point, listed}
 use Rattle.graph.proofs.Line.{mem-at, at-mem}
 use Rattle.carrying.specs.Lists.{gather}
 use Rattle.areas.specs.Job.{Job, Checked, itemCount, itemArea, rangesIn, rangesOf}
 use Rattle.area_pieces.proofs.HullLaws.{gather-append}
-use Rattle.area_measure.specs.Locals.{listed}
 use Rattle.area_measure.proofs.ListLaws.{gather-more}
 use Rattle.area_tables.specs.Tables.{areaRows}
 use Rattle.area_tables.proofs.RowLaws.{gathered-long, listed-long, ranges-below}

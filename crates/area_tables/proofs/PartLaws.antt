@@ -11,10 +11,9 @@ use Rattle.words.specs.Rows.{tabulate, flat}
 use Rattle.words.specs.Widths.{rangeWidth, rangeCount, rangeStart, rangeEnd}
 use Rattle.words.proofs.RowLaws.{tabulate-eq, tabulate-add}
 use Rattle.ranges.specs.declared.Range.{Range}
-use Rattle.ranges.specs.Points.{range}
+use Rattle.ranges.specs.Points.{range, listed}
 use Rattle.carrying.specs.Lists.{gather}
 use Rattle.areas.specs.Job.{rangesOf}
-use Rattle.area_measure.specs.Locals.{listed}
 use Rattle.area_pieces.proofs.HullLaws.{gather-append}
 use Rattle.fitting.specs.Queries.{areasOf}
 use Rattle.area_tables.specs.Tables.{areaRows}

@@ -15,7 +15,7 @@ use Rattle.ranges.specs.declared.Range.{Range}
 use Rattle.ranges.specs.Inner.{unpack, unpacked}
 use Rattle.carrying.specs.Lists.{gather}
 use Rattle.areas.specs.Job.{rangesIn, rangesOf}
-use Rattle.area_measure.specs.Locals.{listed}
+use Rattle.ranges.specs.Points.{listed}
 use Rattle.area_measure.proofs.ListLaws.{ranges-append, ranges-more}
 use Rattle.answer_rows.specs.Inner.{halves, rowsIn}
 use Rattle.area_tables.specs.Tables.{areaRows}

@@ -4,8 +4,8 @@
 ghost use mathlib.Core.Path.{_≡_};
 ghost use lib.ListN.{length};
 ghost use Rattle.cases.specs.Inner.{Ordered};
-use area_entries::Answer;
 use cases::Cuts;
+use refusals::Answer;
 
 fn given(a: Answer) {
     match a {

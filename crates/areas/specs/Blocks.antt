@@ -7,7 +7,7 @@ use lib.Dec.{eqb, leb, ltb}
 use Rattle.ranges.specs.declared.Range.{Range}
 use Rattle.ranges.specs.Points.{range, overlaps}
 use Rattle.graph.specs.Paths.{Edge}
-use Rattle.graph.specs.Line.{Stretch, blockAt, stretchOf}
+use Rattle.graph.specs.Line.{Stretch, blockAt}
 use Rattle.carrying.specs.Lists.{any}
 
 -- the blocks in line order and the edges by place
@@ -23,7 +23,7 @@ bottom G k = blockAt (G .blocks) k .end
 
 -- the whole block
 abbrev pub whole : Graph → ℕ → Range
-whole G k = stretchOf (blockAt (G .blocks) k)
+whole G k = range (top G k) (bottom G k)
 
 -- x is a point of the block at place k
 pub record InBlock (G : Graph) (k x : ℕ) : Type 0 where

@@ -13,6 +13,7 @@ use Rattle.refusals.specs.Verdicts.{check, inOrder}
 use Rattle.words.specs.Rows.{records, tabulate}
 use Rattle.words.specs.Widths.{localWidth}
 use Rattle.ranges.specs.declared.Range.{Range}
+use Rattle.ranges.specs.Points.{listed}
 use Rattle.graph.specs.Line.{Stretch, Jump, edgesOf, lineVerdict, edgeVerdict}
 use Rattle.carrying.specs.declared.Kind.{Kind}
 use Rattle.carrying.specs.declared.Kind.the-variants.{Unfollowed, Plain, Ending}
@@ -81,14 +82,14 @@ itemCount J = length (J .locals) + length (J .slots)
 abbrev pub itemArea : Job → ℕ → Option (List Range)
 itemArea J i = cond (ltb i (length (J .locals))) (localArea J i) (slotAreaIn J (i - length (J .locals)))
 
--- how many ranges areas have
+-- how many ranges an area has
 abbrev pub rangesIn : Option (List Range) → ℕ
-rangesIn none = 0
-rangesIn (some rs) = length rs
+rangesIn a = length (listed a)
 
+-- how many ranges areas have
 unfoldable pub rangesOf : List (Option (List Range)) → ℕ
 rangesOf [] = 0
-rangesOf (a ∷ l) = rangesIn a + rangesOf l
+rangesOf (a ∷ l) = length (listed a) + rangesOf l
 
 -- number 9: "all areas, put there in item order, exceed the area list", of n items, and of a job's
 abbrev pub areasVerdict : ℕ → (ℕ → Option (List Range)) → ℕ → Verdict

@@ -11,7 +11,8 @@ use Rattle.refusals.specs.Verdicts.{numberOf, first, check}
 use Rattle.refusals.specs.Orders.{Gives, Ordered}
 use Rattle.refusals.proofs.Orders.{check-gives, first-gives, scan-gives}
 use Rattle.words.specs.Widths.{blockWidth, blockCount, instWidth, instCount, operandWidth, operandCount, localWidth, mentionWidth}
-use Rattle.insts.specs.Counts.{badRows, rowsVerdict, mostVerdict, offset, addUp, blockCounts, instCounts, codeCounts}
+use Rattle.insts.specs.Inner.{badRows}
+use Rattle.insts.specs.Counts.{rowsVerdict, mostVerdict, offset, addUp, blockCounts, instCounts, codeCounts}
 use Rattle.carry_checks.specs.Checks.{carryCounts, carrySpace, carryChecks}
 
 module _ (v : ℕ) (blocks insts operands crossings locals addresses ends : List ℕ) where

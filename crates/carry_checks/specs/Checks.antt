@@ -6,7 +6,7 @@ use lib.ListN.{length}
 use lib.Dec.{ltb}
 use Rattle.refusals.specs.declared.Verdict.{Verdict}
 use Rattle.refusals.specs.declared.Refusal.the-variants.{Space}
-use Rattle.refusals.specs.Verdicts.{first, inOrder, check}
+use Rattle.refusals.specs.Verdicts.{first, inOrder, roomVerdict}
 use Rattle.words.specs.Widths.{blockCount, instCount, operandCount, localCount, addressCount, endCount}
 use Rattle.words.specs.Regions.{rowWords}
 use Rattle.graph.specs.Line.{blocksOf, lineVerdict}

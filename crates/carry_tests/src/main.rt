@@ -6,7 +6,7 @@ ghost use lib.ListN.{length};
 ghost use Rattle.cases.specs.Inner.{Ordered};
 use carried_registers::Carrying;
 use cases::Cuts;
-use local_kinds::Answer;
+use refusals::Answer;
 
 fn listed(c: Carrying) {
     match c {

@@ -38,11 +38,8 @@ abbrev pub instsOf : List ℕ → List ℕ → List Inst
 instsOf is os = dealt (records instWidth (λ f. f) is) (records operandWidth (λ f. record { def = f 0; register = f 1 }) os)
 
 -- the instruction with an index
-abbrev pub noInst : Inst
-noInst = instOf (λ f. 0) []
-
 abbrev pub instAt : List Inst → ℕ → Inst
-instAt is n = getD is n noInst
+instAt is n = getD is n (instOf (λ f. 0) [])
 
 -- a flag is 0 or 1
 abbrev pub isSet : ℕ → Bool

@@ -5,7 +5,7 @@ use mathlib.Core.Logic.{_⊎_}
 use mathlib.Core.Bool.{Bool, true, false}
 use mathlib.Core.Option.{Option, some, none}
 use Rattle.refusals.specs.Verdicts.{numberOf}
-use Rattle.refusals.specs.Outcomes.{Outcome, given, refused}
+use Rattle.refusals.specs.Outcomes.{Outcome, given, refused, numbered}
 use Rattle.refusals.specs.declared.Refusal.{Refusal}
 use Rattle.refusals.specs.declared.Verdict.{Verdict}
 use Rattle.refusals.specs.declared.Verdict.the-variants.{Fine, Bad}
@@ -24,8 +24,7 @@ codeOf (given a) = 0
 codeOf (refused k i) = refusalCode k i
 
 abbrev pub verdictCode : Verdict → ℕ
-verdictCode Fine = 0
-verdictCode (Bad r i) = refusalCode (numberOf r) i
+verdictCode v = codeOf (numbered v)
 
 -- a number, or a refusal
 abbrev pub countCode : Outcome ℕ → ℕ

@@ -4,7 +4,9 @@ ghost use mathlib.Core.List.{[], _∷_};
 ghost use Prim.Native.Nat.{_≤_};
 ghost use lib.ListN.{length, drop};
 ghost use Rattle.refusals.specs.Verdicts.{numberOf};
-ghost use Rattle.codes.specs.Codes.{truthOf, verdictCode, refusalCode};
+ghost use Rattle.refusals.specs.Outcomes.{answered};
+ghost use Rattle.codes.specs.Codes.{truthOf, verdictCode, countCode, refusalCode};
+use refusals::Answer;
 use refusals::Refusal;
 use refusals::Verdict;
 
@@ -23,6 +25,16 @@ pub fn verdict(v: Verdict) -> u64
     match v {
         Verdict::Fine => 0,
         Verdict::Bad(r, i) => refused(r, i),
+    }
+}
+
+// How many of what was listed.
+pub fn answer(a: Answer) -> u64
+    ensures { λ n. ⌜ n ≡ countCode (answered a) ⌝ }
+{
+    match a {
+        Answer::Given(n) => n as u64,
+        Answer::Refused(r, i) => refused(r, i),
     }
 }
 

@@ -28,7 +28,7 @@ use Rattle.graph.proofs.Line.{blocks-length, edges-between}
 use Rattle.line_checks.proofs.Refusals.{Passed, passed, space-told}
 use Rattle.tarjan.specs.Components.{Components}
 use Rattle.tarjan.specs.Inner.Components.{Walkable, Found}
-use Rattle.components.specs.declared.Answer.the-variants.{Given, Refused}
+use Rattle.refusals.specs.declared.Answer.the-variants.{Given, Refused}
 use Rattle.components.specs.Entry.{componentsChecks, verdictOf, edgesIn, Turned, Answered}
 use Rattle.components.specs.Inner.{Solved}
 

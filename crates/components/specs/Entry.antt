@@ -7,20 +7,14 @@ use Rattle.refusals.specs.declared.Refusal.{Refusal}
 use Rattle.refusals.specs.declared.Verdict.{Verdict}
 use Rattle.refusals.specs.declared.Verdict.the-variants.{Fine, Bad}
 use Rattle.refusals.specs.Verdicts.{numberOf, inOrder, roomVerdict}
-use Rattle.refusals.specs.Outcomes.{Outcome, given, refused}
+use Rattle.refusals.specs.Outcomes.{given, refused, answered}
 use Rattle.words.specs.Regions.{cleared}
 use Rattle.words.specs.Widths.{blockCount, edgeCount}
 use Rattle.graph.specs.Paths.{Edge}
 use Rattle.graph.specs.Line.{blocksOf, jumpsOf, edgesOf}
 use Rattle.graph.specs.Checks.{graphChecks, spaceOf}
 use Rattle.tarjan.specs.Components.{Components}
-use Rattle.components.specs.declared.Answer.{Answer}
-use Rattle.components.specs.declared.Answer.the-variants.{Given, Refused}
-
--- the answer by document 01's numbers
-abbrev pub outcomeOf : Answer → Outcome ℕ
-outcomeOf (Given count) = given count
-outcomeOf (Refused r i) = refused (numberOf r) i
+use Rattle.refusals.specs.declared.Answer.{Answer}
 
 -- the checks of `components`, and of `settling`, which is lent the same: numbers 1, 2, 3 and 7, in this order; W is 8 × the records lent
 abbrev pub componentsChecks : List ℕ → List ℕ → ℕ → ℕ → ℕ → List Verdict
@@ -36,7 +30,7 @@ edgesIn blocks edges = edgesOf (blocksOf blocks) (jumpsOf edges)
 -- an answer: the number of components, and one component's number to a place in the answer list
 pub record Numbered (blocks edges which₀ work₀ : List ℕ) (r : Answer) (which work : List ℕ) : Type 0 where
   pub count : ℕ
-  pub outcome : outcomeOf r ≡ given count
+  pub outcome : answered r ≡ given count
   pub few : count ≤ blockCount blocks
   pub components : Components (edgesIn blocks edges) (blockCount blocks) (λ v. getD which v 0) count
   pub length-kept : length which ≡ length which₀
@@ -45,7 +39,7 @@ pub record Numbered (blocks edges which₀ work₀ : List ℕ) (r : Answer) (whi
 
 -- a refusal: the lists as they were
 pub record Turned (k : Refusal) (i : ℕ) (which₀ work₀ : List ℕ) (r : Answer) (which work : List ℕ) : Type 0 where
-  pub outcome : outcomeOf r ≡ refused (numberOf k) i
+  pub outcome : answered r ≡ refused (numberOf k) i
   pub which-kept : which ≡ which₀
   pub work-kept : work ≡ work₀
 

@@ -7,16 +7,11 @@ ghost use Rattle.graph.specs.Line.{blocksOf, jumpsOf, edgeVerdict, Sound};
 ghost use Rattle.components.specs.Entry.{verdictOf, Answered};
 ghost use Rattle.components.specs.Inner.{Solved};
 ghost use Rattle.words.specs.Widths.{blockCount, edgeCount};
+use refusals::Answer;
 use refusals::Refusal;
 use refusals::Verdict;
 use words::widths::block;
 use words::widths::edge;
-
-// The number of components, or a refusal with the index of the first offending record.
-pub enum Answer {
-    Given(usize),
-    Refused(Refusal, usize),
-}
 
 // The refusals of the entry, lowest number first.
 pub fn refusal(blocks: &[u32], edges: &[u32], points: u32, answer: usize, work: usize) -> Verdict

@@ -13,12 +13,12 @@ use Rattle.areas.specs.Job.{itemsVerdict}
 use Rattle.fitting.specs.Plan.{Plan}
 use Rattle.wants.specs.Entry.{tallyOf, cellRows}
 use Rattle.soundness.specs.Walks.{Step, Legal}
-use Rattle.soundness.specs.Demand.{frameOf, jobPlan}
+use Rattle.soundness.specs.Demand.{frameOf, jobPlan, AsPrivate}
 use Rattle.job_answers.specs.declared.Shared.the-variants.{Plan as Planned}
 use Rattle.job_answers.specs.Answers.{answered}
 use Rattle.job_space.specs.Space.{spaceOf, sizesOf}
 use Rattle.job.specs.Entry.{lentVerdict, SharedAs}
-use Rattle.job.specs.Reads.{ReadsAsPrivate}
+use Rattle.job.specs.Reads.{cellIn, sizeIn}
 use Rattle.job.proofs.Demand.{reads-as-private}
 use Rattle.codes.specs.Codes.{codeOf}
 use Rattle.codes.proofs.CodeLaws.{refusal-no-answer}
@@ -71,5 +71,5 @@ module _ {R : Rows} {t : Terms} {cells items areas counts work cells′ items′
       }
 
   pub export-reads-as-private : (start : ℕ) (w : List Step) → Legal (frameOf (jobOf R)) start w
-      → ReadsAsPrivate (jobOf R) cells′ items′ start w
+      → AsPrivate (jobOf R) (cellIn items′) (sizeIn cells′) start w
   export-reads-as-private = reads-as-private (shared _ _ _ refl)

@@ -21,7 +21,8 @@ use Rattle.ranges.proofs.PointLaws.{apart-upright}
 use Rattle.ranges.proofs.ClashLaws.{common-clashes}
 use Rattle.fitting.specs.Wants.{Want, wantAt}
 use Rattle.fitting.specs.Plan.{cellAt, joinable, Plan, put}
-use Rattle.fit_tables.specs.Inner.{sizeOf, alignOf, orderTable, headTable, linkTable, cellTable, homeTable, listTable, behind, rangesAt, areaIn, wantsIn, Lent, Proper, upTo, chain, allow, orderAt, headAt, nextAt, listAt, areaAt, opens, itemAt, cellIn, Sure, Gridded, Marks, Drawn, Joined, Holds, InOrder, Ready, Stepped, Each}
+use Rattle.fit_tables.specs.Inner.{sizeOf, alignOf, orderTable, headTable, linkTable, cellTable, homeTable, listTable, behind, rangesAt, areaIn, wantsIn, Lent, Proper, upTo, chain, allow, orderAt}
+use Rattle.fit_tables.specs.Inner.{headAt, nextAt, listAt, areaAt, opens, itemAt, cellIn, Sure, Gridded, Marks, Drawn, Joined, Holds, InOrder, Ready, Stepped, Each}
 use Rattle.fit_tables.specs.declared.Own.{Own}
 use Rattle.fit_tables.specs.declared.Progress.{Progress}
 use Rattle.fit_tables.proofs.ChainLaws.{chain-kept, allow-kept}

@@ -16,7 +16,8 @@ use Rattle.ranges.specs.Points.{Upright, Apart}
 use Rattle.ranges.proofs.PointLaws.{apart-upright}
 use Rattle.ranges.specs.Merged.{clashes}
 use Rattle.fitting.specs.Wants.{Want, wantAt}
-use Rattle.fitting.specs.Plan.{Cell, cellAt, joinable, lowest, Plan, cellOf, opened, widened, entered, put}
+use Rattle.fitting.specs.Plan.{Cell, cellAt, joinable, lowest, Plan, opened, widened, entered, put}
+use Rattle.fitting.specs.Inner.{cellOf}
 use Rattle.fitting.proofs.SearchLaws.{lowest-found}
 use Rattle.fitting.proofs.CellLaws.{Neat}
 use Rattle.fit_cells.proofs.PutLaws.{put-none, put-miss, put-hit, join-area}

@@ -9,11 +9,12 @@ use mathlib.Core.List.{List, [], _∷_, _++_}
 use lib.ListN.{length, getD, set, length-set, length-append, List·getD-append}
 use lib.Seq.{getD-set-same, getD-set-other, getD-append-seam}
 use Rattle.ranges.specs.declared.Range.{Range}
-use Rattle.ranges.specs.Points.{Upright}
+use Rattle.ranges.specs.Points.{Upright, listed}
 use Rattle.ranges.specs.Merged.{union, clashes}
 use Rattle.ranges.proofs.PointLaws.{apart-upright}
 use Rattle.fitting.specs.Wants.{Want, wantAt}
-use Rattle.fitting.specs.Plan.{Cell, cellAt, joinable, lowest, spent, Plan, assign, cellOf, opened, rangesIn, widened, entered, settled, placedBy, put}
+use Rattle.fitting.specs.Plan.{Cell, cellAt, joinable, lowest, spent, Plan, assign, opened, widened, entered, settled, placedBy, put}
+use Rattle.fitting.specs.Inner.{cellOf}
 use Rattle.fitting.proofs.SearchLaws.{lowest-found}
 use Rattle.fitting.proofs.CellLaws.{union-clashes, Neat, neat-put}
 use Rattle.fit_tables.specs.Inner.{sizeOf, alignOf, wantTable, cellTable, wantIn, wantsIn, Lent, orderAt, headAt, nextAt, areaAt, Probed, enteredIn, Holds}
@@ -52,7 +53,7 @@ not-or false true = refl
 not-or false false = refl
 
 pub join-area : (o : Option (List Range)) (a b : List Range) → joinable o a ≡ true → ((rs : List Range) → o ≡ some rs → Upright rs) → Upright a → Upright b
-    → joinable (some (union (rangesIn o) a)) b ≡ joinable (some a) b && joinable o b
+    → joinable (some (union (listed o) a)) b ≡ joinable (some a) b && joinable o b
 join-area none a b e f u v = absurd (false≢true e)
 join-area (some rs) a b e f u v = ap not (union-clashes rs a b (f rs refl) u v) ∙ not-or (clashes rs b) (clashes a b)
 

@@ -10,7 +10,7 @@ use lib.ListN.{length, getD, set}
 use Rattle.ranges.specs.declared.Range.{Range}
 use Rattle.ranges.specs.Points.{Upright, Apart, Point}
 use Rattle.ranges.specs.Inner.{unpacked}
-use Rattle.words.specs.Rows.{tabulate, field, flat}
+use Rattle.words.specs.Rows.{tabulate, flat}
 use Rattle.words.specs.Inner.{part, wantSize, wantAlign}
 use Rattle.bits.specs.Bits.{bitOf, bit}
 use Rattle.bits.specs.Inner.{Row}
@@ -23,7 +23,7 @@ use Rattle.fit_tables.specs.declared.Sample.{Sample}
 use Rattle.fit_tables.specs.declared.Own.{Own}
 use lib.Dec.{eqb}
 use Rattle.fit_tables.specs.declared.Counts.{Counts}
-use Rattle.words.specs.Widths.{wantPresent, wantFirst, wantRanges}
+use Rattle.words.specs.Widths.{wantPresent, wantFirst, wantRanges, rangeStart, rangeEnd}
 use Rattle.fit_tables.specs.WantTables.{itemRow}
 
 -- the places that a link leads to: a link is 0, or one more than a place
@@ -356,7 +356,7 @@ itemWord present first count = cond (eqb present 0) 0 (first * 2 ^ 32 + count + 
 
 -- a range's, an item's and a want's word, by their rows
 abbrev pub areaWordAt : List ℕ → ℕ → ℕ
-areaWordAt s i = field 2 s i 0 * 2 ^ 32 + field 2 s i 1
+areaWordAt s i = rangeStart s i * 2 ^ 32 + rangeEnd s i
 
 abbrev pub itemWordAt : List ℕ → ℕ → ℕ
 itemWordAt s i = itemWord (wantPresent s i) (wantFirst s i) (wantRanges s i)

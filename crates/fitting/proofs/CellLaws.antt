@@ -11,13 +11,13 @@ use lib.ListN.{length, set, length-append, List·getD-append, List·getD-eq-defa
 use lib.Seq.{getD-set-same, getD-set-other, getD-append-seam}
 use Rattle.words.proofs.Bools.{or-right, or-cases, both-ways}
 use Rattle.ranges.specs.declared.Range.{Range}
-use Rattle.ranges.specs.Points.{Point, Upright, Apart}
+use Rattle.ranges.specs.Points.{Point, Upright, Apart, listed}
 use Rattle.ranges.specs.Merged.{union, clashes}
 use Rattle.ranges.proofs.PointLaws.{apart-upright, upright-append}
 use Rattle.ranges.proofs.MergeLaws.{merged-apart, merged-upright, union-left, union-right, union-only}
 use Rattle.ranges.proofs.ClashLaws.{clashes-common, common-clashes}
 use Rattle.fitting.specs.Wants.{Want, wantAt}
-use Rattle.fitting.specs.Plan.{Cell, cellAt, lowest, Plan, nothing, opened, rangesIn, widened, entered, settled, placedBy, put, fit, planOf}
+use Rattle.fitting.specs.Plan.{Cell, cellAt, lowest, Plan, nothing, opened, widened, entered, settled, placedBy, put, fit, planOf}
 use Rattle.fitting.proofs.SearchLaws.{lowest-found}
 
 -- ---- a clash with a union is a clash with one of the two
@@ -80,15 +80,15 @@ module _ (ws : List Want) (neat : (i : ℕ) (rs : List Range) → wantAt ws i .a
       c : Cell
       c = widened (cellAt (p .cells) m) (wantAt ws i) a
 
-      old : (o : Option (List Range)) → cellAt (p .cells) m .area ≡ o → Upright (rangesIn o)
+      old : (o : Option (List Range)) → cellAt (p .cells) m .area ≡ o → Upright (listed o)
       old none f = λ r k. absurd (List·Memᴰ·not-nil k)
       old (some held) f = apart-upright held (N m held f)
 
       go : Dec (n ≡ m) → Apart rs
       go (yes q) =
           let s : cellAt (set (p .cells) m c) n ≡ c = rw q (getD-set-same (p .cells) m c noCell h) in
-          let f : some (union (rangesIn (cellAt (p .cells) m .area)) a) ≡ some rs = sym (ap (λ (k : Cell). k .area) s) ∙ e in
-          rw (Option·some-injective _ rs f) at (merged-apart (rangesIn (cellAt (p .cells) m .area) ++ a) (upright-append _ a (old (cellAt (p .cells) m .area) refl) (apart-upright a (neat i a z))))
+          let f : some (union (listed (cellAt (p .cells) m .area)) a) ≡ some rs = sym (ap (λ (k : Cell). k .area) s) ∙ e in
+          rw (Option·some-injective _ rs f) at (merged-apart (listed (cellAt (p .cells) m .area) ++ a) (upright-append _ a (old (cellAt (p .cells) m .area) refl) (apart-upright a (neat i a z))))
       go (no d) = N n rs (sym (ap (λ (k : Cell). k .area) (getD-set-other (p .cells) m n c noCell d)) ∙ e)
 
   module _ (budget : ℕ) where

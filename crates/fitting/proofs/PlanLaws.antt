@@ -12,13 +12,13 @@ use lib.ListN.{length, set, length-set, length-append, List·getD-append}
 use lib.Seq.{getD-set-same, getD-set-other, getD-append-seam}
 use borrow.Author.Tests.{eq-eqb, ne-eqb, not-true}
 use Rattle.ranges.specs.declared.Range.{Range}
-use Rattle.ranges.specs.Points.{Point}
+use Rattle.ranges.specs.Points.{Point, listed}
 use Rattle.ranges.specs.Merged.{union, clashes}
 use Rattle.ranges.proofs.MergeLaws.{union-left, union-right}
 use Rattle.ranges.proofs.ClashLaws.{apart-points}
 use Rattle.fitting.specs.Wants.{Want, wantAt, Names}
 use Rattle.words.specs.Sort.{Distinct}
-use Rattle.fitting.specs.Plan.{Cell, cellAt, joinable, lowest, spent, Plan, nothing, assign, opened, rangesIn, widened, entered, settled, placedBy, put, fit, planOf}
+use Rattle.fitting.specs.Plan.{Cell, cellAt, joinable, lowest, spent, Plan, nothing, assign, opened, widened, entered, settled, placedBy, put, fit, planOf}
 use Rattle.fitting.proofs.SearchLaws.{lowest-found, spent-le}
 
 abbrev noCell : Cell
@@ -166,7 +166,7 @@ module _ (ws : List Want) where
       seat = getD-set-same (p .cells) n c noCell there
 
       area-seat : cellAt (set (p .cells) n c) n .area ≡ some (union held a)
-      area-seat = ap (λ (k : Cell). k .area) seat ∙ ap (λ (o : Option (List Range)). some (union (rangesIn o) a)) is-held
+      area-seat = ap (λ (k : Cell). k .area) seat ∙ ap (λ (o : Option (List Range)). some (union (listed o) a)) is-held
 
       old : (m : ℕ) → m ≢ n → cellAt (set (p .cells) n c) m ≡ cellAt (p .cells) m
       old m d = getD-set-other (p .cells) n m c noCell d

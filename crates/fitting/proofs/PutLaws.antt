@@ -10,7 +10,8 @@ use borrow.Author.Tests.{eq-eqb, ne-eqb}
 use Rattle.words.specs.Sort.{Distinct}
 use Rattle.ranges.specs.declared.Range.{Range}
 use Rattle.fitting.specs.Wants.{Want, wantAt, Names}
-use Rattle.fitting.specs.Plan.{Plan, nothing, lowest, assign, cellOf, settled, placedBy, put, fit, planOf}
+use Rattle.fitting.specs.Plan.{Plan, nothing, lowest, assign, settled, placedBy, put, fit, planOf}
+use Rattle.fitting.specs.Inner.{cellOf}
 use Rattle.fitting.specs.Lowest.{PutAt, PutLowest}
 use Rattle.fitting.proofs.SearchLaws.{lowest-found, lowest-none}
 

@@ -2,3 +2,4 @@ pub mod Wants
 pub mod Plan
 pub mod Lowest
 pub mod Queries
+pub mod Inner

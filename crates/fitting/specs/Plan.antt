@@ -7,6 +7,7 @@ use mathlib.Core.List.{List, [], _∷_, _++_}
 use lib.ListN.{length, getD, set}
 use lib.Dec.{eqb}
 use Rattle.ranges.specs.declared.Range.{Range}
+use Rattle.ranges.specs.Points.{listed}
 use Rattle.ranges.specs.Merged.{union, clashes}
 use Rattle.fitting.specs.Wants.{Want, wantAt}
 
@@ -63,20 +64,13 @@ abbrev pub assign : ℕ → ℕ → (ℕ → ℕ) → ℕ → ℕ
 assign i n cell j = cond (eqb j i) n (cell j)
 
 -- "else a new cell opens"
-abbrev pub cellOf : Want → Cell
-cellOf w = record { size = w .size; align = w .align; area = w .area }
-
 abbrev pub opened : Want → ℕ → ℕ → Plan → Plan
 opened w i probes p =
-    record { cells = p .cells ++ (cellOf w ∷ []); cell = assign i (length (p .cells)) (p .cell); probes = p .probes + probes }
-
-abbrev pub rangesIn : Option (List Range) → List Range
-rangesIn none = []
-rangesIn (some rs) = rs
+    record { cells = p .cells ++ (record { size = w .size; align = w .align; area = w .area } ∷ []); cell = assign i (length (p .cells)) (p .cell); probes = p .probes + probes }
 
 -- the item joins cell n
 abbrev pub widened : Cell → Want → List Range → Cell
-widened c w a = record { size = max (c .size) (w .size); align = max (c .align) (w .align); area = some (union (rangesIn (c .area)) a) }
+widened c w a = record { size = max (c .size) (w .size); align = max (c .align) (w .align); area = some (union (listed (c .area)) a) }
 
 abbrev pub entered : Want → ℕ → List Range → ℕ → ℕ → Plan → Plan
 entered w i a n probes p =

@@ -36,7 +36,6 @@ use Rattle.components.specs.Entry.{edgesIn}
 use Rattle.components.proofs.Entries.{cleared-same}
 use Rattle.flow_rows.specs.declared.Flow.{Flow}
 use Rattle.flow.specs.declared.Over.{Over}
-use Rattle.flow.specs.declared.Answer.the-variants.{Given, Refused}
 use Rattle.flow_rows.specs.Inner.{which, order, touchedBit, Laid, Flowed}
 use Rattle.flow.specs.Entry.{FlowsTo, flowedChecks, verdictOf, rowBit, Turned, Answered}
 use Rattle.flow.specs.Inner.{wayOf, baseOf, Solved}
@@ -95,13 +94,13 @@ module _ (blocks edges : List ℕ) (points lent words answer work : ℕ) where
       record { rows = a; graph = passed blocks edges points (first-left (graphVerdict blocks edges points) _ b); answer-fits = omega (arith, s .0); work-fits = omega (arith, s .1) }
 
 pub refused-is : (over : Over) (blocks edges : List ℕ) (points : ℕ) (touched : List ℕ) (words : ℕ) (out work : List ℕ) (r : Refusal) (i : ℕ)
-    → verdictOf blocks edges points (length touched) words (length out) (length work) ≡ Bad r i → Answered over blocks edges points touched words out work (Refused r i) out work
+    → verdictOf blocks edges points (length touched) words (length out) (length work) ≡ Bad r i → Answered over blocks edges points touched words out work (Bad r i) out work
 refused-is over blocks edges points touched words out work r i e = record {
   answered = λ f. bad-fine (sym e ∙ f);
   turned-back = λ k j f. same-bad k j (sym e ∙ f);
 }
   where
-    same-bad : (k : Refusal) (j : ℕ) → Bad r i ≡ Bad k j → Turned k j out work (Refused r i) out work
+    same-bad : (k : Refusal) (j : ℕ) → Bad r i ≡ Bad k j → Turned k j out work (Bad r i) out work
     same-bad k j q = record { outcome = let a : r ≡ k = cc in let b : i ≡ j = cc in rw (a, b) refl; out-kept = refl; work-kept = refl }
 
 -- ---- the answer
@@ -214,7 +213,7 @@ module _ (over : Over) (blocks edges : List ℕ) (points : ℕ) (touched : List 
     (e : verdictOf blocks edges points (length touched) words (length out₀) (length work₀) ≡ Fine) {at : ℕ} (S : Solved over blocks edges touched words at work₀ work₁) where
   pub given-is : ((i : ℕ) → getD out i 0 < 2 ^ 64) → Region out₀ out 0 (length touched) (λ i. getD work₁ (at + i) 0)
       → work₂ ≡ cleared (8 * (blockCount blocks + edgeCount edges + length touched)) work₁
-      → Answered over blocks edges points touched words out₀ work₀ Given out work₂
+      → Answered over blocks edges points touched words out₀ work₀ Fine out work₂
   given-is fits R C = record {
     answered = λ _. record {
       outcome = refl;

@@ -9,7 +9,7 @@ use Rattle.refusals.specs.declared.Refusal.{Refusal}
 use Rattle.refusals.specs.declared.Verdict.{Verdict}
 use Rattle.refusals.specs.declared.Verdict.the-variants.{Fine, Bad}
 use Rattle.refusals.specs.Verdicts.{numberOf, inOrder, roomVerdict}
-use Rattle.refusals.specs.Outcomes.{Outcome, given, refused, after}
+use Rattle.refusals.specs.Outcomes.{given, refused, after, numbered}
 use Rattle.words.specs.Regions.{cleared}
 use Rattle.words.specs.Widths.{blockCount, edgeCount}
 use Rattle.bits.specs.Bits.{bit}
@@ -21,8 +21,6 @@ use Rattle.graph.specs.Checks.{graphChecks, rowsVerdict, spaceOf}
 use Rattle.components.specs.Entry.{edgesIn}
 use Rattle.flow.specs.declared.Over.{Over}
 use Rattle.flow.specs.declared.Over.the-variants.{Predecessors, Successors}
-use Rattle.flow.specs.declared.Answer.{Answer}
-use Rattle.flow.specs.declared.Answer.the-variants.{Given, Refused}
 
 -- "over predecessors, and over successors": a touched place reaches this one, or this one a touched place
 abbrev pub FlowsTo : Over → List Edge → (ℕ → Bool) → ℕ → Type 0
@@ -33,11 +31,6 @@ FlowsTo Successors es touched k = Reaching es touched k
 abbrev pub flowsRow : Over → ℕ → List Edge → (ℕ → Bool) → ℕ → Bool
 flowsRow Predecessors n es touched = reachedRow n es touched
 flowsRow Successors n es touched = reachingRow n es touched
-
--- the answer by document 01's numbers
-abbrev pub outcomeOf : Answer → Outcome (Unit {0})
-outcomeOf Given = given tt
-outcomeOf (Refused r i) = refused (numberOf r) i
 
 -- the checks of `flowed`: numbers 1 (of the rows lent, then of the records), 2, 3 and 7, in this order; W is 8 × (the records lent + blocks × row words)
 abbrev pub flowedChecks : List ℕ → List ℕ → ℕ → ℕ → ℕ → ℕ → ℕ → List Verdict
@@ -58,18 +51,18 @@ flowedRows over blocks edges touched words =
     rowsOf (blockCount blocks) words (λ v b. flowsRow over (blockCount blocks) (edgesIn blocks edges) (λ k. rowBit touched words k b) v)
 
 -- the whole answer list by the definition, and its bits by paths
-pub record Filled (over : Over) (blocks edges touched : List ℕ) (words : ℕ) (out₀ work₀ : List ℕ) (r : Answer) (out work : List ℕ) : Type 0 where
-  pub outcome : outcomeOf r ≡ given tt
-  pub in-out : out ≡ after (outcomeOf r) (λ _. flowedRows over blocks edges touched words) out₀
+pub record Filled (over : Over) (blocks edges touched : List ℕ) (words : ℕ) (out₀ work₀ : List ℕ) (r : Verdict) (out work : List ℕ) : Type 0 where
+  pub outcome : numbered r ≡ given tt
+  pub in-out : out ≡ after (numbered r) (λ _. flowedRows over blocks edges touched words) out₀
   pub bits : (v b : ℕ) → v < blockCount blocks → b < words * 64 → (rowBit out words v b ≡ true) ↔ FlowsTo over (edgesIn blocks edges) (λ k. rowBit touched words k b) v
   pub work-cleared : work ≡ cleared (spaceOf (blockCount blocks) (edgeCount edges) (blockCount blocks * words)) work₀
 
 -- a refusal: the lists as they were
-pub record Turned (k : Refusal) (i : ℕ) (out₀ work₀ : List ℕ) (r : Answer) (out work : List ℕ) : Type 0 where
-  pub outcome : outcomeOf r ≡ refused (numberOf k) i
+pub record Turned (k : Refusal) (i : ℕ) (out₀ work₀ : List ℕ) (r : Verdict) (out work : List ℕ) : Type 0 where
+  pub outcome : numbered r ≡ refused (numberOf k) i
   pub out-kept : out ≡ out₀
   pub work-kept : work ≡ work₀
 
-pub record Answered (over : Over) (blocks edges : List ℕ) (points : ℕ) (touched : List ℕ) (words : ℕ) (out₀ work₀ : List ℕ) (r : Answer) (out work : List ℕ) : Type 0 where
+pub record Answered (over : Over) (blocks edges : List ℕ) (points : ℕ) (touched : List ℕ) (words : ℕ) (out₀ work₀ : List ℕ) (r : Verdict) (out work : List ℕ) : Type 0 where
   pub answered : verdictOf blocks edges points (length touched) words (length out₀) (length work₀) ≡ Fine → Filled over blocks edges touched words out₀ work₀ r out work
   pub turned-back : (k : Refusal) (i : ℕ) → verdictOf blocks edges points (length touched) words (length out₀) (length work₀) ≡ Bad k i → Turned k i out₀ work₀ r out work

@@ -21,12 +21,6 @@ pub enum Over {
     Successors,
 }
 
-// The rows are in the answer list, or a refusal with the index of the first offending record.
-pub enum Answer {
-    Given,
-    Refused(Refusal, usize),
-}
-
 // The refusals of the entry, lowest number first.
 pub fn refusal(
     blocks: &[u32],
@@ -111,7 +105,7 @@ pub fn flowed(
     words: usize,
     out: &mut [u64],
     work: &mut [u64],
-) -> Answer
+) -> Verdict
     ensures { λ r. ⌜ Answered over (now (blocks .entry)) (now (edges .entry)) points (now (touched .entry)) words (now (out .entry)) (now (work .entry)) r (now (out .exit)) (now (work .exit)) ⌝ }
 {
     let v = refusal(
@@ -124,7 +118,7 @@ pub fn flowed(
         work.len(),
     );
     if let Verdict::Bad(r, i) = v {
-        return Answer::Refused(r, i);
+        return Verdict::Bad(r, i);
     }
     let at = solve(over, blocks, edges, touched, words, work);
     words::copy_from(out, 0, work, at, touched.len());
@@ -132,5 +126,5 @@ pub fn flowed(
         work,
         8 * (blocks.len() / block::WIDTH + edges.len() / edge::WIDTH + touched.len()),
     );
-    Answer::Given
+    Verdict::Fine
 }

@@ -23,7 +23,8 @@ use Rattle.bits.proofs.DigitLaws.{bit-zero}
 use Rattle.carrying.specs.declared.Kind.{Kind}
 use Rattle.carrying.specs.declared.Kind.the-variants.{Unfollowed}
 use Rattle.carrying.specs.Lists.{any}
-use Rattle.carrying.specs.Insts.{Inst, instsOf, instAt, noInst, defOf, isSet}
+use Rattle.carrying.specs.Insts.{Inst, instsOf, instAt, defOf, isSet}
+use Rattle.carrying.specs.Inner.{noInst}
 use Rattle.carrying.specs.Carried.{Code, Mention, mentions, mentioned, isNone, Carries, taken, followed, carried, lost, dead, stuck, escapes, escaping, endsOf, empty, kindOf}
 use Rattle.carrying.proofs.ListLaws.{any-true, any-entry, kept, of-kept}
 use Rattle.carrying.proofs.CarryLaws.{carries-below, carried-least}

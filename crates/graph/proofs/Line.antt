@@ -21,8 +21,8 @@ use Rattle.words.proofs.Bools.{or-neither}
 use Rattle.graph.specs.declared.Block.{Block}
 use Rattle.graph.specs.declared.Place.{Place}
 use Rattle.graph.specs.Paths.{Edge, edge, Between}
-use Rattle.graph.specs.Line.{Stretch, Jump, blocksOf, jumpsOf, nowhere, blockAt, placeIn, linked, edgesOf, usedBefore, gapAt, badBlock, lineVerdict, badEdge, edgeVerdict, Sound}
-use Rattle.graph.specs.Inner.Line.{placeOf, numberAt}
+use Rattle.graph.specs.Line.{Stretch, Jump, blocksOf, jumpsOf, blockAt, placeIn, edgesOf, usedBefore, gapAt, badBlock, lineVerdict, badEdge, edgeVerdict, Sound}
+use Rattle.graph.specs.Inner.Line.{nowhere, linked, placeOf, numberAt}
 use Rattle.graph.proofs.Counting.{all-taken}
 
 -- ---- lists by index

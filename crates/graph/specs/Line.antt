@@ -10,8 +10,6 @@ use Rattle.refusals.specs.declared.Refusal.the-variants.{Line, Edge as EdgeWord
 use Rattle.refusals.specs.Verdicts.{scan}
 use Rattle.words.specs.Rows.{records}
 use Rattle.words.specs.Widths.{blockWidth, edgeWidth}
-use Rattle.ranges.specs.declared.Range.{Range}
-use Rattle.ranges.specs.Points.{range}
 use Rattle.graph.specs.Paths.{Edge, edge}
 
 -- a block of the line: its number, its first and its last point
@@ -32,11 +30,8 @@ blocksOf s = records blockWidth (λ f. record { number = f 0; start = f 1; end =
 abbrev pub jumpsOf : List ℕ → List Jump
 jumpsOf s = records edgeWidth (λ f. record { from = f 0; to = f 1 }) s
 
-abbrev pub nowhere : Stretch
-nowhere = record { number = 0; start = 0; end = 0 }
-
 abbrev pub blockAt : List Stretch → ℕ → Stretch
-blockAt bs k = getD bs k nowhere
+blockAt bs k = getD bs k (record { number = 0; start = 0; end = 0 })
 
 -- the place of the block with a number: "one converting table between" numbers and places (the length where there is none)
 unfoldable pub placeIn : List Stretch → ℕ → ℕ
@@ -44,15 +39,8 @@ placeIn [] n = 0
 placeIn (b ∷ bs) n = cond (eqb (b .number) n) 0 (suc (placeIn bs n))
 
 -- the edges by place
-abbrev pub linked : List Stretch → Jump → Edge
-linked bs j = edge (placeIn bs (j .from)) (placeIn bs (j .to))
-
 abbrev pub edgesOf : List Stretch → List Jump → List Edge
-edgesOf bs js = map (linked bs) js
-
--- the blocks as ranges of points, in line order
-abbrev pub stretchOf : Stretch → Range
-stretchOf b = range (b .start) (b .end)
+edgesOf bs js = map (λ j. edge (placeIn bs (j .from)) (placeIn bs (j .to))) js
 
 -- number 2: "a block number ≥ B or repeated, a reversed block, a start not the last end plus 1, last end > points"
 unfoldable pub usedBefore : List Stretch → ℕ → ℕ → Bool

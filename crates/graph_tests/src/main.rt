@@ -46,8 +46,8 @@ fn show_components(blocks: &[u32], edges: &[u32], points: u32, work: &mut [u64])
     cases::text(b"c");
     let answer = components::components(blocks, edges, points, &mut which, work);
     match answer {
-        components::Answer::Given(count) => number(count as u64),
-        components::Answer::Refused(r, i) => refused(r, i),
+        refusals::Answer::Given(count) => number(count as u64),
+        refusals::Answer::Refused(r, i) => refused(r, i),
     }
     numbers(&which);
 }
@@ -66,8 +66,8 @@ fn show_flowed(
     begin(shape, part);
     let answer = flow::flowed(over, blocks, edges, points, touched, 1, &mut out, work);
     match answer {
-        flow::Answer::Given => {}
-        flow::Answer::Refused(r, i) => refused(r, i),
+        refusals::Verdict::Fine => {}
+        refusals::Verdict::Bad(r, i) => refused(r, i),
     }
     rows(&out);
 }
@@ -77,8 +77,8 @@ fn show_settling(shape: u8, blocks: &[u32], edges: &[u32], points: u32, work: &m
     begin(shape, b'o');
     let answer = spread::settling(blocks, edges, points, &mut order, work);
     match answer {
-        spread::Answer::Given => {}
-        spread::Answer::Refused(r, i) => refused(r, i),
+        refusals::Verdict::Fine => {}
+        refusals::Verdict::Bad(r, i) => refused(r, i),
     }
     numbers(&order);
 }
@@ -96,8 +96,8 @@ fn show_spread(
     begin(shape, b'a');
     let answer = spread::spread(blocks, edges, points, leaves, passes, 1, &mut out, work);
     match answer {
-        spread::Answer::Given => {}
-        spread::Answer::Refused(r, i) => refused(r, i),
+        refusals::Verdict::Fine => {}
+        refusals::Verdict::Bad(r, i) => refused(r, i),
     }
     rows(&out);
 }

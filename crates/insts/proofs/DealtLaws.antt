@@ -17,7 +17,8 @@ use Rattle.words.proofs.RowLaws.{length-tabulate, getD-tabulate, take-tabulate,
 use Rattle.graph.specs.Work.{sumOf}
 use Rattle.graph.proofs.Sums.{sum-start, sum-within}
 use Rattle.carrying.specs.Lists.{any}
-use Rattle.carrying.specs.Insts.{Operand, Inst, instOf, dealt, instsOf, noInst, instAt}
+use Rattle.carrying.specs.Insts.{Operand, Inst, instOf, dealt, instsOf, instAt}
+use Rattle.carrying.specs.Inner.{noInst}
 use Rattle.carrying.proofs.ListLaws.{any-true}
 use Rattle.insts.specs.Counts.{offset}
 use Rattle.insts.specs.Inner.{operandAt, operandsFrom}

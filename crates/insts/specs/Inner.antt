@@ -1,10 +1,12 @@
 -- What the functions here promise each other. No public promise names these.
-use Prim.Native.Nat.{ℕ, _+_}
+use Prim.Native.Nat.{ℕ, _+_, _/_, _%_}
 use mathlib.Core.List.{List, []}
 use Rattle.words.specs.Rows.{tabulate, field}
 use Rattle.words.specs.Widths.{instWidth}
 use Rattle.words.specs.Inner.{operandDef, operandRegister}
 use Rattle.carrying.specs.Insts.{Operand, Inst, instOf}
+use mathlib.Core.Bool.{Bool, not, _||_}
+use lib.Dec.{eqb, ltb}
 
 -- operand k of all
 abbrev pub operandAt : List ℕ → ℕ → Operand
@@ -21,3 +23,7 @@ placing number early late = record { placed = 1; block = number; early = early; 
 -- instruction i but for its operands
 abbrev pub rowInst : List ℕ → ℕ → Inst
 rowInst insts i = instOf (field instWidth insts i) []
+
+-- n numbers that are no whole rows of the width, or more rows than the limit
+abbrev pub badRows : ℕ → ℕ → ℕ → Bool
+badRows width limit n = not (eqb (n % width) 0) || ltb limit (n / width)

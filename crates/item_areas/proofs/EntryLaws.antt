@@ -23,8 +23,8 @@ use Rattle.job_space.specs.declared.Sizes.{Sizes}
 use Rattle.job_space.specs.Space.{sizesOf, spaceOf}
 use Rattle.job_checks.specs.Job.{jobOf}
 use Rattle.job_areas.specs.Inner.{Lent, Solved}
-use Rattle.item_lists.specs.declared.Answer.{Answer}
-use Rattle.item_lists.specs.declared.Answer.the-variants.{Refused}
+use Rattle.refusals.specs.declared.Answer.{Answer}
+use Rattle.refusals.specs.declared.Answer.the-variants.{Refused}
 use Rattle.item_areas.specs.Entry.{lentVerdict, itemChecks, ItemAreas}
 use Rattle.item_areas.proofs.OrderLaws.{item-verdict}
 use Rattle.item_lists.specs.Lists.{AnsweredBy}

@@ -12,7 +12,7 @@ use Rattle.refusals.proofs.Laws.{check-last}
 use Rattle.refusals.proofs.Orders.{check-gives, giving-append, order-append}
 use Rattle.words.specs.Rows.{tabulate}
 use Rattle.words.specs.Widths.{partWidth, rangeWidth}
-use Rattle.insts.specs.Counts.{badRows}
+use Rattle.insts.specs.Inner.{badRows}
 use Rattle.areas.specs.Job.{itemCount, itemArea, rangesOf, itemsVerdict, checks}
 use Rattle.job_space.specs.Space.{sizesOf, spaceOf}
 use Rattle.job_checks.specs.Job.{jobOf, checksGive}

@@ -16,7 +16,7 @@ use Rattle.areas.specs.Job.{Job, itemCount, itemArea, rangesOf, itemsVerdict}
 use Rattle.area_tables.specs.Tables.{areaRows}
 use Rattle.area_points.specs.Parts.{AreasTold}
 use Rattle.area_points.proofs.PartLaws.{row-tells, tells-same}
-use Rattle.item_lists.specs.declared.Answer.the-variants.{Given}
+use Rattle.refusals.specs.declared.Answer.the-variants.{Given}
 use Rattle.item_lists.specs.Lists.{itemRow, itemRows}
 use Rattle.item_lists.proofs.TableLaws.{row-long}
 use Rattle.job_checks.specs.Job.{jobOf, Passed}

@@ -15,9 +15,9 @@ use Rattle.insts.specs.Counts.{rowsVerdict}
 use Rattle.areas.specs.Job.{checks, itemCount, itemArea, itemsVerdict}
 use Rattle.job_space.specs.declared.Sizes.{Sizes}
 use Rattle.job_space.specs.Rows.{Rows}
-use Rattle.job_space.specs.Space.{sizesOf, spaceOf}
+use Rattle.job_space.specs.Space.{jobWords, sizesOf, spaceOf}
 use Rattle.job_checks.specs.Job.{jobOf, countVerdict, checksGive}
-use Rattle.item_lists.specs.declared.Answer.{Answer}
+use Rattle.refusals.specs.declared.Answer.{Answer}
 use Rattle.item_lists.specs.Lists.{AnsweredBy}
 
 -- number 7: work space under W, item list under the item count
@@ -41,4 +41,4 @@ itemGive = (Count ∷ Count ∷ (checksGive ++ (Space ∷ []))) ++ (ListWord ∷
 -- the areas of all items: the work space is unchanged after a refusal that comes before measuring, else its first W words are zero
 pub record ItemAreas (R : Rows) (areas items work : List ℕ) (r : Answer) (areas′ items′ work′ : List ℕ) : Type 0 where
   pub lists : AnsweredBy (inOrder (itemChecks R (length areas) (length items) (length work))) (itemCount (jobOf R)) (itemArea (jobOf R)) areas items r areas′ items′
-  pub in-work : work′ ≡ after (unless (lentVerdict R (length areas) (length items) (length work)) (spaceOf (sizesOf R (length areas)))) (λ n. replicate n 0) work
+  pub in-work : work′ ≡ after (unless (lentVerdict R (length areas) (length items) (length work)) (jobWords R (length areas))) (λ n. replicate n 0) work

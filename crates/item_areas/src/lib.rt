@@ -5,7 +5,7 @@ use refusals::Verdict;
 
 mod checks; // checks.rt: refusals 1 to 7
 
-pub use item_lists::Answer;
+use refusals::Answer;
 
 // The area of every item, locals first, then slots, by the job's records. Areas come back as rows of start and end, items as rows of present, first and count;
 // the answer is the number of ranges. Refuses what document 01's table says of the records (1 to 6), an item list under the items or a work space under

@@ -20,14 +20,14 @@ use Rattle.words.proofs.FlatLaws.{flat-length}
 use Rattle.ranges.specs.declared.Range.{Range}
 use Rattle.carrying.specs.Lists.{gather}
 use Rattle.areas.specs.Job.{rangesIn, rangesOf, areasVerdict}
-use Rattle.area_measure.specs.Locals.{listed}
+use Rattle.ranges.specs.Points.{listed}
 use Rattle.area_measure.specs.Inner.Locals.{wordOf, ListedBy}
 use Rattle.answer_rows.specs.Inner.{rowsIn, rowOf, rowsOf}
 use Rattle.area_tables.specs.Tables.{areaRows}
 use Rattle.area_tables.specs.Inner.{listing}
 use Rattle.area_tables.proofs.RowLaws.{ranges-below, rows-areas, rows-long}
-use Rattle.item_lists.specs.declared.Answer.{Answer}
-use Rattle.item_lists.specs.declared.Answer.the-variants.{Given, Refused}
+use Rattle.refusals.specs.declared.Answer.{Answer}
+use Rattle.refusals.specs.declared.Answer.the-variants.{Given, Refused}
 use Rattle.item_lists.specs.Lists.{itemRow, itemRows, AnsweredBy}
 
 -- an item's row, by its word

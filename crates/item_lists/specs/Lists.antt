@@ -5,19 +5,12 @@ use mathlib.Core.Option.{Option, some, none}
 use mathlib.Core.List.{List, [], _∷_}
 use lib.ListN.{length}
 use Rattle.refusals.specs.declared.Verdict.{Verdict}
-use Rattle.refusals.specs.Verdicts.{numberOf}
-use Rattle.refusals.specs.Outcomes.{Outcome, given, refused, unless, after}
+use Rattle.refusals.specs.Outcomes.{given, unless, after, answered}
 use Rattle.words.specs.Rows.{tabulate, flat}
 use Rattle.ranges.specs.declared.Range.{Range}
 use Rattle.areas.specs.Job.{rangesOf}
 use Rattle.area_tables.specs.Tables.{areaRows}
-use Rattle.item_lists.specs.declared.Answer.{Answer}
-use Rattle.item_lists.specs.declared.Answer.the-variants.{Given, Refused}
-
--- what each case of an answer stands for
-abbrev pub answered : Answer → Outcome ℕ
-answered (Given n) = given n
-answered (Refused r i) = refused (numberOf r) i
+use Rattle.refusals.specs.declared.Answer.{Answer}
 
 -- items 3 numbers: "a present flag and a part of the area list", its first range and how many it has; without an area 0, 0, 0
 abbrev pub itemRow : ℕ → Option (List Range) → List ℕ

@@ -10,14 +10,9 @@ ghost use Rattle.item_lists.specs.Lists.{AnsweredBy};
 ghost use Rattle.item_lists.specs.Inner.{Held};
 ghost use Rattle.areas.specs.Job.{areasVerdict};
 ghost use Rattle.words.specs.Widths.{partWidth, rangeCount};
+use refusals::Answer;
 use refusals::Refusal;
 use words::widths::range;
-
-// How many ranges all areas have, or a refusal with the index of the first offending record.
-pub enum Answer {
-    Given(usize),
-    Refused(Refusal, usize),
-}
 
 // Writes the areas and the items, where all n ranges fit the area list (else 9).
 pub fn list(n: usize, areas: &mut [u32], items: &mut [u32], work: &[u64], count: usize) -> Answer

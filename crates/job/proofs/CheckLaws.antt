@@ -19,7 +19,8 @@ use Rattle.job_space.specs.Space.{sizesOf, spaceOf, Small, badShape}
 use Rattle.job_checks.specs.Job.{countVerdict}
 use Rattle.job_checks.proofs.CheckLaws.{whole-areas, placedOf, by-own, by-counts as records-counts, by-placed as records-placed, by-space as records-space, lent-counted, lent-passed, lent-space}
 use Rattle.job_areas.specs.Inner.{Lent}
-use Rattle.job.specs.Entry.{spaceVerdict, lentVerdict}
+use Rattle.job.specs.Inner.{spaceVerdict}
+use Rattle.job.specs.Entry.{lentVerdict}
 use Rattle.job_space.specs.Rows.{Rows}
 use Rattle.fitting.specs.declared.Terms.{Terms}
 use Rattle.areas.specs.Job.{checks}

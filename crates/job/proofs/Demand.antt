@@ -15,18 +15,19 @@ use Rattle.words.specs.Widths.{cellWidth, itemWidth, rangeCount}
 use Rattle.areas.specs.Job.{Job, Checked, itemCount, itemArea, itemsVerdict}
 use Rattle.fitting.specs.Wants.{orderOf}
 use Rattle.fitting.specs.Plan.{Cell, cellAt}
-use Rattle.wants.specs.Entry.{cellRow, cellRows}
+use Rattle.wants.specs.Inner.{cellRow}
+use Rattle.wants.specs.Entry.{cellRows}
 use Rattle.job_checks.specs.Job.{jobOf, Passed}
 use Rattle.soundness.specs.Walks.{Step, Legal}
 use Rattle.soundness.specs.Inner.{Separate}
-use Rattle.soundness.specs.Demand.{wantsOf, frameOf, jobPlan}
+use Rattle.soundness.specs.Demand.{wantsOf, frameOf, jobPlan, AsPrivate}
 use Rattle.soundness.proofs.Demand.{job-order, separate, uses, any-cells, demand-3}
 use Rattle.job_answers.specs.declared.Shared.the-variants.{Plan as Planned}
 use Rattle.job_answers.specs.Answers.{itemRows}
 use Rattle.job_answers.proofs.SeenLaws.{cell-listed}
 use Rattle.wants.proofs.TallyLaws.{not-refused}
 use Rattle.job.specs.Entry.{lentVerdict, verdictOf, SharedAs}
-use Rattle.job.specs.Reads.{cellIn, sizeIn, ReadsAsPrivate}
+use Rattle.job.specs.Reads.{cellIn, sizeIn}
 use Rattle.job.proofs.CheckLaws.{granted}
 use Rattle.job_space.specs.Rows.{Rows}
 use Rattle.fitting.specs.declared.Terms.{Terms}
@@ -79,7 +80,7 @@ module _ {R : Rows} {t : Terms} {cells items areas work cells′ items′ areas�
   listed-separate i j h k d e = separate J (t .budget) (orderOf (wantsOf J)) (job-order J) i j h k d (sym (cells-listed i h) ∙ e ∙ cells-listed j k)
 
   -- Demand 3: whenever the answer is a plan, every walk over the job's records reads through the cells in the answer lists as through private ones
-  pub reads-as-private : (start : ℕ) (w : List Step) → Legal (frameOf J) start w → ReadsAsPrivate J cells′ items′ start w
+  pub reads-as-private : (start : ℕ) (w : List Step) → Legal (frameOf J) start w → AsPrivate J (cellIn items′) (sizeIn cells′) start w
   reads-as-private start w L = record {
     alike = any-cells J checked (cellIn items′) listed-separate start w L .0;
     runs = any-cells J checked (cellIn items′) listed-separate start w L .1;

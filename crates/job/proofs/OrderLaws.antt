@@ -17,7 +17,8 @@ use Rattle.job_space.specs.declared.Sizes.{Sizes}
 use Rattle.job_space.specs.Space.{sizesOf, spaceOf, badShape}
 use Rattle.job_checks.specs.Job.{jobOf, checksGive}
 use Rattle.job_checks.proofs.OrderLaws.{counts-give, checks-give}
-use Rattle.job.specs.Entry.{spaceVerdict, lentChecks, lentVerdict, verdictOf, jobChecks}
+use Rattle.job.specs.Inner.{spaceVerdict}
+use Rattle.job.specs.Entry.{lentChecks, lentVerdict, verdictOf, jobChecks}
 use Rattle.job_space.specs.Rows.{Rows}
 use Rattle.fitting.specs.declared.Terms.{Terms}
 

@@ -9,40 +9,42 @@ use Rattle.refusals.specs.declared.Verdict.{Verdict}
 use Rattle.refusals.specs.declared.Refusal.the-variants.{Count, Space}
 use Rattle.refusals.specs.Verdicts.{first, inOrder, check}
 use Rattle.refusals.specs.Outcomes.{unless, after}
-use Rattle.areas.specs.Job.{checks, itemCount, itemArea, itemsVerdict}
+use Rattle.areas.specs.Job.{checks, itemCount, itemArea, areasVerdict}
 use Rattle.fitting.specs.declared.Terms.{Terms}
-use Rattle.job_space.specs.declared.Sizes.{Sizes}
 use Rattle.job_space.specs.Rows.{Rows}
-use Rattle.job_space.specs.Space.{sizesOf, spaceOf, badShape}
+use Rattle.job_space.specs.Space.{jobWords, badShape}
 use Rattle.job_checks.specs.Job.{jobOf, countVerdict}
 use Rattle.soundness.specs.Demand.{jobPlan}
 use Rattle.job_answers.specs.declared.Shared.{Shared}
 use Rattle.job_answers.specs.Answers.{AnsweredBy}
-use Rattle.words.specs.Widths.{cellWidth, itemWidth, rangeWidth}
+use Rattle.words.specs.Rows.{rowCount}
+use Rattle.words.specs.Widths.{localWidth, cellWidth, itemWidth, rangeWidth}
 
 -- number 7: work space under W, cell or item list under the item count
-abbrev pub spaceVerdict : Sizes → ℕ → ℕ → ℕ → Verdict
-spaceVerdict z cells items work = check Space (ltb work (spaceOf z) || (ltb (cells / cellWidth) (z .locals + z .slots) || ltb (items / itemWidth) (z .locals + z .slots)))
+abbrev pub shortVerdict : ℕ → ℕ → ℕ → ℕ → ℕ → Verdict
+shortVerdict words count cells items work = check Space (ltb work words || (ltb (cells / cellWidth) count || ltb (items / itemWidth) count))
 
 -- what a call is lent: the rows, what fitting has to keep to, and the answer lists and the work space by their lengths
 module _ (R : Rows) (t : Terms) (cells items areas work : ℕ) where
   -- numbers 1 to 7 in the entry's order, what is refused before anything is measured: 1 of what only fitting takes, 1 of the records, their checks, 7
   abbrev pub lentChecks : List Verdict
-  lentChecks = check Count (badShape t cells items) ∷ countVerdict R areas ∷ (checks (jobOf R) ++ (spaceVerdict (sizesOf R areas) cells items work ∷ []))
+  lentChecks =
+      check Count (badShape t cells items) ∷ countVerdict R areas
+      ∷ (checks (jobOf R) ++ (shortVerdict (jobWords R areas) (rowCount localWidth (R .locals) + length (R .slots)) cells items work ∷ []))
 
   unfoldable pub lentVerdict : Verdict
   lentVerdict = inOrder lentChecks
 
   -- all refusals, lowest number first: 9 comes last
   abbrev pub verdictOf : Verdict
-  verdictOf = first lentVerdict (itemsVerdict (jobOf R) (areas / rangeWidth))
+  verdictOf = first lentVerdict (areasVerdict (itemCount (jobOf R)) (itemArea (jobOf R)) (areas / rangeWidth))
 
   -- the same as one list of checks
   abbrev pub jobChecks : List Verdict
-  jobChecks = lentChecks ++ (itemsVerdict (jobOf R) (areas / rangeWidth) ∷ [])
+  jobChecks = lentChecks ++ (areasVerdict (itemCount (jobOf R)) (itemArea (jobOf R)) (areas / rangeWidth) ∷ [])
 
 -- the whole job: the plan of all items' areas, unless refused; the work space is unchanged after a refusal that comes before measuring, else its first W words are zero
 pub record SharedAs (R : Rows) (t : Terms) (cells items areas work : List ℕ) (r : Shared) (cells′ items′ areas′ work′ : List ℕ) : Type 0 where
   pub lists : AnsweredBy (verdictOf R t (length cells) (length items) (length areas) (length work)) (itemCount (jobOf R)) (itemArea (jobOf R)) (jobPlan (jobOf R) (t .budget))
       cells items areas r cells′ items′ areas′
-  pub in-work : work′ ≡ after (unless (lentVerdict R t (length cells) (length items) (length areas) (length work)) (spaceOf (sizesOf R (length areas)))) (λ n. replicate n 0) work
+  pub in-work : work′ ≡ after (unless (lentVerdict R t (length cells) (length items) (length areas) (length work)) (jobWords R (length areas))) (λ n. replicate n 0) work

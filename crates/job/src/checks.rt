@@ -2,7 +2,8 @@
 ghost use mathlib.Core.Path.{_≡_};
 ghost use Rattle.job_space.specs.Rows.{lentRows};
 ghost use Rattle.job_space.specs.Space.{Small};
-ghost use Rattle.job.specs.Entry.{spaceVerdict, lentVerdict};
+ghost use Rattle.job.specs.Inner.{spaceVerdict};
+ghost use Rattle.job.specs.Entry.{lentVerdict};
 use job_space::Head;
 use job_space::Sizes;
 use refusals::Refusal;

@@ -24,7 +24,8 @@ use Rattle.answer_rows.specs.Inner.{rowsIn}
 use Rattle.area_tables.specs.Tables.{areaRows}
 use Rattle.area_tables.specs.Inner.{listing}
 use Rattle.area_tables.proofs.RowLaws.{ranges-below, rows-areas, rows-long}
-use Rattle.wants.specs.Entry.{tallied, cellRow, cellRows}
+use Rattle.wants.specs.Entry.{tallied, cellRows}
+use Rattle.wants.specs.Inner.{cellRow}
 use Rattle.wants.proofs.EntryLaws.{rows-cells}
 use Rattle.item_lists.specs.Lists.{itemRow}
 use Rattle.item_lists.proofs.TableLaws.{word-row, row-long, list-full, list-fine}

@@ -23,7 +23,8 @@ use Rattle.carrying.specs.Carried.{mentionsOf, piecesOf}
 use Rattle.carrying.specs.Checks.{instVerdict, crossingVerdict, addressVerdict, endVerdict}
 use Rattle.areas.specs.Slots.{assignedOf, movesOf, moveVerdict, pieceVerdict, assignedVerdict}
 use Rattle.areas.specs.Job.{checks}
-use Rattle.insts.specs.Counts.{badRows, rowsVerdict, mostVerdict}
+use Rattle.insts.specs.Inner.{badRows}
+use Rattle.insts.specs.Counts.{rowsVerdict, mostVerdict}
 use Rattle.insts.proofs.CheckLaws.{most-few, rows-few}
 use Rattle.carry_checks.specs.Checks.{carryCounts}
 use Rattle.carry_checks.specs.Inner.{strayVerdict as mentionVerdict}

@@ -8,7 +8,8 @@ use Rattle.refusals.specs.declared.Refusal.the-variants.{Count, Line, Edge, Ins
 use Rattle.refusals.specs.Orders.{Gives, Giving}
 use Rattle.refusals.proofs.Orders.{check-gives, first-gives, scan-gives}
 use Rattle.words.specs.Widths.{blockWidth, blockCount, edgeWidth, instWidth, instCount, operandWidth, operandCount, localWidth, mentionWidth, pieceWidth, assignedWidth, moveWidth, rangeWidth}
-use Rattle.insts.specs.Counts.{badRows, rowsVerdict, mostVerdict, offset, instCounts, codeCounts}
+use Rattle.insts.specs.Inner.{badRows}
+use Rattle.insts.specs.Counts.{rowsVerdict, mostVerdict, offset, instCounts, codeCounts}
 use Rattle.areas.specs.Job.{Job, checks}
 use Rattle.carry_checks.specs.Checks.{carryCounts}
 use Rattle.job_space.specs.Rows.{Rows}

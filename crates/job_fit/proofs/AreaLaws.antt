@@ -10,14 +10,13 @@ use Rattle.words.specs.Inner.{part}
 use Rattle.words.proofs.RowLaws.{tabulate-add}
 use Rattle.words.proofs.RegionLaws.{length-part, kept-part-list}
 use Rattle.ranges.specs.declared.Range.{Range}
-use Rattle.ranges.specs.Points.{Apart}
+use Rattle.ranges.specs.Points.{Apart, listed}
 use Rattle.ranges.specs.Inner.{unpacked}
 use Rattle.ranges.proofs.FormLaws.{unpacked-length}
 use Rattle.carrying.specs.Lists.{gather}
 use Rattle.areas.specs.Job.{rangesIn, rangesOf}
 use Rattle.area_pieces.proofs.AreaLaws.{unpacked-both}
 use Rattle.area_pieces.proofs.HullLaws.{gather-append}
-use Rattle.area_measure.specs.Locals.{listed}
 use Rattle.area_measure.specs.Inner.Locals.{wordOf, ListedBy}
 use Rattle.area_measure.proofs.ListLaws.{ranges-append, ranges-more, gather-more}
 use Rattle.fit_tables.specs.Inner.{firstOf, countOf, rangesAt, areaIn, Proper}

@@ -40,7 +40,7 @@ use Rattle.area_flow.specs.declared.Grid.{Grid}
 use Rattle.area_flow.specs.Inner.{rowBit, blockBit}
 use Rattle.area_measure.specs.declared.Listing.{Listing}
 use Rattle.area_measure.specs.Inner.Measure.{itemWord, RowsFor, Measurable, Listable, Measured}
-use Rattle.area_measure.specs.Locals.{listed}
+use Rattle.ranges.specs.Points.{listed}
 use Rattle.area_measure.specs.Inner.Locals.{wordOf, localAt}
 use Rattle.area_measure.proofs.ListLaws.{listed-more}
 use Rattle.job_spots.specs.declared.Places.{Places}

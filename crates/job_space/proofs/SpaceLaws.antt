@@ -9,8 +9,8 @@ use lib.Dec.{eqb}
 use borrow.Author.Tests.{lt-ltb, le-ltb, eq-eqb, ne-eqb}
 use Rattle.fitting.specs.declared.Terms.{Terms}
 use Rattle.job_space.specs.declared.Sizes.{Sizes}
-use Rattle.job_space.specs.Rows.{rowsOf}
-use Rattle.job_space.specs.Space.{sizesOf, spaceOf, Small, badShape}
+use Rattle.job_space.specs.Rows.{Rows, rowsOf}
+use Rattle.job_space.specs.Space.{jobWords, sizesOf, spaceOf, Small, badShape}
 use Rattle.job_space.specs.Inner.{Counted}
 use Rattle.words.specs.Widths.{cellWidth, itemWidth}
 use Rattle.words.specs.Regions.{rowWords}
@@ -20,6 +20,10 @@ pub star-1-space : spaceOf (sizesOf (rowsOf 20 0 (0 ∷ 0 ∷ 19 ∷ []) []
     (1 ∷ 0 ∷ 2 ∷ 3 ∷ 0 ∷ 0 ∷ 256 ∷ 256 ∷ 0 ∷ 1 ∷ 0 ∷ 6 ∷ 7 ∷ 0 ∷ 0 ∷ 256 ∷ 256 ∷ 0 ∷ []) [] []
     (8 ∷ 8 ∷ 4 ∷ 4 ∷ []) [] (0 ∷ 0 ∷ 1 ∷ 1 ∷ []) [] [] [] []) 128) ≡ 576
 star-1-space = refl
+
+-- W by the rows is W by their numbers
+pub job-words : (R : Rows) (areas : ℕ) → jobWords R areas ≡ spaceOf (sizesOf R areas)
+job-words R areas = refl
 
 -- W of any 32-bit numbers is far below 64 bits
 pub space-fits : {z : Sizes} → Counted z → spaceOf z < 2 ^ 62

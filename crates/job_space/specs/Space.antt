@@ -3,11 +3,24 @@ use Prim.Native.Nat.{ℕ, _+_, _*_, _/_, _%_, _≤_, _<_}
 use mathlib.Core.Bool.{Bool, not, _||_}
 use lib.ListN.{length}
 use lib.Dec.{ltb, eqb}
-use Rattle.words.specs.Widths.{blockCount, edgeCount, instCount, operandCount, localCount, addressCount, endCount, pieceCount, assignedCount, moveCount, cellWidth, itemWidth, rangeWidth}
+use Rattle.words.specs.Rows.{rowCount}
+use Rattle.words.specs.Widths.{blockWidth, edgeWidth, instWidth, operandWidth, localWidth, mentionWidth, pieceWidth, assignedWidth, moveWidth, cellWidth, itemWidth, rangeWidth}
+use Rattle.words.specs.Widths.{blockCount, edgeCount, instCount, operandCount, localCount, addressCount, endCount, pieceCount, assignedCount, moveCount}
 use Rattle.words.specs.Regions.{rowWords}
 use Rattle.fitting.specs.declared.Terms.{Terms}
 use Rattle.job_space.specs.declared.Sizes.{Sizes}
 use Rattle.job_space.specs.Rows.{Rows}
+
+-- all record counts
+abbrev pub recordCount : Rows → ℕ
+recordCount R =
+    rowCount blockWidth (R .blocks) + rowCount edgeWidth (R .edges) + rowCount instWidth (R .insts) + rowCount operandWidth (R .operands) + length (R .crossings)
+    + rowCount localWidth (R .locals) + length (R .slots) + rowCount mentionWidth (R .addresses) + rowCount mentionWidth (R .ends)
+    + rowCount pieceWidth (R .pieces) + rowCount assignedWidth (R .assigned) + rowCount moveWidth (R .moves)
+
+-- W = 8 × (all record counts + B × ⌈locals/64⌉ + area list length + ⌈V/64⌉), of an area list by its length in numbers
+abbrev pub jobWords : Rows → ℕ → ℕ
+jobWords R areas = 8 * (recordCount R + rowCount blockWidth (R .blocks) * rowWords (rowCount localWidth (R .locals)) + areas / rangeWidth + rowWords (R .v))
 
 -- how many records are lent, how many ranges the area list holds, and V
 abbrev pub sizesOf : Rows → ℕ → Sizes
@@ -28,7 +41,7 @@ sizesOf R areas = record {
   room = areas / rangeWidth;
 }
 
--- W = 8 × (all record counts + B × ⌈locals/64⌉ + area list length + ⌈V/64⌉)
+-- the same by numbers of records
 abbrev pub spaceOf : Sizes → ℕ
 spaceOf z =
     8 * (z .blocks + z .edges + z .insts + z .operands + z .crossings + z .locals + z .slots + z .addresses + z .ends + z .pieces + z .assigned + z .moves

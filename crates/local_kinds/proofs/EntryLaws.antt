@@ -24,7 +24,7 @@ use Rattle.follow.specs.declared.Followed.{Followed}
 use Rattle.follow.specs.Inner.{FollowsAny, Ready}
 use Rattle.follow.proofs.KeptLaws.{prepared-kept, ready-kept}
 use Rattle.carry_checks.proofs.LayoutLaws.{cleared-all}
-use Rattle.local_kinds.specs.declared.Answer.the-variants.{Given, Refused}
+use Rattle.refusals.specs.declared.Answer.the-variants.{Given, Refused}
 use Rattle.carry_checks.specs.Checks.{carrySpace, carryVerdict}
 use Rattle.local_kinds.specs.Entry.{kindNumber, kindsOf, ReachTo}
 use Rattle.local_kinds.specs.Inner.{Kinds, Measured}

@@ -4,21 +4,14 @@ use mathlib.Core.Path.{_≡_}
 use mathlib.Core.List.{List}
 use lib.ListN.{length, replicate}
 use Rattle.refusals.specs.declared.Verdict.{Verdict}
-use Rattle.refusals.specs.Verdicts.{numberOf}
-use Rattle.refusals.specs.Outcomes.{Outcome, given, refused, unless, after}
+use Rattle.refusals.specs.Outcomes.{unless, after, answered}
 use Rattle.words.specs.Rows.{tabulate}
 use Rattle.words.specs.Widths.{localCount}
 use Rattle.carrying.specs.Carried.{Code, kindOf}
 use Rattle.reach.specs.Prepared.{codeOf}
-use Rattle.local_kinds.specs.declared.Answer.{Answer}
-use Rattle.local_kinds.specs.declared.Answer.the-variants.{Given, Refused}
+use Rattle.refusals.specs.declared.Answer.{Answer}
 use Rattle.carry_checks.specs.Checks.{carryChecks, carryVerdict, carrySpace}
 pub use Rattle.kind_numbers.specs.Numbers.{kindNumber}
-
--- what each case of an answer stands for
-abbrev pub answered : Answer → Outcome ℕ
-answered (Given n) = given n
-answered (Refused r i) = refused (numberOf r) i
 
 -- the kinds of the first n locals
 abbrev pub kindsOf : Code → ℕ → List ℕ

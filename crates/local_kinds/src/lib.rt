@@ -12,18 +12,13 @@ use carry_checks::checks;
 use carry_checks::layout;
 use follow::Sizes;
 use reach::Lay;
+use refusals::Answer;
 use refusals::Refusal;
 use refusals::Verdict;
 use words::widths::inst;
 use words::widths::local;
 use words::widths::mention;
 use words::widths::operand;
-
-// How many answers were given, or the refusal.
-pub enum Answer {
-    Given(usize),
-    Refused(Refusal, usize),
-}
 
 // The kind of each local.
 fn kinds(insts: &[u32], addresses: &[u32], answer: &mut [u32], work: &mut [u64], lay: Lay, z: Sizes)

@@ -29,7 +29,7 @@ use Rattle.insts.specs.Rows.{AddsUp}
 use Rattle.insts.proofs.CheckLaws.{most-few, rows-few, blocks-few, blocks-some, insts-counted}
 use Rattle.refusals.proofs.RoomLaws.{room-answer, room-work}
 use Rattle.areas.specs.Slots.{movesOf, moved, moveVerdict}
-use Rattle.spill_checks.specs.declared.Answer.the-variants.{Given, Refused}
+use Rattle.refusals.specs.declared.Answer.the-variants.{Given, Refused}
 use Rattle.moved_ranges.specs.Moved.{rowsOf, Wrote, movedCounts, movedSpace, movedRoom, movedVerdict, movedOf, MovedTo}
 use Rattle.move_covers.proofs.MovedLaws.{rows-length}
 use Rattle.spill_checks.proofs.OperandLaws.{moves-whatever, moved-whatever}

@@ -11,7 +11,8 @@ use Rattle.refusals.specs.Verdicts.{numberOf, first, check}
 use Rattle.refusals.specs.Orders.{Gives, Ordered}
 use Rattle.refusals.proofs.Orders.{check-gives, first-gives, scan-gives}
 use Rattle.words.specs.Widths.{blockWidth, blockCount, instWidth, instCount, operandWidth, operandCount, moveWidth, moveCount}
-use Rattle.insts.specs.Counts.{badRows, rowsVerdict, mostVerdict, offset, addUp, blockCounts, instCounts}
+use Rattle.insts.specs.Inner.{badRows}
+use Rattle.insts.specs.Counts.{rowsVerdict, mostVerdict, offset, addUp, blockCounts, instCounts}
 use Rattle.moved_ranges.specs.Moved.{movedCounts, movedSpace, movedChecks}
 
 module _ (v : ℕ) (blocks insts operands moves : List ℕ) (lent : ℕ) where

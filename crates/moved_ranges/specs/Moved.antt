@@ -8,7 +8,7 @@ use lib.Dec.{ltb, eqb}
 use Rattle.refusals.specs.declared.Verdict.{Verdict}
 use Rattle.refusals.specs.declared.Refusal.the-variants.{Count, Space}
 use Rattle.refusals.specs.Verdicts.{first, inOrder, check}
-use Rattle.refusals.specs.Outcomes.{unless, after}
+use Rattle.refusals.specs.Outcomes.{unless, after, answered}
 use Rattle.words.specs.Widths.{blockCount, instCount, operandCount, moveWidth, moveCount}
 use Rattle.words.specs.Regions.{rowWords}
 use Rattle.ranges.specs.declared.Range.{Range}
@@ -19,8 +19,7 @@ use Rattle.insts.specs.Counts.{rowsVerdict, mostVerdict, blockCounts, instCount
 use Rattle.areas.specs.Slots.{movesOf, moved, moveVerdict}
 unfoldable pub use Rattle.move_covers.specs.Wrote.{rowsOf}
 pub use Rattle.move_covers.specs.Inner.{Wrote}
-use Rattle.spill_checks.specs.declared.Answer.{Answer}
-use Rattle.spill_checks.specs.Answer.{answered}
+use Rattle.refusals.specs.declared.Answer.{Answer}
 
 -- number 1: "B 1 to 4,096; instructions 65,536; operands 262,144; V 65,535; moves 65,536", and an answer list that is no whole rows
 unfoldable pub movedCounts : ℕ → List ℕ → List ℕ → List ℕ → List ℕ → ℕ → Verdict

@@ -1,10 +1,7 @@
 // The answers of the parts in one number: rows over a graph, and ranges.
 ghost use mathlib.Core.Path.{_≡_};
-ghost use Rattle.components.specs.Entry.{outcomeOf as componentsOutcome};
-ghost use Rattle.flow.specs.Entry.{outcomeOf as flowOutcome};
-ghost use Rattle.spread.specs.Entry.{outcomeOf as spreadOutcome};
 ghost use Rattle.range_entries.specs.Entries.{counted, clashing};
-ghost use Rattle.codes.specs.Codes.{codeOf, countCode, truthCode};
+ghost use Rattle.codes.specs.Codes.{countCode, truthCode};
 ghost use Rattle.part_codes.specs.Codes.{overOf, graphWords};
 use codes::refused;
 use flow::Over;
@@ -29,24 +26,6 @@ pub fn clash(c: Clash) -> u64
     }
 }
 
-pub fn flowed(a: flow::Answer) -> u64
-    ensures { λ n. ⌜ n ≡ codeOf (flowOutcome a) ⌝ }
-{
-    match a {
-        flow::Answer::Given => 0,
-        flow::Answer::Refused(r, i) => refused(r, i),
-    }
-}
-
-pub fn spread(a: spread::Answer) -> u64
-    ensures { λ n. ⌜ n ≡ codeOf (spreadOutcome a) ⌝ }
-{
-    match a {
-        spread::Answer::Given => 0,
-        spread::Answer::Refused(r, i) => refused(r, i),
-    }
-}
-
 pub fn over(over: u32) -> Over
     ensures { λ r. ⌜ r ≡ overOf over ⌝ }
 {
@@ -54,15 +33,6 @@ pub fn over(over: u32) -> Over
         return Over::Predecessors;
     }
     Over::Successors
-}
-
-pub fn components(a: components::Answer) -> u64
-    ensures { λ n. ⌜ n ≡ countCode (componentsOutcome a) ⌝ }
-{
-    match a {
-        components::Answer::Given(n) => n as u64,
-        components::Answer::Refused(r, i) => refused(r, i),
-    }
 }
 
 // W of an entry over a graph, by the numbers of blocks, of edges and of words to a row; the largest number where it is no smaller.

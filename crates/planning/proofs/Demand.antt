@@ -20,20 +20,21 @@ use Rattle.ranges.specs.declared.Range.{Range}
 use Rattle.areas.specs.Job.{Job, Checked, itemCount, itemArea, rangesOf, itemsVerdict}
 use Rattle.fitting.specs.Wants.{orderOf}
 use Rattle.fitting.specs.Plan.{Plan, Cell, cellAt, depthOf}
-use Rattle.wants.specs.Entry.{cellRow, cellRows}
+use Rattle.wants.specs.Inner.{cellRow}
+use Rattle.wants.specs.Entry.{cellRows}
 use Rattle.area_tables.specs.Tables.{areaRows}
 use Rattle.item_lists.specs.Lists.{itemRow}
 use Rattle.item_lists.proofs.TableLaws.{row-long}
 use Rattle.soundness.specs.Walks.{Step, Legal}
 use Rattle.soundness.specs.Inner.{Separate}
-use Rattle.soundness.specs.Demand.{wantsOf, frameOf, jobPlan}
+use Rattle.soundness.specs.Demand.{wantsOf, frameOf, jobPlan, AsPrivate}
 use Rattle.soundness.proofs.Demand.{job-order, separate, uses, any-cells, demand-3}
 use Rattle.job_answers.specs.Answers.{itemRows}
 use Rattle.text_grammar.specs.Text.{readVerdict}
 use Rattle.text_plan.specs.Lines.{lineText}
 use Rattle.planning.specs.Groups.{termsFor, job, lentFor}
 use Rattle.planning.specs.Program.{told, textOf, jobText, refusal, printedFor, numbersIn, programText, cellNumbers, itemNumbers, areaNumbers, workWords}
-use Rattle.planning.specs.Named.{Listed, Named, ReadsThrough}
+use Rattle.planning.specs.Named.{Listed, Named}
 use Rattle.wants.proofs.SeenLaws.{cells-long}
 use Rattle.job_answers.proofs.SeenLaws.{items-long}
 use Rattle.planning.proofs.GroupLaws.{checked-for}
@@ -183,7 +184,7 @@ module _ (text : List ℕ) (fine : first (readVerdict text) (refusal (numbersIn 
     apart i j h k d e = separate J (termsFor group .budget) (orderOf (wantsOf J)) (job-order J) i j h k d (sym (same-cell i h) ∙ e ∙ same-cell j k)
 
     -- Demand 3: every walk over the text's job reads through the printed cells as through private ones, each byte below the printed size
-    pub printed-reads-as-private : (start : ℕ) (w : List Step) → Legal (frameOf J) start w → ReadsThrough J cell size start w
+    pub printed-reads-as-private : (start : ℕ) (w : List Step) → Legal (frameOf J) start w → AsPrivate J cell size start w
     printed-reads-as-private start w L = record {
       alike = any-cells J checked cell apart start w L .0;
       runs = any-cells J checked cell apart start w L .1;

@@ -6,14 +6,14 @@ use mathlib.Core.Option.{Option, some, none}
 use mathlib.Core.List.{List, [], _∷_, _++_}
 use lib.ListN.{length, set, List·getD-eq-default}
 use lib.Dec.{ltb, lit<}
-use Rattle.words.specs.Rows.{rowCount}
-use Rattle.words.specs.Widths.{localWidth}
+use Rattle.words.specs.Widths.{localWidth, localCount}
 use Rattle.words.proofs.Points.{cut}
 use Rattle.words.proofs.RowLaws.{length-tabulate, getD-tabulate, length-records, getD-records}
 use Rattle.ranges.specs.declared.Range.{Range}
 use Rattle.areas.specs.Job.{Job, itemCount}
 use Rattle.fitting.specs.Wants.{Want, wantAt, orderOf}
-use Rattle.fitting.specs.Plan.{Plan, Cell, cellAt, cellOf, lowest, settled, placedBy, put, fit, nothing}
+use Rattle.fitting.specs.Plan.{Plan, Cell, cellAt, lowest, settled, placedBy, put, fit, nothing}
+use Rattle.fitting.specs.Inner.{cellOf}
 use Rattle.soundness.specs.Demand.{localAt, widthAt, wantOf, wantsOf, jobPlan}
 use Rattle.text_grammar.specs.Numerals.{limit}
 use Rattle.text_grammar.specs.Groups.{localGroup, slotGroup}
@@ -60,7 +60,7 @@ module _ (text : List ℕ) where
 
   local-small : (i : ℕ) → localAt J i .size < limit
   local-small i =
-      cut (rowCount 2 (numbersIn text localGroup)) i
+      cut (localCount (numbersIn text localGroup)) i
       (λ h. rw (List·getD-eq-default (J .locals) (record { size = 0; align = 0 }) {n = i} (let l = length-records localWidth makeLocal (numbersIn text localGroup) in omega arith)) (lit< tt))
       (λ h. rw (getD-records localWidth makeLocal (numbersIn text localGroup) i (record { size = 0; align = 0 }) h) (rows-below localGroup (lit< tt) (λ e. omega arith) (linesOf text) _))
 

@@ -1,14 +1,8 @@
 -- Document 01, demand 3, of what the program prints: the cells that the `L` and `S` lines of a text name, and the sizes that its `C` lines tell.
 use Prim.Native.Nat.{ℕ, _+_, _<_, _^_}
-use mathlib.Core.Path.{_≡_}
-use mathlib.Core.Logic.{_⊎_}
-use mathlib.Core.Option.{some}
 use mathlib.Core.List.{List, [], _∷_, List·Memᴰ}
-use lib.ListN.{length, getElem?}
+use lib.ListN.{length}
 use Rattle.areas.specs.Job.{Job, itemCount}
-use Rattle.soundness.specs.Walks.{Step, read, write, Alike}
-use Rattle.soundness.specs.Machine.{RunsAlike}
-use Rattle.soundness.specs.Demand.{frameOf}
 use Rattle.text_grammar.specs.Lines.{linesOf}
 use Rattle.text_plan.specs.Lines.{lineText}
 
@@ -23,9 +17,3 @@ pub record Named (J : Job) (text : List ℕ) (cell size : ℕ → ℕ) : Type 0 
   pub cells : (i : ℕ) → i < itemCount J → (align : ℕ) × Listed text (lineText 67 (cell i ∷ size (cell i) ∷ align ∷ []))
   pub cell-small : (i : ℕ) → i < itemCount J → cell i < 2 ^ 64
   pub size-small : (i : ℕ) → i < itemCount J → size (cell i) < 2 ^ 64
-
--- what a walk reads through cells with these sizes: the claim about the whole list, the same of the machine, and that each byte taken lies below its cell's size
-pub record ReadsThrough (J : Job) (cell size : ℕ → ℕ) (start : ℕ) (w : List Step) : Type 0 where
-  pub alike : Alike (frameOf J) start w cell
-  pub runs : RunsAlike (frameOf J) cell start w
-  pub below : (n i b : ℕ) → (getElem? w n ≡ some (read i b)) ⊎ (getElem? w n ≡ some (write i b)) → b < size (cell i)

@@ -1,6 +1,7 @@
 -- Document 01, "Ranges": points, ranges, and what it is for two of them to overlap.
 use Prim.Native.Nat.{ℕ, _≤_, _<_}
 use mathlib.Core.Bool.{Bool, false, _&&_, _||_}
+use mathlib.Core.Option.{Option, some, none}
 use mathlib.Core.List.{List, [], _∷_, List·Memᴰ}
 use lib.ListN.{getD}
 use lib.Dec.{leb}
@@ -12,6 +13,11 @@ range s e = record { start = s; end = e }
 -- the range at a place of a list
 abbrev pub rangeAt : List Range → ℕ → Range
 rangeAt rs i = getD rs i (range 0 0)
+
+-- the ranges of an area, none of an item without one
+abbrev pub listed : Option (List Range) → List Range
+listed none = []
+listed (some rs) = rs
 
 -- x is a point of some range of the list
 abbrev pub Point : List Range → ℕ → Type 0

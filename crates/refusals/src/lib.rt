@@ -23,6 +23,12 @@ pub enum Verdict {
     Bad(Refusal, usize),
 }
 
+// How many an entry gives of what it lists, or a refusal with the index of its first offending record.
+pub enum Answer {
+    Given(usize),
+    Refused(Refusal, usize),
+}
+
 // The number of a refusal in document 01's table.
 pub fn number(r: Refusal) -> u32
     ensures { λ n. ⌜ n ≡ numberOf r ⌝ }

@@ -15,7 +15,7 @@ use Rattle.slot_spots.specs.declared.Places.{Places}
 use Rattle.slot_spots.proofs.MoveLaws.{chains-kept}
 use Rattle.slot_areas.specs.declared.Found.{Found}
 use Rattle.area_measure.specs.declared.Listing.{Listing}
-use Rattle.area_measure.specs.Locals.{listed}
+use Rattle.ranges.specs.Points.{listed}
 use Rattle.area_measure.specs.Inner.Locals.{wordOf, ListedBy}
 use Rattle.area_measure.proofs.ListLaws.{listed-more}
 use Rattle.slot_measure.specs.Inner.{SlotIn, Placeable, Placed, mostFor, Ready, Spared, Next, AreasBy, HeldBy, MeasuredSlots}

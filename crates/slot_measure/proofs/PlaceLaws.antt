@@ -27,7 +27,7 @@ use Rattle.area_pieces.specs.Inner.{Appended}
 use Rattle.area_pieces.proofs.PushLaws.{set-other}
 use Rattle.area_measure.specs.declared.Listing.{Listing}
 use Rattle.area_measure.specs.Inner.Measure.{itemWord}
-use Rattle.area_measure.specs.Locals.{listed}
+use Rattle.ranges.specs.Points.{listed}
 use Rattle.area_measure.specs.Inner.Locals.{wordOf}
 use Rattle.slot_measure.specs.Inner.{SlotIn, Placeable, Placed}
 

@@ -23,7 +23,7 @@ use Rattle.ranges.specs.Inner.{unpacked}
 use Rattle.areas.specs.Job.{rangesIn}
 use Rattle.slot_areas.specs.declared.Found.{Found}
 use Rattle.slot_areas.specs.Inner.{Stands}
-use Rattle.area_measure.specs.Locals.{listed}
+use Rattle.ranges.specs.Points.{listed}
 
 -- The areas of all slots of a job, behind those of its locals.
 

@@ -2,20 +2,18 @@
 use Prim.Native.Nat.{ℕ, _+_, _*_}
 use mathlib.Core.Path.{_≡_}
 use mathlib.Core.List.{List}
-use Rattle.refusals.specs.Outcomes.{Outcome, unless, after}
+use Rattle.refusals.specs.Outcomes.{Outcome, answered, unless, after}
 use Rattle.refusals.specs.declared.Verdict.{Verdict}
 use Rattle.ranges.specs.declared.Range.{Range}
 use Rattle.ranges.specs.Forms.{starts, ends}
 use Rattle.range_entries.specs.Entries.{size}
-use Rattle.flow.specs.Entry.{Answered as Flowed, outcomeOf as flowOutcome}
-use Rattle.spread.specs.Entry.{Answered as Spread, Settled, outcomeOf as spreadOutcome}
-use Rattle.components.specs.Entry.{Answered as Components, outcomeOf as componentsOutcome}
-use Rattle.local_kinds.specs.Entry.{ReachTo, answered as kindsOutcome}
+use Rattle.flow.specs.Entry.{Answered as Flowed}
+use Rattle.spread.specs.Entry.{Answered as Spread, Settled}
+use Rattle.components.specs.Entry.{Answered as Components}
+use Rattle.local_kinds.specs.Entry.{ReachTo}
 use Rattle.carried_registers.specs.Carried.{CarriedTo, told as carriedOutcome}
-use Rattle.spill_checks.specs.Answer.{answered as spillOutcome}
 use Rattle.moved_ranges.specs.Moved.{MovedTo}
 use Rattle.spilled_registers.specs.Spilled.{SpilledTo}
-use Rattle.item_lists.specs.Lists.{answered as areasOutcome}
 use Rattle.area_entries.specs.Entry.{LocalAreas}
 use Rattle.job_space.specs.Rows.{Rows}
 use Rattle.item_areas.specs.Entry.{ItemAreas}
@@ -25,30 +23,30 @@ use Rattle.fitting.specs.Queries.{Slots}
 use Rattle.queries.specs.Shares.{counted}
 use Rattle.capping.specs.Cap.{capVerdict, capRows}
 use Rattle.apart.specs.Apart.{roomRows, loneRows}
-use Rattle.codes.specs.Codes.{codeOf, countCode, optionCode, verdictCode, Coded}
+use Rattle.codes.specs.Codes.{countCode, optionCode, verdictCode, Coded}
 use Rattle.part_codes.specs.Codes.{overOf}
 
 -- ---- over a graph
 
 abbrev pub FlowCoded : ℕ → List ℕ → List ℕ → ℕ → List ℕ → ℕ → List ℕ → List ℕ → ℕ → List ℕ → List ℕ → Type 0
 FlowCoded over blocks edges points touched words out₀ work₀ r out work =
-    Coded (λ a. codeOf (flowOutcome a)) (λ a. Flowed (overOf over) blocks edges points touched words out₀ work₀ a out work) r
+    Coded verdictCode (λ a. Flowed (overOf over) blocks edges points touched words out₀ work₀ a out work) r
 
 abbrev pub SpreadCoded : List ℕ → List ℕ → ℕ → List ℕ → List ℕ → ℕ → List ℕ → List ℕ → ℕ → List ℕ → List ℕ → Type 0
 SpreadCoded blocks edges points leaves passes words out₀ work₀ r out work =
-    Coded (λ a. codeOf (spreadOutcome a)) (λ a. Spread blocks edges points leaves passes words out₀ work₀ a out work) r
+    Coded verdictCode (λ a. Spread blocks edges points leaves passes words out₀ work₀ a out work) r
 
 abbrev pub ComponentsCoded : List ℕ → List ℕ → ℕ → List ℕ → List ℕ → ℕ → List ℕ → List ℕ → Type 0
-ComponentsCoded blocks edges points which₀ work₀ r which work = Coded (λ a. countCode (componentsOutcome a)) (λ a. Components blocks edges points which₀ work₀ a which work) r
+ComponentsCoded blocks edges points which₀ work₀ r which work = Coded (λ a. countCode (answered a)) (λ a. Components blocks edges points which₀ work₀ a which work) r
 
 abbrev pub SettlingCoded : List ℕ → List ℕ → ℕ → List ℕ → List ℕ → ℕ → List ℕ → List ℕ → Type 0
-SettlingCoded blocks edges points order₀ work₀ r order work = Coded (λ a. codeOf (spreadOutcome a)) (λ a. Settled blocks edges points order₀ work₀ a order work) r
+SettlingCoded blocks edges points order₀ work₀ r order work = Coded verdictCode (λ a. Settled blocks edges points order₀ work₀ a order work) r
 
 -- ---- carrying, moves and slots
 
 abbrev pub ReachCoded : ℕ → ℕ → List ℕ → List ℕ → List ℕ → List ℕ → List ℕ → List ℕ → List ℕ → List ℕ → List ℕ → ℕ → List ℕ → List ℕ → Type 0
 ReachCoded points v blocks insts operands crossings locals addresses ends kinds₀ work₀ r kinds work =
-    Coded (λ a. countCode (kindsOutcome a)) (λ a. ReachTo points v blocks insts operands crossings locals addresses ends kinds₀ work₀ a kinds work) r
+    Coded (λ a. countCode (answered a)) (λ a. ReachTo points v blocks insts operands crossings locals addresses ends kinds₀ work₀ a kinds work) r
 
 abbrev pub CarriedCoded : ℕ → ℕ → List ℕ → List ℕ → List ℕ → List ℕ → List ℕ → List ℕ → List ℕ → ℕ → List ℕ → List ℕ → ℕ → List ℕ → List ℕ → Type 0
 CarriedCoded points v blocks insts operands crossings locals addresses ends local registers₀ work₀ r registers work =
@@ -56,20 +54,20 @@ CarriedCoded points v blocks insts operands crossings locals addresses ends loca
 
 abbrev pub MovedCoded : ℕ → ℕ → List ℕ → List ℕ → List ℕ → List ℕ → ℕ → List ℕ → List ℕ → ℕ → List ℕ → List ℕ → Type 0
 MovedCoded points v blocks insts operands moves slot out₀ work₀ r out work =
-    Coded (λ a. countCode (spillOutcome a)) (λ a. MovedTo points v blocks insts operands moves slot out₀ work₀ a out work) r
+    Coded (λ a. countCode (answered a)) (λ a. MovedTo points v blocks insts operands moves slot out₀ work₀ a out work) r
 
 abbrev pub SpilledCoded : ℕ → ℕ → List ℕ → List ℕ → List ℕ → ℕ → List ℕ → List ℕ → Type 0
 SpilledCoded v slots assigned registers₀ work₀ r registers work =
-    Coded (λ a. countCode (spillOutcome a)) (λ a. SpilledTo v slots assigned registers₀ work₀ a registers work) r
+    Coded (λ a. countCode (answered a)) (λ a. SpilledTo v slots assigned registers₀ work₀ a registers work) r
 
 -- ---- areas
 
 abbrev pub LocalAreasCoded : List ℕ → List ℕ → ℕ → List ℕ → List ℕ → List ℕ → List ℕ → List ℕ → List ℕ → ℕ → List ℕ → List ℕ → List ℕ → Type 0
 LocalAreasCoded blocks edges points kinds touches ends areas₀ items₀ work₀ r areas items work =
-    Coded (λ a. countCode (areasOutcome a)) (λ a. LocalAreas blocks edges points kinds touches ends areas₀ items₀ work₀ a areas items work) r
+    Coded (λ a. countCode (answered a)) (λ a. LocalAreas blocks edges points kinds touches ends areas₀ items₀ work₀ a areas items work) r
 
 abbrev pub ItemAreasCoded : Rows → List ℕ → List ℕ → List ℕ → ℕ → List ℕ → List ℕ → List ℕ → Type 0
-ItemAreasCoded R areas₀ items₀ work₀ r areas items work = Coded (λ a. countCode (areasOutcome a)) (λ a. ItemAreas R areas₀ items₀ work₀ a areas items work) r
+ItemAreasCoded R areas₀ items₀ work₀ r areas items work = Coded (λ a. countCode (answered a)) (λ a. ItemAreas R areas₀ items₀ work₀ a areas items work) r
 
 -- ---- text
 

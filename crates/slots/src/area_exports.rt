@@ -28,7 +28,7 @@ pub extern "C" fn slots_item_areas(
     ensures { λ r. ⌜ ItemAreasCoded (lentRows points v blocks edges insts operands crossings locals slots addresses ends pieces assigned moves)
         (now (areas .entry)) (now (items .entry)) (now (work .entry)) r (now (areas .exit)) (now (items .exit)) (now (work .exit)) ⌝ }
 {
-    area_codes::areas_code(item_areas::item_areas(
+    codes::answer(item_areas::item_areas(
         points,
         v,
         blocks,
@@ -65,7 +65,7 @@ pub extern "C" fn slots_local_areas(
     ensures { λ r. ⌜ LocalAreasCoded (now (blocks .entry)) (now (edges .entry)) points (now (kinds .entry)) (now (touches .entry)) (now (ends .entry))
         (now (areas .entry)) (now (items .entry)) (now (work .entry)) r (now (areas .exit)) (now (items .exit)) (now (work .exit)) ⌝ }
 {
-    area_codes::areas_code(area_entries::local_areas(
+    codes::answer(area_entries::local_areas(
         blocks,
         edges,
         points,

@@ -23,7 +23,7 @@ pub extern "C" fn slots_reach(
     ensures { λ r. ⌜ ReachCoded points v (now (blocks .entry)) (now (insts .entry)) (now (operands .entry)) (now (crossings .entry)) (now (locals .entry)) (now (addresses .entry)) (now (ends .entry))
         (now (kinds .entry)) (now (work .entry)) r (now (kinds .exit)) (now (work .exit)) ⌝ }
 {
-    carry_codes::reach_code(local_kinds::reach(
+    codes::answer(local_kinds::reach(
         points,
         v,
         blocks,
@@ -90,17 +90,7 @@ pub extern "C" fn slots_moved(
     ensures { λ r. ⌜ MovedCoded points v (now (blocks .entry)) (now (insts .entry)) (now (operands .entry)) (now (moves .entry)) slot
         (now (out .entry)) (now (work .entry)) r (now (out .exit)) (now (work .exit)) ⌝ }
 {
-    carry_codes::spill_code(moved_ranges::moved(
-        points,
-        v,
-        blocks,
-        insts,
-        operands,
-        moves,
-        slot,
-        out,
-        work,
-    ))
+    codes::answer(moved_ranges::moved(points, v, blocks, insts, operands, moves, slot, out, work))
 }
 
 // `spilled_registers::spilled`.
@@ -114,13 +104,7 @@ pub extern "C" fn slots_spilled(
 ) -> u64
     ensures { λ r. ⌜ SpilledCoded v slots (now (assigned .entry)) (now (registers .entry)) (now (work .entry)) r (now (registers .exit)) (now (work .exit)) ⌝ }
 {
-    carry_codes::spill_code(spilled_registers::spilled(
-        v,
-        slots as usize,
-        assigned,
-        registers,
-        work,
-    ))
+    codes::answer(spilled_registers::spilled(v, slots as usize, assigned, registers, work))
 }
 
 // ---- W by the numbers of records

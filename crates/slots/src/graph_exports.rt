@@ -14,7 +14,7 @@ pub extern "C" fn slots_components(
 ) -> u64
     ensures { λ r. ⌜ ComponentsCoded (now (blocks .entry)) (now (edges .entry)) points (now (which .entry)) (now (work .entry)) r (now (which .exit)) (now (work .exit)) ⌝ }
 {
-    part_codes::components(components::components(blocks, edges, points, which, work))
+    codes::answer(components::components(blocks, edges, points, which, work))
 }
 
 // `spread::settling`.
@@ -28,7 +28,7 @@ pub extern "C" fn slots_settling(
 ) -> u64
     ensures { λ r. ⌜ SettlingCoded (now (blocks .entry)) (now (edges .entry)) points (now (order .entry)) (now (work .entry)) r (now (order .exit)) (now (work .exit)) ⌝ }
 {
-    part_codes::spread(spread::settling(blocks, edges, points, order, work))
+    codes::verdict(spread::settling(blocks, edges, points, order, work))
 }
 
 // W of the entries over a graph, by the numbers of blocks, of edges and of words to a row (none for components and settling).

@@ -35,7 +35,7 @@ pub extern "C" fn slots_flowed(
 ) -> u64
     ensures { λ r. ⌜ FlowCoded over (now (blocks .entry)) (now (edges .entry)) points (now (touched .entry)) words (now (out .entry)) (now (work .entry)) r (now (out .exit)) (now (work .exit)) ⌝ }
 {
-    part_codes::flowed(flow::flowed(
+    codes::verdict(flow::flowed(
         part_codes::over(over),
         blocks,
         edges,
@@ -62,7 +62,7 @@ pub extern "C" fn slots_spread(
     ensures { λ r. ⌜ SpreadCoded (now (blocks .entry)) (now (edges .entry)) points (now (leaves .entry)) (now (passes .entry)) words (now (out .entry)) (now (work .entry)) r
         (now (out .exit)) (now (work .exit)) ⌝ }
 {
-    part_codes::spread(spread::spread(blocks, edges, points, leaves, passes, words, out, work))
+    codes::verdict(spread::spread(blocks, edges, points, leaves, passes, words, out, work))
 }
 
 // `wants::fit_wants`: the plan's counts are cells, probes and depth.

@@ -23,7 +23,7 @@ use Rattle.fitting.proofs.PlanLaws.{Facts, facts}
 use Rattle.soundness.specs.Walks.{slot, Frame, Step, read, write, Uses, Legal, Alike}
 use Rattle.soundness.specs.Inner.{Separate}
 use Rattle.soundness.specs.Machine.{RunsAlike}
-use Rattle.soundness.specs.Demand.{accessBy, wantOf, wantsOf, frameOf, jobPlan, AsPrivate}
+use Rattle.soundness.specs.Demand.{accessBy, wantOf, wantsOf, frameOf, jobPlan, sizesIn, AsPrivate}
 use Rattle.soundness.proofs.Holding.{Covers, Covering, reads-alike}
 use Rattle.soundness.proofs.MachineLaws.{runs-alike}
 
@@ -102,7 +102,7 @@ any-cells J C cell D first w L = (claim, runs-alike (frameOf J) cell first w cla
 
 -- through the plan of any order that names each item once
 pub any-order : (J : Job) → Checked J → (budget : ℕ) (order : List ℕ) → Names (itemCount J) order
-    → (first : ℕ) (w : List Step) → Legal (frameOf J) first w → AsPrivate J (planOf (wantsOf J) budget order) first w
+    → (first : ℕ) (w : List Step) → Legal (frameOf J) first w → AsPrivate J (planOf (wantsOf J) budget order .cell) (sizesIn (planOf (wantsOf J) budget order)) first w
 any-order J C budget order N first w L = record {
   alike = any-cells J C _ (separate J budget order N) first w L .0;
   runs = any-cells J C _ (separate J budget order N) first w L .1;
@@ -114,5 +114,5 @@ any-order J C budget order N first w L = record {
 }
 
 -- Demand 3
-pub demand-3 : (J : Job) → Checked J → (budget first : ℕ) (w : List Step) → Legal (frameOf J) first w → AsPrivate J (jobPlan J budget) first w
+pub demand-3 : (J : Job) → Checked J → (budget first : ℕ) (w : List Step) → Legal (frameOf J) first w → AsPrivate J (jobPlan J budget .cell) (sizesIn (jobPlan J budget)) first w
 demand-3 J C budget first w L = any-order J C budget (orderOf (wantsOf J)) (job-order J) first w L

@@ -25,7 +25,7 @@ use Rattle.areas.specs.Blocks.{Graph, top, bottom, InBlock, bounds, between, cl
 use Rattle.areas.specs.Areas.{Started, Stopping, PlainAt, both, part, UpTo, EndAt, covered, arrived, PlainPoint, EndPoint}
 use Rattle.areas.proofs.BlockLaws.{seen, touched-bound, touched-between}
 use Rattle.areas.proofs.EndLaws.{until-has}
-use Rattle.soundness.specs.Walks.{Access, unfollowed, plain, ending, slot, Frame, Step, next, over, read, write, goes, emptied, source, target, moved, at, point, place, Permits, Crosses, LegalStep, Legal, Alike}
+use Rattle.soundness.specs.Walks.{Access, unfollowed, plain, ending, slot, Frame, Step, next, over, read, write, goes, emptied, edgeAt, moved, at, point, place, Permits, Crosses, LegalStep, Legal, Alike}
 use Rattle.soundness.specs.Inner.{Separate}
 use Rattle.soundness.proofs.Agreement.{Held, alike}
 
@@ -180,11 +180,11 @@ module _ (F : Frame) (first : ℕ) (w : List Step) where
       go (no d) ih = ih (omega arith) (λ l a b. f l a (omega arith)) (f n (omega arith) (omega arith) p)
 
   module _ (S : Sound (F .graph .blocks)) (B : Between (length (F .graph .blocks)) (F .graph .edges)) (L : Legal F first w) where
-    edge-in : (e : ℕ) → e < length (F .graph .edges) → Link (F .graph .edges) (source (F .graph) e) (target (F .graph) e)
+    edge-in : (e : ℕ) → e < length (F .graph .edges) → Link (F .graph .edges) (edgeAt (F .graph) e .src) (edgeAt (F .graph) e .dst)
     edge-in e h = mem-at (F .graph .edges) e (edge 0 0) h
 
-    link : (e n : ℕ) → Crosses F first w e n → Link (F .graph .edges) (place F first w n) (target (F .graph) e)
-    link e n c = subst (λ (j : ℕ). Link (F .graph .edges) j (target (F .graph) e)) (c .here) (edge-in e (c .listed))
+    link : (e n : ℕ) → Crosses F first w e n → Link (F .graph .edges) (place F first w n) (edgeAt (F .graph) e .dst)
+    link e n c = subst (λ (j : ℕ). Link (F .graph .edges) j (edgeAt (F .graph) e .dst)) (c .here) (edge-in e (c .listed))
 
     block-step : (s : Option Step) (n : ℕ) → LegalStep F first w s n → InBlock (F .graph) (place F first w n) (point F first w n)
         → InBlock (F .graph) (moved (F .graph) s (at F first w n) .place) (moved (F .graph) s (at F first w n) .point)

@@ -26,7 +26,7 @@ use Rattle.areas.specs.Job.{Job, localsOf, Checked}
 use Rattle.fitting.specs.Wants.{insert as insertItem, ordered}
 use Rattle.fitting.specs.Plan.{lowest, fit}
 use Rattle.soundness.specs.Walks.{plain, Step, next, read, write, at, mark, LegalStep, Legal, empties, private, shared, Alike}
-use Rattle.soundness.specs.Demand.{accessOf, frameOf, jobPlan, AsPrivate}
+use Rattle.soundness.specs.Demand.{accessOf, frameOf, jobPlan, sizesIn, AsPrivate}
 use Rattle.soundness.proofs.Demand.{demand-3}
 use Rattle.soundness.proofs.StarOne.{star-1-job, star-1-checked}
 
@@ -149,8 +149,8 @@ all-in-cell-0-refused A = apart (A 6 0 0 refl .1 (inl (4, lit< tt, refl, quiet))
 
 -- ---- the theorem on ★1's walks: the claim, the machine's, and the byte's place in its cell
 
-pub alike-proved : AsPrivate star-1-job (jobPlan star-1-job 1048576) 0 alike-steps
+pub alike-proved : AsPrivate star-1-job (jobPlan star-1-job 1048576 .cell) (sizesIn (jobPlan star-1-job 1048576)) 0 alike-steps
 alike-proved = demand-3 star-1-job star-1-checked 1048576 0 alike-steps alike-walk
 
-pub unalike-proved : AsPrivate star-1-job (jobPlan star-1-job 1048576) 0 unalike-steps
+pub unalike-proved : AsPrivate star-1-job (jobPlan star-1-job 1048576 .cell) (sizesIn (jobPlan star-1-job 1048576)) 0 unalike-steps
 unalike-proved = demand-3 star-1-job star-1-checked 1048576 0 unalike-steps unalike-walk

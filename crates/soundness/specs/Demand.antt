@@ -48,12 +48,15 @@ wantsOf J = tabulate (itemCount J) (wantOf J)
 abbrev pub frameOf : Job → Frame
 frameOf J = record { graph = graphOf J; items = itemCount J; access = accessOf J; size = λ i. wantOf J i .size; area = itemArea J }
 
--- the plan that a job gets
+-- the plan that a job gets, and the sizes of a plan's cells
 abbrev pub jobPlan : Job → ℕ → Plan
 jobPlan J budget = planOf (wantsOf J) budget (orderOf (wantsOf J))
 
--- demand 3 of a walk through a plan: the claim about the list, the same of the machine, and that the byte taken lies below its cell's size
-pub record AsPrivate (J : Job) (p : Plan) (first : ℕ) (w : List Step) : Type 0 where
-  pub alike : Alike (frameOf J) first w (p .cell)
-  pub runs : RunsAlike (frameOf J) (p .cell) first w
-  pub below : (n i b : ℕ) → (getElem? w n ≡ some (read i b)) ⊎ (getElem? w n ≡ some (write i b)) → b < cellAt (p .cells) (p .cell i) .size
+abbrev pub sizesIn : Plan → ℕ → ℕ
+sizesIn p c = cellAt (p .cells) c .size
+
+-- demand 3 of a walk through cells with these sizes: the claim about the list, the same of the machine, and that the byte taken lies below its cell's size
+pub record AsPrivate (J : Job) (cell size : ℕ → ℕ) (first : ℕ) (w : List Step) : Type 0 where
+  pub alike : Alike (frameOf J) first w cell
+  pub runs : RunsAlike (frameOf J) cell first w
+  pub below : (n i b : ℕ) → (getElem? w n ≡ some (read i b)) ⊎ (getElem? w n ≡ some (write i b)) → b < size (cell i)

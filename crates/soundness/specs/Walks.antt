@@ -10,7 +10,7 @@ use lib.ListN.{length, getD, getElem?}
 use lib.Dec.{eqb}
 use Rattle.ranges.specs.declared.Range.{Range}
 use Rattle.ranges.specs.Points.{Point, inside}
-use Rattle.graph.specs.Paths.{edge}
+use Rattle.graph.specs.Paths.{Edge, edge}
 use Rattle.carrying.specs.Lists.{any}
 use Rattle.areas.specs.Blocks.{Graph, top, bottom}
 
@@ -72,17 +72,14 @@ mark writes empties (suc n) = cond (writes n) (some n) (cond (empties n) none (m
 
 module _ (G : Graph) where
   -- the edge that a step names
-  abbrev pub source : ℕ → ℕ
-  source e = getD (G .edges) e (edge 0 0) .src
-
-  abbrev pub target : ℕ → ℕ
-  target e = getD (G .edges) e (edge 0 0) .dst
+  abbrev pub edgeAt : ℕ → Edge
+  edgeAt e = getD (G .edges) e (edge 0 0)
 
   -- "the block's next point or, from its last, over an edge that the step names to the first point of the block entered"
   abbrev pub moved : Option Step → Position → Position
   moved none p = p
   moved (some next) p = record { place = p .place; point = suc (p .point) }
-  moved (some (over e)) p = record { place = target e; point = top G (target e) }
+  moved (some (over e)) p = record { place = edgeAt e .dst; point = top G (edgeAt e .dst) }
   moved (some (read i b)) p = p
   moved (some (write i b)) p = p
 
@@ -119,7 +116,7 @@ module _ (F : Frame) (first : ℕ) (w : List Step) where
   -- an edge is taken from the last point of the block that it leaves
   pub record Crosses (e n : ℕ) : Type 0 where
     pub listed : e < length (F .graph .edges)
-    pub here : source (F .graph) e ≡ place n
+    pub here : edgeAt (F .graph) e .src ≡ place n
     pub last : point n ≡ bottom (F .graph) (place n)
 
   abbrev pub LegalStep : Option Step → ℕ → Type 0

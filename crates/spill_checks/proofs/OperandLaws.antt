@@ -12,7 +12,8 @@ use Rattle.words.proofs.Points.{cut}
 use Rattle.ranges.specs.declared.Range.{Range}
 use Rattle.graph.specs.Line.{Stretch}
 use Rattle.carrying.specs.Lists.{gather}
-use Rattle.carrying.specs.Insts.{Inst, instsOf, instAt, noInst}
+use Rattle.carrying.specs.Insts.{Inst, instsOf, instAt}
+use Rattle.carrying.specs.Inner.{noInst}
 use Rattle.insts.proofs.DealtLaws.{scan-same, insts-length, early-is, late-is}
 use Rattle.insts.proofs.CheckLaws.{unplaced-same}
 use Rattle.areas.specs.Slots.{Move, movesOf, position, around, covering, moved, badMove, moveAt, moveVerdict}

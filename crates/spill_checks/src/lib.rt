@@ -22,12 +22,6 @@ use words::widths::block;
 use words::widths::moving;
 use words::widths::piece;
 
-// How many answers were given, or the refusal.
-pub enum Answer {
-    Given(usize),
-    Refused(Refusal, usize),
-}
-
 // Where a move stands: at the early or the late point of an instruction, at the start or the end of a block; stray for a move that is refused.
 pub enum Position {
     Early(u32),

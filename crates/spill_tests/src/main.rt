@@ -6,7 +6,7 @@ ghost use mathlib.Core.Path.{_≡_};
 ghost use lib.ListN.{length};
 ghost use Rattle.cases.specs.Inner.{Ordered};
 use cases::Cuts;
-use spill_checks::Answer;
+use refusals::Answer;
 
 fn given(a: Answer) {
     match a {

@@ -9,7 +9,8 @@ use Rattle.refusals.specs.declared.Refusal.the-variants.{Count, Piece, Space}
 use Rattle.refusals.specs.Verdicts.{numberOf, first}
 use Rattle.refusals.specs.Orders.{Gives, Ordered}
 use Rattle.refusals.proofs.Orders.{check-gives, first-gives, scan-gives}
-use Rattle.insts.specs.Counts.{badRows, rowsVerdict, mostVerdict}
+use Rattle.insts.specs.Inner.{badRows}
+use Rattle.insts.specs.Counts.{rowsVerdict, mostVerdict}
 use Rattle.spilled_registers.specs.Spilled.{spilledCounts, spilledSpace, spilledChecks}
 use Rattle.words.specs.Widths.{assignedWidth}
 

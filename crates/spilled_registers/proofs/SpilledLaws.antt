@@ -22,7 +22,7 @@ use Rattle.insts.specs.Counts.{rowsVerdict, mostVerdict}
 use Rattle.insts.proofs.CheckLaws.{rows-few}
 use Rattle.refusals.proofs.RoomLaws.{room-answer, room-work}
 use Rattle.areas.specs.Slots.{Assigned, assignedOf, spilled, assignedVerdict}
-use Rattle.spill_checks.specs.declared.Answer.the-variants.{Given, Refused}
+use Rattle.refusals.specs.declared.Answer.the-variants.{Given, Refused}
 use Rattle.spill_checks.proofs.AssignedLaws.{next-same, next-other}
 use Rattle.spilled_registers.specs.Spilled.{spilledCounts, spilledSpace, spilledRoom, spilledVerdict, registerOr, registers, SpilledTo}
 

@@ -9,14 +9,13 @@ use lib.Dec.{ltb}
 use Rattle.refusals.specs.declared.Verdict.{Verdict}
 use Rattle.refusals.specs.declared.Refusal.the-variants.{Space}
 use Rattle.refusals.specs.Verdicts.{first, inOrder, check}
-use Rattle.refusals.specs.Outcomes.{unless, after}
+use Rattle.refusals.specs.Outcomes.{unless, after, answered}
 use Rattle.words.specs.Rows.{tabulate}
 use Rattle.words.specs.Widths.{assignedWidth, assignedCount}
 use Rattle.words.specs.Regions.{rowWords}
 use Rattle.insts.specs.Counts.{rowsVerdict, mostVerdict}
 use Rattle.areas.specs.Slots.{assignedOf, spilled, assignedVerdict}
-use Rattle.spill_checks.specs.declared.Answer.{Answer}
-use Rattle.spill_checks.specs.Answer.{answered}
+use Rattle.refusals.specs.declared.Answer.{Answer}
 
 -- number 1: "V 65,535; slots 2,048; assignments 65,536"
 unfoldable pub spilledCounts : ℕ → ℕ → List ℕ → Verdict

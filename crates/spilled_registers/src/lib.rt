@@ -6,8 +6,8 @@ ghost use Rattle.words.specs.Inner.{Region};
 ghost use Rattle.words.specs.Widths.{assignedCount};
 ghost use Rattle.areas.specs.Slots.{assignedOf, spilled};
 ghost use Rattle.spilled_registers.specs.Spilled.{registerOr, spilledCounts, spilledWords, spilledSpace, spilledVerdict, SpilledTo};
+use refusals::Answer;
 use refusals::Verdict;
-use spill_checks::Answer;
 use words::widths::assigned;
 
 // Refusal 1 of `spilled`.

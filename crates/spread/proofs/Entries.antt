@@ -42,13 +42,12 @@ use Rattle.flow.specs.Entry.{rowBit, verdictOf as rowVerdict}
 use Rattle.flow.specs.Inner.{baseOf}
 use Rattle.flow.proofs.Entries.{flowed-ordered, Known as RowsKnown, known as rows-known}
 use Rattle.spread_rows.specs.declared.Layout.{Layout}
-use Rattle.spread.specs.declared.Answer.the-variants.{Given, Refused}
 use Rattle.spread_rows.specs.Inner.{leaveBit, passBit, Laid, Arrived}
 use Rattle.spread.specs.Entry.{Turned, Settled, spreadChecks, verdictOf, Answered}
 use Rattle.spread.specs.Inner.{Prepared, Solved}
 use Rattle.spread_rows.proofs.Turns.{arrives-as}
 
-same-bad : (r : Refusal) (i : ℕ) (list work : List ℕ) (k : Refusal) (j : ℕ) → Bad r i ≡ Bad k j → Turned k j list work (Refused r i) list work
+same-bad : (r : Refusal) (i : ℕ) (list work : List ℕ) (k : Refusal) (j : ℕ) → Bad r i ≡ Bad k j → Turned k j list work (Bad r i) list work
 same-bad r i list work k j q = record { outcome = let a : r ≡ k = cc in let b : i ≡ j = cc in rw (a, b) refl; list-kept = refl; work-kept = refl }
 
 -- ---- what is computed fits
@@ -127,7 +126,7 @@ module _ (blocks edges : List ℕ) (w₀ w₁ : List ℕ) (some : 1 ≤ blockCou
 -- ---- settling
 
 pub order-refused : (blocks edges : List ℕ) (points : ℕ) (order work : List ℕ) (r : Refusal) (i : ℕ) → orderVerdict blocks edges points (length order) (length work) ≡ Bad r i
-    → Settled blocks edges points order work (Refused r i) order work
+    → Settled blocks edges points order work (Bad r i) order work
 order-refused blocks edges points order work r i e = record { answered = λ f. bad-fine (sym e ∙ f); turned-back = λ k j f. same-bad r i order work k j (sym e ∙ f) }
 
 pub small : {blocks edges : List ℕ} {at : ℕ} {w₀ w : List ℕ} → Prepared blocks edges at w₀ w → blockCount blocks ≤ 4096 → (i : ℕ) → i < blockCount blocks → getD w (at + i) 0 < 4294967296
@@ -144,7 +143,7 @@ settling-as is X = record {
 pub order-given : (blocks edges : List ℕ) (points : ℕ) (order₀ order work₀ work₁ work₂ : List ℕ) → orderVerdict blocks edges points (length order₀) (length work₀) ≡ Fine
     → 1 ≤ blockCount blocks → {at : ℕ} → Prepared blocks edges at work₀ work₁
     → Region order₀ order 0 (blockCount blocks) (λ i. getD work₁ (at + i) 0) → work₂ ≡ cleared (8 * (blockCount blocks + edgeCount edges)) work₁
-    → Settled blocks edges points order₀ work₀ Given order work₂
+    → Settled blocks edges points order₀ work₀ Fine order work₂
 order-given blocks edges points order₀ order work₀ work₁ work₂ e some P R C =
     let eight : 8 * (blockCount blocks + edgeCount edges) ≡ 8 * (blockCount blocks + edgeCount edges + 0) = omega arith in
     record {
@@ -193,7 +192,7 @@ module _ (blocks edges : List ℕ) (points leaving passing words answer work : �
       }
 
 pub rows-refused : (blocks edges : List ℕ) (points : ℕ) (leaves passes : List ℕ) (words : ℕ) (out work : List ℕ) (r : Refusal) (i : ℕ)
-    → verdictOf blocks edges points (length leaves) (length passes) words (length out) (length work) ≡ Bad r i → Answered blocks edges points leaves passes words out work (Refused r i) out work
+    → verdictOf blocks edges points (length leaves) (length passes) words (length out) (length work) ≡ Bad r i → Answered blocks edges points leaves passes words out work (Bad r i) out work
 rows-refused blocks edges points leaves passes words out work r i e = record { answered = λ f. bad-fine (sym e ∙ f); turned-back = λ k j f. same-bad r i out work k j (sym e ∙ f) }
 
 -- ---- spread: the answer
@@ -304,7 +303,7 @@ module _ (blocks edges leaves passes : List ℕ) (words : ℕ) (w₀ w₁ : List
 pub rows-given : (blocks edges : List ℕ) (points : ℕ) (leaves passes : List ℕ) (words : ℕ) (out₀ out work₀ work₁ work₂ : List ℕ)
     → verdictOf blocks edges points (length leaves) (length passes) words (length out₀) (length work₀) ≡ Fine → {at : ℕ} → Solved blocks edges leaves passes words at work₀ work₁
     → ((i : ℕ) → getD out i 0 < 2 ^ 64) → Region out₀ out 0 (length leaves) (λ i. getD work₁ (at + i) 0) → work₂ ≡ cleared (8 * (blockCount blocks + edgeCount edges + length leaves)) work₁
-    → Answered blocks edges points leaves passes words out₀ work₀ Given out work₂
+    → Answered blocks edges points leaves passes words out₀ work₀ Fine out work₂
 rows-given blocks edges points leaves passes words out₀ out work₀ work₁ work₂ e {at} S fits R C = record {
   answered = λ _. record {
     outcome = refl;

@@ -9,7 +9,7 @@ use Rattle.refusals.specs.declared.Refusal.{Refusal}
 use Rattle.refusals.specs.declared.Verdict.{Verdict}
 use Rattle.refusals.specs.declared.Verdict.the-variants.{Fine, Bad}
 use Rattle.refusals.specs.Verdicts.{numberOf, inOrder}
-use Rattle.refusals.specs.Outcomes.{Outcome, given, refused, after}
+use Rattle.refusals.specs.Outcomes.{given, refused, after, numbered}
 use Rattle.words.specs.Regions.{cleared}
 use Rattle.words.specs.Widths.{blockCount, edgeCount}
 use Rattle.bits.specs.Words.{rowsOf}
@@ -19,30 +19,23 @@ use Rattle.graph.specs.Checks.{rowsVerdict, spaceOf}
 use Rattle.components.specs.Entry.{edgesIn, verdictOf as orderVerdict}
 use Rattle.flow.specs.Entry.{rowBit, flowedChecks}
 use Rattle.postorder.specs.Settling.{Settling}
-use Rattle.spread.specs.declared.Answer.{Answer}
-use Rattle.spread.specs.declared.Answer.the-variants.{Given, Refused}
-
--- the answer by document 01's numbers
-abbrev pub outcomeOf : Answer → Outcome (Unit {0})
-outcomeOf Given = given tt
-outcomeOf (Refused r i) = refused (numberOf r) i
 
 -- a refusal: the lists as they were
-pub record Turned (k : Refusal) (i : ℕ) (list₀ work₀ : List ℕ) (r : Answer) (list work : List ℕ) : Type 0 where
-  pub outcome : outcomeOf r ≡ refused (numberOf k) i
+pub record Turned (k : Refusal) (i : ℕ) (list₀ work₀ : List ℕ) (r : Verdict) (list work : List ℕ) : Type 0 where
+  pub outcome : numbered r ≡ refused (numberOf k) i
   pub list-kept : list ≡ list₀
   pub work-kept : work ≡ work₀
 
 -- ---- settling
 
-pub record Ordered (blocks edges order₀ work₀ : List ℕ) (r : Answer) (order work : List ℕ) : Type 0 where
-  pub outcome : outcomeOf r ≡ given tt
+pub record Ordered (blocks edges order₀ work₀ : List ℕ) (r : Verdict) (order work : List ℕ) : Type 0 where
+  pub outcome : numbered r ≡ given tt
   pub settling : Settling (edgesIn blocks edges) (blockCount blocks) (λ i. getD order i 0)
   pub length-kept : length order ≡ length order₀
   pub past : (i : ℕ) → blockCount blocks ≤ i → getD order i 0 ≡ getD order₀ i 0
   pub work-cleared : work ≡ cleared (spaceOf (blockCount blocks) (edgeCount edges) 0) work₀
 
-pub record Settled (blocks edges : List ℕ) (points : ℕ) (order₀ work₀ : List ℕ) (r : Answer) (order work : List ℕ) : Type 0 where
+pub record Settled (blocks edges : List ℕ) (points : ℕ) (order₀ work₀ : List ℕ) (r : Verdict) (order work : List ℕ) : Type 0 where
   pub answered : orderVerdict blocks edges points (length order₀) (length work₀) ≡ Fine → Ordered blocks edges order₀ work₀ r order work
   pub turned-back : (k : Refusal) (i : ℕ) → orderVerdict blocks edges points (length order₀) (length work₀) ≡ Bad k i → Turned k i order₀ work₀ r order work
 
@@ -61,13 +54,13 @@ spreadRows blocks edges leaves passes words =
     rowsOf (blockCount blocks) words (λ v b. arrivingRow (blockCount blocks) (edgesIn blocks edges) (λ k. rowBit leaves words k b) (λ k. rowBit passes words k b) v)
 
 -- the whole answer list by the definition, and its bits by paths
-pub record Filled (blocks edges leaves passes : List ℕ) (words : ℕ) (out₀ work₀ : List ℕ) (r : Answer) (out work : List ℕ) : Type 0 where
-  pub outcome : outcomeOf r ≡ given tt
-  pub in-out : out ≡ after (outcomeOf r) (λ _. spreadRows blocks edges leaves passes words) out₀
+pub record Filled (blocks edges leaves passes : List ℕ) (words : ℕ) (out₀ work₀ : List ℕ) (r : Verdict) (out work : List ℕ) : Type 0 where
+  pub outcome : numbered r ≡ given tt
+  pub in-out : out ≡ after (numbered r) (λ _. spreadRows blocks edges leaves passes words) out₀
   pub bits : (v b : ℕ) → v < blockCount blocks → b < words * 64
       → (rowBit out words v b ≡ true) ↔ Arrives (edgesIn blocks edges) (λ k. rowBit leaves words k b) (λ k. rowBit passes words k b) v
   pub work-cleared : work ≡ cleared (spaceOf (blockCount blocks) (edgeCount edges) (blockCount blocks * words)) work₀
 
-pub record Answered (blocks edges : List ℕ) (points : ℕ) (leaves passes : List ℕ) (words : ℕ) (out₀ work₀ : List ℕ) (r : Answer) (out work : List ℕ) : Type 0 where
+pub record Answered (blocks edges : List ℕ) (points : ℕ) (leaves passes : List ℕ) (words : ℕ) (out₀ work₀ : List ℕ) (r : Verdict) (out work : List ℕ) : Type 0 where
   pub answered : verdictOf blocks edges points (length leaves) (length passes) words (length out₀) (length work₀) ≡ Fine → Filled blocks edges leaves passes words out₀ work₀ r out work
   pub turned-back : (k : Refusal) (i : ℕ) → verdictOf blocks edges points (length leaves) (length passes) words (length out₀) (length work₀) ≡ Bad k i → Turned k i out₀ work₀ r out work

@@ -13,12 +13,6 @@ use spread_rows::Layout;
 use words::widths::block;
 use words::widths::edge;
 
-// The answer is in the answer list, or a refusal with the index of the first offending record.
-pub enum Answer {
-    Given,
-    Refused(Refusal, usize),
-}
-
 // The successors' rows of a graph that was checked, and behind them the order of the places and their ranks. Where the order begins.
 fn prepare(blocks: &[u32], edges: &[u32], work: &mut [u64]) -> usize
     requires { ⌜ Sound (blocksOf (now blocks)) × (edgeVerdict (blocksOf (now blocks)) (jumpsOf (now edges)) ≡ Fine) ⌝ }
@@ -42,12 +36,12 @@ pub fn settling(
     points: u32,
     order: &mut [u32],
     work: &mut [u64],
-) -> Answer
+) -> Verdict
     ensures { λ r. ⌜ Settled (now (blocks .entry)) (now (edges .entry)) points (now (order .entry)) (now (work .entry)) r (now (order .exit)) (now (work .exit)) ⌝ }
 {
     let v = components::refusal(blocks, edges, points, order.len(), work.len());
     if let Verdict::Bad(r, i) = v {
-        return Answer::Refused(r, i);
+        return Verdict::Bad(r, i);
     }
     let at = prepare(blocks, edges, work);
     words::narrow(order, 0, work, at, blocks.len() / block::WIDTH);
@@ -55,7 +49,7 @@ pub fn settling(
         work,
         8 * (blocks.len() / block::WIDTH + edges.len() / edge::WIDTH),
     );
-    Answer::Given
+    Verdict::Fine
 }
 
 fn refusal(
@@ -128,7 +122,7 @@ pub fn spread(
     words: usize,
     out: &mut [u64],
     work: &mut [u64],
-) -> Answer
+) -> Verdict
     ensures { λ r. ⌜ Answered (now (blocks .entry)) (now (edges .entry)) points (now (leaves .entry)) (now (passes .entry)) words (now (out .entry)) (now (work .entry)) r
         (now (out .exit)) (now (work .exit)) ⌝ }
 {
@@ -143,7 +137,7 @@ pub fn spread(
         work.len(),
     );
     if let Verdict::Bad(r, i) = v {
-        return Answer::Refused(r, i);
+        return Verdict::Bad(r, i);
     }
     let at = solve(blocks, edges, leaves, passes, words, work);
     words::copy_from(out, 0, work, at, leaves.len());
@@ -151,5 +145,5 @@ pub fn spread(
         work,
         8 * (blocks.len() / block::WIDTH + edges.len() / edge::WIDTH + leaves.len()),
     );
-    Answer::Given
+    Verdict::Fine
 }

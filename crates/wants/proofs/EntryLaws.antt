@@ -23,9 +23,9 @@ use Rattle.fit_tables.specs.Inner.{sizeOf, alignOf, cellTable, homeTable, wantI
 use Rattle.fit_tables.specs.declared.Counts.{Counts}
 use Rattle.fit_tables.specs.declared.Tables.{Tables}
 use Rattle.wants.specs.declared.Fitted.the-variants.{Plan as Planned, Refused}
-use Rattle.wants.specs.Entry.{wantsOf, planFor, tallied, cellRow, cellRows, itemRows, FittedAlone}
+use Rattle.wants.specs.Entry.{wantsOf, planFor, tallied, cellRows, itemRows, FittedAlone}
+use Rattle.wants.specs.Inner.{cellRow, tablesFor, Answered}
 use Rattle.fit_tables.specs.WantTables.{itemRow}
-use Rattle.wants.specs.Inner.{tablesFor, Answered}
 use Rattle.fit_tables.proofs.WantLaws.{item-wide}
 use Rattle.words.proofs.FlatLaws.{flat-length}
 use Rattle.words.proofs.RegionLaws.{drop-same}

@@ -14,8 +14,7 @@ use Rattle.refusals.specs.declared.Verdict.{Verdict}
 use Rattle.refusals.specs.declared.Verdict.the-variants.{Fine}
 use Rattle.refusals.specs.Outcomes.{Outcome, given, refused, unless, after}
 use Rattle.words.specs.Rows.{field, tabulate, flat}
-use Rattle.words.specs.Widths.{cellWidth, cellSize, cellAlign, itemWidth, itemCell, itemPresent, itemFirst, itemRanges, rangeWidth, rangeCount, wantWidth, wantCount, wantPresent, wantFirst}
-use Rattle.words.specs.Widths.{wantRanges}
+use Rattle.words.specs.Widths.{cellWidth, cellSize, cellAlign, itemWidth, itemCell, itemPresent, itemFirst, itemRanges, rangeWidth, rangeCount, wantWidth, wantCount, wantPresent, wantFirst, wantRanges}
 use Rattle.words.proofs.RowLaws.{length-records, getD-records}
 use Rattle.words.proofs.FlatLaws.{flat-length, flat-at}
 use Rattle.fitting.specs.Wants.{Want, wantAt, orderOf}
@@ -33,7 +32,8 @@ use Rattle.want_checks.proofs.PartLaws.{part-fine, areas-length}
 use Rattle.fit_tables.specs.WantTables.{itemRow}
 use Rattle.fit_tables.proofs.WantLaws.{item-wide, row-absent, row-present}
 use Rattle.wants.specs.declared.Fitted.the-variants.{Plan as Planned}
-use Rattle.wants.specs.Entry.{wantsOf, planFor, outcome, Tally, tallied, tallyOf, cellRow, cellRows, itemRows, FittedAlone}
+use Rattle.wants.specs.Entry.{wantsOf, planFor, outcome, Tally, tallied, tallyOf, cellRows, itemRows, FittedAlone}
+use Rattle.wants.specs.Inner.{cellRow}
 use Rattle.wants.proofs.EntryLaws.{rows-cells}
 use Rattle.wants.proofs.TallyLaws.{not-refused}
 

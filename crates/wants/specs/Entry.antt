@@ -49,11 +49,8 @@ tallyOf (given p) = given (tallied p)
 tallyOf (refused n i) = refused n i
 
 -- cells 2 numbers: size, align
-abbrev pub cellRow : Cell → List ℕ
-cellRow c = c .size ∷ c .align ∷ []
-
 abbrev pub cellRows : Plan → List ℕ
-cellRows p = flat (map cellRow (p .cells))
+cellRows p = flat (map (λ (c : Cell). c .size ∷ c .align ∷ []) (p .cells))
 
 -- a row of each item
 abbrev pub itemRows : List ℕ → Plan → List ℕ

@@ -1,9 +1,9 @@
 -- What the entry's functions promise each other.
 use Prim.Native.Nat.{ℕ, _+_, _*_}
 use mathlib.Core.Path.{_≡_}
-use mathlib.Core.List.{List}
+use mathlib.Core.List.{List, [], _∷_}
 use Rattle.refusals.specs.Outcomes.{given, after}
-use Rattle.fitting.specs.Plan.{Plan}
+use Rattle.fitting.specs.Plan.{Plan, Cell}
 use Rattle.words.specs.Widths.{rangeCount, wantCount}
 use Rattle.fit_tables.specs.declared.Counts.{Counts}
 use Rattle.fit_tables.specs.declared.Tables.{Tables}
@@ -20,3 +20,7 @@ pub record Answered (wants areas : List ℕ) (p : Plan) (cells items work : List
   pub in-cells : cells′ ≡ after (given p) cellRows cells
   pub in-items : items′ ≡ after (given p) (itemRows wants) items
   pub in-work : work′ ≡ zeroed (given p) (spaceOf wants areas) work
+
+-- the row of a cell
+abbrev pub cellRow : Cell → List ℕ
+cellRow c = c .size ∷ c .align ∷ []

@@ -25,7 +25,8 @@ use Rattle.local_spots.specs.Locals.{touchesFor, endsFor}
 use Rattle.local_spots.specs.Inner.{Laid, Chains}
 use Rattle.area_measure.specs.declared.Listing.{Listing}
 use Rattle.area_measure.specs.Inner.Measure.{itemWord, RowsFor}
-use Rattle.area_measure.specs.Locals.{listed, areaFor}
+use Rattle.ranges.specs.Points.{listed}
+use Rattle.area_measure.specs.Locals.{areaFor}
 
 -- where local l's rows stand, and the words that its area is made in
 abbrev pub localAt : Grid → ℕ → ℕ → ℕ → Local

@@ -81,7 +81,7 @@ returns-2 : tie.Need-returns-2
 returns-2 c =
     let s = c .before .before .before .before .before .before .before .before .before .before .before .before .before .before .before .before .before .before in
     let a = (s .args) in
-    next-done (now (a .blocks)) (now (a .kinds)) (now (a .touches)) (now (a .ends)) (a .p) (a .g) (a .mark) (a .o) (a .l) (a .total) (s .pre .0 .1) (s .pre .1 .0) (omega arith)
+    next-done (now (a .blocks)) (now (a .kinds)) (now (a .touches)) (now (a .ends)) (a .p) (a .g) (a .mark) (a .o) (a .l) (a .total) (s .pre .0 .1) (s .pre .1 .0) (omega (arith, c .before .before .before .before .before .before .before .before .before .before .before .if1))
     (s .pre .1 .1) (c .before .before .before .before .before .before .fetch .ensures) (c .before .before .measure-one .ensures)
 
 same-length-2 : tie.Need-same-length-2

@@ -6,8 +6,8 @@ use Rattle.slots.proofs.area_exports.slots_local_areas.Tie as tie
 local-areas-requires : tie.Need-local-areas-requires
 local-areas-requires c κs = search needs
 
-areas-code-requires : tie.Need-areas-code-requires
-areas-code-requires c κs = search needs
+answer-requires : tie.Need-answer-requires
+answer-requires c κs = search needs
 
 same-length : tie.Need-same-length
 same-length c = search needs
@@ -21,7 +21,7 @@ same-length-3 c = search needs
 returns : tie.Need-returns
 returns c =
     let s = c .before .before .before .before .before .before .before in
-    record { told = s .local-areas .result; answer = c .areas-code .ensures; holds = s .local-areas .ensures }
+    record { told = s .local-areas .result; answer = c .answer .ensures; holds = s .local-areas .ensures }
 
 pub slots-local-areas-spec : {M : Type 1} → statement M
-slots-local-areas-spec = tie.close (tie.spec local-areas-requires areas-code-requires same-length same-length-2 same-length-3 returns)
+slots-local-areas-spec = tie.close (tie.spec local-areas-requires answer-requires same-length same-length-2 same-length-3 returns)

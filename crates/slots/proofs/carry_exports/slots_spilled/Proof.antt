@@ -6,8 +6,8 @@ use Rattle.slots.proofs.carry_exports.slots_spilled.Tie as tie
 spilled-requires : tie.Need-spilled-requires
 spilled-requires c κs = search needs
 
-spill-code-requires : tie.Need-spill-code-requires
-spill-code-requires c κs = search needs
+answer-requires : tie.Need-answer-requires
+answer-requires c κs = search needs
 
 same-length : tie.Need-same-length
 same-length c = search needs
@@ -18,7 +18,7 @@ same-length-2 c = search needs
 returns : tie.Need-returns
 returns c =
     let s = c .before .before .before .before .before in
-    record { told = s .spilled .result; answer = c .spill-code .ensures; holds = s .spilled .ensures }
+    record { told = s .spilled .result; answer = c .answer .ensures; holds = s .spilled .ensures }
 
 pub slots-spilled-spec : {M : Type 1} → statement M
-slots-spilled-spec = tie.close (tie.spec spilled-requires spill-code-requires same-length same-length-2 returns)
+slots-spilled-spec = tie.close (tie.spec spilled-requires answer-requires same-length same-length-2 returns)

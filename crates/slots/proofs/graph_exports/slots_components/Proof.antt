@@ -6,8 +6,8 @@ use Rattle.slots.proofs.graph_exports.slots_components.Tie as tie
 components-requires : tie.Need-components-requires
 components-requires c κs = search needs
 
-components-requires-2 : tie.Need-components-requires-2
-components-requires-2 c κs = search needs
+answer-requires : tie.Need-answer-requires
+answer-requires c κs = search needs
 
 same-length : tie.Need-same-length
 same-length c = search needs
@@ -18,7 +18,7 @@ same-length-2 c = search needs
 returns : tie.Need-returns
 returns c =
     let s = c .before .before .before .before .before in
-    record { told = s .components .result; answer = c .components2 .ensures; holds = s .components .ensures }
+    record { told = s .components .result; answer = c .answer .ensures; holds = s .components .ensures }
 
 pub slots-components-spec : {M : Type 1} → statement M
-slots-components-spec = tie.close (tie.spec components-requires components-requires-2 same-length same-length-2 returns)
+slots-components-spec = tie.close (tie.spec components-requires answer-requires same-length same-length-2 returns)

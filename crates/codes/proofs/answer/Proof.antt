@@ -1,7 +1,7 @@
--- `reach_code` meets its contract.
+-- `codes::answer` meets its contract.
 use borrow.Author.Needs.{needs}
-use Rattle.carry_codes.proofs.reach_code.Statement.{statement}
-use Rattle.carry_codes.proofs.reach_code.Tie as tie
+use Rattle.codes.proofs.answer.Statement.{statement}
+use Rattle.codes.proofs.answer.Tie as tie
 
 enum-known-a : tie.Need-enum-known-a
 enum-known-a c = search needs
@@ -18,5 +18,5 @@ returns c = search needs
 returns-2 : tie.Need-returns-2
 returns-2 c = rw ((c .before .before .a2) .given .1) ((c .refused) .ensures)
 
-pub reach-code-spec : {M : Type 1} → statement M
-reach-code-spec = tie.close (tie.spec enum-known-a enum-known-a-2 refused-requires returns returns-2)
+pub answer-spec : {M : Type 1} → statement M
+answer-spec = tie.close (tie.spec enum-known-a enum-known-a-2 refused-requires returns returns-2)
