@@ -10,6 +10,9 @@ mod entries;
 mod fits;
 mod functions;
 mod graphs;
+#[allow(dead_code)]
+#[path = "../../tests/compare/src/job.rs"]
+mod job;
 mod jobs;
 #[allow(dead_code)]
 #[path = "../../tests/compare/src/spills.rs"]
