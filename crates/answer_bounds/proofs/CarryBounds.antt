@@ -1,9 +1,9 @@
 -- Carrying, moves and slots: the index of each refusal fits its 32 bits, and so does each count.
 use Prim.Native.Nat.{ℕ, _+_, _*_, _%_, _^_, _≤_, _<_}
 use native.Mathlib.Omega.{arith}
-use mathlib.Core.Path.{_≡_, ap}
+use mathlib.Core.Path.{_≡_}
 use mathlib.Core.Bool.{Bool, true, false, cond, not, _||_}
-use mathlib.Core.Option.{Option, some, none, Option·none-ne-some, Option·some-injective}
+use mathlib.Core.Option.{some, none, Option·none-ne-some, Option·some-injective}
 use mathlib.Core.List.{List, [], _∷_, _++_}
 use lib.ListN.{length, length-append}
 use lib.Dec.{eqb, ltb}
@@ -16,7 +16,7 @@ use Rattle.words.proofs.RowLaws.{length-records}
 use Rattle.ranges.specs.declared.Range.{Range}
 use Rattle.graph.specs.Line.{Stretch, blocksOf}
 use Rattle.graph.proofs.Line.{blocks-length}
-use Rattle.carrying.specs.Lists.{gather, below}
+use Rattle.carrying.specs.Lists.{gather}
 use Rattle.carrying.specs.Insts.{Inst, instsOf}
 use Rattle.carrying.specs.Carried.{Code, mentionsOf, carried}
 use Rattle.insts.specs.Counts.{mostVerdict}

@@ -4,7 +4,7 @@ use native.Mathlib.Omega.{arith}
 use mathlib.Core.Path.{_≡_, refl, ap, sym, subst, _∙_}
 use mathlib.Core.Bool.{Bool, cond}
 use mathlib.Core.Option.{some, none}
-use mathlib.Core.List.{List, [], _∷_, _++_}
+use mathlib.Core.List.{List, _++_}
 use lib.ListN.{length, getD, take, drop}
 use lib.Seq.{take-at}
 use borrow.Author.Tests.{eq-eqb}
@@ -16,10 +16,9 @@ use Rattle.words.specs.Rows.{field, tabulate}
 use Rattle.words.specs.Widths.{localCount, cellWidth, cellSize, cellAlign, itemWidth, itemPresent, itemFirst, itemRanges, rangeWidth, rangeCount, slotCount}
 use Rattle.words.proofs.RowLaws.{length-tabulate}
 use Rattle.words.proofs.FlatLaws.{flat-length, flat-at}
-use Rattle.fitting.specs.Queries.{Room, Item, Slots, areasOf, partOf, apart}
+use Rattle.fitting.specs.Queries.{Room, Item, Slots, areasOf, apart}
 use Rattle.queries.specs.Seen.{PlanSeen}
 use Rattle.queries.proofs.SeenLaws.{RowsHold, planBy, plan-seen}
-use Rattle.capping.specs.Cap.{roomRow}
 use Rattle.apart.specs.Apart.{localsOf, widthsOf, apartVerdict, roomRows, loneRows, apartOf, ApartBy}
 use Rattle.apart.specs.Inner.{ownCell, ownCells, ownItems}
 use Rattle.apart.proofs.ApartLaws.{apart-passed, localAt, slotAt, widths-are, roomAt, rooms-are, row-is, cells-are, items-are, lone, cell-wide}

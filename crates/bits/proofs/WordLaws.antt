@@ -10,7 +10,7 @@ use lib.ListN.{length, getD, take, drop, take-append-drop, length-drop}
 use lib.Seq.{ext-getD, getD-drop, take-add, drop-drop}
 use Rattle.words.specs.Rows.{tabulate, flat}
 use Rattle.words.specs.Inner.{part}
-use Rattle.words.proofs.RowLaws.{length-tabulate, getD-tabulate, tabulate-eq}
+use Rattle.words.proofs.RowLaws.{length-tabulate, getD-tabulate}
 use Rattle.words.proofs.RegionLaws.{part-is, length-part}
 use Rattle.words.proofs.FlatLaws.{flat-at}
 use Rattle.bits.specs.Bits.{bitOf, bit}

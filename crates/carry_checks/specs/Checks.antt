@@ -1,11 +1,8 @@
 -- What the entries of carrying refuse: numbers 1, 2, 4, 5 and 7, and W.
 use Prim.Native.Nat.{ℕ, _+_, _*_}
-use mathlib.Core.Bool.{_||_}
 use mathlib.Core.List.{List, [], _∷_}
 use lib.ListN.{length}
-use lib.Dec.{ltb}
 use Rattle.refusals.specs.declared.Verdict.{Verdict}
-use Rattle.refusals.specs.declared.Refusal.the-variants.{Space}
 use Rattle.refusals.specs.Verdicts.{first, inOrder, roomVerdict}
 use Rattle.words.specs.Widths.{blockCount, instCount, operandCount, localCount, addressCount, endCount}
 use Rattle.words.specs.Regions.{rowWords}

@@ -1,6 +1,6 @@
 // Answers in one number, for C and Rust: below 2 to the 32 an answer, or a refusal's number times 2 to the 32 plus its index, or that there is none.
 ghost use mathlib.Core.Path.{_≡_};
-ghost use mathlib.Core.List.{[], _∷_};
+ghost use mathlib.Core.List.{_∷_};
 ghost use Prim.Native.Nat.{_≤_};
 ghost use lib.ListN.{length, drop};
 ghost use Rattle.refusals.specs.Verdicts.{numberOf};

@@ -1,5 +1,5 @@
 -- Laws of the rows, of names in bars and of colours.
-use Prim.Native.Nat.{ℕ, _+_, _-_, _*_, _/_, _%_, _^_, _≤_, _<_}
+use Prim.Native.Nat.{ℕ, _+_, _*_, _/_, _%_, _^_, _≤_, _<_}
 use native.Mathlib.Omega.{arith}
 use native.Mathlib.Nat.{le-div-iff-mul-le, le-refl, mul-comm, zero-mul, pow-succ'}
 use native.Mathlib.Numerals.{add-one}

@@ -1,5 +1,5 @@
 -- Demand 3 of the exported job: where `slots_share` answers with no refusal's code, every walk reads through the cells that it wrote as through private ones.
-use Prim.Native.Nat.{ℕ, _/_, _^_, _<_}
+use Prim.Native.Nat.{ℕ, _^_, _<_}
 use native.Mathlib.Omega.{arith}
 use mathlib.Core.Path.{_≡_, refl, ap, sym, _∙_}
 use mathlib.Core.List.{List}

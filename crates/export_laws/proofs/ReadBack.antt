@@ -1,5 +1,5 @@
 -- What a caller reads in a code, by the promise of each exported function: an answer below 2 to the 32, or the refusal's number and its whole index.
-use Prim.Native.Nat.{ℕ, _^_, _<_}
+use Prim.Native.Nat.{ℕ}
 use native.Mathlib.Omega.{arith}
 use mathlib.Core.Path.{_≡_, refl, sym, ap, subst, _∙_}
 use mathlib.Core.Logic.{inl, inr}

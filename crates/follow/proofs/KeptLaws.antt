@@ -1,8 +1,7 @@
 -- The preparation makes all locals ready, and they stay so while only the queue changes.
-use Prim.Native.Nat.{ℕ, _+_, _-_, _*_, _^_, _≤_, _<_}
+use Prim.Native.Nat.{ℕ, _+_, _*_, _^_, _≤_, _<_}
 use native.Mathlib.Omega.{arith}
 use mathlib.Core.Path.{_≡_, sym, ap, _∙_}
-use mathlib.Core.Logic.{_≢_}
 use mathlib.Core.Bool.{false, true≢false}
 use mathlib.Core.Option.{Option, some, none}
 use mathlib.Core.List.{List}

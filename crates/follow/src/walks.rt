@@ -2,7 +2,7 @@
 ghost use mathlib.Core.Path.{_≡_};
 ghost use mathlib.Core.Bool.{not, _&&_, _||_};
 ghost use Prim.Native.Nat.{_+_, _-_, _/_, _<_};
-ghost use lib.ListN.{length, set};
+ghost use lib.ListN.{set};
 ghost use Rattle.queue.specs.Inner.{defAt, Held};
 ghost use Rattle.follow.specs.Inner.{kindBy, Ready, FollowsAny, Walkable, Grown, Chain, Took, Began, registerAt, Stepped, Walked, Unseen, Forgetting};
 ghost use Rattle.words.specs.Widths.{instCount};

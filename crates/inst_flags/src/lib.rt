@@ -1,8 +1,7 @@
 // What the flags of an instruction say, by its row: whether it reads, and whether it hands an address on.
 ghost use mathlib.Core.Path.{_≡_};
 ghost use mathlib.Core.Bool.{not, _&&_};
-ghost use Prim.Native.Nat.{_/_, _<_};
-ghost use lib.ListN.{length};
+ghost use Prim.Native.Nat.{_<_};
 ghost use Rattle.words.specs.Widths.{instCount};
 ghost use Rattle.words.specs.Inner.{instPlaced, instLea, instMem};
 ghost use Rattle.carrying.specs.Insts.{isSet};

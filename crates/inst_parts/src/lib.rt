@@ -2,7 +2,6 @@
 ghost use mathlib.Core.Path.{_≡_};
 ghost use mathlib.Core.Bool.{_||_};
 ghost use Prim.Native.Nat.{_/_, _≤_, _<_};
-ghost use lib.ListN.{length};
 ghost use lib.Dec.{leb, ltb};
 ghost use Rattle.words.specs.Inner.{Splits, operandDef, operandRegister};
 ghost use Rattle.words.specs.Widths.{blockCount, blockStart, operandCount};

@@ -1,7 +1,6 @@
 // Refusal 1: a count outside its limits, a row cut short, or operand counts that do not add up.
 ghost use mathlib.Core.Path.{_≡_};
 ghost use Prim.Native.Nat.{_/_, _≤_, _<_};
-ghost use lib.ListN.{length};
 ghost use Rattle.insts.specs.Counts.{rowsVerdict, mostVerdict, blockCounts, offset, addUp, instCounts, codeCounts};
 ghost use Rattle.words.specs.Widths.{instCount};
 use refusals::Refusal;

@@ -1,7 +1,7 @@
 -- What each way out of the checks comes to, and what is left where none refuses.
 use Prim.Native.Nat.{ℕ, _+_, _*_, _/_, _≤_, _<_}
 use native.Mathlib.Omega.{arith}
-use mathlib.Core.Path.{_≡_, sym, ap, _∙_}
+use mathlib.Core.Path.{_≡_, ap, _∙_}
 use mathlib.Core.Bool.{_||_}
 use mathlib.Core.List.{List}
 use lib.ListN.{length}
@@ -12,16 +12,15 @@ use Rattle.refusals.specs.declared.Verdict.{Verdict}
 use Rattle.refusals.specs.declared.Verdict.the-variants.{Fine, Bad}
 use Rattle.refusals.specs.declared.Refusal.{Refusal}
 use Rattle.refusals.specs.declared.Refusal.the-variants.{Space}
-use Rattle.refusals.proofs.Laws.{first-fine, first-bad, first-left, first-right, check-told}
+use Rattle.refusals.proofs.Laws.{check-told}
 use Rattle.insts.specs.Counts.{rowsVerdict}
 use Rattle.job_space.specs.declared.Sizes.{Sizes}
-use Rattle.job_space.specs.Space.{sizesOf, spaceOf, Small}
+use Rattle.job_space.specs.Space.{sizesOf, spaceOf}
 use Rattle.job_checks.proofs.CheckLaws.{placedOf, by-own, by-counts as records-counts, by-placed as records-placed, by-space as records-space, lent-passed, lent-space}
 use Rattle.job_areas.specs.Inner.{Lent}
 use Rattle.item_areas.specs.Entry.{spaceVerdict, lentVerdict}
 use Rattle.job_space.specs.Rows.{Rows}
 use Rattle.job_checks.specs.Job.{countVerdict}
-use Rattle.areas.specs.Job.{checks}
 use Rattle.words.specs.Widths.{partWidth}
 
 -- ---- number 7

@@ -1,7 +1,7 @@
 -- What each way out of the checks comes to, and what is left where none refuses.
 use Prim.Native.Nat.{ℕ, _+_, _*_, _/_, _%_, _≤_, _<_}
 use native.Mathlib.Omega.{arith}
-use mathlib.Core.Path.{_≡_, sym, ap, _∙_}
+use mathlib.Core.Path.{_≡_, ap, _∙_}
 use mathlib.Core.Bool.{true, false, _||_}
 use mathlib.Core.List.{List}
 use lib.ListN.{length}
@@ -13,9 +13,9 @@ use Rattle.refusals.specs.declared.Verdict.the-variants.{Fine, Bad}
 use Rattle.refusals.specs.declared.Refusal.{Refusal}
 use Rattle.refusals.specs.declared.Refusal.the-variants.{Count, Space}
 use Rattle.refusals.specs.Verdicts.{check}
-use Rattle.refusals.proofs.Laws.{first-fine, first-bad, first-left, first-right, check-told}
+use Rattle.refusals.proofs.Laws.{check-told}
 use Rattle.job_space.specs.declared.Sizes.{Sizes}
-use Rattle.job_space.specs.Space.{sizesOf, spaceOf, Small, badShape}
+use Rattle.job_space.specs.Space.{sizesOf, spaceOf, badShape}
 use Rattle.job_checks.specs.Job.{countVerdict}
 use Rattle.job_checks.proofs.CheckLaws.{whole-areas, placedOf, by-own, by-counts as records-counts, by-placed as records-placed, by-space as records-space, lent-counted, lent-passed, lent-space}
 use Rattle.job_areas.specs.Inner.{Lent}
@@ -23,7 +23,6 @@ use Rattle.job.specs.Inner.{spaceVerdict}
 use Rattle.job.specs.Entry.{lentVerdict}
 use Rattle.job_space.specs.Rows.{Rows}
 use Rattle.fitting.specs.declared.Terms.{Terms}
-use Rattle.areas.specs.Job.{checks}
 use Rattle.words.specs.Widths.{cellWidth, itemWidth, rangeWidth}
 
 -- ---- number 7

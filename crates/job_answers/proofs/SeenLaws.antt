@@ -2,10 +2,9 @@
 use Prim.Native.Nat.{ℕ, suc, _+_, _-_, _*_, _%_, _≤_, _<_}
 use native.Mathlib.Omega.{arith}
 use mathlib.Core.Path.{_≡_, refl, sym, ap, _∙_}
-use mathlib.Core.Bool.{Bool, cond}
 use mathlib.Core.Option.{Option, some, none}
-use mathlib.Core.List.{List, [], _∷_, _++_}
-use lib.ListN.{length, getD, take, drop, length-append, List·getD-append}
+use mathlib.Core.List.{List, _∷_, _++_}
+use lib.ListN.{length, getD, length-append, List·getD-append}
 use Rattle.words.specs.Rows.{field, tabulate, flat}
 use Rattle.words.specs.Widths.{itemWidth, itemCell, itemPresent, itemFirst, itemRanges, rangeWidth, rangeCount}
 use Rattle.words.proofs.FlatLaws.{flat-length, flat-at}

@@ -9,7 +9,6 @@ use Rattle.carrying.specs.Carried.{piecesOf}
 use Rattle.carrying.specs.Checks.{instVerdict, crossingVerdict}
 use Rattle.areas.specs.Slots.{assignedOf, movesOf, moveVerdict, pieceVerdict, assignedVerdict}
 use Rattle.carry_checks.specs.Inner.{strayVerdict as mentionVerdict}
-use Rattle.areas.specs.Job.{checks}
 
 -- numbers 2, 3 and 4 of the blocks, the edges and the instructions
 abbrev pub placeVerdict : ℕ → ℕ → List ℕ → List ℕ → List ℕ → List ℕ → Verdict

@@ -14,7 +14,7 @@ use Rattle.carrying.specs.Insts.{instsOf}
 use Rattle.carrying.specs.Carried.{piecesOf}
 use Rattle.carrying.specs.Checks.{instVerdict}
 use Rattle.areas.specs.Slots.{assignedOf, movesOf, moveVerdict, pieceVerdict, assignedVerdict}
-use Rattle.areas.specs.Job.{Job, localsOf, Checked, checks}
+use Rattle.areas.specs.Job.{Job, localsOf, Checked}
 use Rattle.insts.specs.Counts.{rowsVerdict, mostVerdict}
 use Rattle.insts.specs.Rows.{AddsUp}
 use Rattle.reach.specs.Prepared.{codeOf}

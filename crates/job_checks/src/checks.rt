@@ -2,7 +2,6 @@
 ghost use mathlib.Core.Path.{_≡_};
 ghost use mathlib.Core.List.{[]};
 ghost use Prim.Native.Nat.{ℕ, _/_, _≤_};
-ghost use lib.ListN.{length};
 ghost use Rattle.insts.specs.Rows.{AddsUp};
 ghost use Rattle.job_space.specs.Rows.{lentRows};
 ghost use Rattle.job_checks.specs.Job.{otherCounts, countVerdict};

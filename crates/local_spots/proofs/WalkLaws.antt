@@ -4,7 +4,7 @@ use native.Mathlib.Omega.{arith}
 use mathlib.Core.Path.{_≡_, refl, subst}
 use mathlib.Core.Logic.{_≢_, _⊎_, inl, inr}
 use mathlib.Core.List.{List}
-use lib.ListN.{length, getD}
+use lib.ListN.{length}
 use Rattle.words.specs.Rows.{rowCount, field}
 use Rattle.words.specs.Widths.{touchWidth, stopWidth}
 use Rattle.words.specs.Inner.{touchCount, touchStart, touchEnd, stopCount, stopPoint}

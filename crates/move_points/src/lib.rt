@@ -1,7 +1,7 @@
 // Where a move stands, and the points either side of it.
 ghost use mathlib.Core.Path.{_≡_};
 ghost use mathlib.Core.List.{[]};
-ghost use Prim.Native.Nat.{_+_, _-_, _*_, _/_, _≤_, _<_, min};
+ghost use Prim.Native.Nat.{_+_, _-_, _*_, _≤_, _<_, min};
 ghost use lib.ListN.{length};
 ghost use Rattle.graph.specs.Line.{blocksOf, Sound};
 ghost use Rattle.graph.specs.Inner.Work.{Table};

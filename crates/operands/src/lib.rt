@@ -1,8 +1,7 @@
 // What an instruction does with a register, by the rows of its operands.
 ghost use mathlib.Core.Path.{_≡_};
 ghost use mathlib.Core.Bool.{not, _&&_};
-ghost use Prim.Native.Nat.{_+_, _/_, _≤_, _<_};
-ghost use lib.ListN.{length};
+ghost use Prim.Native.Nat.{_+_, _≤_, _<_};
 ghost use Rattle.carrying.specs.Lists.{keep};
 ghost use Rattle.carrying.specs.Insts.{isSet, onlyOne, isUse, addressPosition, eachAddress};
 ghost use Rattle.insts.specs.Inner.{operandAt, operandsFrom};

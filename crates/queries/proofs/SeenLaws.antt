@@ -1,5 +1,5 @@
 -- Rows that hold a plan: the queries see that plan, and none refuses it.
-use Prim.Native.Nat.{ℕ, zero, suc, _+_, _-_, _*_, _/_, _%_, _≤_, _<_}
+use Prim.Native.Nat.{ℕ, zero, suc, _+_, _-_, _*_, _%_, _≤_, _<_}
 use native.Mathlib.Omega.{arith}
 use native.Mathlib.Decide.{ℕ-discrete}
 use mathlib.Core.Path.{_≡_, refl, ap, sym, subst, _∙_}
@@ -23,11 +23,10 @@ use Rattle.ranges.specs.declared.Range.{Range}
 use Rattle.ranges.specs.Points.{range}
 use Rattle.fitting.specs.Wants.{Want, wantAt}
 use Rattle.fitting.specs.Plan.{Cell, cellAt, Plan}
-use Rattle.fitting.specs.Queries.{Room, Item, Slots, slotsOf, roomsOf, areasOf, partOf, cellIn, local, slot, saved, shared, countIn, crowd, crowdedFrom, crowded, roomIn, answered}
-use Rattle.query_checks.specs.Checks.{badCount, noCell, itemsVerdict, planVerdict, badAreas, outside, badItem, partsVerdict, sharedVerdict, crowdedVerdict}
+use Rattle.fitting.specs.Queries.{Room, Item, Slots, slotsOf, areasOf, partOf, cellIn, local, slot, saved, shared, countIn, crowd, crowdedFrom, crowded, roomIn, answered}
+use Rattle.query_checks.specs.Checks.{badCount, noCell, planVerdict, badAreas, outside, badItem, sharedVerdict, crowdedVerdict}
 use Rattle.query_checks.proofs.CheckLaws.{plan-fine, parts-fine, crowd-plan, out-absent, out-present, sound}
-use Rattle.queries.specs.Entry.{localOf, slotOf, savedBy}
-use Rattle.queries.specs.Shares.{sharedPart, sharedOf, areaOf, crowdedOf}
+use Rattle.queries.specs.Shares.{sharedPart, areaOf}
 use Rattle.queries.specs.Seen.{PlanSeen}
 use Rattle.queries.proofs.QueryLaws.{there, not-there, itemAt}
 use Rattle.queries.proofs.ShareLaws.{shared-area}

@@ -1,5 +1,5 @@
 -- `shared` and `crowded`: what each answer is, and that the part answered is the area of the definition.
-use Prim.Native.Nat.{ℕ, _+_, _-_, _*_, _≤_, _<_}
+use Prim.Native.Nat.{ℕ, _+_, _*_, _≤_, _<_}
 use native.Mathlib.Omega.{arith}
 use native.Mathlib.Nat.{add-zero}
 use mathlib.Core.Path.{_≡_, refl, ap, sym, _∙_}
@@ -15,12 +15,11 @@ use Rattle.refusals.specs.declared.Refusal.{Refusal}
 use Rattle.refusals.specs.Outcomes.{given, unless}
 use Rattle.words.specs.Widths.{itemWidth, itemCell, itemPresent, itemFirst, itemRanges, rangeCount}
 use Rattle.words.proofs.Points.{cut}
-use Rattle.ranges.specs.declared.Range.{Range}
 use Rattle.fitting.specs.Queries.{Item, slotsOf, areasOf, crowd, sharedBy, shared}
 use Rattle.queries.specs.declared.Share.the-variants.{Part, Absent, Refused as ShareRefused}
 use Rattle.queries.specs.declared.Crowd.the-variants.{Slots as SlotsGiven, Refused as CrowdRefused}
 use Rattle.query_checks.specs.Checks.{sharedVerdict, crowdedVerdict}
-use Rattle.queries.specs.Shares.{Stretch, shareOf, partNamed, sharedPart, sharedOf, rangesOf, areaOf, crowdedOf, CrowdedBy}
+use Rattle.queries.specs.Shares.{Stretch, shareOf, partNamed, sharedPart, sharedOf, rangesOf, crowdedOf, CrowdedBy}
 use Rattle.query_checks.proofs.CheckLaws.{crowd-passed, Sound, sound, shared-sound, part-inside}
 use Rattle.members.specs.Inner.{membersIn, crowdedSlots, Picked}
 use Rattle.queries.proofs.QueryLaws.{there, not-there, itemAt, locals-are}

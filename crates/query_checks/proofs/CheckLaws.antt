@@ -16,7 +16,7 @@ use Rattle.refusals.specs.Verdicts.{inOrder, first, check}
 use Rattle.refusals.proofs.Laws.{check-bad, check-fine, check-last, first-fine, first-bad, first-left, first-right, scan-fine}
 use Rattle.words.specs.Rows.{wholeRows}
 use Rattle.words.specs.Widths.{cellWidth, cellCount, itemWidth, itemRowCount, itemCell, itemPresent, itemFirst, itemRanges, rangeCount}
-use Rattle.words.proofs.Bools.{or-right, or-neither}
+use Rattle.words.proofs.Bools.{or-neither}
 use Rattle.query_checks.specs.Checks.{badCount, noCell, itemsVerdict, surplus, planVerdict, badAreas, outside, badItem, partsVerdict, sharedVerdict, toldVerdict, crowdedVerdict}
 
 -- ---- the checks

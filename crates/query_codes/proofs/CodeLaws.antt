@@ -1,8 +1,7 @@
 -- A shared area's part is told, or that there is none, or a refusal.
-use Prim.Native.Nat.{ℕ, _≤_, _<_}
+use Prim.Native.Nat.{ℕ, _≤_}
 use native.Mathlib.Omega.{arith}
 use mathlib.Core.Path.{_≡_, refl, sym, ap, subst, _∙_}
-use mathlib.Core.Bool.{true, false, _||_}
 use mathlib.Core.Option.{Option}
 use mathlib.Core.List.{List, [], _∷_}
 use lib.ListN.{length, set, drop}
@@ -11,7 +10,7 @@ use Rattle.refusals.specs.declared.Verdict.the-variants.{Bad}
 use Rattle.refusals.specs.declared.Refusal.{Refusal}
 use Rattle.refusals.specs.Verdicts.{numberOf}
 use Rattle.refusals.specs.Outcomes.{Outcome, unless}
-use Rattle.query_checks.specs.Checks.{sharedVerdict, toldVerdict}
+use Rattle.query_checks.specs.Checks.{toldVerdict}
 use Rattle.query_checks.proofs.CheckLaws.{told-room}
 use Rattle.queries.specs.declared.Share.{Share}
 use Rattle.queries.specs.declared.Share.the-variants.{Part, Absent, Refused as ShareRefused}

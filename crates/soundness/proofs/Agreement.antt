@@ -1,7 +1,7 @@
 -- The claim about the whole list, from two facts: that the plan keeps different items of a cell apart, and that an item that is
 -- held (permitted at two places, not emptied between) is in its area all the way.
 use mathlib.Core.Path.{_≡_, refl, sym, _∙_}
-use mathlib.Core.Logic.{_≢_, _⊎_, inl, inr}
+use mathlib.Core.Logic.{_⊎_, inl, inr}
 use mathlib.Core.Bool.{Bool, true, false, true≢false}
 use mathlib.Core.Option.{Option, some, none, Option·none-ne-some}
 use mathlib.Core.List.{List}

@@ -1,6 +1,6 @@
 -- The claim is not empty: over ★1's plan, which has both locals in one cell, a walk whose read is alike after its mate wrote, and one whose read is not;
 -- and a job and a map with all in cell 0 for which the claim is false.
-use Prim.Native.Nat.{ℕ, zero, suc, _≤_, _<_}
+use Prim.Native.Nat.{ℕ, zero, suc, _<_}
 use native.Mathlib.Omega.{arith}
 use mathlib.Core.Path.{_≡_, refl}
 use mathlib.Core.Logic.{inl}

@@ -1,7 +1,7 @@
 -- The five ways of a turn, at the level of states.
 -- Assumes nothing.
 use mathlib.Core.Path.{_≡_, refl, sym, ap, _∙_, subst}
-use Prim.Native.Nat.{ℕ, suc, _-_, _≤_, _<_}
+use Prim.Native.Nat.{ℕ, suc, _≤_, _<_}
 use native.Mathlib.Omega.{arith}
 use Rattle.words.proofs.Points.{same}
 use Rattle.tarjan.specs.Inner.Graph.{Graph, Sound, Edge, Reach, step}

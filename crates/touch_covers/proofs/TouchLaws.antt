@@ -1,10 +1,9 @@
 -- What the code works out of a touch in one block is its cover.
-use Prim.Native.Nat.{ℕ, _+_, _*_, _/_, _%_, _^_, _≤_, _<_, min, max}
+use Prim.Native.Nat.{ℕ, _/_, _%_, _^_, _≤_, _<_, min, max}
 use native.Mathlib.Omega.{arith}
 use mathlib.Core.Path.{_≡_, ap, _∙_}
 use mathlib.Core.Bool.{Bool, true, false, cond}
 use mathlib.Core.List.{List, [], _∷_}
-use lib.ListN.{length, getD}
 use lib.Dec.{leb}
 use Rattle.ranges.specs.Points.{range}
 use Rattle.ranges.specs.Inner.{pack, unpack}

@@ -1,8 +1,7 @@
 // What a touch of an ending local covers in one block.
 ghost use mathlib.Core.Path.{_≡_};
 ghost use mathlib.Core.List.{[]};
-ghost use Prim.Native.Nat.{_/_, _<_};
-ghost use lib.ListN.{length};
+ghost use Prim.Native.Nat.{_<_};
 ghost use Rattle.ranges.specs.Inner.{unpack};
 ghost use Rattle.areas.specs.Blocks.{cover};
 ghost use Rattle.spots.specs.Spots.{lineOf};

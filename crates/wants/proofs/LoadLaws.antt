@@ -1,7 +1,7 @@
 -- The loaded tables hold the wants that were lent.
 use mir.Syntax.{w64}
 use mir.Val.{Fits}
-use Prim.Native.Nat.{ℕ, _+_, _-_, _*_, _^_, _≤_, _<_}
+use Prim.Native.Nat.{ℕ, _+_, _*_, _^_, _≤_, _<_}
 use native.Mathlib.Omega.{arith}
 use native.Mathlib.Decide.{ℕ-discrete}
 use mathlib.Core.Path.{_≡_, ap, sym, _∙_}

@@ -1,5 +1,5 @@
 -- The rows that fitting alone writes, as the queries take them: the plan of the wants, and no query refuses it.
-use Prim.Native.Nat.{ℕ, _+_, _-_, _*_, _%_, _≤_, _<_}
+use Prim.Native.Nat.{ℕ, _+_, _*_, _≤_, _<_}
 use native.Mathlib.Omega.{arith}
 use native.Mathlib.Decide.{ℕ-discrete}
 use mathlib.Core.Path.{_≡_, refl, ap, sym, _∙_}
@@ -13,14 +13,14 @@ use borrow.Author.Tests.{eq-eqb, ne-eqb}
 use Rattle.refusals.specs.declared.Verdict.{Verdict}
 use Rattle.refusals.specs.declared.Verdict.the-variants.{Fine}
 use Rattle.refusals.specs.Outcomes.{Outcome, given, refused, unless, after}
-use Rattle.words.specs.Rows.{field, tabulate, flat}
+use Rattle.words.specs.Rows.{field, flat}
 use Rattle.words.specs.Widths.{cellWidth, cellSize, cellAlign, itemWidth, itemCell, itemPresent, itemFirst, itemRanges, rangeWidth, rangeCount, wantWidth, wantCount, wantPresent, wantFirst, wantRanges}
 use Rattle.words.proofs.RowLaws.{length-records, getD-records}
 use Rattle.words.proofs.FlatLaws.{flat-length, flat-at}
 use Rattle.fitting.specs.Wants.{Want, wantAt, orderOf}
 use Rattle.fitting.specs.Plan.{Plan, cellAt}
 use Rattle.fitting.specs.Lowest.{PutLowest}
-use Rattle.fitting.specs.Queries.{Room, roomIn, areasOf, partOf, answered}
+use Rattle.fitting.specs.Queries.{Room, areasOf, partOf, answered}
 use Rattle.fitting.proofs.OrderLaws.{order-names, length-ordered}
 use Rattle.fitting.proofs.PlanLaws.{facts}
 use Rattle.fitting.proofs.PutLaws.{plan-few, put-lowest}
@@ -32,7 +32,7 @@ use Rattle.want_checks.proofs.PartLaws.{part-fine, areas-length}
 use Rattle.fit_tables.specs.WantTables.{itemRow}
 use Rattle.fit_tables.proofs.WantLaws.{item-wide, row-absent, row-present}
 use Rattle.wants.specs.declared.Fitted.the-variants.{Plan as Planned}
-use Rattle.wants.specs.Entry.{wantsOf, planFor, outcome, Tally, tallied, tallyOf, cellRows, itemRows, FittedAlone}
+use Rattle.wants.specs.Entry.{wantsOf, planFor, outcome, Tally, tallyOf, cellRows, itemRows, FittedAlone}
 use Rattle.wants.specs.Inner.{cellRow}
 use Rattle.wants.proofs.EntryLaws.{rows-cells}
 use Rattle.wants.proofs.TallyLaws.{not-refused}

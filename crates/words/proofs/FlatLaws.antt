@@ -1,5 +1,5 @@
 -- Rows one after another, written in order.
-use Prim.Native.Nat.{ℕ, zero, suc, _+_, _-_, _*_, _≤_, _<_}
+use Prim.Native.Nat.{ℕ, zero, suc, _+_, _*_, _≤_, _<_}
 use native.Mathlib.Omega.{arith}
 use native.Mathlib.Nat.{mul-suc, add-zero}
 use mathlib.Core.Path.{_≡_, ap, sym, _∙_, subst}

@@ -2,7 +2,6 @@
 use native.Mathlib.Omega.{arith}
 use Rattle.apart.proofs.ApartLaws.{apart-refused, apart-passed, apart-told}
 use denote.Ref.{now}
-use Prim.Native.Nat.{_-_}
 use mathlib.Core.Path.{sym, _∙_}
 use lib.ListN.{length}
 use borrow.Author.Needs.{needs}

@@ -1,5 +1,4 @@
 -- `counts` meets its contract: the first that refuses.
-use Prim.Native.Nat.{_-_}
 use borrow.Author.Needs.{needs}
 use Rattle.area_checks.proofs.CheckLaws.{counts-chain}
 use Rattle.area_checks.proofs.counts.Statement.{statement}

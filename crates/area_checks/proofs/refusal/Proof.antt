@@ -1,5 +1,4 @@
 -- `refusal` meets its contract: the counts, the graph, the kinds, then the space.
-use Prim.Native.Nat.{_-_}
 use mathlib.Core.Path.{sym, _∙_}
 use denote.Ref.{now}
 use borrow.Author.Needs.{needs}

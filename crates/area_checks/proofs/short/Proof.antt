@@ -1,6 +1,5 @@
 -- `short` meets its contract: one law for each way out.
 use native.Mathlib.Omega.{arith}
-use Prim.Native.Nat.{_-_}
 use Rattle.area_layout.proofs.FitLaws.{small-numbers}
 use Rattle.area_checks.proofs.CheckLaws.{short-work, short-items, enough}
 use Rattle.area_checks.proofs.short.Statement.{statement}

@@ -1,6 +1,6 @@
 -- `arrival` meets its contract: from the top to the first end.
 use native.Mathlib.Omega.{arith}
-use Prim.Native.Nat.{_+_, _-_, _*_}
+use Prim.Native.Nat.{_+_, _*_}
 use denote.Ref.{now}
 use borrow.Author.Needs.{needs}
 use Rattle.spots.specs.Inner.{endsAt}

@@ -2,7 +2,6 @@
 use native.Mathlib.Omega.{arith}
 use Prim.Native.Nat.{_-_, _*_}
 use mathlib.Core.Path.{_≡_, refl}
-use Prim.Native.Nat.{_/_}
 use lib.ListN.{length, length-set}
 use Rattle.area_pieces.proofs.SweepLaws.{sweep-in}
 use Rattle.area_ends.proofs.ArriveLaws.{Marching, march-begin, march-stand, march-next, march-more, march-done}

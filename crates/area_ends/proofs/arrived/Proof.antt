@@ -1,6 +1,5 @@
 -- `arrived` meets its contract: the local's own row becomes the marks, and the marked blocks are visited.
 use native.Mathlib.Omega.{arith}
-use Prim.Native.Nat.{_-_}
 use denote.Ref.{now}
 use borrow.Author.Needs.{needs}
 use Rattle.words.specs.Inner.{above}

@@ -9,7 +9,6 @@ use Rattle.spots.specs.Spots.{lineOf}
 use Rattle.spots.specs.Inner.{touchesAt}
 use Rattle.area_pieces.specs.Inner.{Upright}
 use lib.ListN.{length}
-use Prim.Native.Nat.{_/_}
 use Rattle.area_pieces.proofs.SpanLaws.{touch-upright}
 use Rattle.area_ends.proofs.CoverLaws.{Covering, cover-begin, cover-fits, cover-stand, cover-room, cover-word, cover-more, cover-done}
 use Rattle.area_ends.proofs.covers.Statement.{statement}

@@ -1,6 +1,5 @@
 -- `ending` meets its contract: the pieces of the touches, behind them the blocks arrived at, merged.
 use native.Mathlib.Omega.{arith}
-use Prim.Native.Nat.{_-_}
 use denote.Ref.{now}
 use borrow.Author.Needs.{needs}
 use Rattle.area_pieces.proofs.AreaLaws.{laid-less}

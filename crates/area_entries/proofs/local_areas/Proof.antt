@@ -1,6 +1,5 @@
 -- `local_areas` meets its contract: refused, or measured and told.
 use native.Mathlib.Omega.{arith}
-use Prim.Native.Nat.{_-_}
 use mathlib.Core.Path.{sym, _∙_}
 use lib.ListN.{length}
 use denote.Ref.{now}

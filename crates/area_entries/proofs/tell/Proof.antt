@@ -1,5 +1,4 @@
 -- `tell` meets its contract: number 8, or what `list` tells.
-use Prim.Native.Nat.{_-_, _/_}
 use lib.ListN.{length}
 use denote.Ref.{now}
 use borrow.Author.Needs.{needs}

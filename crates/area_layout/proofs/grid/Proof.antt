@@ -1,6 +1,5 @@
 -- `grid` meets its contract: each region begins where the one before ends.
 use native.Mathlib.Omega.{arith}
-use Prim.Native.Nat.{_-_}
 use mathlib.Core.Path.{refl}
 use Rattle.words.proofs.FitLaws.{rows-few}
 use Rattle.area_layout.proofs.grid.Statement.{statement}

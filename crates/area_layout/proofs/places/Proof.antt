@@ -1,6 +1,5 @@
 -- `places` meets its contract: each region begins where the one before ends.
 use native.Mathlib.Omega.{arith}
-use Prim.Native.Nat.{_-_}
 use mathlib.Core.Path.{refl}
 use Rattle.area_layout.proofs.places.Statement.{statement}
 use Rattle.area_layout.proofs.places.Tie as tie

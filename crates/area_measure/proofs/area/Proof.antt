@@ -1,6 +1,5 @@
 -- `area` meets its contract: the area of a plain or of an ending local.
 use native.Mathlib.Omega.{arith}
-use Prim.Native.Nat.{_-_}
 use denote.Ref.{now}
 use borrow.Author.Needs.{needs}
 use Rattle.area_pieces.proofs.AreaLaws.{laid-less}

@@ -1,6 +1,5 @@
 -- `measure_one` meets its contract: the area is made, its item noted, and it is put behind those so far.
 use native.Mathlib.Omega.{arith}
-use Prim.Native.Nat.{_-_}
 use mathlib.Core.Path.{refl}
 use denote.Ref.{now}
 use lib.ListN.{length-set}

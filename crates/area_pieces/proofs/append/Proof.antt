@@ -1,6 +1,5 @@
 -- `append` meets its contract: all of the area is copied, or nothing is stored.
 use native.Mathlib.Omega.{arith}
-use Prim.Native.Nat.{_-_}
 use borrow.Author.Needs.{needs}
 use Rattle.area_pieces.proofs.PushLaws.{append-clear, append-put, append-full}
 use Rattle.area_pieces.proofs.append.Statement.{statement}

@@ -1,6 +1,5 @@
 -- `clip` meets its contract: the touch's clip is put to the block's span.
 use native.Mathlib.Omega.{arith}
-use Prim.Native.Nat.{_-_}
 use denote.Ref.{now}
 use mathlib.Core.Path.{subst}
 use Rattle.ranges.specs.declared.Range.{Range}

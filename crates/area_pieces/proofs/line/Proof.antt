@@ -1,6 +1,5 @@
 -- `line` meets its contract: the local's own row is put to the marks, and the marked blocks are visited.
 use native.Mathlib.Omega.{arith}
-use Prim.Native.Nat.{_-_}
 use denote.Ref.{now}
 use borrow.Author.Needs.{needs}
 use Rattle.words.specs.Inner.{above}

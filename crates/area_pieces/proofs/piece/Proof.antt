@@ -1,6 +1,6 @@
 -- `piece` meets its contract: the whole block, or its span between the two bits' ends.
 use native.Mathlib.Omega.{arith}
-use Prim.Native.Nat.{_+_, _-_, _*_}
+use Prim.Native.Nat.{_+_, _*_}
 use mathlib.Core.Path.{sym, _∙_}
 use denote.Ref.{now}
 use Rattle.area_pieces.proofs.LineLaws.{piece-whole, piece-part}

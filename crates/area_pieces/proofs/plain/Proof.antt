@@ -1,6 +1,5 @@
 -- `plain` meets its contract: the between-pieces, behind them the pieces in line order, merged.
 use native.Mathlib.Omega.{arith}
-use Prim.Native.Nat.{_-_}
 use mathlib.Core.Path.{refl}
 use denote.Ref.{now}
 use borrow.Author.Needs.{needs}

@@ -1,6 +1,5 @@
 -- `run` meets its contract: a word with every bit, the blocks that have the bit, or one block.
 use native.Mathlib.Omega.{arith}
-use Prim.Native.Nat.{_-_}
 use mathlib.Core.Path.{sym, _∙_}
 use denote.Ref.{now}
 use Rattle.area_pieces.proofs.RunLaws.{run-word, run-one}

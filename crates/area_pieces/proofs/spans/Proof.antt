@@ -9,7 +9,6 @@ use Rattle.spots.specs.Spots.{lineOf}
 use Rattle.spots.specs.Inner.{touchesAt}
 use Rattle.area_pieces.specs.Inner.{Upright}
 use lib.ListN.{length}
-use Prim.Native.Nat.{_/_}
 use Rattle.area_pieces.proofs.SpanLaws.{Spanning, span-start, span-word, span-free, span-more, span-done, touch-upright}
 use Rattle.area_pieces.proofs.spans.Statement.{statement}
 use Rattle.area_pieces.proofs.spans.Tie as tie

@@ -3,7 +3,6 @@ use native.Mathlib.Omega.{arith}
 use Prim.Native.Nat.{_-_, _*_}
 use mathlib.Core.Path.{_≡_, refl, sym}
 use Rattle.graph.proofs.Line.{blocks-length}
-use Prim.Native.Nat.{_/_}
 use lib.ListN.{length}
 use Rattle.words.proofs.FitLaws.{within}
 use Rattle.area_pieces.proofs.LineLaws.{nearer, Lining, line-begin, run-asks, stretch-asks, join-asks, unmark-asks, first-asks, line-next, line-more, line-done}

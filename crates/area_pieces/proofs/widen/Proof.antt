@@ -1,6 +1,5 @@
 -- `widen` meets its contract: the span is widened, or it begins.
 use native.Mathlib.Omega.{arith}
-use Prim.Native.Nat.{_-_}
 use mathlib.Core.Path.{refl, sym, _∙_}
 use denote.Ref.{now}
 use Rattle.ranges.specs.Points.{range}

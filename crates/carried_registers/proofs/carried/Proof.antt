@@ -1,6 +1,5 @@
 -- `carried_registers::carried` meets its contract: the refusal, no such local, or its registers and the cleared words.
 use native.Mathlib.Omega.{arith}
-use Prim.Native.Nat.{_-_}
 use mathlib.Core.Path.{refl, sym, _∙_}
 use lib.ListN.{length}
 use borrow.Author.Needs.{needs}

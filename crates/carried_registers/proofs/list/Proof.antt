@@ -1,9 +1,7 @@
 -- `carried_registers::list` meets its contract: the walk, in order, is the list of the definition.
 use native.Mathlib.Omega.{arith}
-use Prim.Native.Nat.{_-_}
 use mathlib.Core.Path.{_∙_}
 use lib.ListN.{length}
-use Prim.Native.Nat.{_/_}
 use Rattle.carry_checks.proofs.LayoutLaws.{laid-longer, measure-ready}
 use Rattle.carried_registers.proofs.CarriedLaws.{fits-on, from-start, queue-holds, narrow-asks, registers-are}
 use Rattle.reach.specs.Prepared.{codeOf}

@@ -1,6 +1,5 @@
 -- `components::components` meets its contract: a refusal, or the numbers and a cleared work space.
 use native.Mathlib.Omega.{arith}
-use Prim.Native.Nat.{_-_}
 use mathlib.Core.Path.{sym, _∙_, ap}
 use lib.ListN.{length, length-append, length-replicate, length-drop}
 use borrow.Author.Needs.{needs}

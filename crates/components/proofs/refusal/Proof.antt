@@ -1,6 +1,5 @@
 -- `components::refusal` meets its contract: the graph, then the space.
 use native.Mathlib.Omega.{arith}
-use Prim.Native.Nat.{_-_}
 use mathlib.Core.Path.{sym, _∙_}
 use borrow.Author.Needs.{needs}
 use Rattle.components.proofs.refusal.Statement.{statement}

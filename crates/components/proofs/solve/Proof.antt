@@ -1,6 +1,6 @@
 -- `components::solve` meets its contract: the rows, and then the walk.
 use native.Mathlib.Omega.{arith}
-use Prim.Native.Nat.{_-_, _≤_, _/_}
+use Prim.Native.Nat.{_≤_}
 use mathlib.Core.Path.{_∙_}
 use lib.ListN.{length}
 use borrow.Author.Needs.{needs}

@@ -1,6 +1,5 @@
 use denote.Ref.{now}
 use Rattle.drawing.proofs.AxisLaws.{axis-short, axis-whole}
-use Prim.Native.Nat.{_-_}
 use borrow.Author.Needs.{needs}
 use Rattle.drawing.proofs.axis_of.Statement.{statement}
 use Rattle.drawing.proofs.axis_of.Tie as tie

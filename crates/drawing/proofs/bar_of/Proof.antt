@@ -1,6 +1,5 @@
 use Rattle.drawing.proofs.AxisLaws.{in-order, bar-made}
 use native.Mathlib.Omega.{arith}
-use Prim.Native.Nat.{_-_}
 use borrow.Author.Needs.{needs}
 use Rattle.drawing.proofs.bar_of.Statement.{statement}
 use Rattle.drawing.proofs.bar_of.Tie as tie

@@ -1,6 +1,5 @@
 use Rattle.drawing.proofs.RowLaws.{fits-none, fits-part, fits-most}
 use native.Mathlib.Omega.{arith}
-use Prim.Native.Nat.{_-_}
 use borrow.Author.Needs.{needs}
 use Rattle.drawing.proofs.font.Statement.{statement}
 use Rattle.drawing.proofs.font.Tie as tie

@@ -1,6 +1,5 @@
 use Rattle.drawing.proofs.AxisLaws.{placed, way-small}
 use native.Mathlib.Omega.{arith}
-use Prim.Native.Nat.{_-_}
 use borrow.Author.Needs.{needs}
 use Rattle.drawing.proofs.place.Statement.{statement}
 use Rattle.drawing.proofs.place.Tie as tie

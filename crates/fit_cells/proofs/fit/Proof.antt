@@ -1,7 +1,6 @@
 -- `fit` meets its contract: the items are ordered, then placed.
 use Rattle.fit_cells.proofs.RunLaws.{in-order, zeros, fitted, cells-few}
 use native.Mathlib.Omega.{arith}
-use Prim.Native.Nat.{_-_}
 use Rattle.fit_cells.proofs.fit.Statement.{statement}
 use Rattle.fit_cells.proofs.fit.Tie as tie
 

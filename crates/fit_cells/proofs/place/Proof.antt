@@ -1,7 +1,6 @@
 -- `place` meets its contract: the rows stand at the end of the room.
 use Rattle.fit_cells.proofs.EachLaws.{in-order-below, step-fits, step-word}
 use native.Mathlib.Omega.{arith}
-use Prim.Native.Nat.{_-_}
 use borrow.Author.Needs.{needs}
 use Rattle.fit_cells.proofs.place.Statement.{statement}
 use Rattle.fit_cells.proofs.place.Tie as tie

@@ -1,5 +1,4 @@
 -- `flow::neighbours` meets its contract.
-use Prim.Native.Nat.{_-_}
 use borrow.Author.Needs.{needs}
 use Rattle.flow.proofs.neighbours.Statement.{statement}
 use Rattle.flow.proofs.neighbours.Tie as tie

@@ -1,6 +1,5 @@
 -- `flow::refusal` meets its contract: the rows, the graph, then the space.
 use native.Mathlib.Omega.{arith}
-use Prim.Native.Nat.{_-_}
 use mathlib.Core.Path.{sym, _∙_}
 use borrow.Author.Needs.{needs}
 use Rattle.flow.proofs.refusal.Statement.{statement}

@@ -1,6 +1,6 @@
 -- `flow::solve` meets its contract: the rows of the edges, the components, the rows lent, and then the flow.
 use native.Mathlib.Omega.{arith}
-use Prim.Native.Nat.{_-_, _≤_, _/_}
+use Prim.Native.Nat.{_≤_}
 use mathlib.Core.Path.{_∙_}
 use lib.ListN.{length}
 use Rattle.flow.proofs.solve.Statement.{statement}

@@ -1,6 +1,5 @@
 -- `flow::rows::visit` meets its contract: the row of the first place is worked out, and given to the others.
 use native.Mathlib.Omega.{arith}
-use Prim.Native.Nat.{_-_}
 use mathlib.Core.Path.{refl, _∙_}
 use Rattle.flow_rows.proofs.visit.Statement.{statement}
 use Rattle.flow_rows.proofs.Shares.{laid₁, x-in₁, laid₂, run₂, run-loop, visit-line, visit-loop, number, visited-from}

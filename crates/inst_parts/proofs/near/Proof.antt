@@ -1,6 +1,5 @@
 -- `near` meets its contract: the block that was tried has the point, or the search finds how many there are.
 use native.Mathlib.Omega.{arith}
-use Prim.Native.Nat.{_-_}
 use Rattle.graph.proofs.Line.{starts-rise}
 use Rattle.inst_parts.proofs.PartLaws.{near-found}
 use Rattle.inst_parts.proofs.near.Statement.{statement}

@@ -4,7 +4,6 @@ use mathlib.Core.Path.{_≡_, sym, ap, subst, _∙_}
 use lib.ListN.{length}
 use denote.Ref.{now}
 use borrow.Author.Needs.{needs}
-use Rattle.refusals.specs.declared.Verdict.{Verdict}
 use Rattle.refusals.specs.declared.Verdict.the-variants.{Fine}
 use Rattle.job_space.specs.Rows.{Rows}
 use Rattle.job_space.specs.Inner.{rowsAt}

@@ -1,6 +1,5 @@
 -- `list` meets its contract: refused, or written out.
 use native.Mathlib.Omega.{arith}
-use Prim.Native.Nat.{_/_}
 use lib.ListN.{length}
 use denote.Ref.{now}
 use borrow.Author.Needs.{needs}

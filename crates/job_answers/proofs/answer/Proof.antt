@@ -1,6 +1,5 @@
 -- `answer` meets its contract: refused, or fitted and written.
 use native.Mathlib.Omega.{arith}
-use Prim.Native.Nat.{_/_}
 use mathlib.Core.Path.{refl}
 use lib.ListN.{length}
 use denote.Ref.{now}

@@ -1,5 +1,4 @@
 -- `short` meets its contract: one law for each way out.
-use Prim.Native.Nat.{_-_}
 use mathlib.Core.Path.{sym, _∙_}
 use borrow.Author.Needs.{needs}
 use Rattle.job_space.specs.Rows.{Rows}

@@ -1,6 +1,5 @@
 -- `layout` meets its contract: each region begins where the one before ends.
 use native.Mathlib.Omega.{arith}
-use Prim.Native.Nat.{_-_}
 use borrow.Author.Needs.{needs}
 use Rattle.job_layout.proofs.layout.Statement.{statement}
 use Rattle.job_layout.proofs.layout.Tie as tie

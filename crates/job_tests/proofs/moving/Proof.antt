@@ -1,7 +1,6 @@
 -- `moving` is safe and ends: a row of four is within the rows.
 use native.Mathlib.Omega.{arith}
-use Prim.Native.Nat.{_+_, _-_, _*_, _/_, _≤_}
-use lib.ListN.{length}
+use Prim.Native.Nat.{_+_, _-_, _*_, _≤_}
 use Rattle.job_tests.proofs.moving.Statement.{statement}
 use Rattle.job_tests.proofs.moving.Tie as tie
 use Rattle.words.specs.Widths.{moveWidth, moveCount}

@@ -1,6 +1,5 @@
 -- `join` meets its contract: the last range is lengthened, or the new one is appended.
 use native.Mathlib.Omega.{arith}
-use Prim.Native.Nat.{_-_}
 use denote.Ref.{now}
 use borrow.Author.Needs.{needs}
 use mathlib.Core.Logic.{⊎-elim}

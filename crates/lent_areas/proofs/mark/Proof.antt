@@ -1,5 +1,4 @@
 -- `mark` meets its contract: the locals are chained, then marked.
-use Prim.Native.Nat.{_-_}
 use denote.Ref.{now}
 use borrow.Author.Needs.{needs}
 use Rattle.lent_areas.proofs.SolveLaws.{mark-ready, mark-done}

@@ -1,6 +1,5 @@
 -- `rows` meets its contract: the rows, and behind them a row of zeros.
 use native.Mathlib.Omega.{arith}
-use Prim.Native.Nat.{_-_}
 use borrow.Author.Needs.{needs}
 use Rattle.lent_areas.proofs.rows.Statement.{statement}
 use Rattle.lent_areas.proofs.rows.Tie as tie

@@ -1,5 +1,4 @@
 -- `solve` meets its contract: the regions are laid out, the locals marked, the rows made, and the areas measured.
-use Prim.Native.Nat.{_-_}
 use denote.Ref.{now}
 use borrow.Author.Needs.{needs}
 use mathlib.Core.List.{[]}

@@ -1,6 +1,5 @@
 -- `count` meets its contract: a law for each way out.
 use native.Mathlib.Omega.{arith}
-use Prim.Native.Nat.{_-_}
 use Rattle.line_checks.proofs.count.Statement.{statement}
 use denote.Ref.{now}
 use Rattle.line_checks.proofs.Refusals.{not-whole, no-block, many-blocks, edges-cut, many-edges, counts-fine}

@@ -1,6 +1,6 @@
 -- `edge` meets its contract: no edge before i is refused.
 use native.Mathlib.Omega.{arith}
-use Prim.Native.Nat.{_-_, _≤_, _/_}
+use Prim.Native.Nat.{_-_, _≤_}
 use mathlib.Core.Path.{_≡_, sym}
 use lib.ListN.{length}
 use Rattle.line_checks.proofs.edge.Statement.{statement}

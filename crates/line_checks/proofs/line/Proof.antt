@@ -1,6 +1,6 @@
 -- `line` meets its contract: no block before i is refused, and the bits are the numbers used so far.
 use native.Mathlib.Omega.{arith}
-use Prim.Native.Nat.{ℕ, _-_, _≤_, _<_, _/_}
+use Prim.Native.Nat.{ℕ, _-_, _≤_, _<_}
 use mathlib.Core.Path.{_≡_, refl, sym, ap, _∙_}
 use lib.ListN.{length, set}
 use Rattle.line_checks.proofs.line.Statement.{statement}

@@ -1,6 +1,5 @@
 -- `space` meets its contract: a law for each way out.
 use native.Mathlib.Omega.{arith}
-use Prim.Native.Nat.{_-_}
 use borrow.Author.Needs.{needs}
 use Rattle.line_checks.proofs.space.Statement.{statement}
 use Rattle.line_checks.proofs.Refusals.{short-answer, short-work, enough}

@@ -1,6 +1,5 @@
 -- `local_kinds::measure` meets its contract: the layout, the preparation, the kinds.
 use native.Mathlib.Omega.{arith}
-use Prim.Native.Nat.{_-_}
 use mathlib.Core.Path.{_∙_}
 use lib.ListN.{length}
 use Rattle.local_kinds.proofs.EntryLaws.{measured}

@@ -1,6 +1,5 @@
 -- `local_kinds::reach` meets its contract: the refusal, or the kinds and the cleared words.
 use native.Mathlib.Omega.{arith}
-use Prim.Native.Nat.{_-_}
 use mathlib.Core.Path.{sym, _∙_}
 use lib.ListN.{length}
 use borrow.Author.Needs.{needs}

@@ -2,7 +2,6 @@
 use mathlib.Core.Path.{refl}
 use lib.ListN.{getD-replicate}
 use native.Mathlib.Omega.{arith}
-use Prim.Native.Nat.{_-_}
 use borrow.Author.Needs.{needs}
 use Rattle.members.proofs.crowded.Statement.{statement}
 use Rattle.members.proofs.crowded.Tie as tie

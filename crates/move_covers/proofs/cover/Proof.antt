@@ -1,6 +1,5 @@
 -- `move_covers::cover` meets its contract: two stores.
 use native.Mathlib.Omega.{arith}
-use Prim.Native.Nat.{_-_}
 use mathlib.Core.Path.{refl, sym}
 use denote.Ref.{now}
 use Rattle.move_covers.proofs.MovedLaws.{wrote-one}

@@ -1,6 +1,6 @@
 -- `move_covers::covers` meets its contract: to the slot, from it, both or neither.
 use native.Mathlib.Omega.{arith}
-use Prim.Native.Nat.{ℕ, _+_, _-_, _*_}
+use Prim.Native.Nat.{ℕ, _+_, _*_}
 use mathlib.Core.Path.{sym, ap, _∙_}
 use lib.ListN.{getD}
 use denote.Ref.{now}

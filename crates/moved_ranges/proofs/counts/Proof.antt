@@ -1,5 +1,4 @@
 -- `moved_ranges::counts` meets its contract: each check, the first that refuses.
-use Prim.Native.Nat.{_-_}
 use denote.Ref.{now}
 use borrow.Author.Needs.{needs}
 use Rattle.moved_ranges.proofs.MovedEntry.{counts-chain}

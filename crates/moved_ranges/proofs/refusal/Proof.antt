@@ -1,8 +1,6 @@
 -- `moved_ranges::refusal` meets its contract: the checks in their order.
 use native.Mathlib.Omega.{arith}
-use Prim.Native.Nat.{_-_, _/_}
 use mathlib.Core.Path.{sym, ap, _∙_}
-use lib.ListN.{length}
 use denote.Ref.{now}
 use borrow.Author.Needs.{needs}
 use Rattle.moved_ranges.proofs.MovedEntry.{counted, by-counts, by-place, by-moves}

@@ -1,5 +1,4 @@
 -- `moved_ranges::whole` meets its contract: a law for each way out.
-use Prim.Native.Nat.{_-_}
 use Rattle.moved_ranges.proofs.MovedEntry.{odd-rows, whole-rows}
 use Rattle.moved_ranges.proofs.whole.Statement.{statement}
 use Rattle.moved_ranges.proofs.whole.Tie as tie

@@ -1,6 +1,5 @@
 -- `operands::part` meets its contract: a law for each way out.
 use native.Mathlib.Omega.{arith}
-use Prim.Native.Nat.{_-_}
 use Rattle.operands.proofs.OperandLaws.{part-far, part-base, part-index}
 use Rattle.operands.proofs.part.Statement.{statement}
 use Rattle.operands.proofs.part.Tie as tie

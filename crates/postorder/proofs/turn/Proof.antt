@@ -1,6 +1,6 @@
 -- `postorder::turn` meets its contract: each of its three ways out is a law of `Turns`.
 use native.Mathlib.Omega.{arith}
-use Prim.Native.Nat.{_-_, _≤_}
+use Prim.Native.Nat.{_≤_}
 use mathlib.Core.Path.{refl}
 use lib.ListN.{length-set}
 use Rattle.postorder.specs.Inner.{ends}

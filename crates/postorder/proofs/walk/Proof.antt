@@ -1,6 +1,6 @@
 -- `postorder::walk` meets its contract: turn by turn, until the stack is empty.
 use native.Mathlib.Omega.{arith}
-use Prim.Native.Nat.{_+_, _-_}
+use Prim.Native.Nat.{_+_}
 use Rattle.postorder.specs.Inner.{Ready, toCome}
 use Rattle.postorder.proofs.Roots.{Going, going-start, going-more, ready-more, root-first, root-ready, walk-done}
 use Rattle.postorder.proofs.walk.Statement.{statement}

@@ -1,6 +1,5 @@
 -- `preparing::clear` meets its contract: two rows of zeros.
 use native.Mathlib.Omega.{arith}
-use Prim.Native.Nat.{_-_}
 use mathlib.Core.Path.{_∙_}
 use Rattle.preparing.proofs.ReadyLaws.{cleared-two}
 use Rattle.preparing.proofs.clear.Statement.{statement}

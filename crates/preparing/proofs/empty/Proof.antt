@@ -1,6 +1,5 @@
 -- `preparing::empty` meets its contract: three regions of zeros.
 use native.Mathlib.Omega.{arith}
-use Prim.Native.Nat.{_-_}
 use mathlib.Core.Path.{_∙_}
 use Rattle.preparing.proofs.ReadyLaws.{emptied-three}
 use Rattle.preparing.proofs.empty.Statement.{statement}

@@ -1,6 +1,6 @@
 -- `preparing::ends` meets its contract: the locals with a placed end among the first k.
 use native.Mathlib.Omega.{arith}
-use Prim.Native.Nat.{_+_, _-_, _*_, _/_, _^_, _<_}
+use Prim.Native.Nat.{_+_, _-_, _*_, _^_, _<_}
 use mathlib.Core.Path.{_≡_, refl}
 use lib.ListN.{length}
 use Rattle.words.proofs.FitLaws.{within}

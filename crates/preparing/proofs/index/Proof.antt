@@ -1,6 +1,6 @@
 -- `preparing::index` meets its contract: sorted, then indexed.
 use native.Mathlib.Omega.{arith}
-use Prim.Native.Nat.{_+_, _-_}
+use Prim.Native.Nat.{_+_}
 use mathlib.Core.Path.{_∙_}
 use Rattle.preparing.proofs.StepLaws.{index-rising, index-done}
 use Rattle.preparing.proofs.index.Statement.{statement}

@@ -1,6 +1,5 @@
 -- `preparing::prepare` meets its contract: the registers, then the locals.
 use native.Mathlib.Omega.{arith}
-use Prim.Native.Nat.{_-_}
 use mathlib.Core.Path.{refl, _∙_}
 use Rattle.preparing.proofs.Bounds.{words-fit}
 use Rattle.preparing.proofs.ReadyLaws.{by-local, readied}

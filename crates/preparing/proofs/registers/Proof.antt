@@ -1,6 +1,5 @@
 -- `preparing::registers` meets its contract: the steps one after another.
 use native.Mathlib.Omega.{arith}
-use Prim.Native.Nat.{_-_}
 use mathlib.Core.Path.{_∙_}
 use Rattle.preparing.proofs.Bounds.{skip, longer}
 use Rattle.preparing.proofs.ReadyLaws.{cleared-blank, defs-small, index-room, registered}

@@ -4,7 +4,6 @@ use Rattle.query_checks.proofs.CheckLaws.{crowd-passed}
 use Rattle.query_checks.proofs.CheckLaws.{sound, named}
 use denote.Ref.{now}
 use native.Mathlib.Omega.{arith}
-use Prim.Native.Nat.{_-_}
 use mathlib.Core.Path.{sym, _∙_}
 use lib.ListN.{length}
 use borrow.Author.Needs.{needs}

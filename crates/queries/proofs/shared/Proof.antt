@@ -3,7 +3,7 @@ use Rattle.query_checks.proofs.CheckLaws.{shared-sound}
 use Rattle.queries.proofs.ShareLaws.{share-refused, share-none, share-some, part-past, part-absent, part-lone, part-shared}
 use denote.Ref.{now}
 use native.Mathlib.Omega.{arith}
-use Prim.Native.Nat.{_+_, _-_, _*_}
+use Prim.Native.Nat.{_+_, _*_}
 use mathlib.Core.Path.{sym, _∙_}
 use borrow.Author.Needs.{needs}
 use Rattle.queries.proofs.shared.Statement.{statement}

@@ -1,6 +1,5 @@
 -- `bad_areas` meets its contract: the first test that holds, else the last.
 use borrow.Author.Tests.{eq-eqb, ne-eqb}
-use Prim.Native.Nat.{_-_}
 use Rattle.query_checks.proofs.bad_areas.Statement.{statement}
 use Rattle.query_checks.proofs.bad_areas.Tie as tie
 

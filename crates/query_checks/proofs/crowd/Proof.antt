@@ -3,7 +3,6 @@ use Rattle.query_checks.proofs.CheckLaws.{crowd-count, crowd-space, cro
 use Rattle.query_checks.proofs.CheckLaws.{locals-fit}
 use denote.Ref.{now}
 use native.Mathlib.Omega.{arith}
-use Prim.Native.Nat.{_-_}
 use mathlib.Core.Path.{sym, _∙_}
 use Rattle.query_checks.proofs.crowd.Statement.{statement}
 use Rattle.query_checks.proofs.crowd.Tie as tie

@@ -1,7 +1,6 @@
 -- `part_outside` meets its contract: an absent part is not read.
 use native.Mathlib.Omega.{arith}
 use Rattle.query_checks.proofs.CheckLaws.{out-absent, out-present}
-use Prim.Native.Nat.{_-_}
 use Rattle.query_checks.proofs.part_outside.Statement.{statement}
 use Rattle.query_checks.proofs.part_outside.Tie as tie
 

@@ -2,7 +2,6 @@
 use Rattle.query_checks.proofs.CheckLaws.{parts-count, parts-item, parts-surplus, parts-fine}
 use denote.Ref.{now}
 use native.Mathlib.Omega.{arith}
-use Prim.Native.Nat.{_-_}
 use mathlib.Core.Path.{sym, _∙_}
 use borrow.Author.Needs.{needs}
 use Rattle.query_checks.proofs.parts.Statement.{statement}

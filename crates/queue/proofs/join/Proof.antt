@@ -1,6 +1,5 @@
 -- `join` meets its contract: the def is seen, or the entry is new.
 use native.Mathlib.Omega.{arith}
-use Prim.Native.Nat.{_-_}
 use mathlib.Core.Path.{refl, sym, _∙_}
 use lib.ListN.{set, length-set}
 use borrow.Author.Needs.{needs}

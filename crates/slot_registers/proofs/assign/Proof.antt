@@ -1,7 +1,7 @@
 -- `slot_registers::assign` meets its contract: the last of the assignments passed.
 use native.Mathlib.Omega.{arith}
 use native.Mathlib.Nat.{add-zero}
-use Prim.Native.Nat.{ℕ, _+_, _-_, _*_, _/_, _≤_}
+use Prim.Native.Nat.{ℕ, _+_, _-_, _*_, _≤_}
 use mathlib.Core.Path.{_≡_, refl, sym, ap}
 use lib.ListN.{length, getD}
 use Rattle.spill_checks.proofs.AssignedLaws.{assignedAt}

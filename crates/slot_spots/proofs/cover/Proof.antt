@@ -1,6 +1,6 @@
 -- `slot_spots::cover` meets its contract: the points either side of the move.
 use native.Mathlib.Nat.{add-zero}
-use Prim.Native.Nat.{ℕ, _+_, _*_}
+use Prim.Native.Nat.{ℕ, _*_}
 use mathlib.Core.Path.{sym, ap, _∙_}
 use mathlib.Core.List.{[]}
 use lib.ListN.{getD}

@@ -1,6 +1,6 @@
 -- `spill_checks::assigned` meets its contract: rows of two numbers.
 use native.Mathlib.Omega.{arith}
-use Prim.Native.Nat.{ℕ, _-_}
+use Prim.Native.Nat.{ℕ}
 use mathlib.Core.Path.{ap, _∙_}
 use denote.Ref.{now}
 use Rattle.refusals.specs.Verdicts.{scan}

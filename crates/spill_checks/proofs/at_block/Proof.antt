@@ -1,7 +1,5 @@
 -- `spill_checks::at_block` meets its contract: a law for each way out.
 use native.Mathlib.Omega.{arith}
-use Prim.Native.Nat.{_/_}
-use lib.ListN.{length}
 use denote.Ref.{now}
 use borrow.Author.Tests.{le-leb, lt-leb}
 use Rattle.spill_checks.proofs.PositionLaws.{stray-when, kept-when}

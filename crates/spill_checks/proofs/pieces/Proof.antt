@@ -1,6 +1,6 @@
 -- `spill_checks::pieces` meets its contract: no piece before i is refused.
 use native.Mathlib.Omega.{arith}
-use Prim.Native.Nat.{_-_, _/_, _≤_}
+use Prim.Native.Nat.{_-_, _≤_}
 use mathlib.Core.Path.{_≡_, sym, ap, _∙_}
 use lib.ListN.{length, getD}
 use denote.Ref.{now}

@@ -1,6 +1,6 @@
 -- `spilled_registers::assign` meets its contract: the last of the assignments passed.
 use native.Mathlib.Omega.{arith}
-use Prim.Native.Nat.{ℕ, _+_, _-_, _*_, _/_, _≤_}
+use Prim.Native.Nat.{ℕ, _+_, _-_, _*_, _≤_}
 use mathlib.Core.Path.{_≡_, refl, sym, ap}
 use lib.ListN.{length, getD}
 use denote.Ref.{now}

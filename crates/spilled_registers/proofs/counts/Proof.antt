@@ -1,5 +1,4 @@
 -- `spilled_registers::counts` meets its contract: each check, the first that refuses.
-use Prim.Native.Nat.{_-_}
 use denote.Ref.{now}
 use borrow.Author.Needs.{needs}
 use Rattle.spilled_registers.proofs.SpilledLaws.{counts-chain}

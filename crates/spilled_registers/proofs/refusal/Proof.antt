@@ -1,5 +1,4 @@
 -- `spilled_registers::refusal` meets its contract: the checks in their order.
-use Prim.Native.Nat.{_-_}
 use mathlib.Core.Path.{sym, ap, _∙_}
 use denote.Ref.{now}
 use borrow.Author.Needs.{needs}

@@ -1,6 +1,6 @@
 -- `spread::prepare` meets its contract: the rows, and the order.
 use native.Mathlib.Omega.{arith}
-use Prim.Native.Nat.{_-_, _≤_, _/_}
+use Prim.Native.Nat.{_≤_}
 use mathlib.Core.Path.{_∙_}
 use lib.ListN.{length}
 use Rattle.spread.proofs.prepare.Statement.{statement}

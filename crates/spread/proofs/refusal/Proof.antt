@@ -1,5 +1,4 @@
 -- `spread::refusal` meets its contract.
-use Prim.Native.Nat.{_-_}
 use mathlib.Core.Path.{sym, _∙_}
 use borrow.Author.Needs.{needs}
 use Rattle.spread.proofs.refusal.Statement.{statement}

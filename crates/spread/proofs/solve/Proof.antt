@@ -1,6 +1,6 @@
 -- `spread::solve` meets its contract: the rows and the order, the rows lent, and then what arrives.
 use native.Mathlib.Omega.{arith}
-use Prim.Native.Nat.{ℕ, _-_, _≤_, _/_}
+use Prim.Native.Nat.{ℕ, _≤_}
 use mathlib.Core.Path.{_≡_, _∙_}
 use lib.ListN.{length}
 use Rattle.spread.proofs.solve.Statement.{statement}

@@ -1,5 +1,5 @@
 -- `spread::rows::spread` meets its contract: each place that does not wait has sent what it has.
-use Prim.Native.Nat.{_+_, _-_, _*_, _/_}
+use Prim.Native.Nat.{_+_, _*_, _/_}
 use mathlib.Core.Path.{refl, _∙_}
 use Rattle.spread_rows.proofs.spread.Statement.{statement}
 use Rattle.spread_rows.specs.Inner.{missing, waiting}

@@ -1,6 +1,6 @@
 use lib.Seq.{set-getD}
 use native.Mathlib.Omega.{arith}
-use Prim.Native.Nat.{ℕ, _-_}
+use Prim.Native.Nat.{ℕ}
 use mathlib.Core.Path.{sym, ap, _∙_}
 use lib.ListN.{set}
 use borrow.Author.Needs.{needs}

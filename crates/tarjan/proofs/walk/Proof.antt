@@ -1,7 +1,7 @@
 use Rattle.tarjan.specs.Inner.Space.{Ready, leftOf}
 use Rattle.tarjan.proofs.Roots.{Going, going-start, going-more, ready-more, root-ready, walk-done}
 use native.Mathlib.Omega.{arith}
-use Prim.Native.Nat.{_+_, _-_}
+use Prim.Native.Nat.{_+_}
 use Rattle.tarjan.proofs.walk.Statement.{statement}
 use Rattle.tarjan.proofs.walk.Tie as tie
 use Rattle.tarjan.proofs.walk.Reads as reads

@@ -1,6 +1,6 @@
 -- `cover` meets its contract: from the clip's start to the first end from its last point on.
 use native.Mathlib.Omega.{arith}
-use Prim.Native.Nat.{_+_, _-_, _*_}
+use Prim.Native.Nat.{_+_, _*_}
 use denote.Ref.{now}
 use borrow.Author.Needs.{needs}
 use Rattle.spots.specs.Inner.{endsAt}

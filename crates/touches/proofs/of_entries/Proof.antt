@@ -1,6 +1,6 @@
 -- `touches::of_entries` meets its contract: the entries behind `next` stand there.
 use native.Mathlib.Omega.{arith}
-use Prim.Native.Nat.{_-_, _*_, _^_, _<_}
+use Prim.Native.Nat.{_*_, _^_, _<_}
 use mathlib.Core.Path.{refl, sym, ap}
 use mathlib.Core.List.{_∷_, []}
 use lib.ListN.{length, length-set}

@@ -4,7 +4,6 @@ use Rattle.wants.proofs.EntryLaws.{cell-small, answered}
 use denote.Ref.{now}
 use native.Mathlib.Omega.{arith}
 use borrow.Author.Needs.{needs}
-use Prim.Native.Nat.{_-_}
 use Rattle.wants.proofs.answer.Statement.{statement}
 use Rattle.wants.proofs.answer.Tie as tie
 

@@ -2,7 +2,6 @@
 use native.Mathlib.Omega.{arith}
 use Rattle.apart.proofs.ApartLaws.{apart-count, apart-space, apart-fine}
 use denote.Ref.{now}
-use Prim.Native.Nat.{_-_}
 use mathlib.Core.Path.{sym, _∙_}
 use Rattle.apart.proofs.checks.apart.Statement.{statement}
 use Rattle.apart.proofs.checks.apart.Tie as tie

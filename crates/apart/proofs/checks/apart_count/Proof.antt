@@ -1,6 +1,5 @@
 -- `apart_count` meets its contract: the first test that holds, else the last.
 use borrow.Author.Tests.{lt-ltb, le-ltb, eq-eqb, ne-eqb}
-use Prim.Native.Nat.{_-_}
 use Rattle.apart.proofs.checks.apart_count.Statement.{statement}
 use Rattle.apart.proofs.checks.apart_count.Tie as tie
 

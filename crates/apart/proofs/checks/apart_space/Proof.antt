@@ -1,6 +1,5 @@
 -- `apart_space` meets its contract: the first test that holds, else the last.
 use borrow.Author.Tests.{lt-ltb, le-ltb}
-use Prim.Native.Nat.{_-_}
 use Rattle.apart.proofs.checks.apart_space.Statement.{statement}
 use Rattle.apart.proofs.checks.apart_space.Tie as tie
 

@@ -1,6 +1,5 @@
 -- `measure_next` meets its contract: an unfollowed local has no area, another is fetched and measured.
 use native.Mathlib.Omega.{arith}
-use Prim.Native.Nat.{_-_}
 use denote.Ref.{now}
 use borrow.Author.Needs.{needs}
 use Rattle.words.proofs.RegionLaws.{row-before}

@@ -1,5 +1,4 @@
 -- `carry_checks::checks::counts` meets its contract: the checks in their order.
-use Prim.Native.Nat.{_-_}
 use borrow.Author.Needs.{needs}
 use Rattle.carry_checks.proofs.CheckLaws.{counts-chain}
 use Rattle.carry_checks.proofs.checks.counts.Statement.{statement}

@@ -1,5 +1,4 @@
 -- `carry_checks::checks::refusal` meets its contract: the checks in their order.
-use Prim.Native.Nat.{_-_}
 use mathlib.Core.Path.{_≡_, sym, ap, _∙_}
 use denote.Ref.{now}
 use borrow.Author.Needs.{needs}

@@ -1,5 +1,4 @@
 -- `carry_checks::checks::stray` meets its contract: addresses before ends.
-use Prim.Native.Nat.{_-_}
 use borrow.Author.Needs.{needs}
 use Rattle.carry_checks.proofs.checks.stray.Statement.{statement}
 use Rattle.carry_checks.proofs.checks.stray.Tie as tie

@@ -4,7 +4,6 @@ use Rattle.fit_tables.specs.Inner.{nextAt, Folded}
 use Rattle.fit_cells.proofs.FoldLaws.{folded-none, folded-then}
 use Rattle.fit_cells.proofs.FoldBounds.{own-place, next-place, meets}
 use native.Mathlib.Omega.{arith}
-use Prim.Native.Nat.{_-_}
 use mathlib.Core.Path.{_≡_, refl}
 use Rattle.fit_cells.proofs.folding.fold.Statement.{statement}
 use Rattle.fit_cells.proofs.folding.fold.Tie as tie

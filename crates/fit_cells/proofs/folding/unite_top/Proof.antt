@@ -3,7 +3,6 @@ use mathlib.Core.Logic.{inl}
 use Rattle.fit_cells.proofs.FoldLaws.{one-end, two-end, one-listed, two-listed, folded, next-falls}
 use Rattle.fit_cells.proofs.FoldBounds.{own-place, met-place, as-long}
 use native.Mathlib.Omega.{arith}
-use Prim.Native.Nat.{_-_}
 use lib.ListN.{length-set}
 use Rattle.fit_cells.proofs.folding.unite_top.Statement.{statement}
 use Rattle.fit_cells.proofs.folding.unite_top.Tie as tie

@@ -1,6 +1,5 @@
 -- `enter` meets its contract: five stores.
 use native.Mathlib.Omega.{arith}
-use Prim.Native.Nat.{_-_}
 use lib.ListN.{length-set}
 use borrow.Author.Needs.{needs}
 use Rattle.fit_cells.proofs.putting.enter.Statement.{statement}

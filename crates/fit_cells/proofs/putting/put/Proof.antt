@@ -4,7 +4,6 @@ use Rattle.fit_cells.proofs.RunLaws.{stepped-none, stepped-miss, steppe
 use Rattle.fit_cells.proofs.LinkLaws.{entered-topped}
 use Rattle.fit_tables.proofs.MarkLaws.{sure-less}
 use native.Mathlib.Omega.{arith}
-use Prim.Native.Nat.{_+_, _-_, _*_}
 use mathlib.Core.Path.{refl}
 use Rattle.fit_tables.specs.Inner.{orderAt}
 use Rattle.fit_cells.proofs.BelowLaws.{linked-wide}

@@ -3,7 +3,6 @@ use denote.Ref.{now}
 use mathlib.Core.Logic.{inl, inr}
 use Rattle.fit_tables.proofs.DrawLaws.{drawn-none, drawn-points}
 use native.Mathlib.Omega.{arith}
-use Prim.Native.Nat.{_+_, _-_, _*_}
 use Rattle.fit_tables.specs.Inner.{orderAt}
 use Rattle.fit_tables.proofs.sample_rows.draw.Statement.{statement}
 use Rattle.fit_tables.proofs.sample_rows.draw.Tie as tie

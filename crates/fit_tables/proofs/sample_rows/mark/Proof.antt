@@ -1,7 +1,6 @@
 -- `mark` meets its contract.
 use Rattle.fit_tables.proofs.DrawLaws.{marked-bit, marked-word}
 use native.Mathlib.Omega.{arith}
-use Prim.Native.Nat.{_-_}
 use lib.ListN.{set, length-set}
 use Rattle.fit_tables.proofs.sample_rows.mark.Statement.{statement}
 use Rattle.fit_tables.proofs.sample_rows.mark.Tie as tie

@@ -4,7 +4,7 @@ use lib.Bits.{bitAnd}
 use mathlib.Core.Bool.{false≢true}
 use Rattle.fit_tables.proofs.MarkLaws.{nonzero}
 use native.Mathlib.Omega.{arith}
-use Prim.Native.Nat.{_+_, _-_, _*_}
+use Prim.Native.Nat.{_+_, _*_}
 use lib.ListN.{getD}
 use Rattle.fit_tables.proofs.samples.hit.Statement.{statement}
 use Rattle.fit_tables.proofs.samples.hit.Tie as tie

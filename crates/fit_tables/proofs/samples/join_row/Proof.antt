@@ -4,7 +4,6 @@ use Rattle.bits.proofs.BitLaws.{aligned-rows}
 use Rattle.fit_tables.specs.Inner.{cellIn}
 use Rattle.fit_tables.proofs.MarkLaws.{row-inside}
 use native.Mathlib.Omega.{arith}
-use Prim.Native.Nat.{_-_}
 use Rattle.fit_tables.proofs.samples.join_row.Statement.{statement}
 use Rattle.fit_tables.proofs.samples.join_row.Tie as tie
 

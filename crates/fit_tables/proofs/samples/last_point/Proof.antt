@@ -1,6 +1,5 @@
 -- `last_point` meets its contract.
 use native.Mathlib.Omega.{arith}
-use Prim.Native.Nat.{_-_}
 use borrow.Author.Needs.{needs}
 use Rattle.fit_tables.proofs.samples.last_point.Statement.{statement}
 use Rattle.fit_tables.proofs.samples.last_point.Tie as tie

@@ -1,5 +1,4 @@
 -- `follow::walks::follow` meets its contract: the walk finds what the definitions say.
-use Prim.Native.Nat.{_-_}
 use mathlib.Core.Path.{refl, _∙_}
 use Rattle.follow.proofs.WalkLaws.{walkable-still}
 use Rattle.follow.proofs.FollowLaws.{held-none, follow-kept, follows}

@@ -1,5 +1,4 @@
 -- `follow::walks::forget` meets its contract: two stores.
-use Prim.Native.Nat.{_-_}
 use mathlib.Core.Path.{refl}
 use lib.ListN.{length-set}
 use Rattle.follow.proofs.PlaceLaws.{forgotten}

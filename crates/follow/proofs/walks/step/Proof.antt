@@ -1,5 +1,4 @@
 -- `follow::walks::step` meets its contract: two bits are read, and the register's edges taken.
-use Prim.Native.Nat.{_-_}
 use mathlib.Core.Path.{ap, _∙_}
 use mathlib.Core.Bool.{Bool, _||_}
 use Rattle.follow.proofs.PlaceLaws.{looking}

@@ -1,6 +1,5 @@
 -- `follow::walks::take` meets its contract: a law for each way out.
 use native.Mathlib.Omega.{arith}
-use Prim.Native.Nat.{_-_}
 use Rattle.words.proofs.FitLaws.{positive}
 use Rattle.follow.proofs.BeginLaws.{took-other, took-lost, took-new}
 use Rattle.follow.proofs.PlaceLaws.{held-def, row-field}

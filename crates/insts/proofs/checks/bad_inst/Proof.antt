@@ -1,6 +1,6 @@
 -- `insts::checks::bad_inst` meets its contract: an instruction in three parts.
 use native.Mathlib.Omega.{arith}
-use Prim.Native.Nat.{ℕ, _-_}
+use Prim.Native.Nat.{ℕ}
 use mathlib.Core.Path.{sym, ap, _∙_}
 use denote.Ref.{now}
 use Rattle.insts.proofs.CheckLaws.{by-points, by-fields, by-operands}

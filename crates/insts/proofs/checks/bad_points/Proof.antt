@@ -1,6 +1,6 @@
 -- `insts::checks::bad_points` meets its contract: a law for each way out.
 use native.Mathlib.Omega.{arith}
-use Prim.Native.Nat.{ℕ, _+_, _-_, _*_}
+use Prim.Native.Nat.{ℕ, _*_}
 use mathlib.Core.Path.{_≡_, ap}
 use lib.ListN.{getD}
 use denote.Ref.{now}

@@ -1,6 +1,6 @@
 -- `insts::checks::crossing` meets its contract: rows of one number.
 use native.Mathlib.Omega.{arith}
-use Prim.Native.Nat.{ℕ, _+_, _-_}
+use Prim.Native.Nat.{ℕ, _+_}
 use mathlib.Core.Path.{ap, _∙_}
 use denote.Ref.{now}
 use Rattle.insts.proofs.CheckLaws.{crossing-is}

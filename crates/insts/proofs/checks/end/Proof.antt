@@ -1,6 +1,5 @@
 -- `insts::checks::end` meets its contract: an instruction that is not there.
 use native.Mathlib.Omega.{arith}
-use Prim.Native.Nat.{_-_}
 use mathlib.Core.Path.{_∙_}
 use denote.Ref.{now}
 use Rattle.insts.proofs.CheckLaws.{end-is-below}

@@ -1,8 +1,8 @@
 -- `insts::checks::unplaced` meets its contract: a law for each way out.
 use native.Mathlib.Omega.{arith}
-use Prim.Native.Nat.{ℕ, _-_, _*_, _/_}
+use Prim.Native.Nat.{ℕ, _*_}
 use mathlib.Core.Path.{sym, ap, _∙_}
-use lib.ListN.{length, getD}
+use lib.ListN.{getD}
 use denote.Ref.{now}
 use Rattle.insts.proofs.CheckLaws.{unplaced-1, unplaced-2}
 use native.Mathlib.Nat.{add-zero}

@@ -1,5 +1,4 @@
 -- `insts::counts::add_up` meets its contract: the counts add up, or not.
-use Prim.Native.Nat.{_-_}
 use mathlib.Core.Path.{sym, _∙_}
 use denote.Ref.{now}
 use Rattle.insts.proofs.CheckLaws.{sum-off, sum-fine}

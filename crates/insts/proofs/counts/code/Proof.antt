@@ -1,5 +1,4 @@
 -- `insts::counts::code` meets its contract: each check, the first that refuses.
-use Prim.Native.Nat.{_-_}
 use denote.Ref.{now}
 use borrow.Author.Needs.{needs}
 use Rattle.insts.proofs.CheckLaws.{counts-chain}

@@ -1,5 +1,4 @@
 -- `insts::counts::insts` meets its contract: the three checks in their order.
-use Prim.Native.Nat.{_-_}
 use mathlib.Core.Path.{sym, _∙_}
 use lib.ListN.{length}
 use denote.Ref.{now}

@@ -1,6 +1,5 @@
 -- `insts::counts::most` meets its contract: a law for each way out.
 use native.Mathlib.Omega.{arith}
-use Prim.Native.Nat.{_-_}
 use Rattle.insts.proofs.CheckLaws.{most-many, most-fine}
 use Rattle.insts.proofs.counts.most.Statement.{statement}
 use Rattle.insts.proofs.counts.most.Tie as tie

@@ -1,8 +1,7 @@
 -- `insts::counts::operand_sum` meets its contract: the sum of the counts passed, each below 2³².
 use native.Mathlib.Omega.{arith}
-use Prim.Native.Nat.{ℕ, _+_, _-_, _*_, _/_, _≤_}
+use Prim.Native.Nat.{ℕ, _+_, _-_, _*_, _≤_}
 use mathlib.Core.Path.{_≡_, sym, ap, _∙_}
-use lib.ListN.{length, getD}
 use denote.Ref.{now}
 use Rattle.graph.proofs.Sums.{sum-start, sum-next}
 use Rattle.insts.specs.Counts.{offset}

@@ -1,6 +1,5 @@
 -- `insts::counts::rows` meets its contract: a law for each way out.
 use native.Mathlib.Omega.{arith}
-use Prim.Native.Nat.{_-_}
 use Rattle.insts.proofs.CheckLaws.{rows-cut, rows-many, rows-fine}
 use Rattle.insts.proofs.counts.rows.Statement.{statement}
 use Rattle.insts.proofs.counts.rows.Tie as tie

@@ -1,5 +1,4 @@
 -- `job_checks::checks::live` meets its contract: the checks in their order.
-use Prim.Native.Nat.{_-_}
 use borrow.Author.Needs.{needs}
 use Rattle.job_checks.proofs.checks.live.Statement.{statement}
 use Rattle.job_checks.proofs.checks.live.Tie as tie

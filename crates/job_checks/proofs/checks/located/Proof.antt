@@ -1,5 +1,4 @@
 -- `job_checks::checks::located` meets its contract: the checks in their order.
-use Prim.Native.Nat.{_-_}
 use mathlib.Core.Path.{sym, _∙_}
 use borrow.Author.Needs.{needs}
 use Rattle.job_checks.proofs.CheckLaws.{by-line, by-edge, some-sound}

@@ -1,5 +1,4 @@
 -- `job_checks::checks::placed` meets its contract: the checks in their order.
-use Prim.Native.Nat.{_-_}
 use mathlib.Core.Path.{sym, _∙_}
 use denote.Ref.{now}
 use borrow.Author.Needs.{needs}

@@ -1,6 +1,6 @@
 -- `reach::scan::one` meets its contract: the def, the registers that escape and the edges, one after another.
 use native.Mathlib.Omega.{arith}
-use Prim.Native.Nat.{_-_, _*_, _^_, _<_}
+use Prim.Native.Nat.{_*_, _^_, _<_}
 use mathlib.Core.Path.{refl, _∙_}
 use lib.ListN.{length, length-set}
 use Rattle.reach.proofs.Bounds.{count-at, def-at}

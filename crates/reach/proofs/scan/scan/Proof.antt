@@ -11,7 +11,6 @@ use Rattle.carrying.specs.Insts.{instsOf}
 use Rattle.reach.specs.Inner.{Scanning}
 use Rattle.insts.specs.Counts.{offset}
 use Rattle.insts.proofs.DealtLaws.{operands-within}
-use Prim.Native.Nat.{_/_}
 use Rattle.words.proofs.FitLaws.{within}
 use Rattle.reach.proofs.scan.scan.Statement.{statement}
 use Rattle.reach.proofs.scan.scan.Tie as tie

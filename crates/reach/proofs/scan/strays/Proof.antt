@@ -1,6 +1,5 @@
 -- `reach::scan::strays` meets its contract: a law for each way out.
 use native.Mathlib.Omega.{arith}
-use Prim.Native.Nat.{_-_}
 use mathlib.Core.Path.{ap}
 use mathlib.Core.Bool.{not, _&&_}
 use Rattle.carrying.specs.Insts.{isSet, addressPosition}

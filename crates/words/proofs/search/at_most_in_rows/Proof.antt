@@ -4,7 +4,7 @@ use Rattle.words.proofs.RowLaws.{field-within}
 use Rattle.words.specs.Rows.{field}
 use lib.Dec.{leb}
 use native.Mathlib.Omega.{arith}
-use Prim.Native.Nat.{_+_, _-_, _*_, _/_, _<_}
+use Prim.Native.Nat.{_+_, _*_, _/_, _<_}
 use lib.ListN.{length}
 use Rattle.words.proofs.search.at_most_in_rows.Statement.{statement}
 use Rattle.words.proofs.search.at_most_in_rows.Tie as tie
