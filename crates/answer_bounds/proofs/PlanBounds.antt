@@ -15,7 +15,8 @@ use Rattle.words.specs.Rows.{wholeRows}
 use Rattle.words.specs.Widths.{localCount, cellWidth, cellCount, itemWidth, itemRowCount, rangeCount, wantCount, slotCount}
 use Rattle.words.proofs.Bools.{or-neither}
 use Rattle.words.proofs.RowLaws.{length-tabulate}
-use Rattle.fitting.specs.Queries.{Item, Slots, areasOf, itemsOf, slotsOf, crowd, crowded, crowdedFrom}
+use Rattle.ranges.specs.Forms.{areasOf}
+use Rattle.fitting.specs.Queries.{Item, Slots, itemsOf, slotsOf, crowd, crowded, crowdedFrom}
 use Rattle.want_checks.specs.Checks.{badWant, badSpace, badCount as wantCounts}
 use Rattle.want_checks.proofs.CheckLaws.{count-fine}
 use Rattle.want_codes.specs.Plans.{fewCounts, codedVerdict}

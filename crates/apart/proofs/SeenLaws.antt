@@ -16,7 +16,8 @@ use Rattle.words.specs.Rows.{field, tabulate}
 use Rattle.words.specs.Widths.{localCount, cellWidth, cellSize, cellAlign, itemWidth, itemPresent, itemFirst, itemRanges, rangeWidth, rangeCount, slotCount}
 use Rattle.words.proofs.RowLaws.{length-tabulate}
 use Rattle.words.proofs.FlatLaws.{flat-length, flat-at}
-use Rattle.fitting.specs.Queries.{Room, Item, Slots, areasOf, apart}
+use Rattle.ranges.specs.Forms.{areasOf}
+use Rattle.fitting.specs.Queries.{Room, Item, Slots, apart}
 use Rattle.queries.specs.Seen.{PlanSeen}
 use Rattle.queries.proofs.SeenLaws.{RowsHold, planBy, plan-seen}
 use Rattle.apart.specs.Apart.{localsOf, widthsOf, apartVerdict, roomRows, loneRows, apartOf, ApartBy}

@@ -12,10 +12,10 @@ use Rattle.words.specs.Widths.{rangeWidth, rangeCount, rangeStart, rangeEnd}
 use Rattle.words.proofs.RowLaws.{tabulate-eq, tabulate-add}
 use Rattle.ranges.specs.declared.Range.{Range}
 use Rattle.ranges.specs.Points.{range, listed}
+use Rattle.ranges.specs.Forms.{areasOf}
 use Rattle.carrying.specs.Lists.{gather}
 use Rattle.areas.specs.Job.{rangesOf}
 use Rattle.area_pieces.proofs.HullLaws.{gather-append}
-use Rattle.fitting.specs.Queries.{areasOf}
 use Rattle.area_tables.specs.Tables.{areaRows}
 use Rattle.area_tables.proofs.RowLaws.{gathered-long}
 

@@ -17,7 +17,7 @@ use Rattle.job_checks.specs.Job.{jobOf}
 use Rattle.job.specs.Entry.{lentChecks, lentVerdict}
 use Rattle.job.proofs.OrderLaws.{lentGive, lent-give}
 use Rattle.want_checks.specs.Checks.{badCount, badSpace, badWant, wantsVerdict}
-use Rattle.fitting.specs.Queries.{areasOf}
+use Rattle.ranges.specs.Forms.{areasOf}
 use Rattle.want_codes.specs.Plans.{fewCounts}
 use Rattle.job_codes.specs.Job.{codedVerdict}
 use Rattle.export_laws.specs.Orders.{codedChecks}

@@ -15,7 +15,8 @@ use Rattle.words.proofs.Bools.{or-neither}
 use Rattle.words.specs.Widths.{localCount, cellWidth, itemWidth, itemCell, rangeWidth, rangeCount, wantCount, slotCount}
 use Rattle.fitting.specs.Wants.{orderOf}
 use Rattle.fitting.specs.Lowest.{PutLowest}
-use Rattle.fitting.specs.Queries.{areasOf, answered, apart}
+use Rattle.ranges.specs.Forms.{areasOf}
+use Rattle.fitting.specs.Queries.{answered, apart}
 use Rattle.words.proofs.RowLaws.{length-tabulate}
 use Rattle.queries.specs.Seen.{PlanSeen}
 use Rattle.queries.proofs.SeenLaws.{answered-is}

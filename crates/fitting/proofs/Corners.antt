@@ -9,13 +9,13 @@ use Rattle.ranges.specs.Points.{range}
 use Rattle.ranges.specs.Merged.{insert as insertRange, sort, join, merged, meets, clashes}
 use Rattle.fitting.specs.Wants.{Want, before, insert, ordered, orderOf}
 use Rattle.fitting.specs.Plan.{Cell, takes, lowest, spent, widened, nothing, put, fit, planOf, depthOf}
-use Rattle.fitting.specs.Queries.{Slots, partOf, areasOf, roomsOf, itemsOf, slotsOf, local, slot, countIn, shared, crowdedFrom, crowded, saved, apart, cap, answered}
+use Rattle.fitting.specs.Queries.{Slots, partOf, roomsOf, itemsOf, slotsOf, local, slot, countIn, shared, crowdedFrom, crowded, saved, apart, cap, answered}
 
--- cells 2 numbers: size, align; areas 2: start, end; items 4: cell, present, first, count
-pub rows : (roomsOf (4 ∷ 5 ∷ 6 ∷ 7 ∷ []) ≡ record { size = 4; align = 5 } ∷ record { size = 6; align = 7 } ∷ []) × (areasOf (4 ∷ 5 ∷ 6 ∷ 7 ∷ []) ≡ range 4 5 ∷ range 6 7 ∷ [])
+-- cells 2 numbers: size, align; items 4: cell, present, first, count
+pub rows : (roomsOf (4 ∷ 5 ∷ 6 ∷ 7 ∷ []) ≡ record { size = 4; align = 5 } ∷ record { size = 6; align = 7 } ∷ [])
     × (itemsOf (range 0 1 ∷ range 3 4 ∷ range 6 7 ∷ range 9 9 ∷ []) (5 ∷ 1 ∷ 1 ∷ 2 ∷ []) ≡ record { cell = 5; area = some (range 3 4 ∷ range 6 7 ∷ []) } ∷ [])
 unfolding tabulate
-rows = (refl, refl, refl)
+rows = (refl, refl)
 
 -- a present flag: "0 is absent, any other number present"; a present, empty area
 pub flags : (partOf (range 0 1 ∷ []) 0 0 1 ≡ none) × (partOf (range 0 1 ∷ []) 1 0 1 ≡ some (range 0 1 ∷ [])) × (partOf (range 0 1 ∷ []) 2 0 1 ≡ some (range 0 1 ∷ [])) × (partOf (range 0 1 ∷ []) 1 0 0 ≡ some [])

@@ -6,13 +6,13 @@ use mathlib.Core.List.{List, [], _∷_, _++_, map}
 use lib.ListN.{length, getElem?, take, drop}
 use lib.Dec.{eqb, ltb}
 use Rattle.words.specs.Rows.{records, tabulate}
-use Rattle.words.specs.Widths.{cellWidth, itemWidth, rangeWidth}
+use Rattle.words.specs.Widths.{cellWidth, itemWidth}
 use Rattle.ranges.specs.declared.Range.{Range}
-use Rattle.ranges.specs.Points.{range}
+use Rattle.ranges.specs.Forms.{areasOf}
 use Rattle.fitting.specs.Wants.{Want, wantAt}
 use Rattle.fitting.specs.Plan.{Cell, Plan}
 
--- cells 2 numbers: size, align; items 4: cell, present, first, count; areas 2: start, end
+-- cells 2 numbers: size, align; items 4: cell, present, first, count
 pub record Room : Type 0 where
   pub size : ℕ
   pub align : ℕ
@@ -24,9 +24,6 @@ pub record Item : Type 0 where
 -- the part of the area list that an item names: "a present flag and a part of the area list"
 abbrev pub partOf : List Range → ℕ → ℕ → ℕ → Option (List Range)
 partOf areas present first count = cond (eqb present 0) none (some (take count (drop first areas)))
-
-abbrev pub areasOf : List ℕ → List Range
-areasOf s = records rangeWidth (λ f. range (f 0) (f 1)) s
 
 abbrev pub roomsOf : List ℕ → List Room
 roomsOf s = records cellWidth (λ f. record { size = f 0; align = f 1 }) s

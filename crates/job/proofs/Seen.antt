@@ -18,7 +18,8 @@ use Rattle.areas.specs.Job.{Job, itemCount, itemArea, rangesOf, itemsVerdict}
 use Rattle.fitting.specs.Wants.{Want, wantAt, orderOf}
 use Rattle.fitting.specs.Plan.{Plan}
 use Rattle.fitting.specs.Lowest.{PutLowest}
-use Rattle.fitting.specs.Queries.{areasOf, partOf, answered}
+use Rattle.ranges.specs.Forms.{areasOf}
+use Rattle.fitting.specs.Queries.{partOf, answered}
 use Rattle.fitting.proofs.OrderLaws.{length-ordered}
 use Rattle.fitting.proofs.PlanLaws.{facts}
 use Rattle.fitting.proofs.PutLaws.{plan-few, put-lowest}

@@ -9,9 +9,10 @@ use Rattle.words.specs.Rows.{field, tabulate, flat}
 use Rattle.words.specs.Widths.{itemWidth, itemCell, itemPresent, itemFirst, itemRanges, rangeWidth, rangeCount}
 use Rattle.words.proofs.FlatLaws.{flat-length, flat-at}
 use Rattle.ranges.specs.declared.Range.{Range}
+use Rattle.ranges.specs.Forms.{areasOf}
 use Rattle.fitting.specs.Wants.{Want, wantAt}
 use Rattle.fitting.specs.Plan.{Plan}
-use Rattle.fitting.specs.Queries.{areasOf, partOf}
+use Rattle.fitting.specs.Queries.{partOf}
 use Rattle.areas.specs.Job.{rangesIn, rangesOf}
 use Rattle.area_tables.specs.Tables.{areaRows}
 use Rattle.area_tables.proofs.RowLaws.{ranges-below}

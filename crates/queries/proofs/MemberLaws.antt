@@ -11,7 +11,8 @@ use Rattle.words.specs.Rows.{tabulate}
 use Rattle.words.specs.Widths.{itemRowCount, itemCell}
 use Rattle.words.proofs.RowLaws.{tabulate-suc, length-tabulate}
 use Rattle.words.proofs.Points.{same}
-use Rattle.fitting.specs.Queries.{Item, Slots, slotsOf, itemsOf, areasOf, countIn, crowd, crowdedFrom, crowded}
+use Rattle.ranges.specs.Forms.{areasOf}
+use Rattle.fitting.specs.Queries.{Item, Slots, slotsOf, itemsOf, countIn, crowd, crowdedFrom, crowded}
 use Rattle.members.specs.Inner.{members, membersIn, picks, crowdedSlot, crowdedSlots}
 use Rattle.query_checks.proofs.CheckLaws.{Sound}
 use Rattle.queries.proofs.QueryLaws.{itemAt, slots-are}

@@ -13,7 +13,8 @@ use Rattle.refusals.specs.Outcomes.{unless}
 use Rattle.words.specs.Rows.{tabulate}
 use Rattle.words.specs.Widths.{cellCount, itemWidth, itemRowCount, itemCell, itemPresent, itemFirst, itemRanges}
 use Rattle.words.proofs.RowLaws.{length-tabulate, take-tabulate, drop-tabulate}
-use Rattle.fitting.specs.Queries.{Item, slotsOf, areasOf, partOf, cellIn, local, slot, saved}
+use Rattle.ranges.specs.Forms.{areasOf}
+use Rattle.fitting.specs.Queries.{Item, slotsOf, partOf, cellIn, local, slot, saved}
 use Rattle.queries.specs.declared.Place.the-variants.{At, Absent, Refused as PlaceRefused}
 use Rattle.queries.specs.declared.Saving.the-variants.{Cells, Refused as SavedRefused}
 use Rattle.query_checks.proofs.CheckLaws.{Sound}

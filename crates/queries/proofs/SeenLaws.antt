@@ -21,9 +21,10 @@ use Rattle.words.proofs.RowLaws.{length-tabulate, tabulate-eq, take-tabulate, d
 use Rattle.words.proofs.Points.{cut, same}
 use Rattle.ranges.specs.declared.Range.{Range}
 use Rattle.ranges.specs.Points.{range}
+use Rattle.ranges.specs.Forms.{areasOf}
 use Rattle.fitting.specs.Wants.{Want, wantAt}
 use Rattle.fitting.specs.Plan.{Cell, cellAt, Plan}
-use Rattle.fitting.specs.Queries.{Room, Item, Slots, slotsOf, areasOf, partOf, cellIn, local, slot, saved, shared, countIn, crowd, crowdedFrom, crowded, roomIn, answered}
+use Rattle.fitting.specs.Queries.{Room, Item, Slots, slotsOf, partOf, cellIn, local, slot, saved, shared, countIn, crowd, crowdedFrom, crowded, roomIn, answered}
 use Rattle.query_checks.specs.Checks.{badCount, noCell, planVerdict, badAreas, outside, badItem, sharedVerdict, crowdedVerdict}
 use Rattle.query_checks.proofs.CheckLaws.{plan-fine, parts-fine, crowd-plan, out-absent, out-present, sound}
 use Rattle.queries.specs.Shares.{sharedPart, areaOf}

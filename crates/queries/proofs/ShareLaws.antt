@@ -15,7 +15,8 @@ use Rattle.refusals.specs.declared.Refusal.{Refusal}
 use Rattle.refusals.specs.Outcomes.{given, unless}
 use Rattle.words.specs.Widths.{itemWidth, itemCell, itemPresent, itemFirst, itemRanges, rangeCount}
 use Rattle.words.proofs.Points.{cut}
-use Rattle.fitting.specs.Queries.{Item, slotsOf, areasOf, crowd, sharedBy, shared}
+use Rattle.ranges.specs.Forms.{areasOf}
+use Rattle.fitting.specs.Queries.{Item, slotsOf, crowd, sharedBy, shared}
 use Rattle.queries.specs.declared.Share.the-variants.{Part, Absent, Refused as ShareRefused}
 use Rattle.queries.specs.declared.Crowd.the-variants.{Slots as SlotsGiven, Refused as CrowdRefused}
 use Rattle.query_checks.specs.Checks.{sharedVerdict, crowdedVerdict}

@@ -4,7 +4,8 @@ use mathlib.Core.Path.{_≡_}
 use mathlib.Core.List.{List}
 use lib.ListN.{length}
 use Rattle.refusals.specs.Outcomes.{given}
-use Rattle.fitting.specs.Queries.{Slots, slotsOf, areasOf, local, slot, saved, shared, crowded}
+use Rattle.ranges.specs.Forms.{areasOf}
+use Rattle.fitting.specs.Queries.{Slots, slotsOf, local, slot, saved, shared, crowded}
 use Rattle.queries.specs.Entry.{localOf, slotOf, savedBy}
 use Rattle.queries.specs.Shares.{sharedOf, areaOf, crowdedOf}
 

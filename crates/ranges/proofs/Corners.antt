@@ -5,9 +5,10 @@ use mathlib.Core.List.{[], _∷_}
 use Rattle.refusals.specs.declared.Verdict.the-variants.{Fine, Bad}
 use Rattle.refusals.specs.declared.Refusal.the-variants.{Want}
 use Rattle.refusals.specs.Verdicts.{first, scan}
+use Rattle.words.specs.Rows.{tabulate}
 use Rattle.ranges.specs.Points.{range, within, inside, overlaps}
 use Rattle.ranges.specs.Merged.{notAfter, insert, sort, join, merged, joined}
-use Rattle.ranges.specs.Forms.{columns, starts, ends}
+use Rattle.ranges.specs.Forms.{columns, starts, ends, areasOf}
 use Rattle.ranges.specs.Inner.{pack, unpack}
 use Rattle.ranges.specs.Lent.{listVerdict, faulty}
 
@@ -17,10 +18,11 @@ pub lent : (listVerdict true (range 4 4 ∷ []) ≡ Fine) × (listVerdict false 
 unfolding first scan listVerdict
 lent = (refl, refl, refl, refl, refl, refl)
 
--- a range's start and end, in two columns and in one word
+-- a range's start and end, in two columns, in a row and in one word
 pub forms : (columns (1 ∷ 3 ∷ []) (2 ∷ 4 ∷ []) ≡ range 1 2 ∷ range 3 4 ∷ []) × (starts (range 1 2 ∷ range 3 4 ∷ []) ≡ 1 ∷ 3 ∷ []) × (ends (range 1 2 ∷ range 3 4 ∷ []) ≡ 2 ∷ 4 ∷ [])
-    × (pack (range 1 2) ≡ 4294967298) × (unpack 4294967298 ≡ range 1 2)
-forms = (refl, refl, refl, refl, refl)
+    × (areasOf (1 ∷ 2 ∷ 3 ∷ 4 ∷ 5 ∷ []) ≡ range 1 2 ∷ range 3 4 ∷ []) × (pack (range 1 2) ≡ 4294967298) × (unpack 4294967298 ≡ range 1 2)
+unfolding tabulate
+forms = (refl, refl, refl, refl, refl, refl)
 
 -- "both ends included"; "each starts no later than the other ends", on either side
 pub points : (within 3 (range 4 6) ≡ false) × (within 4 (range 4 6) ≡ true) × (within 6 (range 4 6) ≡ true) × (within 7 (range 4 6) ≡ false) × (inside 5 (range 1 2 ∷ range 5 5 ∷ []) ≡ true)

@@ -1,11 +1,13 @@
--- A lent list without refusal: no range is reversed, and one that is to be in order is in order and apart.
+-- A lent list: its test at one range, by the numbers that are read; without refusal no range is reversed, and one that is to be in order is in order and apart.
 use mathlib.Core.Path.{_≡_, refl, ap, sym, _∙_}
 use mathlib.Core.Bool.{Bool, true, false, true≢false}
 use mathlib.Core.List.{List, [], _∷_}
-use Prim.Native.Nat.{ℕ, zero, suc, _≤_, _<_}
+use Prim.Native.Nat.{ℕ, zero, suc, _-_, _≤_, _<_}
 use native.Mathlib.Omega.{arith}
-use lib.ListN.{length}
-use borrow.Author.Tests.{ltb-false, leb-false}
+use lib.ListN.{length, take}
+use lib.Seq.{getD-take}
+use lib.Dec.{leb}
+use borrow.Author.Tests.{lt-ltb, le-ltb, ltb-false, leb-false}
 use Rattle.words.proofs.Bools.{or-neither}
 use Rattle.refusals.specs.declared.Verdict.{Verdict}
 use Rattle.refusals.specs.declared.Verdict.the-variants.{Fine, Bad}
@@ -13,9 +15,42 @@ use Rattle.refusals.specs.declared.Refusal.the-variants.{Want}
 use Rattle.refusals.specs.Verdicts.{refuses}
 use Rattle.refusals.proofs.Laws.{scan-fine, scan-all}
 use Rattle.ranges.specs.declared.Range.{Range}
-use Rattle.ranges.specs.Points.{Upright, Past, Apart}
-use Rattle.ranges.specs.Lent.{reversedAt, wrongAt, listVerdict, faulty}
+use Rattle.ranges.specs.Points.{range, rangeAt, Upright, Past, Apart}
+use Rattle.ranges.specs.Lent.{reversedAt, closeAt, wrongAt, listVerdict, faulty}
 use Rattle.ranges.proofs.PointLaws.{upright-none, upright-cons}
+
+-- ---- the test at one range, by the numbers that are read
+
+module _ (rs : List Range) (i s e : ℕ) (is : rangeAt rs i ≡ range s e) (o : Bool) where
+  pub wrong-reversed : e < s → true ≡ wrongAt o rs i
+  wrong-reversed h = sym (simp (is, lt-ltb e s h))
+
+  upright-at : s ≤ e → reversedAt rs i ≡ false
+  upright-at h = simp (is, le-ltb e s h)
+
+  pub wrong-loose : s ≤ e → o ≡ false → false ≡ wrongAt o rs i
+  wrong-loose h q = sym (rw (upright-at h, q))
+
+  pub wrong-front : s ≤ e → o ≡ true → i ≡ 0 → false ≡ wrongAt o rs i
+  wrong-front h q z = sym (rw (upright-at h, q) (go i z))
+    where
+      go : (k : ℕ) → k ≡ 0 → closeAt rs k ≡ false
+      go zero e = refl
+      go (suc k) e = absurd (omega arith)
+
+  pub wrong-close : s ≤ e → o ≡ true → (i ≡ 0 → ⊥) → (t f : ℕ) → rangeAt rs (i - 1) ≡ range t f → leb s f ≡ wrongAt o rs i
+  wrong-close h q z t f before = sym (rw (upright-at h, q) (go i z is before))
+    where
+      go : (k : ℕ) → (k ≡ 0 → ⊥) → rangeAt rs k ≡ range s e → rangeAt rs (k - 1) ≡ range t f → closeAt rs k ≡ leb s f
+      go zero z a b = absurd (z refl)
+      go (suc k) z a b = let d : suc k - 1 ≡ k = omega arith in rw (a, rw d at b)
+
+-- the first n of a list are tested as in the list
+pub wrong-take : (o : Bool) (n : ℕ) (rs : List Range) (i : ℕ) → i < n → wrongAt o (take n rs) i ≡ wrongAt o rs i
+wrong-take o n rs zero h = rw (getD-take n rs zero (range 0 0) h)
+wrong-take o n rs (suc i) h = rw (getD-take n rs (suc i) (range 0 0) h, getD-take n rs i (range 0 0) (omega arith))
+
+-- ---- a list without refusal
 
 right-at : (o : Bool) (rs : List Range) → listVerdict o rs ≡ Fine → (i : ℕ) → i < length rs → wrongAt o rs i ≡ false
 unfolding listVerdict

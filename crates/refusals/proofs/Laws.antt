@@ -138,3 +138,14 @@ module _ (r : Refusal) (t : ℕ → Bool) where
   unfolding scan first
   scan-all zero f = refl
   scan-all (suc n) f = rw (scan-all n (λ i h. f i (omega arith)), f n (omega arith)) refl
+
+  -- what is refused is one of the records, under r
+  pub scan-bad : (n : ℕ) (q : Refusal) (i : ℕ) → scan r t n ≡ Bad q i → (q ≡ r) × (i < n)
+  unfolding scan first
+  scan-bad zero q i e = absurd (let z : _≡_ {A = ℕ} 0 1 = cc in omega arith)
+  scan-bad (suc n) q i e = go (scan r t n) (t n) refl refl (scan-bad n q i) e
+    where
+      go : (v : Verdict) (b : Bool) → scan r t n ≡ v → t n ≡ b → (scan r t n ≡ Bad q i → (q ≡ r) × (i < n)) → first v (cond b (Bad r n) Fine) ≡ Bad q i → (q ≡ r) × (i < suc n)
+      go Fine true p h f e = let a : r ≡ q = cc in let d : n ≡ i = cc in (sym a, omega arith)
+      go Fine false p h f e = absurd (let z : _≡_ {A = ℕ} 0 1 = cc in omega arith)
+      go (Bad s j) b p h f e = let (a, l) = f (p ∙ e) in (a, omega arith)

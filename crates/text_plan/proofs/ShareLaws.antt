@@ -13,7 +13,8 @@ use Rattle.words.specs.Widths.{rangeCount, rangeStart, rangeEnd}
 use Rattle.words.proofs.RowLaws.{take-tabulate, drop-tabulate, map-tabulate}
 use Rattle.ranges.specs.declared.Range.{Range}
 use Rattle.ranges.specs.Points.{range}
-use Rattle.fitting.specs.Queries.{slotsOf, shared, areasOf}
+use Rattle.ranges.specs.Forms.{areasOf}
+use Rattle.fitting.specs.Queries.{slotsOf, shared}
 use Rattle.queries.specs.Shares.{shareOf, sharedPart, sharedOf, rangesOf}
 use Rattle.queries.proofs.ShareLaws.{shared-area, shared-inside}
 use Rattle.query_checks.proofs.CheckLaws.{shared-sound}

@@ -1,12 +1,12 @@
 -- The three ways out of the checks, and what a verdict of fine gives.
-use Prim.Native.Nat.{ℕ, _+_, _-_, _/_, _%_, _≤_, _<_}
+use Prim.Native.Nat.{ℕ, _-_, _/_, _%_, _≤_}
 use native.Mathlib.Omega.{arith}
-use mathlib.Core.Path.{_≡_, refl, ap, sym, _∙_}
-use mathlib.Core.Bool.{Bool, true, false, not, _||_}
+use mathlib.Core.Path.{_≡_, refl, _∙_}
+use mathlib.Core.Bool.{Bool, true, false, not}
 use mathlib.Core.List.{List, [], _∷_}
-use lib.ListN.{length, take, drop}
+use lib.ListN.{length}
 use lib.Dec.{ltb, eqb}
-use borrow.Author.Tests.{ltb-false, lt-ltb, le-ltb, eqb-true, not-false}
+use borrow.Author.Tests.{ltb-false, eqb-true, not-false}
 use Rattle.refusals.specs.declared.Verdict.{Verdict}
 use Rattle.refusals.specs.declared.Verdict.the-variants.{Fine, Bad}
 use Rattle.refusals.specs.declared.Refusal.{Refusal}
@@ -16,22 +16,9 @@ use Rattle.refusals.proofs.Laws.{three-first, three-second, three-third, scan-f
 use Rattle.words.specs.Rows.{wholeRows}
 use Rattle.words.specs.Widths.{cellWidth, itemWidth, rangeWidth, rangeCount, wantWidth, wantCount}
 use Rattle.words.proofs.Bools.{or-neither}
-use Rattle.ranges.specs.Lent.{faulty}
-use Rattle.fitting.specs.Queries.{areasOf}
-use Rattle.want_checks.specs.Checks.{badPart, badWant, wantsVerdict, overLimit, badCount, badSpace, spaceOf, verdict}
+use Rattle.ranges.specs.Forms.{areasOf}
+use Rattle.want_checks.specs.Checks.{badWant, wantsVerdict, overLimit, badCount, badSpace, spaceOf, verdict}
 use Rattle.want_checks.specs.Inner.{Granted}
-use Rattle.want_checks.proofs.PartLaws.{part-present, areas-length}
-
-pub part-outside : (s : List ℕ) (present first count : ℕ) → (present ≡ 0 → ⊥) → rangeCount s < first + count → true ≡ badPart (areasOf s) present first count
-part-outside s present first count d h =
-    part-present (areasOf s) present first count true d
-    (sym (ap (λ (t : Bool). t || faulty (take count (drop first (areasOf s)))) (lt-ltb (length (areasOf s)) (first + count) (rw (areas-length s) h))))
-
-pub part-inside : (s : List ℕ) (present first count : ℕ) (r : Bool) → (present ≡ 0 → ⊥) → first + count ≤ rangeCount s → r ≡ faulty (take count (drop first (areasOf s)))
-    → r ≡ badPart (areasOf s) present first count
-part-inside s present first count r d h e =
-    part-present (areasOf s) present first count r d
-    (e ∙ sym (ap (λ (t : Bool). t || faulty (take count (drop first (areasOf s)))) (le-ltb (length (areasOf s)) (first + count) (rw (areas-length s) h))))
 
 -- counts within their limits
 pub limits : (wants ranges locals budget : ℕ) → overLimit wants ranges locals budget ≡ false → (wants ≤ 4096) × (ranges ≤ 65536)

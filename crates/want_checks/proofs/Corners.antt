@@ -7,9 +7,8 @@ use Rattle.refusals.specs.declared.Verdict.the-variants.{Fine, Bad}
 use Rattle.refusals.specs.declared.Refusal.the-variants.{Count, Space, Want as WantRefused}
 use Rattle.refusals.specs.Verdicts.{first, inOrder, scan}
 use Rattle.words.specs.Rows.{tabulate}
-use Rattle.ranges.specs.Points.{range}
 use Rattle.ranges.specs.Lent.{listVerdict}
-use Rattle.want_checks.specs.Checks.{badPart, wantsVerdict, overLimit, badCount, spaceOf, badSpace, verdict}
+use Rattle.want_checks.specs.Checks.{wantsVerdict, overLimit, badCount, spaceOf, badSpace, verdict}
 
 -- number 1: "2,048 wants of locals and 2,048 of slots", locals no more than the wants, "the area list 65,536", "budget 1,048,576"
 pub limits : (overLimit 4096 65536 2048 1048576 ≡ false) × (overLimit 4096 0 2049 0 ≡ true) × (overLimit 4096 0 2047 0 ≡ true) × (overLimit 5 0 5 0 ≡ false) × (overLimit 5 0 6 0 ≡ true) × (overLimit 0 65537 0 0 ≡ true) × (overLimit 0 0 0 1048577 ≡ true)
@@ -32,9 +31,9 @@ spaces = (refl, refl, refl, refl, refl)
 
 -- number 10, by want: "an area outside its list": to the last range, one past; "reversed, unsorted or overlapping itself"; an absent want's part is not read, an empty one is allowed
 pub parts : (wantsVerdict areas (want 1 2 1) ≡ Fine) × (wantsVerdict areas (want 1 2 2) ≡ Bad WantRefused 1) × (wantsVerdict areas (want 1 1 2) ≡ Bad WantRefused 1) × (wantsVerdict areas (want 2 1 2) ≡ Bad WantRefused 1)
-    × (wantsVerdict areas (want 0 9 9) ≡ Fine) × (wantsVerdict areas (want 1 3 0) ≡ Fine) × (wantsVerdict areas (want 1 4 0) ≡ Bad WantRefused 1) × (badPart (range 4 3 ∷ []) 1 0 1 ≡ true)
+    × (wantsVerdict areas (want 0 9 9) ≡ Fine) × (wantsVerdict areas (want 1 3 0) ≡ Fine) × (wantsVerdict areas (want 1 4 0) ≡ Bad WantRefused 1)
 unfolding first scan tabulate listVerdict
-parts = (refl, refl, refl, refl, refl, refl, refl, refl)
+parts = (refl, refl, refl, refl, refl, refl, refl)
 
 -- 1 before 7 before 10
 pub order : (verdict (want 1 1 2) areas 1 1048577 4 8 0 ≡ Bad Count 0) × (verdict (want 1 1 2) areas 1 9 4 8 39 ≡ Bad Space 0) × (verdict (want 1 1 2) areas 1 9 4 8 40 ≡ Bad WantRefused 1)

@@ -1,4 +1,3 @@
 pub mod Corners
-pub mod PartLaws
 pub mod CheckLaws
 pub mod OrderLaws

@@ -1,8 +1,7 @@
 -- Document 01, "Fitting alone, over given wants": what the entry refuses (numbers 1, 7 and 10), and W.
 use Prim.Native.Nat.{ℕ, _+_, _-_, _*_, _/_, _%_}
-use mathlib.Core.Bool.{Bool, false, cond, not, _||_}
+use mathlib.Core.Bool.{Bool, not, _||_}
 use mathlib.Core.List.{List, [], _∷_}
-use lib.ListN.{length, take, drop}
 use lib.Dec.{ltb, eqb}
 use Rattle.refusals.specs.declared.Verdict.{Verdict}
 use Rattle.refusals.specs.declared.Refusal.the-variants.{Count, Space, Want as WantRefused}
@@ -10,13 +9,10 @@ use Rattle.refusals.specs.Verdicts.{inOrder, scan, check}
 use Rattle.words.specs.Rows.{wholeRows}
 use Rattle.words.specs.Widths.{cellWidth, itemWidth, rangeWidth, rangeCount, wantWidth, wantCount, wantPresent, wantFirst, wantRanges}
 use Rattle.ranges.specs.declared.Range.{Range}
-use Rattle.ranges.specs.Lent.{faulty}
-use Rattle.fitting.specs.Queries.{areasOf}
+use Rattle.ranges.specs.Forms.{areasOf}
+use Rattle.range_walk.specs.Walk.{badPart}
 
--- number 10: "an area outside its list, reversed, unsorted or overlapping itself"; an absent want's part is not read
-abbrev pub badPart : List Range → ℕ → ℕ → ℕ → Bool
-badPart areas present first count = cond (eqb present 0) false (ltb (length areas) (first + count) || faulty (take count (drop first areas)))
-
+-- number 10 of one want, by its part of the area list
 abbrev pub badWant : List Range → List ℕ → ℕ → Bool
 badWant areas s i = badPart areas (wantPresent s i) (wantFirst s i) (wantRanges s i)
 

@@ -4,7 +4,7 @@ use mathlib.Core.Path.{_≡_}
 use mathlib.Core.Bool.{false}
 use mathlib.Core.List.{List}
 use Rattle.words.specs.Widths.{cellWidth, itemWidth, rangeCount, wantCount}
-use Rattle.fitting.specs.Queries.{areasOf}
+use Rattle.ranges.specs.Forms.{areasOf}
 use Rattle.want_checks.specs.Checks.{badWant}
 
 -- what holds where nothing is refused: the counts within their limits, room in the answer lists and the work space, each want's part proper

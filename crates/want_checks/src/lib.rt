@@ -1,11 +1,8 @@
 // The refusals of fitting alone: numbers 1, 7 and 10, in this order.
 ghost use mathlib.Core.Path.{_≡_};
-ghost use Prim.Native.Nat.{_+_, _*_, _/_, _≤_, _<_};
-ghost use lib.ListN.{take, drop};
+ghost use Prim.Native.Nat.{_≤_};
 ghost use Rattle.words.specs.Widths.{rangeCount, wantCount};
-ghost use Rattle.ranges.specs.Lent.{faulty};
-ghost use Rattle.fitting.specs.Queries.{areasOf};
-ghost use Rattle.want_checks.specs.Checks.{badPart, wantsVerdict, overLimit, badCount, badSpace, verdict};
+ghost use Rattle.want_checks.specs.Checks.{wantsVerdict, overLimit, badCount, badSpace, verdict};
 use refusals::Refusal;
 use refusals::Verdict;
 use words::widths::cell;
@@ -20,42 +17,6 @@ const RANGES: usize = 65536;
 
 const BUDGET: u32 = 1048576;
 
-// Whether the `count` ranges from `first` on are reversed, unsorted or overlapping: the only place that looks at an area's form.
-fn part_faulty(areas: &[u32], first: usize, count: usize) -> bool
-    requires { ⌜ first + count ≤ rangeCount (now areas) ⌝ }
-    ensures { λ r. ⌜ r ≡ faulty (take count (drop first (areasOf (now (areas .entry))))) ⌝ }
-{
-    let mut i = 0;
-    while i < count {
-        let at = range::WIDTH * (first + i);
-        if areas[at + range::END] < areas[at] {
-            return true;
-        }
-        if 0 < i {
-            if areas[at] <= areas[at - 1] {
-                return true;
-            }
-        }
-        i += 1;
-    }
-    false
-}
-
-// Whether a want's part is outside the area list, or faulty.
-fn bad_part(areas: &[u32], present: u32, first: u32, count: u32) -> bool
-    ensures { λ r. ⌜ r ≡ badPart (areasOf (now (areas .entry))) present first count ⌝ }
-{
-    if present == 0 {
-        return false;
-    }
-    let f = first as usize;
-    let c = count as usize;
-    if areas.len() / range::WIDTH < f + c {
-        return true;
-    }
-    part_faulty(areas, f, c)
-}
-
 // The first want whose part is bad.
 fn bad_wants(wants: &[u32], areas: &[u32]) -> Verdict
     ensures { λ r. ⌜ r ≡ wantsVerdict (now (areas .entry)) (now (wants .entry)) ⌝ }
@@ -64,12 +25,13 @@ fn bad_wants(wants: &[u32], areas: &[u32]) -> Verdict
     let mut i = 0;
     while i < n {
         let at = want::WIDTH * i;
-        if bad_part(
+        let look = range_walk::walk(
             areas,
             wants[at + want::PRESENT],
             wants[at + want::FIRST],
             wants[at + want::RANGES],
-        ) {
+        );
+        if !look.fine {
             return Verdict::Bad(Refusal::Want, i);
         }
         i += 1;

@@ -16,7 +16,7 @@ use Rattle.words.specs.Widths.{cellWidth, itemWidth, rangeCount, wantCount, wan
 use Rattle.words.proofs.RowLaws.{length-tabulate, tabulate-getD, map-tabulate, tabulate-eq}
 use Rattle.fitting.specs.Wants.{Want, orderOf}
 use Rattle.fitting.specs.Plan.{Cell, cellAt, Plan, planOf, depthOf}
-use Rattle.fitting.specs.Queries.{areasOf}
+use Rattle.ranges.specs.Forms.{areasOf}
 use Rattle.fitting.proofs.PlanLaws.{facts}
 use Rattle.fitting.proofs.OrderLaws.{order-names}
 use Rattle.fit_tables.specs.Inner.{sizeOf, alignOf, cellTable, homeTable, wantIn, wantsIn, planIn, Shown, Fitted, Loaded, cellRowsIn, itemRowsIn}

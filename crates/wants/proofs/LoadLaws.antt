@@ -17,15 +17,16 @@ use Rattle.words.proofs.RegionLaws.{length-part, getD-part}
 use Rattle.words.proofs.RowLaws.{tabulate-eq}
 use Rattle.ranges.specs.Points.{range, rangeAt, Apart}
 use Rattle.ranges.specs.Inner.{unpack, unpacked}
+use Rattle.ranges.specs.Forms.{areasOf}
 use Rattle.ranges.proofs.FormLaws.{unpacked-length, unpacked-at, unpack-pack}
-use Rattle.fitting.specs.Queries.{areasOf, partOf}
+use Rattle.fitting.specs.Queries.{partOf}
 use Rattle.fit_tables.specs.Inner.{sizeOf, alignOf, firstOf, countOf, rangesAt, areaIn, wantIn, wantsIn, Proper, Lent, itemWordAt, Loaded}
 use Rattle.wants.specs.Inner.{tablesFor}
 use Rattle.fit_tables.proofs.TableLaws.{area-none, area-some}
 use Rattle.wants.specs.Entry.{wantsOf}
 use Rattle.want_checks.specs.Checks.{badWant}
 use Rattle.fit_tables.proofs.WantLaws.{word-none, word-some, area-word}
-use Rattle.want_checks.proofs.PartLaws.{part-length, part-at, part-fine, areas-length}
+use Rattle.range_walk.proofs.PartLaws.{part-length, part-at, part-fine, areas-length}
 
 -- a part that is in the area list begins no later than its end
 pub first-small : (wants areas : List ℕ) → rangeCount areas ≤ 65536 → ((i : ℕ) → i < wantCount wants → badWant (areasOf areas) wants i ≡ false)

@@ -20,7 +20,8 @@ use Rattle.words.proofs.FlatLaws.{flat-length, flat-at}
 use Rattle.fitting.specs.Wants.{Want, wantAt, orderOf}
 use Rattle.fitting.specs.Plan.{Plan, cellAt}
 use Rattle.fitting.specs.Lowest.{PutLowest}
-use Rattle.fitting.specs.Queries.{Room, areasOf, partOf, answered}
+use Rattle.ranges.specs.Forms.{areasOf}
+use Rattle.fitting.specs.Queries.{Room, partOf, answered}
 use Rattle.fitting.proofs.OrderLaws.{order-names, length-ordered}
 use Rattle.fitting.proofs.PlanLaws.{facts}
 use Rattle.fitting.proofs.PutLaws.{plan-few, put-lowest}
@@ -28,7 +29,7 @@ use Rattle.queries.specs.Seen.{PlanSeen}
 use Rattle.queries.proofs.SeenLaws.{RowsHold, roomAt, itemOf, answered-seen, cut-held}
 use Rattle.want_checks.specs.Checks.{verdict, badWant}
 use Rattle.want_checks.proofs.CheckLaws.{granted, counts-fine}
-use Rattle.want_checks.proofs.PartLaws.{part-fine, areas-length}
+use Rattle.range_walk.proofs.PartLaws.{part-fine, areas-length}
 use Rattle.fit_tables.specs.WantTables.{itemRow}
 use Rattle.fit_tables.proofs.WantLaws.{item-wide, row-absent, row-present}
 use Rattle.wants.specs.declared.Fitted.the-variants.{Plan as Planned}

@@ -9,9 +9,10 @@ use Rattle.words.specs.Rows.{records, tabulate, flat}
 use Rattle.words.specs.Regions.{cleared}
 use Rattle.words.specs.Widths.{wantWidth, wantCount, wantPresent, wantFirst, wantRanges}
 use Rattle.ranges.specs.declared.Range.{Range}
+use Rattle.ranges.specs.Forms.{areasOf}
 use Rattle.fitting.specs.Wants.{Want, orderOf}
 use Rattle.fitting.specs.Plan.{Cell, Plan, planOf, depthOf}
-use Rattle.fitting.specs.Queries.{areasOf, partOf}
+use Rattle.fitting.specs.Queries.{partOf}
 use Rattle.want_checks.specs.Checks.{spaceOf, verdict}
 use Rattle.fit_tables.specs.WantTables.{itemRow}
 use Rattle.wants.specs.declared.Fitted.{Fitted}

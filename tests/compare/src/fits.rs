@@ -1,4 +1,4 @@
-//! Fitting alone: all triples of small lists of ranges, random wants, and damaged ones.
+//! Fitting alone: all triples of small lists of ranges, the limits, random wants, and damaged ones.
 use crate::calls::cut;
 use crate::cases::Random;
 use crate::entry::{fit_wants, Lists};
@@ -151,8 +151,48 @@ fn damage(r: &mut Random, w: &mut Wants, lent: &mut Lent) {
     }
 }
 
+/// One want over ranges of a list.
+fn one(areas: Vec<u32>, first: u32, count: u32) -> Wants {
+    Wants { rows: vec![4, 4, 1, first, count], areas, locals: 1, budget: BUDGET }
+}
+
+/// So many wants of one range each, which touch.
+fn many(count: u32, locals: u32) -> Wants {
+    Wants { rows: (0..count).flat_map(|i| [4, 4, 1, i, 1]).collect(), areas: (0..2 * count).collect(), locals, budget: BUDGET }
+}
+
+/// A part as long as the area list may be, sound, bad at its first range, at its last or outside its list; as many wants as there may be; each list exactly full, and one short.
+fn limits() {
+    let all = RANGES as u32;
+    let ranges: Vec<u32> = (0..2 * all).collect();
+    let with = |at: u32, point: u32| {
+        let mut areas = ranges.clone();
+        areas[at as usize] = point;
+        areas
+    };
+    let last = 2 * all - 2;
+    let mut cases = vec![one(ranges.clone(), 0, all), one(with(last, last - 1), 0, all), one(with(last + 1, last - 1), 0, all), one(with(0, 2), 0, all)];
+    cases.extend([one(with(0, 2), 1, all - 1), one(ranges.clone(), 1, all), one(ranges.clone(), all, 0), one(ranges.clone(), all + 1, 0)]);
+    cases.extend([one((0..2 * all + 2).collect(), 0, all), many(4096, 2048), many(4097, 2048), many(4097, 2049)]);
+    let mut at_last = many(4096, 2048);
+    at_last.areas[2 * 4095] = 2 * 4096;
+    cases.push(at_last);
+    let mut r = Random::seeded(2);
+    let mut tally = [0; 11];
+    for w in &cases {
+        let full = lent(w, 0);
+        let short = [Lent { cells: full.cells - 2, ..full.clone() }, Lent { items: full.items - 4, ..full.clone() }, Lent { counts: 2, ..full.clone() }, Lent { work: full.work - 1, ..full.clone() }];
+        for lent in [full].iter().chain(&short) {
+            let before = any_lists(&mut r, lent);
+            tally[hold(w, lent, &before)] += 1;
+        }
+    }
+    println!("fitting alone, at the limits: {}, no difference; {} plans, refusals 1: {}, 7: {}, 10: {}", tally.iter().sum::<usize>(), tally[0], tally[1], tally[7], tally[10]);
+}
+
 pub fn compare(count: u64, seed: u64) {
     triples(5);
+    limits();
     let mut tally = [0; 11];
     for own in seed..seed + count {
         let mut r = Random::seeded(own);

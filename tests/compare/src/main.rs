@@ -27,13 +27,14 @@ mod shows;
 mod small;
 mod spills;
 mod texts;
+mod walks;
 mod whole;
 mod words;
 
 use job::{Job, Lent};
 use whole::{hold, Tally};
 
-const USAGE: &str = "parts CASES | jobs JOBS SEED | damaged JOBS SEED | small | limits JOBS | scale SECONDS SEED | entries CALLS SEED [NAME] | graphs | words CALLS SEED | texts TEXTS SEED | fits CALLS SEED | ranges | queries JOBS SEED | sample | record | emit JOBS SEED [large]";
+const USAGE: &str = "parts CASES | walks PARTS SEED | jobs JOBS SEED | damaged JOBS SEED | small | limits JOBS | scale SECONDS SEED | entries CALLS SEED [NAME] | graphs | words CALLS SEED | texts TEXTS SEED | fits CALLS SEED | ranges | queries JOBS SEED | sample | record | emit JOBS SEED [large]";
 
 /// Jobs from a seed on, each by a seed of its own.
 fn jobs(what: &str, made: fn(u64) -> (Job, Lent), count: u64, seed: u64) {
@@ -51,6 +52,7 @@ fn main() {
     let number = |at: usize, or: u64| given.get(at).map_or(or, |n| n.parse().unwrap_or_else(|_| panic!("{n} is no number; {USAGE}")));
     match given.first().map(String::as_str) {
         Some("parts") => parts::compare(number(1, 10_000) as usize),
+        Some("walks") => walks::compare(number(1, 100_000) as usize, number(2, 1)),
         Some("jobs") => jobs("random", whole::random, number(1, 100_000), number(2, 1)),
         Some("damaged") => jobs("damaged", whole::damaged, number(1, 50_000), number(2, 1)),
         Some("small") => small::compare(),

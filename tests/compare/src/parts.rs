@@ -57,8 +57,9 @@ fn hold_all(program: &Program, input: &str, printed: &str, tally: &mut Tally) {
     assert_eq!(lines.next(), None, "{}: more lines than cases", program.name);
 }
 
-fn run(program: &Program, input: &str) -> String {
-    let mut child = Command::new(format!("target/bin/{}", program.name)).stdin(Stdio::piped()).stdout(Stdio::piped()).spawn().expect("the program is built");
+/// What a test program prints on that input.
+pub fn run(program: &str, input: &str) -> String {
+    let mut child = Command::new(format!("target/bin/{program}")).stdin(Stdio::piped()).stdout(Stdio::piped()).spawn().expect("the program is built");
     let mut stdin = child.stdin.take().unwrap();
     stdin.write_all(input.as_bytes()).unwrap();
     drop(stdin);
@@ -87,7 +88,7 @@ pub fn compare(wanted: usize) {
             while input.len() < cases::ROOM - cases::LONGEST {
                 input += &(program.random)(&mut random);
             }
-            hold_all(program, &input, &run(program, &input), &mut tally);
+            hold_all(program, &input, &run(program.name, &input), &mut tally);
         }
         assert_eq!(tally.refused, 0, "{}: a random case was refused", program.name);
         say(program, "random", &tally);
