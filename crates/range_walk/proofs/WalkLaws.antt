@@ -34,7 +34,7 @@ pub told-right : (rs : List Range) (n : ℕ) → length rs ≡ n → scan Want (
 unfolding listVerdict
 told-right rs n l e = let v : listVerdict true rs ≡ Fine = rw l e in (ap (λ (v : Verdict). not (refuses v)) (sym v), sym l ∙ ap (upTo (length rs)) (sym v))
 
--- ---- the count by the paper's words, and what is left of number 10 in it
+-- ---- the count by the paper's words, and number 10 by the count
 
 module _ (rs : List Range) where
   named : (r : Refusal) (i : ℕ) → listVerdict true rs ≡ Bad r i → (r ≡ Want) × (i < length rs)

@@ -1,4 +1,4 @@
--- Laws of the two forms of a list of ranges: what is read, stored or cut in columns or words is so in the list.
+-- Laws of a list of ranges in columns and in words: what is read, stored or cut there is so in the list.
 use mathlib.Core.Path.{_≡_, refl, ap, _∙_}
 use mathlib.Core.List.{List, [], _∷_, _++_, map}
 use Prim.Native.Nat.{ℕ, zero, suc, _+_, _*_, _/_, _%_, _^_, _≤_, _<_}
