@@ -116,8 +116,9 @@ typedef char slots_rows_are_packed[sizeof(slots_block) == 12 && sizeof(slots_edg
 
 /* Which items of a job may share a cell. Rather than this, call slots_plan_job below, which takes the lists by name.
  * Reads: points, the last point there is; v, how many registers are numbered; budget, how many cells may be probed; and the records.
- * On 0: cells has the plan's cells, items a row for each local and then for each slot, areas the ranges of all items' areas in item order,
- * counts the number of cells, the probes spent and the depth (the sum of the cells' sizes).
+ * On 0: cells has the plan's cells, items a row for each local and then for each slot, areas the ranges of all items' areas in item order
+ * (each area's in order, with at least one point between any two), counts the number of cells, the probes spent and the depth (the sum of the
+ * cells' sizes).
  * Cells and items need room for as many rows as there are locals and slots, counts for its three numbers, work for W words.
  * Refuses with 1 to 7 and 9. */
 uint64_t slots_share(
@@ -180,7 +181,7 @@ uint64_t slots_apart(
 
 /* 1 if each range starts no later than the other ends, else 0. It refuses nothing. */
 uint64_t slots_overlaps(uint32_t start, uint32_t end, uint32_t other_start, uint32_t other_end);
-/* The ranges sorted, those joined that share a point: how many; out has them. 10: a reversed range.
+/* The ranges sorted, those joined that share a point or touch (1-4 and 5-6): how many; out has them. 10: a reversed range.
  * Takes 512 KiB of stack for more than 256 ranges. */
 uint64_t slots_merged(
     const uint32_t *start, size_t start_len, const uint32_t *end, size_t end_len,

@@ -18,6 +18,8 @@ mod jobs;
 #[path = "../../tests/compare/src/spills.rs"]
 mod spills;
 mod timing;
+#[path = "../../tests/compare/src/touching.rs"]
+mod touching;
 mod whole;
 
 /// Where the table goes, from the repository's root, and what stands around it.

@@ -26,7 +26,7 @@ impl Followed {
 /// The areas of items.
 #[derive(Clone, Debug, PartialEq, Eq)]
 pub struct Areas {
-    /// All ranges, in item order.
+    /// All ranges, in item order; an item's are in order, with at least one point between any two.
     pub ranges: Vec<Range>,
     /// A row for each item.
     pub items: Vec<Area>,

@@ -16,7 +16,7 @@ impl Columns {
     }
 }
 
-/// The ranges sorted by start, then end, those joined that share a point.
+/// The ranges sorted by start, then end, those joined that share a point or touch (1–4 and 5–6): two lists have the same answer exactly when they cover the same points.
 ///
 /// # Errors
 /// [`Kind::Want`](crate::Kind::Want) at a reversed range.

@@ -106,7 +106,7 @@ fn areas_of_locals() {
     };
     assert_eq!(area(Followed::Plain, 15), Some(vec![Range::new(12, 13)]));
     assert_eq!(area(Followed::Ending, 15), Some(vec![Range::new(12, 15)]));
-    assert_eq!(area(Followed::Ending, 12), Some(vec![Range::new(12, 19), Range::new(20, 29)]));
+    assert_eq!(area(Followed::Ending, 12), Some(vec![Range::new(12, 29)]));
     assert_eq!(area(Followed::No, 15), None);
     let outside = [Touch { local: 0, start: 2, end: 1 }];
     assert_eq!(job.graph().local_areas(&[Followed::Plain], &outside, &[]).map(drop), Err(Refusal { kind: Kind::Inverted, index: 0 }));

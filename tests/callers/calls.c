@@ -252,8 +252,8 @@ static void ranges(void) {
     const uint32_t start[] = {5, 1, 10}, end[] = {9, 5, 12};
     uint32_t out_start[4] = {77, 77, 77, 77}, out_end[4] = {77, 77, 77, 77};
     HOLDS(slots_overlaps(1, 4, 4, 6) == 1 && slots_overlaps(1, 4, 5, 6) == 0);
-    HOLDS(slots_merged(start, 3, end, 3, out_start, 4, out_end, 4) == 2);
-    HOLDS(out_start[0] == 1 && out_end[0] == 9 && out_start[1] == 10 && out_end[1] == 12 && out_start[2] == 77 && out_end[2] == 77);
+    HOLDS(slots_merged(start, 3, end, 3, out_start, 4, out_end, 4) == 1);
+    HOLDS(out_start[0] == 1 && out_end[0] == 12 && out_start[1] == 77 && out_end[1] == 77);
     REFUSED(slots_merged(start, 3, end, 2, out_start, 4, out_end, 4), SLOTS_COUNT, 0);
     REFUSED(slots_merged(start, 3, end, 3, out_start, 2, out_end, 2), SLOTS_SPACE, 0);
     REFUSED(slots_merged(end, 2, start, 2, out_start, 4, out_end, 4), SLOTS_WANT, 0);
@@ -263,6 +263,8 @@ static void ranges(void) {
     const uint32_t a_start[] = {1, 8}, a_end[] = {4, 9}, b_start[] = {4, 20}, b_end[] = {6, 21};
     HOLDS(slots_union(a_start, 2, a_end, 2, b_start, 2, b_end, 2, out_start, 4, out_end, 4) == 3);
     HOLDS(out_start[0] == 1 && out_end[0] == 6 && out_start[1] == 8 && out_end[1] == 9 && out_start[2] == 20 && out_end[2] == 21);
+    const uint32_t last[] = {UINT32_MAX - 1, UINT32_MAX};
+    HOLDS(slots_union(last, 2, last, 2, start, 0, end, 0, out_start, 4, out_end, 4) == 1 && out_start[0] == last[0] && out_end[0] == last[1]);
     REFUSED(slots_union(a_start, 2, a_end, 2, b_end, 2, b_start, 2, out_start, 4, out_end, 4), SLOTS_WANT, 2);
     HOLDS(slots_clashes(a_start, 2, a_end, 2, b_start, 2, b_end, 2) == 1 && slots_clashes(a_start, 1, a_end, 1, b_start + 1, 1, b_end + 1, 1) == 0);
     REFUSED(slots_clashes(start, 2, end, 2, b_start, 2, b_end, 2), SLOTS_WANT, 1);

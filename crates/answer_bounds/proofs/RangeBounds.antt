@@ -86,7 +86,7 @@ sort-length (r ∷ rs) = let a = insert-length r (sort rs) in let b = sort-lengt
 join-few : (a : Range) (rs : List Range) → length (join a rs) ≤ suc (length rs)
 unfolding join
 join-few a [] = omega arith
-join-few a (r ∷ rs) = go (leb (r .start) (a .end)) (join-few (range (a .start) (max (a .end) (r .end))) rs) (join-few r rs)
+join-few a (r ∷ rs) = go (leb (r .start) (a .end + 1)) (join-few (range (a .start) (max (a .end) (r .end))) rs) (join-few r rs)
   where
     go : (t : Bool) → length (join (range (a .start) (max (a .end) (r .end))) rs) ≤ suc (length rs) → length (join r rs) ≤ suc (length rs)
         → length (cond t (join (range (a .start) (max (a .end) (r .end))) rs) (a ∷ join r rs)) ≤ suc (suc (length rs))

@@ -1,7 +1,8 @@
--- The areas of a checked job are in order and apart: every piece is upright, so `merged` leaves them so.
+-- The areas of a checked job are in order with a gap between any two ranges: every piece is upright, so `merged` leaves them so. Those with the same points are equal.
 use Prim.Native.Nat.{ℕ, zero, suc, pred, _+_, _-_, _≤_, _<_}
 use native.Mathlib.Omega.{arith}
 use mathlib.Core.Path.{_≡_, refl}
+use mathlib.Core.Logic.{_↔_}
 use mathlib.Core.Bool.{Bool, true, false, cond, true≢false}
 use mathlib.Core.Option.{Option, some, none, Option·none-ne-some, Option·some-injective}
 use mathlib.Core.List.{List, [], _∷_, _++_, map, List·Memᴰ, Memᴰ·of-map}
@@ -13,9 +14,10 @@ use Rattle.refusals.specs.declared.Verdict.the-variants.{Fine}
 use Rattle.refusals.specs.declared.Refusal.the-variants.{Line, Stray}
 use Rattle.refusals.proofs.Laws.{scan-fine}
 use Rattle.ranges.specs.declared.Range.{Range}
-use Rattle.ranges.specs.Points.{range, Upright, Apart}
-use Rattle.ranges.proofs.PointLaws.{upright-none, upright-cons, upright-append}
-use Rattle.ranges.proofs.MergeLaws.{merged-apart}
+use Rattle.ranges.specs.Points.{range, Upright, Apart, Gapped, Same}
+use Rattle.ranges.proofs.PointLaws.{upright-none, upright-cons, upright-append, gapped-apart}
+use Rattle.ranges.proofs.MergeLaws.{merged-gapped}
+use Rattle.ranges.proofs.GapLaws.{gapped-same}
 use Rattle.graph.specs.Paths.{Between}
 use Rattle.graph.specs.Line.{Sound, Stretch, blockAt, usedBefore, placeIn, badBlock, pastPoints, gapAt}
 use Rattle.graph.proofs.Line.{place-lt, at-mem}
@@ -56,9 +58,9 @@ module _ (G : Graph) (S : Sound (G .blocks)) (B : Between (length (G .blocks)) (
   throughs-upright : Upright (throughs G ts)
   throughs-upright = gather-upright (through G) ts (λ t m. through-upright t)
 
-  pub plain-apart : Apart (plainArea G ts)
+  pub plain-gapped : Gapped (plainArea G ts)
   unfolding plainArea
-  plain-apart = merged-apart _ (upright-append (throughs G ts) _ throughs-upright (line-upright G S B ts fine (length (G .blocks)) (omega arith)))
+  plain-gapped = merged-gapped _ (upright-append (throughs G ts) _ throughs-upright (line-upright G S B ts fine (length (G .blocks)) (omega arith)))
 
   module _ (es : List ℕ) where
     until-up : (z b : ℕ) → z ≤ b → z ≤ until es z b
@@ -87,9 +89,9 @@ module _ (G : Graph) (S : Sound (G .blocks)) (B : Between (length (G .blocks)) (
     end-line-upright zero h = upright-none
     end-line-upright (suc n) h = upright-append (endLine G ts es (arrivesRow G ts es) n) _ (end-line-upright n (omega arith)) (end-upright n h)
 
-    pub end-apart : Apart (endingArea G ts es)
+    pub end-gapped : Gapped (endingArea G ts es)
     unfolding endingArea
-    end-apart = merged-apart _ (upright-append (throughs G ts) _ throughs-upright (end-line-upright (length (G .blocks)) (omega arith)))
+    end-gapped = merged-gapped _ (upright-append (throughs G ts) _ throughs-upright (end-line-upright (length (G .blocks)) (omega arith)))
 
 not-past : (bs : List Stretch) (points i : ℕ) → badBlock bs points i ≡ false → pastPoints bs points i ≡ false
 unfolding badBlock
@@ -164,29 +166,39 @@ module _ (J : Job) (C : Checked J) (some-block : 0 < length (J .blocks)) where
       let u = piece-in J C some-block p (of-kept (λ p. eqb (p .register) r) (J .pieces) p i .0) in
       rw (← e) (u .0)
 
-  slot-apart : (s : ℕ) (rs : List Range) → slotAreaIn J s ≡ some rs → Apart rs
-  slot-apart s rs e = go (spilled (J .assigned) s) (moved (J .points) (J .blocks) (J .code .insts) (J .moves) s) (moved-upright s) e
+  slot-gapped : (s : ℕ) (rs : List Range) → slotAreaIn J s ≡ some rs → Gapped rs
+  slot-gapped s rs e = go (spilled (J .assigned) s) (moved (J .points) (J .blocks) (J .code .insts) (J .moves) s) (moved-upright s) e
     where
-      live : (ps ms : List Range) → Upright ps → Upright ms → liveArea ps ms ≡ some rs → Apart rs
+      live : (ps ms : List Range) → Upright ps → Upright ms → liveArea ps ms ≡ some rs → Gapped rs
       live [] ms u v e = absurd (Option·none-ne-some rs e)
-      live (p ∷ ps) ms u v e = rw (Option·some-injective _ rs e) at (merged-apart (p ∷ ps ++ ms) (upright-append (p ∷ ps) ms u v))
+      live (p ∷ ps) ms u v e = rw (Option·some-injective _ rs e) at (merged-gapped (p ∷ ps ++ ms) (upright-append (p ∷ ps) ms u v))
 
-      go : (o : Option ℕ) (ms : List Range) → Upright ms → slotArea (J .pieces) o ms ≡ some rs → Apart rs
+      go : (o : Option ℕ) (ms : List Range) → Upright ms → slotArea (J .pieces) o ms ≡ some rs → Gapped rs
       go (some r) ms v e = live (livePieces (J .pieces) r) ms (live-upright r) v e
       go none [] v e = absurd (Option·none-ne-some rs e)
-      go none (m ∷ ms) v e = rw (Option·some-injective _ rs e) at (merged-apart (m ∷ ms) v)
+      go none (m ∷ ms) v e = rw (Option·some-injective _ rs e) at (merged-gapped (m ∷ ms) v)
 
-  -- every item's area is in order and apart
-  pub areas-apart : (i : ℕ) (rs : List Range) → itemArea J i ≡ some rs → Apart rs
-  areas-apart i rs e = go (ltb i (length (J .locals))) e
+  -- every item's area is in order with a gap between any two ranges
+  pub areas-gapped : (i : ℕ) (rs : List Range) → itemArea J i ≡ some rs → Gapped rs
+  areas-gapped i rs e = go (ltb i (length (J .locals))) e
     where
-      by-kind : (k : Kind) → areaBy (graphOf J) k (touchesIn J i) (endsOf (J .code) i) ≡ some rs → Apart rs
+      by-kind : (k : Kind) → areaBy (graphOf J) k (touchesIn J i) (endsOf (J .code) i) ≡ some rs → Gapped rs
       by-kind Unfollowed e = absurd (Option·none-ne-some rs e)
       by-kind Plain e =
-          rw (Option·some-injective _ rs e) at (plain-apart (graphOf J) (job-line J C some-block) (job-edges J C some-block) (touchesIn J i) (touches-fine J C some-block i))
+          rw (Option·some-injective _ rs e) at (plain-gapped (graphOf J) (job-line J C some-block) (job-edges J C some-block) (touchesIn J i) (touches-fine J C some-block i))
       by-kind Ending e =
-          rw (Option·some-injective _ rs e) at (end-apart (graphOf J) (job-line J C some-block) (job-edges J C some-block) (touchesIn J i) (touches-fine J C some-block i) (endsOf (J .code) i))
+          rw (Option·some-injective _ rs e) at (end-gapped (graphOf J) (job-line J C some-block) (job-edges J C some-block) (touchesIn J i) (touches-fine J C some-block i) (endsOf (J .code) i))
 
-      go : (t : Bool) → cond t (localArea J i) (slotAreaIn J (i - length (J .locals))) ≡ some rs → Apart rs
+      go : (t : Bool) → cond t (localArea J i) (slotAreaIn J (i - length (J .locals))) ≡ some rs → Gapped rs
       go true e = by-kind (kindOf (J .code) i) e
-      go false e = slot-apart (i - length (J .locals)) rs e
+      go false e = slot-gapped (i - length (J .locals)) rs e
+
+  pub areas-apart : (i : ℕ) (rs : List Range) → itemArea J i ≡ some rs → Apart rs
+  areas-apart i rs e = gapped-apart rs (areas-gapped i rs e)
+
+  -- two items that have areas have the same list exactly when the same points are in their areas
+  pub areas-same : (i j : ℕ) (rs ss : List Range) → itemArea J i ≡ some rs → itemArea J j ≡ some ss → (rs ≡ ss) ↔ Same rs ss
+  areas-same i j rs ss a b = (
+    (λ e x. (λ p. rw e at p, λ p. rw (← e) at p)),
+    gapped-same rs ss (areas-gapped i rs a) (areas-gapped j ss b),
+  )

@@ -98,8 +98,8 @@ unfolding any holding until
 leaves-at = (refl, refl, refl, refl, refl, refl, refl)
 
 -- one local that nothing names, so unfollowed, and two slots, the second of which is moved at 6: items are "locals, then slots"
-abbrev job : Job
-job = record {
+abbrev jobWith : List Move → Job
+jobWith ms = record {
   points = 29;
   blocks = line .blocks;
   jumps = [];
@@ -108,14 +108,21 @@ job = record {
   slots = 2 ∷ 1 ∷ [];
   pieces = [];
   assigned = [];
-  moves = record { kind = 0; number = 0; to = 1; from = 99 } ∷ [];
+  moves = ms;
 }
+
+abbrev job : Job
+job = jobWith (record { kind = 0; number = 0; to = 1; from = 99 } ∷ [])
 
 pub items : (itemCount job ≡ 3) × (itemArea job 0 ≡ none) × (itemArea job 1 ≡ none) × (itemArea job 2 ≡ some (range 5 7 ∷ [])) × (areaBy line Unfollowed [] [] ≡ none)
 unfolding any keep gather placeIn insert sort join merged spilled kindOf
 items = (refl, refl, refl, refl, refl)
 
--- number 9: "all areas, put there in item order, exceed the area list": at the room and one over
-pub room : (itemsVerdict job 1 ≡ Fine) × (itemsVerdict job 0 ≡ Bad ListWord 0) × (rangesOf (some (range 1 2 ∷ range 4 5 ∷ []) ∷ none ∷ some (range 7 8 ∷ []) ∷ []) ≡ 3)
+-- moved at 6 and at 9 as well, the end of block 5–9: 5–7 and 8–10 touch, and are one range
+abbrev moved-twice : Job
+moved-twice = jobWith (record { kind = 0; number = 0; to = 1; from = 99 } ∷ record { kind = 3; number = 1; to = 1; from = 99 } ∷ [])
+
+-- number 9: "all areas, put there in item order, exceed the area list": at the room and one over; it "follows the shorter lists"
+pub room : (itemsVerdict job 1 ≡ Fine) × (itemsVerdict job 0 ≡ Bad ListWord 0) × (itemArea moved-twice 2 ≡ some (range 5 10 ∷ [])) × (itemsVerdict moved-twice 1 ≡ Fine) × (rangesOf (some (range 1 2 ∷ range 4 5 ∷ []) ∷ none ∷ some (range 7 8 ∷ []) ∷ []) ≡ 3)
 unfolding tabulate any keep gather placeIn insert sort join merged spilled kindOf rangesOf
-room = (refl, refl, refl)
+room = (refl, refl, refl, refl, refl)

@@ -47,10 +47,11 @@ last-register = refl
 abbrev live : List Piece
 live = record { register = 1; start = 5; end = 6 } ∷ record { register = 1; start = 4; end = 5 } ∷ []
 
--- the pieces of the register and the moves; no register but moves: those; neither: none
-pub slot-areas : (slotArea live (some 1) (range 8 10 ∷ []) ≡ some (range 4 6 ∷ range 8 10 ∷ [])) × (slotArea live none (range 8 10 ∷ []) ≡ some (range 8 10 ∷ [])) × (slotArea live none [] ≡ none)
+-- the pieces of the register and the moves, one range where they touch; no register but moves: those; neither: none
+pub slot-areas : (slotArea live (some 1) (range 8 10 ∷ []) ≡ some (range 4 6 ∷ range 8 10 ∷ [])) × (slotArea live (some 1) (range 7 9 ∷ []) ≡ some (range 4 9 ∷ []))
+    × (slotArea live none (range 8 10 ∷ []) ≡ some (range 8 10 ∷ [])) × (slotArea live none [] ≡ none)
 unfolding insert sort join merged keep
-slot-areas = (refl, refl, refl)
+slot-areas = (refl, refl, refl, refl)
 
 -- 5: a register with no live piece gives none, although moves exist
 pub no-piece : slotArea live (some 2) (range 8 10 ∷ []) ≡ none

@@ -38,26 +38,26 @@ pub star-7 : endingArea straight (range 12 13 ∷ []) (15 ∷ []) ≡ range 12 1
 unfolding insert sort join merged fed round any keep gather holding until endLine endingArea
 star-7 = refl
 
-pub star-8 : endingArea straight (range 12 13 ∷ []) (12 ∷ []) ≡ range 12 19 ∷ range 20 29 ∷ []
+pub star-8 : endingArea straight (range 12 13 ∷ []) (12 ∷ []) ≡ range 12 29 ∷ []
 unfolding insert sort join merged fed round any keep gather holding until endLine endingArea
 star-8 = refl
 
 -- an end at a block's last point: the block is still left (block 0–9: touch 2–3, end 9)
-pub end-at-last : endingArea straight (range 2 3 ∷ []) (9 ∷ 15 ∷ []) ≡ range 2 9 ∷ range 10 15 ∷ []
+pub end-at-last : endingArea straight (range 2 3 ∷ []) (9 ∷ 15 ∷ []) ≡ range 2 15 ∷ []
 unfolding insert sort join merged fed round any keep gather holding until endLine endingArea
 end-at-last = refl
 
--- a between-piece is never joined on: without edges 5–9, 10–19, 20–25 stays three ranges
-pub between-apart : plainArea (line []) (range 5 25 ∷ []) ≡ range 5 9 ∷ range 10 19 ∷ range 20 25 ∷ []
+-- a between-piece is never joined on, but merged with what it touches: without edges 5–9, 10–19, 20–25 become one range
+pub between-touches : plainArea (line []) (range 5 25 ∷ []) ≡ range 5 25 ∷ []
 unfolding insert sort join merged joined fed round any keep gather holding joinEach linePieces plainArea
-between-apart = refl
+between-touches = refl
 
 -- a block between is left, whatever ends in it: over the edge 1 to 0 block 0 is arrived at
-pub between-left : endingArea (line (edge 1 0 ∷ [])) (range 5 25 ∷ []) (15 ∷ []) ≡ range 0 9 ∷ range 10 19 ∷ range 20 29 ∷ []
+pub between-left : endingArea (line (edge 1 0 ∷ [])) (range 5 25 ∷ []) (15 ∷ []) ≡ range 0 29 ∷ []
 unfolding insert sort join merged fed round any keep gather holding until endLine endingArea
 between-left = refl
 
 -- a block with an end is not passed: over 0 to 1 and 1 to 2 block 2 is not arrived at
-pub not-passed : endingArea straight (range 2 3 ∷ []) (15 ∷ []) ≡ range 2 9 ∷ range 10 15 ∷ []
+pub not-passed : endingArea straight (range 2 3 ∷ []) (15 ∷ []) ≡ range 2 15 ∷ []
 unfolding insert sort join merged fed round any keep gather holding until endLine endingArea
 not-passed = refl

@@ -41,13 +41,13 @@ module _ (os oe : List ℕ) (even : length os ≡ length oe) (k : ℕ) (room : k
         ap (λ (l : List ℕ). columns l (set oe (k - 1) e)) (sym (set-getD os (k - 1) 0)) ∙ columns-set os oe (k - 1) (getD os (k - 1) 0) e
         ∙ ap (λ (x : ℕ). set (columns os oe) (k - 1) (range x e)) (sym (start-at os oe even (k - 1)))
 
-    pub take-next : getD oe (k - 1) 0 < s → TakenUp (columns os oe) (columns (set os k s) (set oe k e)) k (k + 1) (range s e)
+    pub take-next : getD oe (k - 1) 0 + 1 < s → TakenUp (columns os oe) (columns (set os k s) (set oe k e)) k (k + 1) (range s e)
     take-next h = rw pushed (up-next (columns os oe) k fits s e (k - 1) m-is (rw last h))
 
-    pub take-wider : s ≤ getD oe (k - 1) 0 → getD oe (k - 1) 0 < e → TakenUp (columns os oe) (columns os (set oe (k - 1) e)) k k (range s e)
+    pub take-wider : s ≤ getD oe (k - 1) 0 + 1 → getD oe (k - 1) 0 < e → TakenUp (columns os oe) (columns os (set oe (k - 1) e)) k k (range s e)
     take-wider h l = rw raised (up-wider (columns os oe) k fits s e (k - 1) m-is (rw last h) (rw last l))
 
-    pub take-kept : s ≤ getD oe (k - 1) 0 → e ≤ getD oe (k - 1) 0 → TakenUp (columns os oe) (columns os oe) k k (range s e)
+    pub take-kept : s ≤ getD oe (k - 1) 0 + 1 → e ≤ getD oe (k - 1) 0 → TakenUp (columns os oe) (columns os oe) k k (range s e)
     take-kept h l = up-kept (columns os oe) k fits s e (k - 1) m-is (rw last h) (rw last l)
 
 -- ---- what the two columns hold in the end

@@ -8,14 +8,14 @@ ghost use Rattle.ranges.specs.Merged.{union, joined};
 ghost use Rattle.ranges.specs.Forms.{columns};
 ghost use Rattle.ranges.specs.Inner.{TakenUp, Listing, oneFirst};
 
-// Takes a range up into the first k of the answer: the last is widened where they share a point, else it is appended.
+// Takes a range up into the first k of the answer: the last is widened where they share a point or touch, else it is appended. After the largest point there is no next one.
 fn take_up(out_start: &mut [u32], out_end: &mut [u32], k: usize, s: u32, e: u32) -> usize
     requires { ⌜ (length (now «out_start») ≡ length (now «out_end»)) × (k < length (now «out_start»)) ⌝ }
     ensures { λ r. ⌜ TakenUp (columns (now («out_start» .entry)) (now («out_end» .entry))) (columns (now («out_start» .exit)) (now («out_end» .exit))) k r (range s e) ⌝ }
 {
     if 0 < k {
         let last = out_end[k - 1];
-        if s <= last {
+        if s as u64 <= last as u64 + 1 {
             if last < e {
                 out_end[k - 1] = e;
             }

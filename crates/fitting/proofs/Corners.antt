@@ -63,6 +63,12 @@ pub largest : (widened (cell 8 1 0) (want 2 4 5) (range 5 5 ∷ []) ≡ record {
 unfolding insertRange sort join merged
 largest = (refl, refl)
 
+-- a cell's area is merged of its members', so that those that touch become one range; a want's own is "taken as it comes"
+pub touching : (widened (cell 8 8 4) (want 8 8 5) (range 5 5 ∷ []) ≡ record { size = 8; align = 8; area = some (range 4 5 ∷ []) })
+    × (put (record { size = 8; align = 8; area = some (range 4 4 ∷ range 5 5 ∷ []) } ∷ []) 5 0 nothing .cells ≡ record { size = 8; align = 8; area = some (range 4 4 ∷ range 5 5 ∷ []) } ∷ [])
+unfolding insertRange sort join merged lowest
+touching = (refl, refl)
+
 -- "it joins the first cell that has an area and doesn't clash": cells that clash, have no area, fit, and fit as well; "each cell met spends one, also one without area"
 abbrev four : List Cell
 four = cell 8 8 5 ∷ record { size = 8; align = 8; area = none } ∷ cell 8 8 6 ∷ cell 8 8 7 ∷ []

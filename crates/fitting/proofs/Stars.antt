@@ -9,7 +9,7 @@ use Rattle.ranges.specs.Merged.{insert as insertRange, sort, join, merged, meet
 use Rattle.fitting.specs.Wants.{Want, insert, ordered, orderOf}
 use Rattle.fitting.specs.Plan.{lowest, fit, planOf}
 
-pub star-2 : merged (range 5 9 ∷ range 1 5 ∷ range 10 12 ∷ []) ≡ range 1 9 ∷ range 10 12 ∷ []
+pub star-2 : merged (range 5 9 ∷ range 1 5 ∷ range 10 12 ∷ []) ≡ range 1 12 ∷ []
 unfolding insertRange sort join merged
 star-2 = refl
 

@@ -15,7 +15,7 @@ use Rattle.words.proofs.FlatLaws.{flat-length, flat-at}
 use Rattle.areas.specs.Job.{Job, itemCount, itemArea, rangesOf, itemsVerdict}
 use Rattle.area_tables.specs.Tables.{areaRows}
 use Rattle.area_points.specs.Parts.{AreasTold}
-use Rattle.area_points.proofs.PartLaws.{row-tells, tells-same}
+use Rattle.area_points.proofs.PartLaws.{rows-told}
 use Rattle.refusals.specs.declared.Answer.the-variants.{Given}
 use Rattle.item_lists.specs.Lists.{itemRow, itemRows}
 use Rattle.item_lists.proofs.TableLaws.{row-long}
@@ -67,10 +67,8 @@ module _ {R : Rows} {areas items work areas′ items′ work′ : List ℕ} {n :
       ∙ flat-at 3 (itemCount J) (λ j. itemRow (rangesOf (tabulate j (itemArea J))) (itemArea J j)) wide i f h q
 
   -- whenever the areas are given: a point is in the part of the area list that item i's row names exactly when document 01's definition has it, and the row says absent exactly
-  -- for an unfollowed local or a slot without area
+  -- for an unfollowed local or a slot without area; two parts are the same list exactly when they have the same points
   pub given-by-paths : AreasTold J 3 0 items′ areas′
-  given-by-paths = record {
-    item = λ i h.
-        tells-same J i areas-written (field-written i h 0 (omega arith)) (field-written i h 1 (omega arith)) (field-written i h 2 (omega arith))
-        (row-tells J (passed .checked) (passed .sound .some-block) i h _);
-  }
+  given-by-paths =
+      rows-told J (passed .checked) (passed .sound .some-block) _ 3 0 items′ areas′ areas-written
+      (λ i h. (field-written i h 0 (omega arith), field-written i h 1 (omega arith), field-written i h 2 (omega arith)))

@@ -11,7 +11,7 @@ use Rattle.words.specs.Widths.{itemWidth}
 use Rattle.areas.specs.Job.{Job, itemCount, itemArea, rangesOf}
 use Rattle.area_tables.specs.Tables.{areaRows}
 use Rattle.area_points.specs.Parts.{AreasTold}
-use Rattle.area_points.proofs.PartLaws.{row-tells, tells-same}
+use Rattle.area_points.proofs.PartLaws.{rows-told}
 use Rattle.item_lists.specs.Lists.{itemRow}
 use Rattle.fitting.specs.Plan.{Plan}
 use Rattle.job_checks.specs.Job.{jobOf}
@@ -39,10 +39,8 @@ module _ {R : Rows} {t : Terms} {cells items areas work cells′ items′ areas�
   field-written i h f q = ap (λ (l : List ℕ). field itemWidth l i f) (items-written E) ∙ field-listed (itemArea J) (itemCount J) plan i h _ f q
 
   -- whenever the answer is a plan: a point is in the part of the area list that item i's row names exactly when document 01's definition has it, by paths of a local, by moves and
-  -- live pieces of a slot, and the row says absent exactly for an unfollowed local or a slot without area
+  -- live pieces of a slot, and the row says absent exactly for an unfollowed local or a slot without area; two parts are the same list exactly when they have the same points
   pub shared-by-paths : AreasTold J 4 1 items′ areas′
-  shared-by-paths = record {
-    item = λ i h.
-        tells-same J i areas-written (field-written i h 1 (omega arith)) (field-written i h 2 (omega arith)) (field-written i h 3 (omega arith))
-        (row-tells J (passed E .checked) (passed E .sound .some-block) i h _);
-  }
+  shared-by-paths =
+      rows-told J (passed E .checked) (passed E .sound .some-block) _ 4 1 items′ areas′ areas-written
+      (λ i h. (field-written i h 1 (omega arith), field-written i h 2 (omega arith), field-written i h 3 (omega arith)))

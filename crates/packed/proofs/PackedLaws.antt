@@ -59,10 +59,10 @@ module _ (w : List ℕ) (at k : ℕ) (room : at + k < length w) (x : ℕ) where
     last-is : rangeAt L (k - 1) ≡ unpack (getD w (at + k - 1) 0)
     last-is = word-at w at (k - 1) ∙ ap (λ (i : ℕ). unpack (getD w i 0)) (sym place)
 
-    pub put-next : getD w (at + k - 1) 0 % 2 ^ 32 < x / 2 ^ 32 → TakenIn w (set w (at + k) x) at k (k + 1) x
+    pub put-next : getD w (at + k - 1) 0 % 2 ^ 32 + 1 < x / 2 ^ 32 → TakenIn w (set w (at + k) x) at k (k + 1) x
     put-next h = append (up-next L k fits (x / 2 ^ 32) (x % 2 ^ 32) (k - 1) m-is (rw last-is h))
 
-    pub put-wider : x / 2 ^ 32 ≤ getD w (at + k - 1) 0 % 2 ^ 32 → getD w (at + k - 1) 0 % 2 ^ 32 < x % 2 ^ 32
+    pub put-wider : x / 2 ^ 32 ≤ getD w (at + k - 1) 0 % 2 ^ 32 + 1 → getD w (at + k - 1) 0 % 2 ^ 32 < x % 2 ^ 32
         → TakenIn w (set w (at + k - 1) (pack (range (getD w (at + k - 1) 0 / 2 ^ 32) (x % 2 ^ 32)))) at k k x
     put-wider h l = record {
       taken-up = rw raised (up-wider L k fits (x / 2 ^ 32) (x % 2 ^ 32) (k - 1) m-is (rw last-is h) (rw last-is l));
@@ -80,7 +80,7 @@ module _ (w : List ℕ) (at k : ℕ) (room : at + k < length w) (x : ℕ) where
             ∙ ap (set L (k - 1)) (unpack-pack (getD w (at + k - 1) 0 / 2 ^ 32) (x % 2 ^ 32) (omega arith))
             ∙ ap (λ (r : Range). set L (k - 1) (range (r .start) (x % 2 ^ 32))) (sym last-is)
 
-    pub put-kept : x / 2 ^ 32 ≤ getD w (at + k - 1) 0 % 2 ^ 32 → x % 2 ^ 32 ≤ getD w (at + k - 1) 0 % 2 ^ 32 → TakenIn w w at k k x
+    pub put-kept : x / 2 ^ 32 ≤ getD w (at + k - 1) 0 % 2 ^ 32 + 1 → x % 2 ^ 32 ≤ getD w (at + k - 1) 0 % 2 ^ 32 → TakenIn w w at k k x
     put-kept h l = record {
       taken-up = up-kept L k fits (x / 2 ^ 32) (x % 2 ^ 32) (k - 1) m-is (rw last-is h) (rw last-is l);
       before = λ i q. refl;

@@ -26,7 +26,7 @@ pub fn end_of(x: u64) -> u32
     (x % HALF) as u32
 }
 
-// Takes a range up into the k ranges from `at` on: the last is widened where they share a point, else it is appended.
+// Takes a range up into the k ranges from `at` on: the last is widened where they share a point or touch, else it is appended. After the largest point there is no next one.
 pub fn take_up(w: &mut [u64], at: usize, k: usize, x: u64) -> usize
     requires { ⌜ at + k < length (now w) ⌝ }
     ensures { λ r. ⌜ TakenIn (now (w .entry)) (now (w .exit)) at k r x ⌝ }
@@ -35,7 +35,7 @@ pub fn take_up(w: &mut [u64], at: usize, k: usize, x: u64) -> usize
         let i = at + k - 1;
         let last = w[i];
         let end = end_of(last);
-        if start_of(x) <= end {
+        if start_of(x) as u64 <= end as u64 + 1 {
             let e = end_of(x);
             if end < e {
                 w[i] = pack(start_of(last), e);

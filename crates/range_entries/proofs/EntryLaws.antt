@@ -1,10 +1,12 @@
 -- The range entries: what a verdict that is fine says of the lists, and what an answer or a refusal leaves.
-use mathlib.Core.Path.{_≡_, refl, sym, ap}
+use mathlib.Core.Path.{_≡_, refl, sym, ap, _∙_}
+use mathlib.Core.Logic.{_↔_}
 use mathlib.Core.Bool.{Bool, true, false, _||_}
-use mathlib.Core.List.{List, [], _∷_}
+use mathlib.Core.List.{List, [], _∷_, _++_, map}
 use Prim.Native.Nat.{ℕ, _+_, _≤_}
 use native.Mathlib.Omega.{arith}
-use lib.ListN.{length}
+use lib.ListN.{length, take, length-map}
+use lib.Seq.{take-append-seam}
 use lib.Dec.{ltb}
 use borrow.Author.Tests.{ltb-false, eqb-true, not-false}
 use Rattle.words.proofs.Bools.{or-neither}
@@ -13,18 +15,21 @@ use Rattle.refusals.specs.declared.Verdict.the-variants.{Fine, Bad}
 use Rattle.refusals.specs.declared.Refusal.{Refusal}
 use Rattle.refusals.specs.declared.Refusal.the-variants.{Count, Space}
 use Rattle.refusals.specs.Verdicts.{inOrder, check, countedOn}
-use Rattle.refusals.specs.Outcomes.{given, unless}
+use Rattle.refusals.specs.Outcomes.{given, unless, after}
 use Rattle.refusals.proofs.Laws.{first-left, first-right, check-told}
 use Rattle.ranges.specs.declared.Range.{Range}
 use Rattle.range_entries.specs.declared.Counted.the-variants.{Ranges, Refused}
 use Rattle.range_entries.specs.declared.Clash.the-variants.{Is, Refused as ClashRefused}
-use Rattle.ranges.specs.Points.{Apart}
-use Rattle.ranges.specs.Forms.{columns}
+use Rattle.ranges.specs.Points.{Upright, Apart, Same}
+use Rattle.ranges.specs.Merged.{merged}
+use Rattle.ranges.specs.Forms.{columns, starts, ends}
 use Rattle.ranges.specs.Lent.{listVerdict}
 use Rattle.range_checks.specs.Verdicts.{uneven, badList, pairVerdict, mergedVerdict, joinedVerdict, unionVerdict, clashesVerdict}
-use Rattle.range_entries.specs.Entries.{clashing, Listed}
+use Rattle.range_entries.specs.Entries.{clashing, size, mergedOf, Listed}
 use Rattle.ranges.specs.Inner.{Listing}
-use Rattle.ranges.proofs.LentLaws.{fine-apart}
+use Rattle.ranges.proofs.LentLaws.{fine-upright, fine-apart}
+use Rattle.ranges.proofs.GapLaws.{merged-same}
+use Rattle.ranges.proofs.FormLaws.{columns-again}
 use Rattle.range_checks.proofs.VerdictLaws.{even-list, small-list}
 use Rattle.ranges.proofs.ListingLaws.{listing-length}
 use Rattle.columns.proofs.ColumnLaws.{starts-are, ends-are}
@@ -121,3 +126,40 @@ clash-told v b c e h = rw (e, h)
 
 pub clash-refused : (v : Verdict) (c : Bool) (r : Refusal) (i : ℕ) → v ≡ Bad r i → clashing (ClashRefused r i) ≡ unless v c
 clash-refused v c r i e = rw e
+
+-- ---- two calls of `merged`
+
+given-fine : (v : Verdict) (rs : List Range) (n : ℕ) → given n ≡ size (unless v rs) → v ≡ Fine
+given-fine Fine rs n e = refl
+given-fine (Bad r i) rs n e = absurd (let z : _≡_ {A = ℕ} 0 1 = cc in omega arith)
+
+module _ (ss es : List ℕ) {os oe os′ oe′ : List ℕ} {n : ℕ} (M : Listed (mergedOf ss es (length os) (length oe)) os oe (Ranges n) os′ oe′) where
+  abbrev all : List Range
+  all = merged (columns ss es)
+
+  fine : mergedVerdict ss es (length os) (length oe) ≡ Fine
+  fine = given-fine (mergedVerdict ss es (length os) (length oe)) all n (M .answer)
+
+  many : n ≡ length all
+  many = let e : given n ≡ given (length all) = M .answer ∙ ap (λ (v : Verdict). size (unless v all)) fine in cc
+
+  -- no range that was lent is reversed
+  lent-upright : Upright (columns ss es)
+  lent-upright = fine-upright false (columns ss es) (told (badList ss es || uneven (length os) (length oe)) (ltb (length os) (length ss)) (listVerdict false (columns ss es)) fine .lists)
+
+  front : (f : Range → ℕ) (old new : List ℕ) → new ≡ map f all ++ old → take n new ≡ map f all
+  front f old new e = ap (take n) e ∙ ap (λ (k : ℕ). take k (map f all ++ old)) (many ∙ sym (length-map all f)) ∙ take-append-seam (map f all) old
+
+  -- the first n entries of the two columns are the merged list
+  pub merged-wrote : columns (take n os′) (take n oe′) ≡ all
+  merged-wrote =
+      ap (λ (l : List ℕ). columns l (take n oe′)) (front (λ r. r .start) _ os′ (M .in-starts ∙ ap (λ (v : Verdict). after (unless v all) starts os) fine))
+      ∙ ap (columns (starts all)) (front (λ r. r .end) _ oe′ (M .in-ends ∙ ap (λ (v : Verdict). after (unless v all) ends oe) fine)) ∙ columns-again all
+
+-- document 02, (b): what two calls wrote is the same list exactly when the lists that were lent cover the same points
+pub merged-answers : (ss es ts fs : List ℕ) {os oe os′ oe′ ps qs ps′ qs′ : List ℕ} {n m : ℕ} → Listed (mergedOf ss es (length os) (length oe)) os oe (Ranges n) os′ oe′
+    → Listed (mergedOf ts fs (length ps) (length qs)) ps qs (Ranges m) ps′ qs′
+    → (columns (take n os′) (take n oe′) ≡ columns (take m ps′) (take m qs′)) ↔ Same (columns ss es) (columns ts fs)
+merged-answers ss es ts fs M N =
+    let s = merged-same (columns ss es) (columns ts fs) (lent-upright ss es M) (lent-upright ts fs N) in
+    (λ e. s .0 (sym (merged-wrote ss es M) ∙ e ∙ merged-wrote ts fs N), λ e. merged-wrote ss es M ∙ s .1 e ∙ sym (merged-wrote ts fs N))

@@ -18,7 +18,7 @@ pub enum Clash {
     Refused(Refusal, usize),
 }
 
-// The ranges sorted by start, then end, with those joined that share a point, into the answer's columns: O(n log n).
+// The ranges sorted by start, then end, with those joined that share a point or touch, into the answer's columns: O(n log n).
 // Refuses columns of different lengths or more than 65,536 ranges (1), an answer shorter than the list (7), a reversed range (10).
 pub fn merged(start: &[u32], end: &[u32], out_start: &mut [u32], out_end: &mut [u32]) -> Counted
     ensures { λ r. ⌜ Listed (mergedOf (now (start .entry)) (now (end .entry)) (length (now («out_start» .entry))) (length (now («out_end» .entry))))

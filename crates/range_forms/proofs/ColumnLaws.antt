@@ -17,6 +17,7 @@ use Rattle.ranges.specs.declared.Range.{Range}
 use Rattle.ranges.specs.Points.{rangeAt}
 use Rattle.ranges.specs.Forms.{starts, ends, columns}
 use Rattle.ranges.specs.Merged.{clashes}
+use Rattle.ranges.proofs.FormLaws.{columns-again}
 use Rattle.range_checks.specs.Verdicts.{badList, pairVerdict}
 use Rattle.range_checks.proofs.VerdictLaws.{entry-count}
 use Rattle.range_entries.specs.Entries.{clashesOf as columnsClash}
@@ -73,11 +74,6 @@ column-is k t rs c len l f = taken t rs c (omega arith) (λ i h. f i (subst (λ 
 -- a list over the limit
 counted-out : (c d : Bool) (v : Verdict) → c ≡ true → refused 1 0 ≡ unless (inOrder (check Count c ∷ v ∷ [])) d
 counted-out c d v h = ap (λ (w : Verdict). unless w d) (entry-count c (v ∷ []) h)
-
--- the columns of a list are the list
-columns-again : (rs : List Range) → columns (starts rs) (ends rs) ≡ rs
-columns-again [] = refl
-columns-again (r ∷ rs) = ap (λ (l : List Range). r ∷ l) (columns-again rs)
 
 bad-list : (rs : List Range) → badList (starts rs) (ends rs) ≡ overLimit rs
 bad-list rs = rw (length-map rs (λ (r : Range). r .start), length-map rs (λ (r : Range). r .end), eq-eqb (length rs) (length rs) refl)

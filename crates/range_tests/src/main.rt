@@ -2,10 +2,10 @@
 // first, so that an entry that is written past the answer, or by a refusal, shows. A case is a line: the name of an entry, a blank, and four columns of
 // numbers, a comma after each number and a bar after each column: the starts and the ends of one list and of another. Of `merged` the second list is the
 // lengths of the answer's two columns, of `joined` and `overlaps` one range.
-// The cases of `merged`: document 01's second example; nothing; one point; the largest point; touching ranges stay apart, nested and equal ones are
-// joined; columns of different lengths; a reversed range; answer columns of different lengths, too little room; the count comes before the room, the room
-// before the range; a list that is too long for the small array. Those of `clashes`: document 01's third and fourth example; a long list against a short
-// one, where ranges are skipped; refusals.
+// The cases of `merged`: document 01's second example; nothing; one point; the largest point; touching, nested and equal ranges are joined, those with a
+// point between them are not, also at the largest points; columns of different lengths; a reversed range; answer columns of different lengths, too little
+// room; the count comes before the room, the room before the range; a list that is too long for the small array. Those of `clashes`: document 01's third
+// and fourth example; a long list against a short one, where ranges are skipped; refusals.
 ghost use mathlib.Core.Path.{_≡_};
 ghost use lib.ListN.{length};
 ghost use Rattle.cases.specs.Inner.{Ordered};

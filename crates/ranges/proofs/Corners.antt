@@ -29,8 +29,19 @@ pub points : (within 3 (range 4 6) ≡ false) × (within 4 (range 4 6) ≡ true)
     × (overlaps (range 1 4) (range 4 6) ≡ true) × (overlaps (range 4 6) (range 1 4) ≡ true) × (overlaps (range 1 4) (range 5 6) ≡ false) × (overlaps (range 5 6) (range 1 4) ≡ false)
 points = (refl, refl, refl, refl, refl, refl, refl, refl, refl)
 
--- "sorts by start, then end"; "joins only ranges that share a point"; "when the new one starts at its end plus 1": at the end, one past, two past
-pub lists : (notAfter (range 1 2) (range 1 3) ≡ true) × (notAfter (range 1 3) (range 1 2) ≡ false) × (merged (range 4 6 ∷ range 1 4 ∷ []) ≡ range 1 6 ∷ []) × (merged (range 5 6 ∷ range 1 4 ∷ []) ≡ range 1 4 ∷ range 5 6 ∷ [])
-    × (merged (range 2 3 ∷ range 1 9 ∷ []) ≡ range 1 9 ∷ []) × (joined (range 1 4 ∷ []) (range 4 6) ≡ range 1 4 ∷ range 4 6 ∷ []) × (joined (range 1 4 ∷ []) (range 5 6) ≡ range 1 6 ∷ []) × (joined (range 1 4 ∷ []) (range 6 7) ≡ range 1 4 ∷ range 6 7 ∷ [])
-unfolding insert sort join merged joined
-lists = (refl, refl, refl, refl, refl, refl, refl, refl)
+-- "sorts by start, then end"; "joins only ranges that share a point", and those that touch "as well": at the end, one past, two past, at the largest point
+pub lists : (notAfter (range 1 2) (range 1 3) ≡ true) × (notAfter (range 1 3) (range 1 2) ≡ false) × (merged (range 4 6 ∷ range 1 4 ∷ []) ≡ range 1 6 ∷ []) × (merged (range 5 6 ∷ range 1 4 ∷ []) ≡ range 1 6 ∷ [])
+    × (merged (range 6 7 ∷ range 1 4 ∷ []) ≡ range 1 4 ∷ range 6 7 ∷ []) × (merged (range 2 3 ∷ range 1 9 ∷ []) ≡ range 1 9 ∷ [])
+    × (merged (range 4294967295 4294967295 ∷ range 4294967294 4294967294 ∷ range 0 0 ∷ []) ≡ range 0 0 ∷ range 4294967294 4294967295 ∷ [])
+unfolding insert sort join merged
+lists = (refl, refl, refl, refl, refl, refl, refl)
+
+-- a reversed range covers nothing and stays: so equal areas are asked of lists without one
+pub reversed : (merged (range 5 4 ∷ []) ≡ range 5 4 ∷ []) × (merged [] ≡ []) × (inside 4 (range 5 4 ∷ []) ≡ false) × (inside 5 (range 5 4 ∷ []) ≡ false)
+unfolding insert sort join merged
+reversed = (refl, refl, refl, refl)
+
+-- `joined`: "when the new one starts at its end plus 1": at the end, one past, two past
+pub joins : (joined (range 1 4 ∷ []) (range 4 6) ≡ range 1 4 ∷ range 4 6 ∷ []) × (joined (range 1 4 ∷ []) (range 5 6) ≡ range 1 6 ∷ []) × (joined (range 1 4 ∷ []) (range 6 7) ≡ range 1 4 ∷ range 6 7 ∷ [])
+unfolding joined
+joins = (refl, refl, refl)

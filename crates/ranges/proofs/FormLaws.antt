@@ -67,6 +67,11 @@ ends-columns [] (e ∷ es) h = absurd (omega arith)
 ends-columns (s ∷ ss) [] h = absurd (omega arith)
 ends-columns (s ∷ ss) (e ∷ es) h = ap (λ (l : List ℕ). e ∷ l) (ends-columns ss es (omega arith))
 
+-- the columns of a list are the list
+pub columns-again : (rs : List Range) → columns (starts rs) (ends rs) ≡ rs
+columns-again [] = refl
+columns-again (r ∷ rs) = ap (λ (l : List Range). r ∷ l) (columns-again rs)
+
 -- ---- words, and any other form that maps each element
 
 module _ {A B : Type 0} (f : A → B) where

@@ -2,6 +2,7 @@ pub mod Corners
 pub mod PointLaws
 pub mod SortLaws
 pub mod MergeLaws
+pub mod GapLaws
 pub mod JoinLaws
 pub mod ClashLaws
 pub mod FormLaws

@@ -72,14 +72,14 @@ module _ (L : List Range) (k : ℕ) (room : k < length L) (s e : ℕ) where
     last-at : rangeAt (take k L) m ≡ rangeAt L m
     last-at = listing-at self m (omega arith)
 
-    pub up-next : rangeAt L m .end < s → TakenUp L (set L k (range s e)) k (k + 1) (range s e)
+    pub up-next : rangeAt L m .end + 1 < s → TakenUp L (set L k (range s e)) k (k + 1) (range s e)
     up-next l = record {
       listing = rw (taken-next (take k L) (range s e) m (listing-length self ∙ h) (rw last-at l)) (listing-push self (range s e) room);
       least = omega arith;
       most = omega arith;
     }
 
-    pub up-wider : s ≤ rangeAt L m .end → rangeAt L m .end < e → TakenUp L (set L m (range (rangeAt L m .start) e)) k k (range s e)
+    pub up-wider : s ≤ rangeAt L m .end + 1 → rangeAt L m .end < e → TakenUp L (set L m (range (rangeAt L m .start) e)) k k (range s e)
     up-wider l g = record {
       listing =
           rw (taken-wider (take k L) (range s e) m (listing-length self ∙ h) (rw last-at l), last-at)
@@ -88,7 +88,7 @@ module _ (L : List Range) (k : ℕ) (room : k < length L) (s e : ℕ) where
       most = omega arith;
     }
 
-    pub up-kept : s ≤ rangeAt L m .end → e ≤ rangeAt L m .end → TakenUp L L k k (range s e)
+    pub up-kept : s ≤ rangeAt L m .end + 1 → e ≤ rangeAt L m .end → TakenUp L L k k (range s e)
     up-kept l g = record {
       listing =
           rw (taken-wider (take k L) (range s e) m (listing-length self ∙ h) (rw last-at l), last-at)

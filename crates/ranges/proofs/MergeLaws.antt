@@ -1,17 +1,17 @@
--- Laws of `merged`: the same points, in order and apart, whatever the order of the lent ranges.
+-- Laws of `merged`: the same points, in order with a gap between any two ranges, whatever the order of the lent ranges.
 use mathlib.Core.Path.{_≡_, refl, ap, _∙_}
 use mathlib.Core.Logic.{_⊎_, inl, inr}
 use mathlib.Core.Bool.{Bool, true, false, cond}
 use mathlib.Core.List.{List, [], _∷_, _++_, List·Memᴰ·head, List·Memᴰ·tail}
-use Prim.Native.Nat.{ℕ, _≤_, _<_, max}
+use Prim.Native.Nat.{ℕ, _+_, _≤_, _<_, max}
 use native.Mathlib.Omega.{arith}
 use lib.Dec.{leb}
 use borrow.Author.Tests.{leb-true, leb-false, le-leb, lt-leb}
 use Rattle.ranges.specs.declared.Range.{Range}
-use Rattle.ranges.specs.Points.{range, Point, Upright, Past, Apart}
+use Rattle.ranges.specs.Points.{range, Point, Upright, Apart, Beyond, Gapped}
 use Rattle.ranges.specs.Inner.{Within}
 use Rattle.ranges.specs.Merged.{insert, sort, join, joinAll, merged, union, Permuted}
-use Rattle.ranges.proofs.PointLaws.{point-head, point-tail, point-cases, point-left, point-right, point-split, upright-head, upright-tail, apart-upright}
+use Rattle.ranges.proofs.PointLaws.{point-head, point-tail, point-cases, point-left, point-right, point-split, upright-head, upright-tail, apart-upright, gapped-apart}
 use Rattle.ranges.proofs.SortLaws.{From, Sorted, sort-sorted, sort-member, member-sort, insert-swap}
 
 -- ---- one step of joining
@@ -20,27 +20,27 @@ pub join-none : (a : Range) → join a [] ≡ a ∷ []
 unfolding join
 join-none a = refl
 
--- the next range shares a point
-pub join-wider : (a r : Range) (rs : List Range) → r .start ≤ a .end → join a (r ∷ rs) ≡ join (range (a .start) (max (a .end) (r .end))) rs
+-- the next range shares a point or touches
+pub join-wider : (a r : Range) (rs : List Range) → r .start ≤ a .end + 1 → join a (r ∷ rs) ≡ join (range (a .start) (max (a .end) (r .end))) rs
 unfolding join
-join-wider a r rs h = rw (le-leb (r .start) (a .end) h)
+join-wider a r rs h = rw (le-leb (r .start) (a .end + 1) h)
 
 -- it does not
-pub join-next : (a r : Range) (rs : List Range) → a .end < r .start → join a (r ∷ rs) ≡ a ∷ join r rs
+pub join-next : (a r : Range) (rs : List Range) → a .end + 1 < r .start → join a (r ∷ rs) ≡ a ∷ join r rs
 unfolding join
-join-next a r rs h = rw (lt-leb (r .start) (a .end) h)
+join-next a r rs h = rw (lt-leb (r .start) (a .end + 1) h)
 
 -- ---- points
 
 join-keeps : (rs : List Range) (a : Range) (x : ℕ) → From (a .start) rs → Sorted rs → Point (a ∷ rs) x → Point (join a rs) x
 unfolding join
 join-keeps [] a x f s p = p
-join-keeps (r ∷ rs) a x f s p = go (leb (r .start) (a .end)) refl (point-cases a (r ∷ rs) x p) (join-keeps rs wide x) (join-keeps rs r x)
+join-keeps (r ∷ rs) a x f s p = go (leb (r .start) (a .end + 1)) refl (point-cases a (r ∷ rs) x p) (join-keeps rs wide x) (join-keeps rs r x)
   where
     wide : Range
     wide = range (a .start) (max (a .end) (r .end))
 
-    go : (t : Bool) → leb (r .start) (a .end) ≡ t → Within a x ⊎ Point (r ∷ rs) x
+    go : (t : Bool) → leb (r .start) (a .end + 1) ≡ t → Within a x ⊎ Point (r ∷ rs) x
         → (From (a .start) rs → Sorted rs → Point (wide ∷ rs) x → Point (join wide rs) x)
         → (From (r .start) rs → Sorted rs → Point (r ∷ rs) x → Point (join r rs) x)
         → Point (cond t (join wide rs) (a ∷ join r rs)) x
@@ -56,17 +56,17 @@ join-keeps (r ∷ rs) a x f s p = go (leb (r .start) (a .end)) refl (point-cases
 join-only : (rs : List Range) (a : Range) (x : ℕ) → Point (join a rs) x → Point (a ∷ rs) x
 unfolding join
 join-only [] a x p = p
-join-only (r ∷ rs) a x p = go (leb (r .start) (a .end)) refl p (join-only rs wide x) (join-only rs r x)
+join-only (r ∷ rs) a x p = go (leb (r .start) (a .end + 1)) refl p (join-only rs wide x) (join-only rs r x)
   where
     wide : Range
     wide = range (a .start) (max (a .end) (r .end))
 
-    -- a point of the wider range is one of the two: they share a point
-    split : r .start ≤ a .end → a .start ≤ x → x ≤ max (a .end) (r .end) → (b : Bool) → leb x (a .end) ≡ b → Point (a ∷ r ∷ rs) x
+    -- a point of the wider range is one of the two: no point is between them
+    split : r .start ≤ a .end + 1 → a .start ≤ x → x ≤ max (a .end) (r .end) → (b : Bool) → leb x (a .end) ≡ b → Point (a ∷ r ∷ rs) x
     split h i j true e = point-head a (r ∷ rs) x i (leb-true _ _ e)
     split h i j false e = let k = leb-false x (a .end) e in point-tail a (r ∷ rs) x (point-head r rs x (omega arith) (omega arith))
 
-    go : (t : Bool) → leb (r .start) (a .end) ≡ t → Point (cond t (join wide rs) (a ∷ join r rs)) x
+    go : (t : Bool) → leb (r .start) (a .end + 1) ≡ t → Point (cond t (join wide rs) (a ∷ join r rs)) x
         → (Point (join wide rs) x → Point (wide ∷ rs) x) → (Point (join r rs) x → Point (r ∷ rs) x) → Point (a ∷ r ∷ rs) x
     go true e q k l = late (point-cases wide rs x (k q))
       where
@@ -100,43 +100,47 @@ merged-only rs x p = back (go (sort rs) p)
     back : Point (sort rs) x → Point rs x
     back (r, m, h, k) = (r, member-sort rs r m, h, k)
 
--- ---- in order and apart
+-- ---- in order, with gaps
 
-join-past : (rs : List Range) (a : Range) (x : ℕ) → x < a .start → a .start ≤ a .end → Upright rs → Past x (join a rs)
+join-beyond : (rs : List Range) (a : Range) (x : ℕ) → x + 1 < a .start → a .start ≤ a .end → Upright rs → Beyond x (join a rs)
 unfolding join
-join-past [] a x h k u = (h, k, tt)
-join-past (r ∷ rs) a x h k u = go (leb (r .start) (a .end)) refl (join-past rs wide x) (join-past rs r (a .end))
+join-beyond [] a x h k u = (h, k, tt)
+join-beyond (r ∷ rs) a x h k u = go (leb (r .start) (a .end + 1)) refl (join-beyond rs wide x) (join-beyond rs r (a .end))
   where
     wide : Range
     wide = range (a .start) (max (a .end) (r .end))
 
-    go : (t : Bool) → leb (r .start) (a .end) ≡ t
-        → (x < a .start → a .start ≤ max (a .end) (r .end) → Upright rs → Past x (join wide rs))
-        → (a .end < r .start → r .start ≤ r .end → Upright rs → Past (a .end) (join r rs))
-        → Past x (cond t (join wide rs) (a ∷ join r rs))
+    go : (t : Bool) → leb (r .start) (a .end + 1) ≡ t
+        → (x + 1 < a .start → a .start ≤ max (a .end) (r .end) → Upright rs → Beyond x (join wide rs))
+        → (a .end + 1 < r .start → r .start ≤ r .end → Upright rs → Beyond (a .end) (join r rs))
+        → Beyond x (cond t (join wide rs) (a ∷ join r rs))
     go true e f g = f h (omega arith) (upright-tail r rs u)
     go false e f g = (h, k, g (leb-false _ _ e) (upright-head r rs u) (upright-tail r rs u))
 
-join-apart : (rs : List Range) (a : Range) → a .start ≤ a .end → Upright rs → Apart (join a rs)
+join-gapped : (rs : List Range) (a : Range) → a .start ≤ a .end → Upright rs → Gapped (join a rs)
 unfolding join
-join-apart [] a k u = (k, tt)
-join-apart (r ∷ rs) a k u = go (leb (r .start) (a .end)) refl (join-apart rs wide)
+join-gapped [] a k u = (k, tt)
+join-gapped (r ∷ rs) a k u = go (leb (r .start) (a .end + 1)) refl (join-gapped rs wide)
   where
     wide : Range
     wide = range (a .start) (max (a .end) (r .end))
 
-    go : (t : Bool) → leb (r .start) (a .end) ≡ t → (a .start ≤ max (a .end) (r .end) → Upright rs → Apart (join wide rs))
-        → Apart (cond t (join wide rs) (a ∷ join r rs))
+    go : (t : Bool) → leb (r .start) (a .end + 1) ≡ t → (a .start ≤ max (a .end) (r .end) → Upright rs → Gapped (join wide rs))
+        → Gapped (cond t (join wide rs) (a ∷ join r rs))
     go true e f = f (omega arith) (upright-tail r rs u)
-    go false e f = (k, join-past rs r (a .end) (leb-false _ _ e) (upright-head r rs u) (upright-tail r rs u))
+    go false e f = (k, join-beyond rs r (a .end) (leb-false _ _ e) (upright-head r rs u) (upright-tail r rs u))
+
+-- a merged area has a gap between any two ranges
+pub merged-gapped : (rs : List Range) → Upright rs → Gapped (merged rs)
+unfolding merged
+merged-gapped rs u = go (sort rs) (λ r m. u r (member-sort rs r m))
+  where
+    go : (q : List Range) → Upright q → Gapped (joinAll q)
+    go [] v = tt
+    go (a ∷ q) v = join-gapped q a (upright-head a q v) (upright-tail a q v)
 
 pub merged-apart : (rs : List Range) → Upright rs → Apart (merged rs)
-unfolding merged
-merged-apart rs u = go (sort rs) (λ r m. u r (member-sort rs r m))
-  where
-    go : (q : List Range) → Upright q → Apart (joinAll q)
-    go [] v = tt
-    go (a ∷ q) v = join-apart q a (upright-head a q v) (upright-tail a q v)
+merged-apart rs u = gapped-apart (merged rs) (merged-gapped rs u)
 
 pub merged-upright : (rs : List Range) → Upright rs → Upright (merged rs)
 merged-upright rs u = apart-upright (merged rs) (merged-apart rs u)

@@ -1,17 +1,15 @@
--- Laws of the points of a list of ranges, and of lists without reversed ranges.
+-- Laws of the points of a list of ranges, of lists without reversed ranges, of those in order and apart, and of those with gaps.
 use mathlib.Core.Path.{_≡_, refl}
 use mathlib.Core.Logic.{_⊎_, inl, inr}
 use mathlib.Core.Bool.{true, _||_, false≢true}
 use mathlib.Core.List.{List, [], _∷_, _++_, List·Memᴰ, List·Memᴰ·head, List·Memᴰ·tail, List·Memᴰ·cases-cons, List·Memᴰ·not-nil, Memᴰ·append-left, Memᴰ·append-right, List·Memᴰ·append-cases}
-use Prim.Native.Nat.{ℕ, _≤_, _<_}
+use Prim.Native.Nat.{ℕ, _+_, _≤_, _<_}
 use native.Mathlib.Omega.{arith}
 use borrow.Author.Tests.{leb-true, le-leb}
 use Rattle.words.proofs.Bools.{or-right, and-both, or-cases}
 use Rattle.ranges.specs.declared.Range.{Range}
 use Rattle.ranges.specs.Inner.{Within}
-use Rattle.ranges.specs.Points.{Point, within, inside, Upright, Past, Apart}
-
--- ---- tests
+use Rattle.ranges.specs.Points.{Point, within, inside, Upright, Past, Apart, Beyond, Gapped}
 
 -- ---- points
 
@@ -113,3 +111,26 @@ past-point x (r ∷ rs) p y q = go (point-cases r rs y q) (past-point (r .end) r
     go : Within r y ⊎ Point rs y → (Point rs y → r .end < y) → x < y
     go (inl (h, k)) ih = let a = p .0 in omega arith
     go (inr c) ih = let a = p .0 in let b = p .1 in let d = ih c in omega arith
+
+-- ---- with gaps
+
+pub beyond-past : (x : ℕ) (rs : List Range) → Beyond x rs → Past x rs
+beyond-past x [] b = tt
+beyond-past x (r ∷ rs) b = let a = b .0 in (omega arith, b .1, beyond-past (r .end) rs (b .2))
+
+pub gapped-apart : (rs : List Range) → Gapped rs → Apart rs
+gapped-apart [] g = tt
+gapped-apart (r ∷ rs) g = (g .0, beyond-past (r .end) rs (g .1))
+
+pub beyond-gapped : (x : ℕ) (rs : List Range) → Beyond x rs → Gapped rs
+beyond-gapped x [] b = tt
+beyond-gapped x (r ∷ rs) b = (b .1, b .2)
+
+-- every point lies past the next one
+pub beyond-point : (x : ℕ) (rs : List Range) → Beyond x rs → (y : ℕ) → Point rs y → x + 1 < y
+beyond-point x [] b y p = absurd (point-none y p)
+beyond-point x (r ∷ rs) b y p = go (point-cases r rs y p) (beyond-point (r .end) rs (b .2) y)
+  where
+    go : Within r y ⊎ Point rs y → (Point rs y → r .end + 1 < y) → x + 1 < y
+    go (inl (h, k)) ih = let a = b .0 in omega arith
+    go (inr q) ih = let a = b .0 in let c = b .1 in let d = ih q in omega arith

@@ -1,4 +1,4 @@
--- Taking ranges up in order: the last range is widened where they share a point, else the new one is appended.
+-- Taking ranges up in order: the last range is widened where they share a point or touch, else the new one is appended.
 -- This is how `merged` and `union` build their answer, and that of any rest of a sorted list is said by `onto`.
 use mathlib.Core.Path.{_≡_, refl, sym, ap, _∙_}
 use mathlib.Core.Logic.{_⊎_, inl, inr}
@@ -34,7 +34,7 @@ onto-none (a ∷ b ∷ ds) = ap (λ (l : List Range). a ∷ l) (onto-none (b ∷
 
 onto-behind : (a r d : Range) (ds rest : List Range) → onto (a ∷ taken (d ∷ ds) r) rest ≡ a ∷ onto (taken (d ∷ ds) r) rest
 unfolding onto taken
-onto-behind a r d [] rest = go (leb (r .start) (d .end))
+onto-behind a r d [] rest = go (leb (r .start) (d .end + 1))
   where
     wide : Range
     wide = range (d .start) (max (d .end) (r .end))
@@ -47,7 +47,7 @@ onto-behind a r d (e ∷ ds) rest = refl
 pub onto-more : (out : List Range) (r : Range) (rest : List Range) → onto out (r ∷ rest) ≡ onto (taken out r) rest
 unfolding onto taken join
 onto-more [] r rest = refl
-onto-more (a ∷ []) r rest = go (leb (r .start) (a .end))
+onto-more (a ∷ []) r rest = go (leb (r .start) (a .end + 1))
   where
     wide : Range
     wide = range (a .start) (max (a .end) (r .end))
@@ -64,19 +64,19 @@ unfolding taken
 taken-first [] r h = refl
 taken-first (a ∷ ds) r h = absurd (omega arith)
 
-pub taken-wider : (out : List Range) (r : Range) (k : ℕ) → length out ≡ suc k → r .start ≤ rangeAt out k .end
+pub taken-wider : (out : List Range) (r : Range) (k : ℕ) → length out ≡ suc k → r .start ≤ rangeAt out k .end + 1
     → taken out r ≡ set out k (range (rangeAt out k .start) (max (rangeAt out k .end) (r .end)))
 unfolding taken
 taken-wider [] r k h l = absurd (omega arith)
-taken-wider (a ∷ []) r zero h l = rw (le-leb (r .start) (a .end) l)
+taken-wider (a ∷ []) r zero h l = rw (le-leb (r .start) (a .end + 1) l)
 taken-wider (a ∷ []) r (suc k) h l = absurd (omega arith)
 taken-wider (a ∷ b ∷ ds) r zero h l = absurd (omega arith)
 taken-wider (a ∷ b ∷ ds) r (suc k) h l = ap (λ (t : List Range). a ∷ t) (taken-wider (b ∷ ds) r k (omega arith) l)
 
-pub taken-next : (out : List Range) (r : Range) (k : ℕ) → length out ≡ suc k → rangeAt out k .end < r .start → taken out r ≡ out ++ (r ∷ [])
+pub taken-next : (out : List Range) (r : Range) (k : ℕ) → length out ≡ suc k → rangeAt out k .end + 1 < r .start → taken out r ≡ out ++ (r ∷ [])
 unfolding taken
 taken-next [] r k h l = absurd (omega arith)
-taken-next (a ∷ []) r zero h l = rw (lt-leb (r .start) (a .end) l)
+taken-next (a ∷ []) r zero h l = rw (lt-leb (r .start) (a .end + 1) l)
 taken-next (a ∷ []) r (suc k) h l = absurd (omega arith)
 taken-next (a ∷ b ∷ ds) r zero h l = absurd (omega arith)
 taken-next (a ∷ b ∷ ds) r (suc k) h l = ap (λ (t : List Range). a ∷ t) (taken-next (b ∷ ds) r k (omega arith) l)

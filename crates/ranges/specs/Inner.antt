@@ -10,10 +10,10 @@ use Rattle.ranges.specs.declared.Range.{Range}
 use Rattle.ranges.specs.Merged.{notAfter}
 use Rattle.ranges.specs.Points.{range, rangeAt}
 
--- a list after one range more: the last is widened where they share a point, else the new one is appended
+-- a list after one range more: the last is widened where they share a point or touch, else the new one is appended
 unfoldable pub taken : List Range → Range → List Range
 taken [] r = r ∷ []
-taken (a ∷ []) r = cond (leb (r .start) (a .end)) (range (a .start) (max (a .end) (r .end)) ∷ []) (a ∷ r ∷ [])
+taken (a ∷ []) r = cond (leb (r .start) (a .end + 1)) (range (a .start) (max (a .end) (r .end)) ∷ []) (a ∷ r ∷ [])
 taken (a ∷ b ∷ ds) r = a ∷ taken (b ∷ ds) r
 
 -- an answer list L₀ that has become L: its first k ranges are rs, and the others are as they were

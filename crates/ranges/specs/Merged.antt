@@ -18,10 +18,10 @@ unfoldable pub sort : List Range → List Range
 sort [] = []
 sort (r ∷ rs) = insert r (sort rs)
 
--- "joins only ranges that share a point": a takes up the ranges after it that start no later than it ends
+-- "joins only ranges that share a point"; document 02, (b): "ranges that touch are joined as well": a takes up the ranges after it that start no later than its end plus 1
 unfoldable pub join : Range → List Range → List Range
 join a [] = a ∷ []
-join a (r ∷ rs) = cond (leb (r .start) (a .end)) (join (range (a .start) (max (a .end) (r .end))) rs) (a ∷ join r rs)
+join a (r ∷ rs) = cond (leb (r .start) (a .end + 1)) (join (range (a .start) (max (a .end) (r .end))) rs) (a ∷ join r rs)
 
 abbrev pub joinAll : List Range → List Range
 joinAll [] = []

@@ -1,7 +1,8 @@
 -- Document 01, "Ranges": points, ranges, and what it is for two of them to overlap.
-use Prim.Native.Nat.{ℕ, _≤_, _<_}
+use Prim.Native.Nat.{ℕ, _+_, _≤_, _<_}
 use mathlib.Core.Bool.{Bool, false, _&&_, _||_}
 use mathlib.Core.Option.{Option, some, none}
+use mathlib.Core.Logic.{_↔_}
 use mathlib.Core.List.{List, [], _∷_, List·Memᴰ}
 use lib.ListN.{getD}
 use lib.Dec.{leb}
@@ -47,6 +48,19 @@ Past x (r ∷ rs) = (x < r .start) × (r .start ≤ r .end) × Past (r .end) rs
 abbrev pub Apart : List Range → Type 0
 Apart [] = Unit {0}
 Apart (r ∷ rs) = (r .start ≤ r .end) × Past (r .end) rs
+
+-- in order with a gap between any two: no range is reversed, and each starts past the point after the end of the one before
+abbrev pub Beyond : ℕ → List Range → Type 0
+Beyond x [] = Unit {0}
+Beyond x (r ∷ rs) = (x + 1 < r .start) × (r .start ≤ r .end) × Beyond (r .end) rs
+
+abbrev pub Gapped : List Range → Type 0
+Gapped [] = Unit {0}
+Gapped (r ∷ rs) = (r .start ≤ r .end) × Beyond (r .end) rs
+
+-- the same points lie in both lists: they "cover the same points"
+abbrev pub Same : List Range → List Range → Type 0
+Same rs ss = (x : ℕ) → Point rs x ↔ Point ss x
 
 -- some point is in both lists
 abbrev pub Common : List Range → List Range → Type 0

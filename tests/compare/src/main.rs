@@ -27,6 +27,7 @@ mod shows;
 mod small;
 mod spills;
 mod texts;
+mod touching;
 mod walks;
 mod whole;
 mod words;
@@ -34,7 +35,7 @@ mod words;
 use job::{Job, Lent};
 use whole::{hold, Tally};
 
-const USAGE: &str = "parts CASES | walks PARTS SEED | jobs JOBS SEED | damaged JOBS SEED | small | limits JOBS | scale SECONDS SEED | entries CALLS SEED [NAME] | graphs | words CALLS SEED | texts TEXTS SEED | fits CALLS SEED | ranges | queries JOBS SEED | sample | record | emit JOBS SEED [large]";
+const USAGE: &str = "parts CASES | walks PARTS SEED | jobs JOBS SEED | damaged JOBS SEED | small | limits JOBS | scale SECONDS SEED | entries CALLS SEED [NAME] | graphs | words CALLS SEED | texts TEXTS SEED | fits CALLS SEED | ranges LISTS SEED | queries JOBS SEED | sample | record | emit JOBS SEED [large]";
 
 /// Jobs from a seed on, each by a seed of its own.
 fn jobs(what: &str, made: fn(u64) -> (Job, Lent), count: u64, seed: u64) {
@@ -63,7 +64,7 @@ fn main() {
         Some("words") => words::compare(number(1, 50_000), number(2, 1)),
         Some("texts") => texts::compare(number(1, 5_000), number(2, 1)),
         Some("fits") => fits::compare(number(1, 100_000), number(2, 1)),
-        Some("ranges") => ranges::compare(),
+        Some("ranges") => ranges::compare(number(1, 20_000), number(2, 1)),
         Some("queries") => queries::compare(number(1, 50_000), number(2, 1)),
         Some("sample") => sample::record(false),
         Some("record") => sample::record(true),

@@ -3,6 +3,7 @@ use crate::carry::mentions;
 use crate::cases::Records;
 use crate::job::*;
 use crate::spills::{assignment, edits};
+use crate::touching::touching_joined;
 use reference::frame::Local;
 use reference::slots::{probe, reach, wanted, Slots};
 use rucc_base::Interner;
@@ -34,7 +35,7 @@ fn locals(job: &Job) -> Vec<Local> {
     job.rows(LOCALS).map(|l| Local { size: l[0], align: l[1] }).collect()
 }
 
-/// The area of each item. A crossing's stand-in edge is lent where addresses are followed, and not where areas flow.
+/// The area of each item, as slots.rs lists it. A crossing's stand-in edge is lent where addresses are followed, and not where areas flow.
 pub fn areas(job: &Job) -> Areas {
     let g = &job.groups;
     let mut records =
@@ -46,14 +47,15 @@ pub fn areas(job: &Job) -> Areas {
     wanted(&records.func(), Some(&reached), &allocation, &locals, &g[SLOTS])
 }
 
+/// How many ranges the component lists.
 pub fn ranges(areas: &Areas) -> usize {
-    areas.iter().flatten().map(Vec::len).sum()
+    areas.iter().flatten().map(|area| touching_joined(area).len()).sum()
 }
 
 /// The area list, and of each item whether it has an area and its part of the list.
 pub fn rows(areas: &Areas) -> [Vec<u32>; 2] {
     let (mut ranges, mut items) = (Vec::new(), Vec::new());
-    for area in areas {
+    for area in areas.iter().map(|area| area.as_deref().map(touching_joined)) {
         items.extend(area.as_ref().map_or([0, 0, 0], |area| [1, ranges.len() as u32 / 2, area.len() as u32]));
         ranges.extend(area.iter().flatten().flat_map(|r| [r.start, r.end]));
     }
@@ -156,7 +158,7 @@ pub fn fit(sizes: &[(u32, u32)], areas: &Areas, locals: usize, budget: u32) -> F
     Fit { cells: cells.iter().flat_map(|c| [c.size, c.align]).collect(), of, counts, slots: plan }
 }
 
-/// The plan, and slots.rs's.
+/// The plan, and slots.rs's, which has its own areas: cells are the same, since clashing is by points.
 pub fn planned(job: &Job, areas: &Areas) -> (Plan, Slots) {
     let fit = fit(&sizes(job), areas, job.count(LOCALS), job.budget);
     let [ranges, parts] = rows(areas);

@@ -4,6 +4,7 @@ use crate::cases::Random;
 use crate::job::{Job, LOCALS, SLOTS};
 use crate::plans::{areas, planned};
 use crate::refusals::{area_list, LIMITS};
+use crate::touching::touching_joined;
 use reference::frame::Local;
 use reference::slots::Slots;
 
@@ -103,7 +104,7 @@ impl Asked<'_> {
             let row = rows.get(i as usize).filter(|row| i < locals && row[1] != 0 && self.p.crowd(row[0]));
             let own = row.map(|row| a.chunks(2).skip(row[2] as usize).take(row[3] as usize).map(|r| (r[0], r[1])).collect::<Vec<_>>());
             if let Some(plan) = self.plan {
-                let theirs = plan.shared(i as usize).map(|ranges| ranges.iter().map(|r| (r.start, r.end)).collect::<Vec<_>>());
+                let theirs = plan.shared(i as usize).map(|ranges| touching_joined(ranges).iter().map(|r| (r.start, r.end)).collect::<Vec<_>>());
                 assert_eq!(theirs, own, "the model's shared area is not slots.rs's");
             }
             row.map_or(ABSENT, |row| {

@@ -11,7 +11,7 @@ const ROOM: Lent = Lent { cells: 160, items: 320, areas: 128, counts: 3, work: 4
 const TEXT: usize = 98_304;
 const LONGEST: [usize; 2] = [340, 760];
 /// How many plans are taken that show each thing, and that show none; and how many jobs with each refusal.
-const SHOWING: [usize; 5] = [50, 24, 24, 16, 24];
+const SHOWING: [usize; 6] = [50, 24, 24, 16, 24, 24];
 const PLAIN: usize = 12;
 const REFUSED: usize = 18;
 
@@ -46,7 +46,7 @@ fn counted(job: &Job, shown: Shown, probes: u64) -> [bool; 6] {
 /// How many are still wanted of what a job shows: of a plan that shows nothing, of each thing, of each refusal.
 struct Left {
     plain: usize,
-    showing: [usize; 5],
+    showing: [usize; 6],
     refused: [usize; 10],
 }
 
@@ -65,7 +65,7 @@ impl Left {
     }
 
     fn done(&self) -> bool {
-        self.plain == 0 && self.showing == [0; 5] && self.refused == [0; 10]
+        self.plain == 0 && self.showing == [0; 6] && self.refused == [0; 10]
     }
 }
 

@@ -3,10 +3,11 @@ use crate::carry::kinds;
 use crate::job::*;
 use crate::plans::{plan, Areas, Plan};
 use crate::refusals::BUDGET;
+use crate::touching::touching_joined;
 
-pub const SHOWN: [&str; 5] = ["share a cell", "have other cells with the largest budget", "have an ending local", "have an area in a row's second word", "have a slot with moves"];
+pub const SHOWN: [&str; 6] = ["share a cell", "have other cells with the largest budget", "have an ending local", "have an area in a row's second word", "have a slot with moves", "have ranges that slots.rs lists as two that touch"];
 
-pub type Shown = [bool; 5];
+pub type Shown = [bool; 6];
 
 pub fn shown(job: &Job, areas: &Areas, own: &Plan) -> Shown {
     let (locals, slots) = (job.count(LOCALS), job.count(SLOTS));
@@ -18,5 +19,6 @@ pub fn shown(job: &Job, areas: &Areas, own: &Plan) -> Shown {
         kinds(job).contains(&2),
         areas[..locals].iter().skip(64).any(Option::is_some),
         job.rows(MOVES).any(|m| moved(m[2]) || moved(m[3])),
+        areas.iter().flatten().any(|area| touching_joined(area).len() < area.len()),
     ]
 }

@@ -73,7 +73,7 @@ pub fn any_lists(r: &mut Random, lent: &Lent) -> Lists {
 
 /// How many jobs were answered with a plan and how many with each refusal; how many plans show each thing.
 #[derive(Default)]
-pub struct Tally(pub [usize; 10], pub [usize; 5]);
+pub struct Tally(pub [usize; 10], pub [usize; 6]);
 
 impl Tally {
     pub fn all(&self) -> usize {

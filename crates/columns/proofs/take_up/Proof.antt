@@ -1,4 +1,5 @@
 -- `take_up` meets its contract: the last range is widened, kept, or followed by the new one.
+use Prim.Native.Nat.{_-_}
 use lib.ListN.{length-set}
 use denote.Ref.{now}
 use native.Mathlib.Omega.{arith}
@@ -15,6 +16,12 @@ mul-last c = omega arith
 
 slice-read-last : tie.Need-slice-read-last
 slice-read-last c = omega arith
+
+cast-if2 : tie.Need-cast-if2
+cast-if2 c = omega (arith, c .slice-known .given (c .before .before .args .k - 1))
+
+add-if2 : tie.Need-add-if2
+add-if2 c = omega (arith, c .slice-known .given (c .before .before .args .k - 1))
 
 sub-out-end : tie.Need-sub-out-end
 sub-out-end c = omega arith
@@ -65,4 +72,4 @@ returns-3 c =
     ⊎-elim (λ w. take-next (now (a .out-start)) (now (a .out-end)) ((c .before .pre) .0) (a .k) (omega arith) (a .s) (a .e) (w .0 .taken) (w .2 .left)) (λ w. take-first (now (a .out-start)) (now (a .out-end)) ((c .before .pre) .0) (a .k) (omega arith) (a .s) (a .e) (omega arith)) (c .if1 .came)
 
 pub take-up-spec : {M : Type 1} → statement M
-take-up-spec = tie.close (tie.spec sub-last mul-last slice-read-last sub-out-end mul-out-end slice-write-out-end same-length returns returns-2 mul-out-start slice-write-out-start mul-out-end-2 slice-write-out-end-2 add-result same-length-2 same-length-3 returns-3)
+take-up-spec = tie.close (tie.spec sub-last mul-last slice-read-last cast-if2 add-if2 sub-out-end mul-out-end slice-write-out-end same-length returns returns-2 mul-out-start slice-write-out-start mul-out-end-2 slice-write-out-end-2 add-result same-length-2 same-length-3 returns-3)

@@ -3,6 +3,7 @@ use lib.ListN.{length-set}
 use mathlib.Core.Logic.{⊎-elim}
 use native.Mathlib.Omega.{arith}
 use denote.Ref.{now}
+use borrow.Author.Needs.{needs}
 use Rattle.packed.proofs.PackedLaws.{put-first, put-next, put-wider, put-kept}
 use Rattle.packed.proofs.take_up.Statement.{statement}
 use Rattle.packed.proofs.take_up.Tie as tie
@@ -24,6 +25,15 @@ end-of-requires c κs = tt
 
 start-of-requires : tie.Need-start-of-requires
 start-of-requires c κs = tt
+
+cast-if2 : tie.Need-cast-if2
+cast-if2 c = search needs
+
+cast-if2-2 : tie.Need-cast-if2-2
+cast-if2-2 c = search needs
+
+add-if2 : tie.Need-add-if2
+add-if2 c = search needs
 
 end-of-requires-2 : tie.Need-end-of-requires-2
 end-of-requires-2 c κs = tt
@@ -74,4 +84,29 @@ returns-3 c =
     ⊎-elim (λ w. put-next (now (a .w)) (a .at) (a .k) (omega arith) (a .x) (w .0 .taken) (omega (arith, w .2 .ensures, w .3 .ensures, w .4 .left))) (λ w. put-first (now (a .w)) (a .at) (a .k) (omega arith) (a .x) (omega arith)) (c .if1 .came)
 
 pub take-up-spec : {M : Type 1} → statement M
-take-up-spec = tie.close (tie.spec add-i sub-i mul-last slice-read-last end-of-requires start-of-requires end-of-requires-2 start-of-requires-2 pack-requires mul-w slice-write-w same-length returns returns-2 add-w mul-w-2 slice-write-w-2 add-result same-length-2 returns-3)
+take-up-spec =
+    tie.close
+    (tie.spec
+    add-i
+    sub-i
+    mul-last
+    slice-read-last
+    end-of-requires
+    start-of-requires
+    cast-if2
+    cast-if2-2
+    add-if2
+    end-of-requires-2
+    start-of-requires-2
+    pack-requires
+    mul-w
+    slice-write-w
+    same-length
+    returns
+    returns-2
+    add-w
+    mul-w-2
+    slice-write-w-2
+    add-result
+    same-length-2
+    returns-3)
