@@ -13,7 +13,6 @@ use Rattle.words.proofs.RowLaws.{tabulate-getD, map-tabulate, tabulate-add}
 use Rattle.words.proofs.FlatLaws.{flat-length, flat-at}
 use Rattle.ranges.specs.declared.Range.{Range}
 use Rattle.ranges.specs.Points.{range, rangeAt, Point, listed, Same}
-use Rattle.ranges.proofs.GapLaws.{gapped-gap}
 use Rattle.graph.proofs.Line.{mem-at, at-mem}
 use Rattle.carrying.specs.Lists.{gather}
 use Rattle.areas.specs.Job.{Job, Checked, itemCount, itemArea, rangesIn, rangesOf}
@@ -137,7 +136,7 @@ module _ (J : Job) (C : Checked J) (some-block : 0 < length (J .blocks)) (old : 
       let d : rangeAt (listed (itemArea J i)) j ≡ rangeAt rs j = ap (λ (a : Option (List Range)). rangeAt (listed a) j) e in
       let t = own-field (itemArea J) (itemCount J) i h old j 1 (omega arith) (omega arith) ∙ ap (λ (r : Range). r .end) d in
       let y : rangeEnd areas k ≡ rangeAt rs j .end = ap (λ (n : ℕ). rangeEnd areas n) (sym z) ∙ t in
-      gapped-gap rs (areas-gapped J C some-block i rs e) (rangeAt rs j) (mem-at rs j (range 0 0) (omega arith))
+      areas-gapped J C some-block i rs e .gap (rangeAt rs j) (mem-at rs j (range 0 0) (omega arith))
       (item-exact J C some-block i rs (rangeAt rs j .end + 1) e .1 (rw y at p))
 
   -- the row tells exactly the area's points, and absent exactly for an unfollowed local or a slot without area

@@ -15,7 +15,7 @@ use Rattle.refusals.specs.declared.Refusal.the-variants.{Line, Stray}
 use Rattle.refusals.proofs.Laws.{scan-fine}
 use Rattle.ranges.specs.declared.Range.{Range}
 use Rattle.ranges.specs.Points.{range, Upright, Apart, Gapped, Same}
-use Rattle.ranges.proofs.PointLaws.{upright-none, upright-cons, upright-append, gapped-apart}
+use Rattle.ranges.proofs.PointLaws.{upright-none, upright-cons, upright-append}
 use Rattle.ranges.proofs.MergeLaws.{merged-gapped}
 use Rattle.ranges.proofs.GapLaws.{gapped-same}
 use Rattle.graph.specs.Paths.{Between}
@@ -194,7 +194,7 @@ module _ (J : Job) (C : Checked J) (some-block : 0 < length (J .blocks)) where
       go false e = slot-gapped (i - length (J .locals)) rs e
 
   pub areas-apart : (i : ℕ) (rs : List Range) → itemArea J i ≡ some rs → Apart rs
-  areas-apart i rs e = gapped-apart rs (areas-gapped i rs e)
+  areas-apart i rs e = areas-gapped i rs e .apart
 
   -- two items that have areas have the same list exactly when the same points are in their areas
   pub areas-same : (i j : ℕ) (rs ss : List Range) → itemArea J i ≡ some rs → itemArea J j ≡ some ss → (rs ≡ ss) ↔ Same rs ss

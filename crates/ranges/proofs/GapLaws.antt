@@ -4,86 +4,56 @@ use native.Mathlib.Omega.{arith}
 use mathlib.Core.Path.{_≡_, refl, sym, ap, _∙_}
 use mathlib.Core.Logic.{_⊎_, inl, inr, _↔_}
 use mathlib.Core.Bool.{Bool, true, false}
-use mathlib.Core.List.{List, [], _∷_, List·Memᴰ, List·Memᴰ·cases-cons, List·Memᴰ·not-nil}
+use mathlib.Core.List.{List, [], _∷_, List·Memᴰ·head}
 use lib.Dec.{leb}
 use borrow.Author.Tests.{leb-true, leb-false}
 use Rattle.ranges.specs.declared.Range.{Range}
-use Rattle.ranges.specs.Points.{range, Point, Upright, Beyond, Gapped, Same}
+use Rattle.ranges.specs.Points.{range, Point, Upright, Apart, Gapped, Same}
 use Rattle.ranges.specs.Inner.{Within}
 use Rattle.ranges.specs.Merged.{merged}
-use Rattle.ranges.proofs.PointLaws.{point-head, point-tail, point-none, point-cases, beyond-gapped, beyond-point}
+use Rattle.ranges.proofs.PointLaws.{point-head, point-tail, point-none, point-cases, past-point, gapped-tail}
 use Rattle.ranges.proofs.MergeLaws.{merged-keeps, merged-only, merged-gapped}
-
--- ---- the gaps, by points
-
--- no range of a list beyond x ends before it
-beyond-end : (x : ℕ) (rs : List Range) → Beyond x rs → (q : Range) → List·Memᴰ q rs → x + 1 < q .end
-beyond-end x [] b q m = absurd (List·Memᴰ·not-nil m)
-beyond-end x (r ∷ rs) b q m = go (List·Memᴰ·cases-cons m) (beyond-end (r .end) rs (b .2) q)
-  where
-    go : (q ≡ r) ⊎ List·Memᴰ q rs → (List·Memᴰ q rs → r .end + 1 < q .end) → x + 1 < q .end
-    go (inl e) ih = rw e (let a = b .0 in let c = b .1 in omega arith)
-    go (inr n) ih = let a = b .0 in let c = b .1 in let d = ih n in omega arith
-
--- the point after a range is in no range of the list
-pub gapped-gap : (rs : List Range) → Gapped rs → (q : Range) → List·Memᴰ q rs → Point rs (q .end + 1) → ⊥
-gapped-gap [] g q m p = List·Memᴰ·not-nil m
-gapped-gap (r ∷ rs) g q m p = go (List·Memᴰ·cases-cons m) (point-cases r rs (q .end + 1) p) (gapped-gap rs (beyond-gapped (r .end) rs (g .1)) q)
-  where
-    go : (q ≡ r) ⊎ List·Memᴰ q rs → Within r (q .end + 1) ⊎ Point rs (q .end + 1) → (List·Memᴰ q rs → Point rs (q .end + 1) → ⊥) → ⊥
-    go (inl e) (inl (h, k)) ih = let z : q .end ≡ r .end = ap (λ (t : Range). t .end) e in omega arith
-    go (inl e) (inr c) ih = let z : q .end ≡ r .end = ap (λ (t : Range). t .end) e in let d = beyond-point (r .end) rs (g .1) (q .end + 1) c in omega arith
-    go (inr n) (inl (h, k)) ih = let d = beyond-end (r .end) rs (g .1) q n in omega arith
-    go (inr n) (inr c) ih = ih n c
-
--- of `merged`: the point after each range is not covered
-pub merged-gap : (rs : List Range) → Upright rs → (q : Range) → List·Memᴰ q (merged rs) → Point rs (q .end + 1) → ⊥
-merged-gap rs u q m p = gapped-gap (merged rs) (merged-gapped rs u) q m (merged-keeps rs (q .end + 1) p)
 
 -- ---- lists with gaps and the same points are equal
 
 -- the first range's start is the first point
-first-point : (r : Range) (rs : List Range) → Gapped (r ∷ rs) → (y : ℕ) → Point (r ∷ rs) y → r .start ≤ y
+first-point : (r : Range) (rs : List Range) → Apart (r ∷ rs) → (y : ℕ) → Point (r ∷ rs) y → r .start ≤ y
 first-point r rs g y p = go (point-cases r rs y p)
   where
     go : Within r y ⊎ Point rs y → r .start ≤ y
     go (inl (h, k)) = h
-    go (inr q) = let a = beyond-point (r .end) rs (g .1) y q in let b = g .0 in omega arith
+    go (inr q) = let a = past-point (r .end) rs (g .1) y q in let b = g .0 in omega arith
 
 module _ (r : Range) (rs : List Range) (s : Range) (ss : List Range) (g : Gapped (r ∷ rs)) (k : Gapped (s ∷ ss)) (f : (x : ℕ) → Point (r ∷ rs) x → Point (s ∷ ss) x) where
   -- every point of the first list is one of the second: the second starts no later
   starts-by : s .start ≤ r .start
-  starts-by = first-point s ss k (r .start) (f (r .start) (point-head r rs (r .start) (omega arith) (g .0)))
+  starts-by = first-point s ss (k .apart) (r .start) (f (r .start) (point-head r rs (r .start) (omega arith) (g .apart .0)))
 
-  -- and where they start alike, its first range ends no earlier: the point after it would be missing
+  -- and where they start alike, its first range ends no earlier: the point after it is missing
   ends-by : r .start ≡ s .start → r .end ≤ s .end
   ends-by e = go (leb (r .end) (s .end)) refl
     where
-      missing : s .end < r .end → Within s (s .end + 1) ⊎ Point ss (s .end + 1) → ⊥
-      missing l (inl (h, i)) = omega arith
-      missing l (inr q) = let a = beyond-point (s .end) ss (k .1) (s .end + 1) q in omega arith
-
       go : (t : Bool) → leb (r .end) (s .end) ≡ t → r .end ≤ s .end
       go true d = leb-true (r .end) (s .end) d
       go false d =
           let l = leb-false (r .end) (s .end) d in
-          let u = k .0 in
-          absurd (missing l (point-cases s ss (s .end + 1) (f (s .end + 1) (point-head r rs (s .end + 1) (omega arith) (omega arith)))))
+          let u = k .apart .0 in
+          absurd (k .gap s (List·Memᴰ·head refl) (f (s .end + 1) (point-head r rs (s .end + 1) (omega arith) (omega arith))))
 
   -- the others of the first list are others of the second
   later-by : r .end ≡ s .end → (x : ℕ) → Point rs x → Point ss x
-  later-by e x p = go (point-cases s ss x (f x (point-tail r rs x p))) (beyond-point (r .end) rs (g .1) x p)
+  later-by e x p = go (point-cases s ss x (f x (point-tail r rs x p))) (past-point (r .end) rs (g .apart .1) x p)
     where
-      go : Within s x ⊎ Point ss x → r .end + 1 < x → Point ss x
+      go : Within s x ⊎ Point ss x → r .end < x → Point ss x
       go (inl (h, i)) l = absurd (omega arith)
       go (inr q) l = q
 
 -- two lists with gaps that have the same points are one list: the first points agree, then the first ends, then the rest
 pub gapped-same : (rs ss : List Range) → Gapped rs → Gapped ss → Same rs ss → rs ≡ ss
 gapped-same [] [] g k f = refl
-gapped-same [] (s ∷ ss) g k f = absurd (point-none (s .start) (f (s .start) .1 (point-head s ss (s .start) (omega arith) (k .0))))
-gapped-same (r ∷ rs) [] g k f = absurd (point-none (r .start) (f (r .start) .0 (point-head r rs (r .start) (omega arith) (g .0))))
-gapped-same (r ∷ rs) (s ∷ ss) g k f = same-list (same-head begin end) (gapped-same rs ss (beyond-gapped (r .end) rs (g .1)) (beyond-gapped (s .end) ss (k .1)) later)
+gapped-same [] (s ∷ ss) g k f = absurd (point-none (s .start) (f (s .start) .1 (point-head s ss (s .start) (omega arith) (k .apart .0))))
+gapped-same (r ∷ rs) [] g k f = absurd (point-none (r .start) (f (r .start) .0 (point-head r rs (r .start) (omega arith) (g .apart .0))))
+gapped-same (r ∷ rs) (s ∷ ss) g k f = same-list (same-head begin end) (gapped-same rs ss (gapped-tail r rs g) (gapped-tail s ss k) later)
   where
     into : (x : ℕ) → Point (r ∷ rs) x → Point (s ∷ ss) x
     into x = f x .0

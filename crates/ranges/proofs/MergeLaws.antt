@@ -8,10 +8,10 @@ use native.Mathlib.Omega.{arith}
 use lib.Dec.{leb}
 use borrow.Author.Tests.{leb-true, leb-false, le-leb, lt-leb}
 use Rattle.ranges.specs.declared.Range.{Range}
-use Rattle.ranges.specs.Points.{range, Point, Upright, Apart, Beyond, Gapped}
+use Rattle.ranges.specs.Points.{range, Point, Upright, Past, Apart, Gapped}
 use Rattle.ranges.specs.Inner.{Within}
 use Rattle.ranges.specs.Merged.{insert, sort, join, joinAll, merged, union, Permuted}
-use Rattle.ranges.proofs.PointLaws.{point-head, point-tail, point-cases, point-left, point-right, point-split, upright-head, upright-tail, apart-upright, gapped-apart}
+use Rattle.ranges.proofs.PointLaws.{point-head, point-tail, point-cases, point-left, point-right, point-split, upright-head, upright-tail, apart-upright, gapped-none, gapped-cons}
 use Rattle.ranges.proofs.SortLaws.{From, Sorted, sort-sorted, sort-member, member-sort, insert-swap}
 
 -- ---- one step of joining
@@ -102,33 +102,36 @@ merged-only rs x p = back (go (sort rs) p)
 
 -- ---- in order, with gaps
 
-join-beyond : (rs : List Range) (a : Range) (x : ℕ) → x + 1 < a .start → a .start ≤ a .end → Upright rs → Beyond x (join a rs)
+join-past : (rs : List Range) (a : Range) (x : ℕ) → x < a .start → a .start ≤ a .end → Upright rs → Past x (join a rs)
 unfolding join
-join-beyond [] a x h k u = (h, k, tt)
-join-beyond (r ∷ rs) a x h k u = go (leb (r .start) (a .end + 1)) refl (join-beyond rs wide x) (join-beyond rs r (a .end))
+join-past [] a x h k u = (h, k, tt)
+join-past (r ∷ rs) a x h k u = go (leb (r .start) (a .end + 1)) refl (join-past rs wide x) (join-past rs r (a .end))
   where
     wide : Range
     wide = range (a .start) (max (a .end) (r .end))
 
     go : (t : Bool) → leb (r .start) (a .end + 1) ≡ t
-        → (x + 1 < a .start → a .start ≤ max (a .end) (r .end) → Upright rs → Beyond x (join wide rs))
-        → (a .end + 1 < r .start → r .start ≤ r .end → Upright rs → Beyond (a .end) (join r rs))
-        → Beyond x (cond t (join wide rs) (a ∷ join r rs))
+        → (x < a .start → a .start ≤ max (a .end) (r .end) → Upright rs → Past x (join wide rs))
+        → (a .end < r .start → r .start ≤ r .end → Upright rs → Past (a .end) (join r rs))
+        → Past x (cond t (join wide rs) (a ∷ join r rs))
     go true e f g = f h (omega arith) (upright-tail r rs u)
-    go false e f g = (h, k, g (leb-false _ _ e) (upright-head r rs u) (upright-tail r rs u))
+    go false e f g = let d = leb-false (r .start) (a .end + 1) e in (h, k, g (omega arith) (upright-head r rs u) (upright-tail r rs u))
 
 join-gapped : (rs : List Range) (a : Range) → a .start ≤ a .end → Upright rs → Gapped (join a rs)
 unfolding join
-join-gapped [] a k u = (k, tt)
-join-gapped (r ∷ rs) a k u = go (leb (r .start) (a .end + 1)) refl (join-gapped rs wide)
+join-gapped [] a k u = gapped-cons a [] k tt gapped-none
+join-gapped (r ∷ rs) a k u = go (leb (r .start) (a .end + 1)) refl (join-gapped rs wide) (join-gapped rs r)
   where
     wide : Range
     wide = range (a .start) (max (a .end) (r .end))
 
+    up : r .start ≤ r .end
+    up = upright-head r rs u
+
     go : (t : Bool) → leb (r .start) (a .end + 1) ≡ t → (a .start ≤ max (a .end) (r .end) → Upright rs → Gapped (join wide rs))
-        → Gapped (cond t (join wide rs) (a ∷ join r rs))
-    go true e f = f (omega arith) (upright-tail r rs u)
-    go false e f = (k, join-beyond rs r (a .end) (leb-false _ _ e) (upright-head r rs u) (upright-tail r rs u))
+        → (r .start ≤ r .end → Upright rs → Gapped (join r rs)) → Gapped (cond t (join wide rs) (a ∷ join r rs))
+    go true e f g = f (omega arith) (upright-tail r rs u)
+    go false e f g = gapped-cons a (join r rs) k (join-past rs r (a .end + 1) (leb-false _ _ e) up (upright-tail r rs u)) (g up (upright-tail r rs u))
 
 -- a merged area has a gap between any two ranges
 pub merged-gapped : (rs : List Range) → Upright rs → Gapped (merged rs)
@@ -136,11 +139,11 @@ unfolding merged
 merged-gapped rs u = go (sort rs) (λ r m. u r (member-sort rs r m))
   where
     go : (q : List Range) → Upright q → Gapped (joinAll q)
-    go [] v = tt
+    go [] v = gapped-none
     go (a ∷ q) v = join-gapped q a (upright-head a q v) (upright-tail a q v)
 
 pub merged-apart : (rs : List Range) → Upright rs → Apart (merged rs)
-merged-apart rs u = gapped-apart (merged rs) (merged-gapped rs u)
+merged-apart rs u = merged-gapped rs u .apart
 
 pub merged-upright : (rs : List Range) → Upright rs → Upright (merged rs)
 merged-upright rs u = apart-upright (merged rs) (merged-apart rs u)

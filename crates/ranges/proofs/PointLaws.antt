@@ -1,5 +1,5 @@
 -- Laws of the points of a list of ranges, of lists without reversed ranges, of those in order and apart, and of those with gaps.
-use mathlib.Core.Path.{_≡_, refl}
+use mathlib.Core.Path.{_≡_, refl, ap}
 use mathlib.Core.Logic.{_⊎_, inl, inr}
 use mathlib.Core.Bool.{true, _||_, false≢true}
 use mathlib.Core.List.{List, [], _∷_, _++_, List·Memᴰ, List·Memᴰ·head, List·Memᴰ·tail, List·Memᴰ·cases-cons, List·Memᴰ·not-nil, Memᴰ·append-left, Memᴰ·append-right, List·Memᴰ·append-cases}
@@ -9,7 +9,7 @@ use borrow.Author.Tests.{leb-true, le-leb}
 use Rattle.words.proofs.Bools.{or-right, and-both, or-cases}
 use Rattle.ranges.specs.declared.Range.{Range}
 use Rattle.ranges.specs.Inner.{Within}
-use Rattle.ranges.specs.Points.{Point, within, inside, Upright, Past, Apart, Beyond, Gapped}
+use Rattle.ranges.specs.Points.{Point, within, inside, Upright, Past, Apart, Gapped}
 
 -- ---- points
 
@@ -112,25 +112,27 @@ past-point x (r ∷ rs) p y q = go (point-cases r rs y q) (past-point (r .end) r
     go (inl (h, k)) ih = let a = p .0 in omega arith
     go (inr c) ih = let a = p .0 in let b = p .1 in let d = ih c in omega arith
 
+pub past-lower : (x y : ℕ) (rs : List Range) → x ≤ y → Past y rs → Past x rs
+past-lower x y [] h p = tt
+past-lower x y (r ∷ rs) h p = let a = p .0 in (omega arith, p .1, p .2)
+
 -- ---- with gaps
 
-pub beyond-past : (x : ℕ) (rs : List Range) → Beyond x rs → Past x rs
-beyond-past x [] b = tt
-beyond-past x (r ∷ rs) b = let a = b .0 in (omega arith, b .1, beyond-past (r .end) rs (b .2))
+pub gapped-none : Gapped []
+gapped-none = record { apart = tt; gap = λ q m p. List·Memᴰ·not-nil m }
 
-pub gapped-apart : (rs : List Range) → Gapped rs → Apart rs
-gapped-apart [] g = tt
-gapped-apart (r ∷ rs) g = (g .0, beyond-past (r .end) rs (g .1))
-
-pub beyond-gapped : (x : ℕ) (rs : List Range) → Beyond x rs → Gapped rs
-beyond-gapped x [] b = tt
-beyond-gapped x (r ∷ rs) b = (b .1, b .2)
-
--- every point lies past the next one
-pub beyond-point : (x : ℕ) (rs : List Range) → Beyond x rs → (y : ℕ) → Point rs y → x + 1 < y
-beyond-point x [] b y p = absurd (point-none y p)
-beyond-point x (r ∷ rs) b y p = go (point-cases r rs y p) (beyond-point (r .end) rs (b .2) y)
+-- a range in front of others that lie past the point after it
+pub gapped-cons : (a : Range) (rs : List Range) → a .start ≤ a .end → Past (a .end + 1) rs → Gapped rs → Gapped (a ∷ rs)
+gapped-cons a rs k p g = record {
+  apart = (k, past-lower (a .end) (a .end + 1) rs (omega arith) p);
+  gap = λ q m c. go q (List·Memᴰ·cases-cons m) (point-cases a rs (q .end + 1) c);
+}
   where
-    go : Within r y ⊎ Point rs y → (Point rs y → r .end + 1 < y) → x + 1 < y
-    go (inl (h, k)) ih = let a = b .0 in omega arith
-    go (inr q) ih = let a = b .0 in let c = b .1 in let d = ih q in omega arith
+    go : (q : Range) → (q ≡ a) ⊎ List·Memᴰ q rs → Within a (q .end + 1) ⊎ Point rs (q .end + 1) → ⊥
+    go q (inl e) (inl (h, l)) = let z : q .end ≡ a .end = ap (λ (t : Range). t .end) e in omega arith
+    go q (inl e) (inr c) = let z : q .end ≡ a .end = ap (λ (t : Range). t .end) e in let d = past-point (a .end + 1) rs p (q .end + 1) c in omega arith
+    go q (inr n) (inl (h, l)) = let d = past-point (a .end + 1) rs p (q .end) (q, n, past-upright (a .end + 1) rs p q n, omega arith) in omega arith
+    go q (inr n) (inr c) = g .gap q n c
+
+pub gapped-tail : (a : Range) (rs : List Range) → Gapped (a ∷ rs) → Gapped rs
+gapped-tail a rs g = record { apart = apart-tail a rs (g .apart); gap = λ q m p. g .gap q (List·Memᴰ·tail m) (point-tail a rs (q .end + 1) p) }

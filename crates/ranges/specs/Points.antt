@@ -49,14 +49,10 @@ abbrev pub Apart : List Range → Type 0
 Apart [] = Unit {0}
 Apart (r ∷ rs) = (r .start ≤ r .end) × Past (r .end) rs
 
--- in order with a gap between any two: no range is reversed, and each starts past the point after the end of the one before
-abbrev pub Beyond : ℕ → List Range → Type 0
-Beyond x [] = Unit {0}
-Beyond x (r ∷ rs) = (x + 1 < r .start) × (r .start ≤ r .end) × Beyond (r .end) rs
-
-abbrev pub Gapped : List Range → Type 0
-Gapped [] = Unit {0}
-Gapped (r ∷ rs) = (r .start ≤ r .end) × Beyond (r .end) rs
+-- in order with a gap between any two: the point after a range is in none of them
+pub record Gapped (rs : List Range) : Type 0 where
+  pub apart : Apart rs
+  pub gap : (r : Range) → List·Memᴰ r rs → Point rs (r .end + 1) → ⊥
 
 -- the same points lie in both lists: they "cover the same points"
 abbrev pub Same : List Range → List Range → Type 0
