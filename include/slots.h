@@ -16,7 +16,7 @@
  * That every answer is below 2^32 and every index whole is proved. The functions that count words of work space, whose names end in _words, are
  * no such answers: they refuse nothing, and what they count can be 2^32 or more.
  * A refusal changes no answer list. Entries of an answer list past the answer stay as they were. The first W words of a work space are zero after
- * an answer, and as they were after a refusal with 1 to 7, 10 or 11; after 8 and 9 they are zero. The words past them never change. */
+ * an answer, and as they were after a refusal with 1 to 7, 10 or 11; after 9 they are zero. The words past them never change. */
 #ifndef SLOTS_H
 #define SLOTS_H
 
@@ -36,9 +36,9 @@ enum slots_refusal {
     SLOTS_EDGE = 3,     /* index: the edge. It names no block */
     SLOTS_INST = 4,     /* index: the instruction, the crossing, or the local whose kind is lent. A block, point, flag, position, register or kind out of range */
     SLOTS_STRAY = 5,    /* index: the address, the end or the move. At an absent instruction or block, or of a kind over 3; an address or move at an unplaced instruction */
-    SLOTS_PIECE = 6,    /* index: the live piece, or the assignment. Reversed, not wholly in the blocks, or of a register that is not numbered */
+    SLOTS_PIECE = 6,    /* index: the live piece, the assignment, or the touch that is lent. Reversed, not wholly in the blocks, or of a register that is not numbered */
     SLOTS_SPACE = 7,    /* work space under W, or an answer list too short */
-    SLOTS_INVERTED = 8, /* a computed range that ends before it starts: slots_local_areas alone gives it */
+    /* 8 is retired: no function gives it, and it is not given out again */
     SLOTS_LIST = 9,     /* all areas together exceed the area list */
     SLOTS_WANT = 10,    /* index: the range, the want, or the item. A range or a lent plan that is not as it has to be */
     SLOTS_TEXT = 11     /* index: the line. Malformed; slots_print_text says so in its text, and none of the functions below gives it */
@@ -276,7 +276,8 @@ uint64_t slots_item_areas(
 
 /* The areas of locals by their kinds, as slots_reach numbers them, by touches (rows of slots_touch) and ends (rows of slots_local_end) that are lent by
  * themselves; the answer and the answer lists are those of slots_item_areas. An unfollowed local has no area, and its touches and ends count for nobody, as
- * those of a local past the end. Refuses with 1, 2, 3, 4 (index: a local whose kind is over 2), 7, 8 and 9. */
+ * those of a local past the end. Refuses with 1, 2, 3, 4 (index: a local whose kind is over 2), 6 (index: a touch that is reversed or not wholly in the
+ * blocks, whoever's it is), 7 and 9. */
 uint64_t slots_local_areas(
     const uint32_t *blocks, size_t blocks_len, const uint32_t *edges, size_t edges_len, uint32_t points, const uint32_t *kinds, size_t kinds_len,
     const uint32_t *touches, size_t touches_len, const uint32_t *ends, size_t ends_len,

@@ -123,7 +123,7 @@ impl Graph<'_> {
     /// followed, or past the end, count for nobody. The area list grows, up to [`MOST_RANGES`], until all areas fit.
     ///
     /// # Errors
-    /// As [`Graph::components`]; [`Kind::Inverted`] where a touch, clipped to its first or its last block, ends before it starts.
+    /// As [`Graph::components`]; [`Kind::Piece`] at a touch that is reversed or not wholly in the blocks, whoever's it is.
     pub fn local_areas(self, locals: &[Followed], touches: &[Touch], ends: &[LocalEnd]) -> Result<Areas, Refusal> {
         let kinds: Vec<u32> = locals.iter().map(|&followed| followed as u32).collect();
         let mut room = (2 * touches.len() + self.blocks.len()).clamp(16, MOST_RANGES);

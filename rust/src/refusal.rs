@@ -1,7 +1,7 @@
 //! Why a call was turned back.
 use std::fmt;
 
-/// What is wrong, by the words of the component's table of refusals.
+/// What is wrong, by the words of the component's table of refusals. Number 8 is retired and not given out again.
 #[derive(Clone, Copy, Debug, PartialEq, Eq, Hash)]
 #[repr(u32)]
 pub enum Kind {
@@ -15,12 +15,10 @@ pub enum Kind {
     Inst = 4,
     /// An address, an end or a move at no instruction or block.
     Stray = 5,
-    /// A live piece or an assignment out of range.
+    /// A live piece, a touch or an assignment out of range.
     Piece = 6,
     /// A work space or an answer list that is too short.
     Space = 7,
-    /// A computed range that ends before it starts.
-    Inverted = 8,
     /// More ranges than the area list holds.
     List = 9,
     /// A range or a lent plan that is not as it has to be.
@@ -29,10 +27,9 @@ pub enum Kind {
     Text = 11,
 }
 
-/// Each kind in the order of the numbers, from 1 on.
-const KINDS: [Kind; 11] = [
-    Kind::Count, Kind::Line, Kind::Edge, Kind::Inst, Kind::Stray, Kind::Piece, Kind::Space, Kind::Inverted, Kind::List, Kind::Want, Kind::Text,
-];
+/// Each kind.
+const KINDS: [Kind; 10] =
+    [Kind::Count, Kind::Line, Kind::Edge, Kind::Inst, Kind::Stray, Kind::Piece, Kind::Space, Kind::List, Kind::Want, Kind::Text];
 
 /// A refusal: what is wrong, and the index of the first offending record of its group.
 #[derive(Clone, Copy, Debug, PartialEq, Eq, Hash)]
@@ -61,7 +58,6 @@ impl Refusal {
             Kind::Stray => "stray",
             Kind::Piece => "piece",
             Kind::Space => "space",
-            Kind::Inverted => "inverted",
             Kind::List => "list",
             Kind::Want => "want",
             Kind::Text => "text",
@@ -77,9 +73,8 @@ impl Refusal {
             Kind::Edge => "an edge names no block",
             Kind::Inst => "an instruction or a crossing has a block, point, flag, position or register out of range",
             Kind::Stray => "an address, an end or a move stands at no instruction or block, or a move's kind is over 3",
-            Kind::Piece => "a live piece is reversed, not wholly in the blocks, or it or an assignment is of a register that is not numbered",
+            Kind::Piece => "a live piece or a touch is reversed or not wholly in the blocks, or a piece or an assignment is of a register that is not numbered",
             Kind::Space => "the work space or an answer list is too short",
-            Kind::Inverted => "a computed range ends before it starts",
             Kind::List => "all areas together exceed the area list",
             Kind::Want => "a range is reversed or out of order, or a lent plan's part is outside its list",
             Kind::Text => "a line of a job text is malformed",
@@ -88,9 +83,8 @@ impl Refusal {
 
     /// The refusal that a code above the answers stands for.
     pub(crate) fn of(code: u64) -> Refusal {
-        let number = (code >> 32) as usize;
-        let kind = KINDS.get(number.wrapping_sub(1)).copied();
-        Refusal { kind: kind.expect("a refusal's number is 1 to 11"), index: code as u32 }
+        let kind = KINDS.into_iter().find(|&kind| u64::from(kind as u32) == code >> 32);
+        Refusal { kind: kind.expect("a refusal's number is 1 to 7 or 9 to 11"), index: code as u32 }
     }
 }
 

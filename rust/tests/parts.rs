@@ -108,6 +108,8 @@ fn areas_of_locals() {
     assert_eq!(area(Followed::Ending, 15), Some(vec![Range::new(12, 15)]));
     assert_eq!(area(Followed::Ending, 12), Some(vec![Range::new(12, 29)]));
     assert_eq!(area(Followed::No, 15), None);
-    let outside = [Touch { local: 0, start: 2, end: 1 }];
-    assert_eq!(job.graph().local_areas(&[Followed::Plain], &outside, &[]).map(drop), Err(Refusal { kind: Kind::Inverted, index: 0 }));
+    for (start, end) in [(2, 1), (28, 30)] {
+        let touches = [Touch { local: 0, start: 2, end: 3 }, Touch { local: 7, start, end }];
+        assert_eq!(job.graph().local_areas(&[Followed::Plain], &touches, &[]).map(drop), Err(Refusal { kind: Kind::Piece, index: 1 }));
+    }
 }

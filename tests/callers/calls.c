@@ -363,7 +363,7 @@ static void areas_of_items(void) {
         &none, 0, &none, 0, &none, 0, &none, 0, (uint32_t *)areas, 2, (uint32_t *)items, 9, work, words), SLOTS_LIST, 0);
 
     const uint32_t blocks[] = {0, 0, 9, 1, 10, 19, 2, 20, 29}, edges[] = {0, 1, 1, 2};
-    const uint32_t touches[] = {0, 12, 13, 1, 12, 13, 2, 12, 13, 9, 3, 1}, ends[] = {1, 15}, kinds[] = {SLOTS_PLAIN, SLOTS_ENDING, SLOTS_UNFOLLOWED}, over[] = {0, 3, 0};
+    const uint32_t touches[] = {0, 12, 13, 1, 12, 13, 2, 12, 13, 9, 1, 3}, ends[] = {1, 15}, kinds[] = {SLOTS_PLAIN, SLOTS_ENDING, SLOTS_UNFOLLOWED}, over[] = {0, 3, 0};
     slots_range ranges[4];
     uint64_t room[200];
     const size_t needed = (size_t)slots_area_words(3, 2, 3, 4, 1, 4);
@@ -374,7 +374,9 @@ static void areas_of_items(void) {
     REFUSED(slots_local_areas(blocks, 9, edges, 4, 29, over, 3, touches, 12, ends, 2, (uint32_t *)ranges, 8, (uint32_t *)items, 9, room, needed), SLOTS_INST, 1);
     REFUSED(slots_local_areas(blocks, 9, edges, 4, 29, kinds, 3, touches, 12, ends, 2, (uint32_t *)ranges, 8, (uint32_t *)items, 9, room, needed - 1), SLOTS_SPACE, 0);
     const uint32_t reversed[] = {0, 13, 12};
-    REFUSED(slots_local_areas(blocks, 9, edges, 4, 29, kinds, 3, reversed, 3, ends, 2, (uint32_t *)ranges, 8, (uint32_t *)items, 9, room, needed), SLOTS_INVERTED, 0);
+    REFUSED(slots_local_areas(blocks, 9, edges, 4, 29, kinds, 3, reversed, 3, ends, 2, (uint32_t *)ranges, 8, (uint32_t *)items, 9, room, needed), SLOTS_PIECE, 0);
+    const uint32_t outside[] = {0, 12, 13, 9, 28, 30};
+    REFUSED(slots_local_areas(blocks, 9, edges, 4, 29, kinds, 3, outside, 6, ends, 2, (uint32_t *)ranges, 8, (uint32_t *)items, 9, room, 0), SLOTS_PIECE, 1);
     HOLDS(ranges[1].end == 15);
 }
 

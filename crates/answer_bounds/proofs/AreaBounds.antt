@@ -8,8 +8,7 @@ use lib.ListN.{length}
 use lib.Dec.{ltb}
 use borrow.Author.Tests.{ltb-false}
 use Rattle.refusals.specs.declared.Verdict.the-variants.{Fine}
-use Rattle.refusals.specs.declared.Refusal.the-variants.{Count, Inst, Space, Inverted, List as ListWord}
-use Rattle.refusals.specs.Verdicts.{check}
+use Rattle.refusals.specs.declared.Refusal.the-variants.{Count, Inst, Piece, Space, List as ListWord}
 use Rattle.refusals.proofs.Laws.{first-left, first-right, check-told}
 use Rattle.words.specs.Rows.{tabulate}
 use Rattle.words.specs.Widths.{mentionWidth, touchWidth, partWidth, rangeWidth}
@@ -18,7 +17,6 @@ use Rattle.area_layout.specs.Layout.{spaceFor}
 use Rattle.area_checks.specs.Checks.{sizesOf, rowCounts, lentVerdict}
 use Rattle.insts.specs.Counts.{rowsVerdict, mostVerdict}
 use Rattle.insts.proofs.CheckLaws.{rows-few}
-use Rattle.local_marks.specs.Marks.{someInverted}
 use Rattle.area_measure.specs.Locals.{areaFor}
 use Rattle.lent_areas.specs.Areas.{graphFor}
 use Rattle.area_entries.specs.Entry.{verdictOf}
@@ -37,17 +35,17 @@ module _ (blocks edges : List ℕ) (points : ℕ) (kinds touches ends : List ℕ
       order-fit
       (next-fits (most-fits 2048 (length kinds))
       (λ k. next-fits (rows-fits touchWidth 65536 (length touches))
-      (λ _. next-fits (rows-fits mentionWidth 65536 (length ends))
+      (λ t. next-fits (rows-fits mentionWidth 65536 (length ends))
       (λ _. next-fits (rows-fits rangeWidth 65536 areas)
       (λ _. next-fits (rows-fits partWidth items items)
       (λ _. graph-fit blocks edges points _
       (next-fits (few-fits Inst _ (length kinds) (omega (arith, ltb-false 2048 (length kinds) (check-told Count (ltb 2048 (length kinds)) k))))
+      (λ _. next-fits (few-fits Piece _ (length touches / touchWidth) (omega (arith, rows-few touchWidth 65536 (length touches) t)))
       (λ _. next-fits (check-fits Space (ltb work (spaceFor (sizesOf blocks edges (length kinds) (length touches) (length ends) areas)) || ltb (items / partWidth) (length kinds)))
-      (λ _. next-fits (check-fits Inverted (someInverted (graphFor blocks edges) kinds touches (length kinds)))
       (λ _. next-fits (check-fits ListWord (ltb (areas / rangeWidth) ranges)) (λ _. no-more)))))))))))
 
   -- the area list has at most 65,536 ranges
-  room-few : lentVerdict blocks edges points kinds (length touches) (length ends) areas items work ≡ Fine → areas / rangeWidth < 2 ^ 32
+  room-few : lentVerdict blocks edges points kinds touches (length ends) areas items work ≡ Fine → areas / rangeWidth < 2 ^ 32
   unfolding lentVerdict rowCounts
   room-few e =
       let a = first-left (rowCounts (length kinds) (length touches) (length ends) areas items) _ e in
@@ -59,7 +57,7 @@ module _ (blocks edges : List ℕ) (points : ℕ) (kinds touches ends : List ℕ
   pub local-areas-few : verdictOf blocks edges points kinds touches ends areas items work ≡ Fine → ranges < 2 ^ 32
   local-areas-few e =
       let f = sym (local-verdict blocks edges points kinds touches ends areas items work) ∙ e in
-      let a = room-few (first-left (lentVerdict blocks edges points kinds (length touches) (length ends) areas items work) _ f) in
-      let b = first-right (check Inverted (someInverted (graphFor blocks edges) kinds touches (length kinds))) _ (first-right (lentVerdict blocks edges points kinds (length touches) (length ends) areas items work) _ f) in
+      let a = room-few (first-left (lentVerdict blocks edges points kinds touches (length ends) areas items work) _ f) in
+      let b = first-right (lentVerdict blocks edges points kinds touches (length ends) areas items work) _ f in
       let c = ltb-false (areas / rangeWidth) ranges (check-told ListWord (ltb (areas / rangeWidth) ranges) b) in
       omega arith

@@ -24,7 +24,7 @@ use Rattle.insts.proofs.DealtLaws.{scan-same}
 use Rattle.area_layout.specs.declared.Sizes.{Sizes}
 use Rattle.area_layout.specs.Layout.{spaceFor}
 use Rattle.area_layout.specs.Inner.{Small}
-use Rattle.area_checks.specs.Checks.{rowCounts, sizesOf, kindsVerdict, spaceVerdict, lentVerdict}
+use Rattle.area_checks.specs.Checks.{rowCounts, sizesOf, kindsVerdict, touchVerdict, spaceVerdict, lentVerdict}
 use Rattle.area_checks.specs.Inner.{Lent}
 
 rows-told : (width limit n : ℕ) → rowsVerdict width limit n ≡ Fine → n / width ≤ limit
@@ -78,10 +78,19 @@ module _ (z : Sizes) (items work : ℕ) where
 
 -- ---- all of them
 
-module _ (blocks edges : List ℕ) (points : ℕ) (kinds : List ℕ) (touches ends areas items work : ℕ) where
-  pub small : rowCounts (length kinds) touches ends areas items ≡ Fine → graphVerdict blocks edges points ≡ Fine → Small (sizesOf blocks edges (length kinds) touches ends areas)
+module _ (blocks edges : List ℕ) (points : ℕ) (kinds touches : List ℕ) (ends areas items work : ℕ) where
+  abbrev z : Sizes
+  z = sizesOf blocks edges (length kinds) (length touches) ends areas
+
+  abbrev count : Verdict
+  count = rowCounts (length kinds) (length touches) ends areas items
+
+  abbrev all : Verdict
+  all = lentVerdict blocks edges points kinds touches ends areas items work
+
+  pub small : count ≡ Fine → graphVerdict blocks edges points ≡ Fine → Small z
   small e f =
-      let c = counted (length kinds) touches ends areas items e in
+      let c = counted (length kinds) (length touches) ends areas items e in
       let k = passed blocks edges points f .counts in
       record {
         some-block = omega (arith, k .some);
@@ -93,39 +102,38 @@ module _ (blocks edges : List ℕ) (points : ℕ) (kinds : List ℕ) (touches en
         few-ranges = c .few-ranges;
       }
 
-  pub by-counts : (r : Refusal) (i : ℕ) → rowCounts (length kinds) touches ends areas items ≡ Bad r i → Bad r i ≡ lentVerdict blocks edges points kinds touches ends areas items work
+  pub by-counts : (r : Refusal) (i : ℕ) → count ≡ Bad r i → Bad r i ≡ all
   unfolding lentVerdict
   by-counts r i e = sym (first-bad _ _ r i e)
 
-  module _ (e : rowCounts (length kinds) touches ends areas items ≡ Fine) where
-    pub by-graph : (r : Refusal) (i : ℕ) → graphVerdict blocks edges points ≡ Bad r i → Bad r i ≡ lentVerdict blocks edges points kinds touches ends areas items work
+  module _ (e : count ≡ Fine) where
+    pub by-graph : (r : Refusal) (i : ℕ) → graphVerdict blocks edges points ≡ Bad r i → Bad r i ≡ all
     unfolding lentVerdict
-    by-graph r i f = sym (first-fine (rowCounts (length kinds) touches ends areas items) _ e ∙ first-bad _ _ r i f)
+    by-graph r i f = sym (first-fine count _ e ∙ first-bad _ _ r i f)
 
-    pub by-rest : graphVerdict blocks edges points ≡ Fine → {v k s : Verdict} → k ≡ kindsVerdict kinds → s ≡ spaceVerdict (sizesOf blocks edges (length kinds) touches ends areas) items work → v ≡ first k s
-        → v ≡ lentVerdict blocks edges points kinds touches ends areas items work
+    pub by-rest : graphVerdict blocks edges points ≡ Fine → {v k t s u : Verdict} → k ≡ kindsVerdict kinds → t ≡ touchVerdict blocks touches → s ≡ spaceVerdict z items work → u ≡ first t s → v ≡ first k u
+        → v ≡ all
     unfolding lentVerdict
-    by-rest f {v} {k} {s} g h q =
-        q ∙ ap (λ (x : Verdict). first x s) g ∙ ap (first (kindsVerdict kinds)) h
-        ∙ sym (first-fine (rowCounts (length kinds) touches ends areas items) _ e ∙ first-fine (graphVerdict blocks edges points) _ f)
+    by-rest f {v} {k} {t} {s} {u} g h q j l = (let x : v ≡ first (kindsVerdict kinds) (first (touchVerdict blocks touches) (spaceVerdict z items work)) = cc in x)
+        ∙ sym (first-fine count _ e ∙ first-fine (graphVerdict blocks edges points) _ f)
 
 -- where nothing is refused
 module _ (blocks edges : List ℕ) (points : ℕ) (kinds touches ends : List ℕ) (areas items : ℕ) (w : List ℕ) where
-  pub lent : lentVerdict blocks edges points kinds (length touches) (length ends) areas items (length w) ≡ Fine
-      → Lent blocks edges kinds touches ends areas w × (partWidth * length kinds ≤ items)
+  pub lent : lentVerdict blocks edges points kinds touches (length ends) areas items (length w) ≡ Fine → Lent blocks edges kinds touches ends areas w × (partWidth * length kinds ≤ items)
   unfolding lentVerdict
   lent e =
       let c = first-left (rowCounts (length kinds) (length touches) (length ends) areas items) _ e in
       let f = first-right (rowCounts (length kinds) (length touches) (length ends) areas items) _ e in
       let g = first-left (graphVerdict blocks edges points) _ f in
-      let k = first-right (graphVerdict blocks edges points) _ f in
+      let k = first-right (kindsVerdict kinds) _ (first-right (graphVerdict blocks edges points) _ f) in
       let p = passed blocks edges points g in
       let z = sizesOf blocks edges (length kinds) (length touches) (length ends) areas in
-      let (a, b) = or-neither (ltb (length w) (spaceFor z)) _ (check-told Space (ltb (length w) (spaceFor z) || ltb (items / partWidth) (length kinds)) (first-right (kindsVerdict kinds) _ k)) in (
+      let (a, b) = or-neither (ltb (length w) (spaceFor z)) _ (check-told Space (ltb (length w) (spaceFor z) || ltb (items / partWidth) (length kinds)) (first-right (touchVerdict blocks touches) _ k)) in (
         record {
-          small = small blocks edges points kinds (length touches) (length ends) areas items (length w) c g;
+          small = small blocks edges points kinds touches (length ends) areas items (length w) c g;
           sound = p .sound;
           edges-fine = p .edges-fine;
+          touches-fine = first-left (touchVerdict blocks touches) _ k;
           space = ltb-false (length w) (spaceFor z) a;
         },
         omega (arith, ltb-false (items / partWidth) (length kinds) b),

@@ -1,2 +1,4 @@
+pub mod Corners
+pub mod TouchLaws
 pub mod CheckLaws
 pub mod OrderLaws

@@ -1,4 +1,4 @@
--- Areas of touches and ends lent by themselves: what is refused before anything is measured (numbers 1, 2, 3, 4 and 7), and W.
+-- Areas of touches and ends lent by themselves: what is refused before anything is measured (numbers 1, 2, 3, 4, 6 and 7), and W.
 use Prim.Native.Nat.{ℕ, _/_}
 use mathlib.Core.Bool.{_||_}
 use mathlib.Core.List.{List, [], _∷_}
@@ -6,11 +6,13 @@ use lib.ListN.{length, getD}
 use lib.Dec.{ltb}
 use Rattle.refusals.specs.declared.Verdict.{Verdict}
 use Rattle.refusals.specs.declared.Refusal.{Refusal}
-use Rattle.refusals.specs.declared.Refusal.the-variants.{Count, Line, Edge, Inst, Space}
+use Rattle.refusals.specs.declared.Refusal.the-variants.{Count, Line, Edge, Inst, Piece, Space}
 use Rattle.refusals.specs.Verdicts.{first, check, scan}
+use Rattle.words.specs.Rows.{rowCount, field}
 use Rattle.words.specs.Widths.{blockCount, edgeCount, touchWidth, stopWidth, partWidth, rangeWidth}
 use Rattle.graph.specs.Checks.{countVerdict, graphVerdict}
 use Rattle.insts.specs.Counts.{rowsVerdict, mostVerdict}
+use Rattle.areas.specs.Slots.{offLine}
 use Rattle.area_layout.specs.declared.Sizes.{Sizes}
 use Rattle.area_layout.specs.Layout.{spaceFor}
 use Rattle.graph.specs.Line.{blocksOf, jumpsOf, lineVerdict, edgeVerdict}
@@ -30,22 +32,26 @@ sizesOf blocks edges kinds touches ends areas =
 abbrev pub kindsVerdict : List ℕ → Verdict
 kindsVerdict kinds = scan Inst (λ l. ltb 2 (getD kinds l 0)) (length kinds)
 
+-- number 6: "touches lent to an entry by themselves are checked as live pieces": at that touch, whoever's it is
+abbrev pub touchVerdict : List ℕ → List ℕ → Verdict
+touchVerdict blocks touches = scan Piece (λ n. offLine (blocksOf blocks) (field touchWidth touches n 1) (field touchWidth touches n 2)) (rowCount touchWidth touches)
+
 -- number 7: work space under W, item list under the item count
 abbrev pub spaceVerdict : Sizes → ℕ → ℕ → Verdict
 spaceVerdict z items work = check Space (ltb work (spaceFor z) || ltb (items / partWidth) (z .locals))
 
--- numbers 1, 2, 3, 4 and 7: what is refused before anything is measured
-unfoldable pub lentVerdict : List ℕ → List ℕ → ℕ → List ℕ → ℕ → ℕ → ℕ → ℕ → ℕ → Verdict
+-- numbers 1, 2, 3, 4, 6 and 7: what is refused before anything is measured
+unfoldable pub lentVerdict : List ℕ → List ℕ → ℕ → List ℕ → List ℕ → ℕ → ℕ → ℕ → ℕ → Verdict
 lentVerdict blocks edges points kinds touches ends areas items work =
-    first (rowCounts (length kinds) touches ends areas items)
-    (first (graphVerdict blocks edges points) (first (kindsVerdict kinds) (spaceVerdict (sizesOf blocks edges (length kinds) touches ends areas) items work)))
+    first (rowCounts (length kinds) (length touches) ends areas items) (first (graphVerdict blocks edges points)
+    (first (kindsVerdict kinds) (first (touchVerdict blocks touches) (spaceVerdict (sizesOf blocks edges (length kinds) (length touches) ends areas) items work))))
 
 -- the same as a list of checks, and the refusal that each of them gives
-abbrev pub lentChecks : List ℕ → List ℕ → ℕ → List ℕ → ℕ → ℕ → ℕ → ℕ → ℕ → List Verdict
+abbrev pub lentChecks : List ℕ → List ℕ → ℕ → List ℕ → List ℕ → ℕ → ℕ → ℕ → ℕ → List Verdict
 lentChecks blocks edges points kinds touches ends areas items work =
-    mostVerdict 2048 (length kinds) ∷ rowsVerdict touchWidth 65536 touches ∷ rowsVerdict stopWidth 65536 ends ∷ rowsVerdict rangeWidth 65536 areas ∷ rowsVerdict partWidth items items
-    ∷ countVerdict blocks edges ∷ lineVerdict (blocksOf blocks) points ∷ edgeVerdict (blocksOf blocks) (jumpsOf edges) ∷ kindsVerdict kinds
-    ∷ spaceVerdict (sizesOf blocks edges (length kinds) touches ends areas) items work ∷ []
+    mostVerdict 2048 (length kinds) ∷ rowsVerdict touchWidth 65536 (length touches) ∷ rowsVerdict stopWidth 65536 ends ∷ rowsVerdict rangeWidth 65536 areas ∷ rowsVerdict partWidth items items
+    ∷ countVerdict blocks edges ∷ lineVerdict (blocksOf blocks) points ∷ edgeVerdict (blocksOf blocks) (jumpsOf edges) ∷ kindsVerdict kinds ∷ touchVerdict blocks touches
+    ∷ spaceVerdict (sizesOf blocks edges (length kinds) (length touches) ends areas) items work ∷ []
 
 abbrev pub lentGive : List Refusal
-lentGive = Count ∷ Count ∷ Count ∷ Count ∷ Count ∷ Count ∷ Line ∷ Edge ∷ Inst ∷ Space ∷ []
+lentGive = Count ∷ Count ∷ Count ∷ Count ∷ Count ∷ Count ∷ Line ∷ Edge ∷ Inst ∷ Piece ∷ Space ∷ []

@@ -2,7 +2,6 @@
 use Prim.Native.Nat.{ℕ, _+_, _-_, _*_, _^_, _≤_, _<_}
 use native.Mathlib.Omega.{arith}
 use mathlib.Core.Path.{_≡_, refl, sym, ap, _∙_}
-use mathlib.Core.Bool.{false}
 use mathlib.Core.List.{List, [], _∷_, _++_, append-assoc}
 use lib.ListN.{length, getD, take, set, length-set}
 use lib.Seq.{take-all}
@@ -17,7 +16,7 @@ use Rattle.ranges.proofs.FormLaws.{unpack-pack}
 use Rattle.graph.specs.Line.{Sound}
 use Rattle.graph.proofs.Line.{start-is, end-is}
 use Rattle.carrying.specs.Lists.{gather}
-use Rattle.areas.specs.Blocks.{Graph, top, bottom, blockOf, inverted, until, cover}
+use Rattle.areas.specs.Blocks.{Graph, top, bottom, blockOf, until, cover, InLine}
 use Rattle.spots.specs.declared.Spots.{Spots}
 use Rattle.spots.specs.Spots.{lineOf}
 use Rattle.spots.specs.Inner.{touchesAt, endsAt, Stand}
@@ -81,7 +80,7 @@ listed-is a e = record { len = a .len; is = a .is ∙ e; before = a .before; aft
 
 -- ---- one touch
 
-module _ (G : Graph) (S : Sound (G .blocks)) (es : List ℕ) (s : Local) (x m : ℕ) (up : inverted G (unpack x) ≡ false)
+module _ (G : Graph) (S : Sound (G .blocks)) (es : List ℕ) (s : Local) (x m : ℕ) (up : InLine (G .blocks) (unpack x))
     (f l : ℕ) (ef : f ≡ blockOf G (unpack x .start)) (el : l ≡ blockOf G (unpack x .end)) (w₀ : List ℕ) (room : s .to + (m + 3) ≤ length w₀) where
   abbrev t : Range
   t = unpack x

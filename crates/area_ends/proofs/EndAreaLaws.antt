@@ -16,13 +16,13 @@ use Rattle.graph.specs.Paths.{Edge}
 use Rattle.graph.specs.Line.{blocksOf, Sound}
 use Rattle.graph.proofs.Line.{blocks-length}
 use Rattle.carrying.specs.Lists.{gather}
-use Rattle.areas.specs.Blocks.{Graph}
+use Rattle.areas.specs.Blocks.{Graph, AllInLine}
 use Rattle.areas.specs.Pieces.{arrivesRow}
 use Rattle.spots.specs.declared.Spots.{Spots}
 use Rattle.spots.specs.Spots.{lineOf}
 use Rattle.spots.specs.Inner.{touchesAt, endsAt, Stand}
 use Rattle.area_pieces.specs.declared.Local.{Local}
-use Rattle.area_pieces.specs.Inner.{ownBit, Bounded, Laid, Upright}
+use Rattle.area_pieces.specs.Inner.{ownBit, Bounded, Laid}
 use Rattle.area_ends.specs.Inner.{EndRow, EndingIn, touchPieces, arrivals, Covers, Arrivable, Arrived}
 use Rattle.area_pieces.proofs.SpanLaws.{touches-length}
 use Rattle.area_pieces.proofs.AreaLaws.{unpacked-both}
@@ -90,7 +90,7 @@ module _ (blocks : List ℕ) (t : Spots) (s : Local) {w₀ w₁ : List ℕ} {m :
             let z = few in
             kept-part-list {w₀ = w₁} {w = w₂} {at = s .to} {n = m} (record { same = λ i h l. ar [] .swept .between i (omega arith) l }) (omega arith) (ar [] .swept .len)
 
-    pub ending-done : Sound (blocksOf blocks) → Upright blocks (touchesAt t w₀) → {w : List ℕ} {q : ℕ} → length w ≡ length w₂ → MergedIn w₂ w (s .to) (m + r) q → EndingIn blocks t s w₀ w q
+    pub ending-done : Sound (blocksOf blocks) → AllInLine (blocksOf blocks) (touchesAt t w₀) → {w : List ℕ} {q : ℕ} → length w ≡ length w₂ → MergedIn w₂ w (s .to) (m + r) q → EndingIn blocks t s w₀ w q
     ending-done S up {w} {q} lw g =
         let c = a .free in
         let z = few in
@@ -104,7 +104,7 @@ module _ (blocks : List ℕ) (t : Spots) (s : Local) {w₀ w₁ : List ℕ} {m :
           };
           unmarked = record { none = λ k h. ap (λ (v : ℕ). bitOf v (k % 64)) (g .before (s .mark + k / 64) (omega arith)) ∙ ar [] .swept .unmarked .none k h };
           count = omega arith;
-          is = λ es e. g .is ∙ ap merged (behind es e ∙ whole es) ∙ ending-is (lineOf blocks es) (endsAt t w₀) S (touchesAt t w₀) (up es);
+          is = λ es e. g .is ∙ ap merged (behind es e ∙ whole es) ∙ ending-is (lineOf blocks es) (endsAt t w₀) S (touchesAt t w₀) up;
         }
       where
         whole : (es : List Edge) → gather (touchPieces (lineOf blocks es) (endsAt t w₀)) (touchesAt t w₀) ++ arrivals (lineOf blocks es) (endsAt t w₀) (arrivesRow (lineOf blocks es) (touchesAt t w₀) (endsAt t w₀)) n

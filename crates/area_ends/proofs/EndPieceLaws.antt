@@ -13,11 +13,10 @@ use Rattle.ranges.specs.Merged.{merged, Permuted}
 use Rattle.ranges.proofs.MergeLaws.{merged-permuted}
 use Rattle.ranges.proofs.FormLaws.{map-append}
 use Rattle.graph.specs.Line.{Sound}
-use Rattle.carrying.specs.Lists.{any, keep, gather}
-use Rattle.carrying.proofs.ListLaws.{any-false}
-use Rattle.areas.specs.Blocks.{Graph, blockOf, bounds, inverted, cover}
+use Rattle.carrying.specs.Lists.{keep, gather}
+use Rattle.areas.specs.Blocks.{Graph, blockOf, bounds, cover, AllInLine}
 use Rattle.areas.specs.Pieces.{through, throughs, endLine, arrivesRow, endingArea}
-use Rattle.areas.proofs.BlockLaws.{bounds-first, bounds-last, block-rises, block-below, clip-up}
+use Rattle.areas.proofs.BlockLaws.{bounds-first, bounds-last, block-rises, block-below}
 use Rattle.areas.proofs.PermuteLaws.{perm-refl, perm-append, perm-front, perm-exchange, perm-is, perm-turn}
 use Rattle.area_ends.specs.Inner.{covering, touchPieces, arrival, arrivals}
 use Rattle.area_pieces.proofs.HullLaws.{keep-append, bounds-not}
@@ -126,11 +125,9 @@ module _ (G : Graph) (es : List ℕ) where
 
   -- ---- all pieces
 
-  module _ (S : Sound (G .blocks)) (ts : List Range) (up : any (inverted G) ts ≡ false) where
+  module _ (S : Sound (G .blocks)) (ts : List Range) (up : AllInLine (G .blocks) ts) where
     touch-rises : (t : Range) → List·Memᴰ t ts → blockOf G (t .start) ≤ blockOf G (t .end)
-    touch-rises t m =
-        let p = clip-up G t (any-false (inverted G) ts up t m) (blockOf G (t .start)) (bounds-first G _ t refl) in
-        block-rises G S (t .start) (t .end) (omega arith)
+    touch-rises t m = block-rises G S (t .start) (t .end) (up t m .upright)
 
     abbrev n : ℕ
     n = length (G .blocks)

@@ -1,16 +1,15 @@
 // The area of an ending local: its touches run to their first ends, and so do the blocks that it arrives at.
 ghost use mathlib.Core.Path.{_≡_};
-ghost use mathlib.Core.Bool.{false};
 ghost use mathlib.Core.List.{List, []};
 ghost use Prim.Native.Nat.{_+_, _*_, _/_, _≤_, _<_};
 ghost use lib.ListN.{length};
 ghost use Rattle.ranges.specs.Inner.{unpack};
 ghost use Rattle.graph.specs.Paths.{Edge};
 ghost use Rattle.graph.specs.Line.{blocksOf, Sound};
-ghost use Rattle.areas.specs.Blocks.{inverted};
+ghost use Rattle.areas.specs.Blocks.{InLine, AllInLine};
 ghost use Rattle.spots.specs.Spots.{lineOf};
 ghost use Rattle.spots.specs.Inner.{touchesAt, endsAt, Stand};
-ghost use Rattle.area_pieces.specs.Inner.{ownBit, markBit, Laid, Bounded, Upright};
+ghost use Rattle.area_pieces.specs.Inner.{ownBit, markBit, Laid, Bounded};
 ghost use Rattle.area_ends.specs.Inner.{EndingIn, arrival, Covered, Covers, Arrived, Arriving, Arrivable};
 ghost use Rattle.words.specs.Widths.{blockCount};
 use area_pieces::Local;
@@ -19,7 +18,7 @@ use words::widths::block;
 
 // Puts the pieces of a touch behind the m pieces: its covers in its first and its last block, and its between-piece.
 fn cover_touch(blocks: &[u32], work: &mut [u64], t: Spots, s: Local, x: u64, m: usize) -> usize
-    requires { ⌜ Sound (blocksOf (now blocks)) × Stand t (now work) × ((es : List Edge) → inverted (lineOf (now blocks) es) (unpack x) ≡ false) ⌝ }
+    requires { ⌜ Sound (blocksOf (now blocks)) × Stand t (now work) × InLine (blocksOf (now blocks)) (unpack x) ⌝ }
     requires { ⌜ (t .at + t .count ≤ s .to) × (t .ends + t .stops ≤ s .to) × (s .to + (m + 3) ≤ length (now work)) ⌝ }
     ensures { λ r. ⌜ ((es : List Edge) → Covered (lineOf (now (blocks .entry)) es) (endsAt t (now (work .entry))) s x m r (now (work .entry)) (now (work .exit))) ⌝ }
 {
@@ -43,7 +42,7 @@ fn cover_touch(blocks: &[u32], work: &mut [u64], t: Spots, s: Local, x: u64, m: 
 
 // The pieces of the touches, from `to` on; how many there are.
 fn covers(blocks: &[u32], work: &mut [u64], t: Spots, s: Local) -> usize
-    requires { ⌜ Sound (blocksOf (now blocks)) × Laid t s (blockCount (now blocks)) (3 * t .count) (now work) × Stand t (now work) × Upright (now blocks) (touchesAt t (now work)) ⌝ }
+    requires { ⌜ Sound (blocksOf (now blocks)) × Laid t s (blockCount (now blocks)) (3 * t .count) (now work) × Stand t (now work) × AllInLine (blocksOf (now blocks)) (touchesAt t (now work)) ⌝ }
     ensures { λ r. ⌜ ((es : List Edge) → Covers (lineOf (now (blocks .entry)) es) (endsAt t (now (work .entry))) s (touchesAt t (now (work .entry))) r (now (work .entry)) (now (work .exit))) ⌝ }
 {
     let mut m = 0;
@@ -104,7 +103,7 @@ fn arrived(blocks: &[u32], work: &mut [u64], t: Spots, s: Local, from: usize) ->
 // The area of an ending local, from `to` on; how many ranges it has. From `to` on it needs three words a touch and a word a block.
 pub fn ending(blocks: &[u32], work: &mut [u64], t: Spots, s: Local) -> usize
     requires { ⌜ Sound (blocksOf (now blocks)) × Laid t s (blockCount (now blocks)) (3 * t .count + blockCount (now blocks)) (now work) × Stand t (now work) ⌝ }
-    requires { ⌜ Bounded s (blockCount (now blocks)) (now work) × Upright (now blocks) (touchesAt t (now work)) ⌝ }
+    requires { ⌜ Bounded s (blockCount (now blocks)) (now work) × AllInLine (blocksOf (now blocks)) (touchesAt t (now work)) ⌝ }
     ensures { λ r. ⌜ EndingIn (now (blocks .entry)) t s (now (work .entry)) (now (work .exit)) r ⌝ }
 {
     let m = covers(blocks, work, t, s);

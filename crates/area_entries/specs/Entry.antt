@@ -5,10 +5,9 @@ use mathlib.Core.List.{List, [], _∷_, _++_}
 use lib.ListN.{length, replicate}
 use Rattle.refusals.specs.declared.Verdict.{Verdict}
 use Rattle.refusals.specs.declared.Refusal.{Refusal}
-use Rattle.refusals.specs.declared.Refusal.the-variants.{Inverted, List as ListWord}
-use Rattle.refusals.specs.Verdicts.{inOrder, check}
+use Rattle.refusals.specs.declared.Refusal.the-variants.{List as ListWord}
+use Rattle.refusals.specs.Verdicts.{inOrder}
 use Rattle.refusals.specs.Outcomes.{unless, after}
-use Rattle.local_marks.specs.Marks.{someInverted}
 use Rattle.area_measure.specs.Locals.{areaFor}
 use Rattle.refusals.specs.declared.Answer.{Answer}
 use Rattle.item_lists.specs.Lists.{AnsweredBy}
@@ -18,15 +17,14 @@ use Rattle.lent_areas.specs.Areas.{graphFor}
 use Rattle.areas.specs.Job.{areasVerdict}
 use Rattle.words.specs.Widths.{rangeWidth}
 
--- the checks in the entry's order, "lowest number wins": 1, 2, 3, 4 and 7 of what is lent, then 8 and 9 of what is found; and the refusal that each gives
+-- the checks in the entry's order, "lowest number wins": 1, 2, 3, 4, 6 and 7 of what is lent, then 9 of what is found; and the refusal that each gives
 abbrev pub localChecks : List ℕ → List ℕ → ℕ → List ℕ → List ℕ → List ℕ → ℕ → ℕ → ℕ → List Verdict
 localChecks blocks edges points kinds touches ends areas items work =
-    lentChecks blocks edges points kinds (length touches) (length ends) areas items work
-    ++ (check Inverted (someInverted (graphFor blocks edges) kinds touches (length kinds))
-    ∷ areasVerdict (length kinds) (areaFor (graphFor blocks edges) kinds touches ends) (areas / rangeWidth) ∷ [])
+    lentChecks blocks edges points kinds touches (length ends) areas items work
+    ++ (areasVerdict (length kinds) (areaFor (graphFor blocks edges) kinds touches ends) (areas / rangeWidth) ∷ [])
 
 abbrev pub localGive : List Refusal
-localGive = lentGive ++ (Inverted ∷ ListWord ∷ [])
+localGive = lentGive ++ (ListWord ∷ [])
 
 abbrev pub verdictOf : List ℕ → List ℕ → ℕ → List ℕ → List ℕ → List ℕ → ℕ → ℕ → ℕ → Verdict
 verdictOf blocks edges points kinds touches ends areas items work = inOrder (localChecks blocks edges points kinds touches ends areas items work)
@@ -35,5 +33,5 @@ verdictOf blocks edges points kinds touches ends areas items work = inOrder (loc
 pub record LocalAreas (blocks edges : List ℕ) (points : ℕ) (kinds touches ends areas items work : List ℕ) (r : Answer) (areas′ items′ work′ : List ℕ) : Type 0 where
   pub lists : AnsweredBy (verdictOf blocks edges points kinds touches ends (length areas) (length items) (length work)) (length kinds)
       (areaFor (graphFor blocks edges) kinds touches ends) areas items r areas′ items′
-  pub in-work : work′ ≡ after (unless (lentVerdict blocks edges points kinds (length touches) (length ends) (length areas) (length items) (length work))
+  pub in-work : work′ ≡ after (unless (lentVerdict blocks edges points kinds touches (length ends) (length areas) (length items) (length work))
       (spaceFor (sizesOf blocks edges (length kinds) (length touches) (length ends) (length areas)))) (λ n. replicate n 0) work

@@ -17,10 +17,9 @@ use Rattle.ranges.specs.declared.Range.{Range}
 use Rattle.ranges.specs.Inner.{unpacked}
 use Rattle.graph.specs.Paths.{Edge}
 use Rattle.graph.proofs.Line.{blocks-length}
-use Rattle.carrying.specs.Lists.{any}
 use Rattle.carrying.specs.declared.Kind.{Kind}
 use Rattle.carrying.specs.declared.Kind.the-variants.{Unfollowed, Plain, Ending}
-use Rattle.areas.specs.Blocks.{Graph, inverted}
+use Rattle.areas.specs.Blocks.{Graph}
 use Rattle.areas.specs.Job.{areaBy, rangesIn}
 use Rattle.spots.specs.declared.Spots.{Spots}
 use Rattle.spots.specs.Spots.{lineOf}
@@ -127,7 +126,7 @@ module _ (blocks kinds touches ends : List ℕ) (p : Places) (g : Grid) (mark : 
               block-kept F S l k h (omega (arith, F .wide)) ∙ D .both l k h e m
               ∙ sym (ap (λ (x : Bool). x && rowBit g (g .read) w k l) (written-kept F S k l m (omega (arith, F .long)))
               ∙ ap (λ (x : Bool). rowBit g (g .written) w₀ k l && x) (read-kept F S k l m (omega (arith, F .long))));
-          upright = D .upright;
+          in-line = D .in-line;
         }
 
   -- ---- an unfollowed local
@@ -223,7 +222,7 @@ module _ (blocks kinds touches ends : List ℕ) (p : Places) (g : Grid) (mark : 
           unmarked = record { none = λ c m. E .unmarked c m };
           bounded = record { past = λ c a b. E .rest l c h a b };
           both = λ e. record { bits = λ k m. E .both l k h e m; bounded = record { past = λ c a b. E .rest l c h a b } };
-          upright = λ es. ap (λ (ts : List Range). any (inverted (lineOf blocks es)) ts) (C .touches-are) ∙ E .upright l h fo es;
+          in-line = rw (C .touches-are) (E .in-line l);
         }
 
     pub next-listable : Listable blocks t (localAt g n mark l) o total

@@ -20,20 +20,18 @@ use Rattle.ranges.specs.declared.Range.{Range}
 use Rattle.ranges.specs.Points.{range}
 use Rattle.ranges.specs.Inner.{pack, unpack, unpacked}
 use Rattle.ranges.proofs.FormLaws.{unpack-pack, unpacked-at, unpacked-length}
-use Rattle.graph.specs.Paths.{Edge}
-use Rattle.graph.specs.Line.{Sound}
+use Rattle.graph.specs.Line.{blocksOf, Sound}
 use Rattle.graph.specs.Inner.Work.{Within}
 use Rattle.graph.proofs.Line.{start-is, end-is}
-use Rattle.areas.specs.Blocks.{Graph, top, bottom, blockOf, clip, inverted}
-use Rattle.carrying.proofs.ListLaws.{any-false}
+use Rattle.areas.specs.Blocks.{Graph, top, bottom, blockOf, clip, InLine, AllInLine}
 use Rattle.areas.specs.Pieces.{clips, through, throughs}
-use Rattle.areas.proofs.BlockLaws.{bounds-first, bounds-last, block-rises, clip-up}
+use Rattle.areas.proofs.BlockLaws.{bounds-first, bounds-last, block-rises}
 use Rattle.spots.specs.declared.Spots.{Spots}
 use Rattle.spots.specs.Spots.{lineOf}
 use Rattle.spots.specs.Inner.{touchesAt}
 use Rattle.spots.proofs.SpotLaws.{touch-in}
 use Rattle.area_pieces.specs.declared.Local.{Local}
-use Rattle.area_pieces.specs.Inner.{markBit, Free, Laid, Unmarked, Upright, spanAt, hull, hulled, Spannable, Widened, Put, Spanned}
+use Rattle.area_pieces.specs.Inner.{markBit, Free, Laid, Unmarked, spanAt, hull, hulled, Spannable, Widened, Put, Spanned}
 use Rattle.area_pieces.proofs.PushLaws.{set-other, pushed}
 use Rattle.area_pieces.proofs.HullLaws.{hull-append, gather-append, gather-one, gather-none, clips-append, clips-none, clips-in, clips-out, bounds-not}
 
@@ -103,14 +101,12 @@ between-is blocks f l y h n small e =
     ap unpack e ∙ unpack-pack (blockStart blocks (f + 1)) (blockEnd blocks (l - 1)) small
     ∙ rw (start-is blocks (f + 1) (omega arith), end-is blocks (l - 1) (omega arith))
 
-module _ (G : Graph) (S : Sound (G .blocks)) (s : Local) (x m : ℕ) (up : inverted G (unpack x) ≡ false) where
+module _ (G : Graph) (S : Sound (G .blocks)) (s : Local) (x m : ℕ) (up : InLine (G .blocks) (unpack x)) where
   abbrev t : Range
   t = unpack x
 
   pub rises : blockOf G (t .start) ≤ blockOf G (t .end)
-  rises =
-      let p = clip-up G t up (blockOf G (t .start)) (bounds-first G _ t refl) in
-      block-rises G S (t .start) (t .end) (omega arith)
+  rises = block-rises G S (t .start) (t .end) (up .upright)
 
   pub through-none : (f l : ℕ) → f ≡ blockOf G (t .start) → l ≡ blockOf G (t .end) → l ≤ f + 1 → through G t ≡ []
   through-none f l ef el h = let z : ltb (suc (blockOf G (t .start))) (blockOf G (t .end)) ≡ false = le-ltb (suc (blockOf G (t .start))) (blockOf G (t .end)) (omega arith) in rw z
@@ -208,11 +204,9 @@ take-touch t w i h l =
     ap (λ (k : ℕ). take k (touchesAt t w)) (add-one i) ∙ take-suc (touchesAt t w) i (range 0 0) (omega arith)
     ∙ ap (λ (r : Range). take i (touchesAt t w) ++ (r ∷ [])) (unpacked-at (part (t .at) (t .count) w) i ∙ ap unpack (getD-part (t .at) (t .count) w i l))
 
--- a touch of a list without an inverted one is not
-pub touch-upright : (blocks : List ℕ) (t : Spots) (w : List ℕ) (i x : ℕ) → t .at + t .count ≤ length w → Upright blocks (touchesAt t w) → i < t .count → x ≡ getD w (t .at + i) 0
-    → (es : List Edge) → inverted (lineOf blocks es) (unpack x) ≡ false
-touch-upright blocks t w i x h u l e es =
-    rw e (any-false (inverted (lineOf blocks es)) (touchesAt t w) (u es) (unpack (getD w (t .at + i) 0)) (touch-in w (t .at) (t .count) h i l))
+pub touch-inline : (blocks : List ℕ) (t : Spots) (w : List ℕ) (i x : ℕ) → t .at + t .count ≤ length w → AllInLine (blocksOf blocks) (touchesAt t w) → i < t .count → x ≡ getD w (t .at + i) 0
+    → InLine (blocksOf blocks) (unpack x)
+touch-inline blocks t w i x h u l e = rw e (u (unpack (getD w (t .at + i) 0)) (touch-in w (t .at) (t .count) h i l))
 
 -- the first i touches are put, with m between-pieces
 pub record Spanning (G : Graph) (t : Spots) (s : Local) (n : ℕ) (w₀ w : List ℕ) (i m : ℕ) : Type 0 where

@@ -11,14 +11,13 @@ use Rattle.ranges.specs.Points.{range}
 use Rattle.ranges.specs.Inner.{unpack, unpacked}
 use Rattle.graph.specs.Paths.{Edge}
 use Rattle.graph.specs.Inner.Work.{Within}
-use Rattle.areas.specs.Blocks.{Graph, top, bottom, whole, inverted}
+use Rattle.areas.specs.Blocks.{Graph, top, bottom, whole}
 use Rattle.areas.specs.Pieces.{clips, through, throughs, least, most, blockPiece, linePieces, beforeRow, afterRow, plainArea}
 use Rattle.spots.specs.Spots.{lineOf}
 pub use Rattle.joining.specs.Inner.{Listed, JoinedIn}
 use Rattle.area_pieces.specs.declared.Local.{Local}
 use Rattle.words.specs.Widths.{blockCount}
 use Rattle.bits.specs.Bits.{bit}
-use Rattle.carrying.specs.Lists.{any}
 use Rattle.spots.specs.declared.Spots.{Spots}
 use Rattle.spots.specs.Inner.{touchesAt}
 
@@ -195,10 +194,6 @@ pub record Bounded (s : Local) (n : ℕ) (w : List ℕ) : Type 0 where
 pub record Both (s : Local) (n : ℕ) (w : List ℕ) : Type 0 where
   pub bits : (k : ℕ) → k < n → ownBit s w k ≡ (writtenBit s w k && readBit s w k)
   pub bounded : Bounded s n w
-
--- no touch is inverted: number 8 was ruled out
-abbrev pub Upright : List ℕ → List Range → Type 0
-Upright blocks ts = (es : List Edge) → any (inverted (lineOf blocks es)) ts ≡ false
 
 -- an area is put behind those so far, where all of it fits the room; the total goes on counting
 pub record Appended (w₀ w : List ℕ) (base room total from count r : ℕ) : Type 0 where

@@ -1,6 +1,6 @@
 // From the touches, the ends and the row bits of one local to its area, in the words of one work space.
 ghost use mathlib.Core.Path.{_≡_};
-ghost use mathlib.Core.Bool.{true, false};
+ghost use mathlib.Core.Bool.{true};
 ghost use mathlib.Core.List.{List, []};
 ghost use Prim.Native.Nat.{_+_, _-_, _*_, _/_, _≤_, _<_, _^_};
 ghost use lib.ListN.{length};
@@ -9,10 +9,10 @@ ghost use Rattle.ranges.specs.Points.{range};
 ghost use Rattle.ranges.specs.Inner.{unpack};
 ghost use Rattle.graph.specs.Paths.{Edge};
 ghost use Rattle.graph.specs.Line.{blocksOf, Sound};
-ghost use Rattle.areas.specs.Blocks.{top, bottom, clip, inverted};
+ghost use Rattle.areas.specs.Blocks.{top, bottom, clip, InLine, AllInLine};
 ghost use Rattle.spots.specs.Spots.{lineOf};
 ghost use Rattle.spots.specs.Inner.{touchesAt};
-ghost use Rattle.area_pieces.specs.Inner.{ownBit, Appended, Free, Laid, Unmarked, Upright, Flowing, Both, PlainIn, Spannable, Widened};
+ghost use Rattle.area_pieces.specs.Inner.{ownBit, Appended, Free, Laid, Unmarked, Flowing, Both, PlainIn, Spannable, Widened};
 ghost use Rattle.area_pieces.specs.Inner.{Put, Spanned, pieceAt, Run, RunPiece, Taken, Covered, Visitable, Visited, Lined};
 ghost use Rattle.words.specs.Widths.{blockCount};
 use spots::Spots;
@@ -96,7 +96,7 @@ pub fn between(blocks: &[u32], first: usize, last: usize) -> u64
 
 // Puts a touch to the spans of its first and its last block, and its between-piece behind the m pieces.
 fn touch(blocks: &[u32], work: &mut [u64], s: Local, x: u64, m: usize) -> usize
-    requires { ⌜ Sound (blocksOf (now blocks)) × Free s (blockCount (now blocks)) (m + 1) (now work) × ((es : List Edge) → inverted (lineOf (now blocks) es) (unpack x) ≡ false) ⌝ }
+    requires { ⌜ Sound (blocksOf (now blocks)) × Free s (blockCount (now blocks)) (m + 1) (now work) × InLine (blocksOf (now blocks)) (unpack x) ⌝ }
     ensures { λ r. ⌜ ((es : List Edge) → Put (lineOf (now (blocks .entry)) es) s (blockCount (now (blocks .entry))) x m r (now (work .entry)) (now (work .exit))) ⌝ }
 {
     let first = spots::holding(blocks, packed::start_of(x)).0;
@@ -115,7 +115,7 @@ fn touch(blocks: &[u32], work: &mut [u64], s: Local, x: u64, m: usize) -> usize
 
 // The spans of the touches by block, and their between-pieces from `to` on; how many of these there are.
 fn spans(blocks: &[u32], work: &mut [u64], t: Spots, s: Local) -> usize
-    requires { ⌜ Sound (blocksOf (now blocks)) × Laid t s (blockCount (now blocks)) (t .count) (now work) × Unmarked s (now work) × Upright (now blocks) (touchesAt t (now work)) ⌝ }
+    requires { ⌜ Sound (blocksOf (now blocks)) × Laid t s (blockCount (now blocks)) (t .count) (now work) × Unmarked s (now work) × AllInLine (blocksOf (now blocks)) (touchesAt t (now work)) ⌝ }
     ensures { λ r. ⌜ ((es : List Edge) → Spanned (lineOf (now (blocks .entry)) es) s (blockCount (now (blocks .entry))) (touchesAt t (now (work .entry))) r (now (work .entry)) (now (work .exit))) ⌝ }
 {
     let mut m = 0;
@@ -238,7 +238,7 @@ fn line(blocks: &[u32], work: &mut [u64], s: Local, from: usize) -> usize
 // The area of a plain local, from `to` on; how many ranges it has. From `to` on it needs a word a touch and a word a block.
 pub fn plain(blocks: &[u32], work: &mut [u64], t: Spots, s: Local) -> usize
     requires { ⌜ Sound (blocksOf (now blocks)) × Laid t s (blockCount (now blocks)) (t .count + blockCount (now blocks)) (now work) × Flowing s (blockCount (now blocks)) ⌝ }
-    requires { ⌜ Unmarked s (now work) × Both s (blockCount (now blocks)) (now work) × Upright (now blocks) (touchesAt t (now work)) ⌝ }
+    requires { ⌜ Unmarked s (now work) × Both s (blockCount (now blocks)) (now work) × AllInLine (blocksOf (now blocks)) (touchesAt t (now work)) ⌝ }
     ensures { λ r. ⌜ PlainIn (now (blocks .entry)) t s (now (work .entry)) (now (work .exit)) r ⌝ }
 {
     let m = spans(blocks, work, t, s);

@@ -20,7 +20,7 @@ use Rattle.carrying.proofs.CarryLaws.{carried-least}
 use Rattle.areas.specs.Areas.{PlainPoint, EndPoint}
 use Rattle.areas.specs.Pieces.{plainArea, endingArea}
 use Rattle.areas.specs.Job.{Job, Checked, graphOf, touchesIn, areaBy, localArea, slotAreaIn, itemArea}
-use Rattle.areas.proofs.JobLaws.{job-line, job-edges, touches-fine}
+use Rattle.areas.proofs.JobLaws.{job-line, job-edges, touches-in}
 use Rattle.areas.proofs.PlainLaws.{plain-exact}
 use Rattle.areas.proofs.EndLaws.{end-exact}
 use Rattle.area_points.specs.Points.{Touch, of-piece, of-entry, ItemPoint, plain, ending, slot, NoArea, unfollowed, bare}
@@ -67,7 +67,7 @@ module _ (J : Job) (l : ℕ) where
 
 module _ (J : Job) (C : Checked J) (some-block : 0 < length (J .blocks)) (i : ℕ) where
   plain-points : (x : ℕ) → Point (plainArea (graphOf J) (touchesIn J i)) x ↔ PlainPoint (graphOf J) (touchesIn J i) x
-  plain-points x = plain-exact (graphOf J) (job-line J C some-block) (job-edges J C some-block) (touchesIn J i) (touches-fine J C some-block i) x
+  plain-points x = plain-exact (graphOf J) (job-line J C some-block) (job-edges J C some-block) (touchesIn J i) (touches-in J C some-block i) x
 
   end-points : (x : ℕ) → Point (endingArea (graphOf J) (touchesIn J i) (endsOf (J .code) i)) x ↔ EndPoint (graphOf J) (touchesIn J i) (endsOf (J .code) i) x
   end-points x = end-exact (graphOf J) (job-line J C some-block) (job-edges J C some-block) (touchesIn J i) (endsOf (J .code) i) x

@@ -14,12 +14,12 @@ use Rattle.ranges.specs.declared.Range.{Range}
 use Rattle.ranges.specs.Points.{range, overlaps}
 use Rattle.ranges.specs.Inner.{unpack}
 use Rattle.graph.specs.Paths.{Edge}
-use Rattle.graph.specs.Line.{Sound}
+use Rattle.graph.specs.Line.{blocksOf, Sound}
 use Rattle.graph.specs.Inner.Work.{Within}
 use Rattle.graph.proofs.Line.{blocks-length}
 use Rattle.carrying.specs.Lists.{any}
-use Rattle.carrying.proofs.ListLaws.{any-true, any-entry, any-false}
-use Rattle.areas.specs.Blocks.{Graph, top, bottom, whole, blockOf, inverted, touched}
+use Rattle.carrying.proofs.ListLaws.{any-true, any-entry}
+use Rattle.areas.specs.Blocks.{Graph, top, bottom, whole, blockOf, touched, InLine, AllInLine}
 use Rattle.areas.proofs.BlockLaws.{bounds-first, bounds-last, between-test, block-is, block-rises, touched-bound, touched-between}
 use Rattle.spots.specs.declared.Spots.{Spots}
 use Rattle.spots.specs.Spots.{lineOf}
@@ -77,8 +77,8 @@ touch-spans G t first last e f p = put-as (λ j. spans G t j ≡ true) p
     (λ j l a. let (x, y) = a in and-pair _ _ (le-leb (blockOf G (t .start)) j (omega arith)) (le-leb j (blockOf G (t .end)) (omega arith)))
     (λ j l s. let (x, y) = and-both _ _ s in let u = leb-true (blockOf G (t .start)) j x in let v = leb-true j (blockOf G (t .end)) y in (omega arith, omega arith))
 
--- a touch that is not inverted has a point in just the blocks that it spans
-pub spans-overlap : (G : Graph) → Sound (G .blocks) → (t : Range) → inverted G t ≡ false → (k : ℕ) → k < length (G .blocks) → spans G t k ≡ overlaps t (whole G k)
+-- a touch in the line has a point in just the blocks that it spans
+pub spans-overlap : (G : Graph) → Sound (G .blocks) → (t : Range) → InLine (G .blocks) t → (k : ℕ) → k < length (G .blocks) → spans G t k ≡ overlaps t (whole G k)
 unfolding any
 spans-overlap G S t i k h = both-ways (spans G t k) (overlaps t (whole G k)) to fro
   where
@@ -161,11 +161,11 @@ module _ {f : Range → ℕ → Bool} {s : Spots} {c : Column} {w₀ w : List �
       (j, omega arith, subst (λ (t : Range). f t k ≡ true) (sym q) z))
 
 -- the touches have been marked: the touched blocks
-pub touched-done : {blocks : List ℕ} {s : Spots} {c : Column} {w₀ w : List ℕ} → TouchesReady blocks s c w₀ → any (inverted (lineOf blocks [])) (touchesAt s w₀) ≡ false
+pub touched-done : {blocks : List ℕ} {s : Spots} {c : Column} {w₀ w : List ℕ} → TouchesReady blocks s c w₀ → AllInLine (blocksOf blocks) (touchesAt s w₀)
     → Marked c (λ k. any (λ t. spans (lineOf blocks []) t k) (touchesAt s w₀) || marked c w₀ k) w₀ w
     → (es : List Edge) → Marked c (λ k. touched (lineOf blocks es) (touchesAt s w₀) k || marked c w₀ k) w₀ w
 touched-done {blocks} {s} {c} {w₀} {w} r n p es = marked-as (λ k. touched (lineOf blocks es) (touchesAt s w₀) k || marked c w₀ k) p
     (λ k h. ap (λ (t : Bool). t || marked c w₀ k)
     (any-same (λ t. spans (lineOf blocks []) t k) (λ t. overlaps t (whole (lineOf blocks []) k)) (touchesAt s w₀)
-    (λ t m. spans-overlap (lineOf blocks []) (r .line) t (any-false (inverted (lineOf blocks [])) (touchesAt s w₀) n t m) k
+    (λ t m. spans-overlap (lineOf blocks []) (r .line) t (n t m) k
     (let e = r .places in let l = blocks-length blocks in omega arith))))

@@ -1,13 +1,12 @@
 // The marks of one local in the rows of the places, from its touches and its ends.
 ghost use mathlib.Core.Path.{_≡_};
-ghost use mathlib.Core.Bool.{true, false, _||_};
+ghost use mathlib.Core.Bool.{true, _||_};
 ghost use mathlib.Core.List.{List, []};
 ghost use Prim.Native.Nat.{_+_, _*_, _≤_, _<_};
 ghost use Rattle.ranges.specs.Points.{range};
 ghost use Rattle.graph.specs.Paths.{Edge};
 ghost use Rattle.graph.specs.Line.{blocksOf, Sound};
-ghost use Rattle.carrying.specs.Lists.{any};
-ghost use Rattle.areas.specs.Blocks.{inverted, touched};
+ghost use Rattle.areas.specs.Blocks.{touched, AllInLine};
 ghost use Rattle.spots.specs.Spots.{lineOf};
 ghost use Rattle.spots.specs.Inner.{touchesAt};
 ghost use Rattle.area_rows.specs.Inner.{Fits, marked, Marked, TouchesReady, Put, spans};
@@ -48,7 +47,7 @@ fn mark_touch(blocks: &[u32], work: &mut [u64], c: Column, start: u32, end: u32)
 
 // Sets the bit in the row of each place that a touch has a point of.
 pub fn mark_touched(blocks: &[u32], work: &mut [u64], s: Spots, c: Column)
-    requires { ⌜ TouchesReady (now blocks) s c (now work) × (any (inverted (lineOf (now blocks) [])) (touchesAt s (now work)) ≡ false) ⌝ }
+    requires { ⌜ TouchesReady (now blocks) s c (now work) × AllInLine (blocksOf (now blocks)) (touchesAt s (now work)) ⌝ }
     ensures { λ _. ⌜ ((es : List Edge) → Marked c (λ k. touched (lineOf (now (blocks .entry)) es) (touchesAt s (now (work .entry))) k || marked c (now (work .entry)) k)
         (now (work .entry)) (now (work .exit))) ⌝ }
 {

@@ -1,21 +1,21 @@
--- Points, blocks and touches of a sound line: each point has its block, and a touch that is not inverted lies in the line.
-use Prim.Native.Nat.{ℕ, zero, suc, _+_, _≤_, _<_}
+-- Points, blocks and touches of a sound line: each point has its block, and a touch in the line starts and ends in its first and last.
+use Prim.Native.Nat.{ℕ, zero, suc, _+_, _-_, _≤_, _<_}
 use native.Mathlib.Omega.{arith}
 use native.Mathlib.Decide.{ℕ-discrete, decLe}
-use mathlib.Core.Path.{_≡_, refl, sym}
+use mathlib.Core.Path.{_≡_, refl, sym, _∙_}
 use mathlib.Core.Logic.{_⊎_, inl, inr}
 use mathlib.Core.Bool.{Bool, true, false, cond}
 use mathlib.Core.List.{List, List·Memᴰ}
 use lib.ListN.{length}
 use lib.Dec.{eqb, leb}
-use borrow.Author.Tests.{leb-true, leb-false, ltb-true, ltb-false, le-leb, lt-leb, lt-ltb, eqb-true, eq-eqb}
-use Rattle.words.proofs.Bools.{or-right, and-both, or-cases, or-neither, or-left, and-pair}
+use borrow.Author.Tests.{leb-true, leb-false, ltb-true, le-leb, lt-leb, lt-ltb, eqb-true, eq-eqb}
+use Rattle.words.proofs.Bools.{or-right, and-both, or-cases, or-left, and-pair}
 use Rattle.ranges.specs.declared.Range.{Range}
 use Rattle.ranges.specs.Points.{overlaps}
 use Rattle.graph.specs.Line.{Sound}
 use Rattle.graph.proofs.RoundLaws.{last-or-less}
 use Rattle.carrying.proofs.ListLaws.{any-true}
-use Rattle.areas.specs.Blocks.{Graph, top, bottom, whole, InBlock, holding, blockOf, bounds, between, clip, reversed, inverted, touched}
+use Rattle.areas.specs.Blocks.{Graph, top, bottom, whole, InBlock, holding, blockOf, bounds, between, clip, touched, InLine}
 
 -- the two tests of a touch and a block, taken apart
 pub bounds-cases : (G : Graph) (k : ℕ) (t : Range) → bounds G k t ≡ true → (blockOf G (t .start) ≡ k) ⊎ (blockOf G (t .end) ≡ k)
@@ -38,20 +38,6 @@ between-cases G k t e =
 
 pub between-test : (G : Graph) (k : ℕ) (t : Range) → blockOf G (t .start) < k → k < blockOf G (t .end) → between G k t ≡ true
 between-test G k t a b = and-pair _ _ (lt-ltb _ _ a) (lt-ltb _ _ b)
-
--- a touch that is not inverted: its clips are upright
-pub clip-up : (G : Graph) (t : Range) → inverted G t ≡ false → (k : ℕ) → bounds G k t ≡ true → clip G k t .start ≤ clip G k t .end
-clip-up G t i k b = go (bounds-cases G k t b)
-  where
-    parts : (reversed (clip G (blockOf G (t .start)) t) ≡ false) × (reversed (clip G (blockOf G (t .end)) t) ≡ false)
-    parts = or-neither _ _ i
-
-    up : (j : ℕ) → reversed (clip G j t) ≡ false → clip G j t .start ≤ clip G j t .end
-    up j e = ltb-false (clip G j t .end) (clip G j t .start) e
-
-    go : (blockOf G (t .start) ≡ k) ⊎ (blockOf G (t .end) ≡ k) → clip G k t .start ≤ clip G k t .end
-    go (inl e) = up k (rw e at (parts .0))
-    go (inr e) = up k (rw e at (parts .1))
 
 module _ (G : Graph) (S : Sound (G .blocks)) where
   pub apart : (k n : ℕ) → k < n → n < length (G .blocks) → bottom G k < top G n
@@ -171,12 +157,26 @@ module _ (G : Graph) (S : Sound (G .blocks)) where
       go f g (no c) (yes z) = inr (bounds-last G k t z)
       go f g (no c) (no d) = inl (between-test G k t (omega arith) (omega arith))
 
+  -- a touch in the line, clipped to its first or last block, is upright
+  pub clip-up : (t : Range) → InLine (G .blocks) t → (k : ℕ) → bounds G k t ≡ true → clip G k t .start ≤ clip G k t .end
+  clip-up t i k b = go (bounds-cases G k t b)
+    where
+      at : (x : ℕ) → t .start ≤ x → x ≤ t .end → blockOf G x ≡ k → (top G k ≤ x) × (x ≤ bottom G k)
+      at x l u e =
+          let (j, p, c, d) = locate 0 (length (G .blocks) - 1) x (omega arith) (omega (arith, S .some-block)) (omega (arith, i .first)) (omega (arith, i .last)) in
+          let z : k ≡ j = sym e ∙ block-is j x p in
+          rw z (p .above, p .under)
+
+      go : (blockOf G (t .start) ≡ k) ⊎ (blockOf G (t .end) ≡ k) → clip G k t .start ≤ clip G k t .end
+      go (inl e) = omega (arith, i .upright, at (t .start) (omega arith) (i .upright) e)
+      go (inr e) = omega (arith, i .upright, at (t .end) (i .upright) (omega arith) e)
+
   -- a block between lies wholly in the touch
-  pub between-in : (k : ℕ) (t : Range) → inverted G t ≡ false → between G k t ≡ true → (t .start < top G k) × (bottom G k < t .end)
+  pub between-in : (k : ℕ) (t : Range) → InLine (G .blocks) t → between G k t ≡ true → (t .start < top G k) × (bottom G k < t .end)
   between-in k t i b =
       let (f, g) = between-cases G k t b in
-      let p = clip-up G t i (blockOf G (t .start)) (bounds-first G _ t refl) in
-      let q = clip-up G t i (blockOf G (t .end)) (bounds-last G _ t refl) in
+      let p = clip-up t i (blockOf G (t .start)) (bounds-first G _ t refl) in
+      let q = clip-up t i (blockOf G (t .end)) (bounds-last G _ t refl) in
       let l = block-below (t .end) in
       let a = apart (blockOf G (t .start)) k f (omega arith) in
       let c = apart k (blockOf G (t .end)) g l in
@@ -185,12 +185,12 @@ module _ (G : Graph) (S : Sound (G .blocks)) where
   overlap : (ts : List Range) (k : ℕ) (t : Range) → List·Memᴰ t ts → t .start ≤ bottom G k → top G k ≤ t .end → touched G ts k ≡ true
   overlap ts k t m a b = any-true (λ s. overlaps s (whole G k)) ts t m (and-pair _ _ (le-leb _ _ a) (le-leb _ _ b))
 
-  pub touched-bound : (ts : List Range) (k : ℕ) (t : Range) → List·Memᴰ t ts → inverted G t ≡ false → bounds G k t ≡ true → touched G ts k ≡ true
+  pub touched-bound : (ts : List Range) (k : ℕ) (t : Range) → List·Memᴰ t ts → InLine (G .blocks) t → bounds G k t ≡ true → touched G ts k ≡ true
   touched-bound ts k t m i b =
-      let p = clip-up G t i k b in
+      let p = clip-up t i k b in
       overlap ts k t m (omega arith) (omega arith)
 
-  pub touched-between : (ts : List Range) (k : ℕ) (t : Range) → List·Memᴰ t ts → inverted G t ≡ false → k < length (G .blocks) → between G k t ≡ true → touched G ts k ≡ true
+  pub touched-between : (ts : List Range) (k : ℕ) (t : Range) → List·Memᴰ t ts → InLine (G .blocks) t → k < length (G .blocks) → between G k t ≡ true → touched G ts k ≡ true
   touched-between ts k t m i l b =
       let (p, q) = between-in k t i b in
       let u = S .upright k l in

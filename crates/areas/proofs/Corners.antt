@@ -5,7 +5,7 @@ use mathlib.Core.Bool.{true, false}
 use mathlib.Core.Option.{some, none}
 use mathlib.Core.List.{List, [], _∷_}
 use Rattle.refusals.specs.declared.Verdict.the-variants.{Fine, Bad}
-use Rattle.refusals.specs.declared.Refusal.the-variants.{Stray, Piece as PieceWord, Inverted, List as ListWord}
+use Rattle.refusals.specs.declared.Refusal.the-variants.{Stray, Piece as PieceWord, List as ListWord}
 use Rattle.refusals.specs.Verdicts.{first, scan}
 use Rattle.words.specs.Rows.{tabulate}
 use Rattle.ranges.specs.Points.{range}
@@ -16,9 +16,8 @@ use Rattle.carrying.specs.Lists.{any, keep, gather}
 use Rattle.carrying.specs.Insts.{Inst}
 use Rattle.carrying.specs.Carried.{Piece, kindOf}
 use Rattle.areas.specs.Blocks.{Graph, holding, blockOf, bounds, between, clip, touched, until, cover, leaves, passes}
-use Rattle.areas.specs.Inner.{invertedVerdict}
 use Rattle.areas.specs.Pieces.{through}
-use Rattle.areas.specs.Slots.{Move, assignedOf, movesOf, position, around, spilled, moveVerdict, badPiece, pieceVerdict, assignedVerdict}
+use Rattle.areas.specs.Slots.{Move, assignedOf, movesOf, position, around, spilled, moveVerdict, offLine, pieceVerdict, assignedVerdict}
 use Rattle.areas.specs.Job.{Job, localsOf, areaBy, itemCount, itemArea, rangesOf, itemsVerdict}
 
 -- rows `L,size,align`, `P,register,slot` and `M,kind,number,to,from`
@@ -61,7 +60,7 @@ piece r s e = record { register = 0; start = 5; end = 29 } ∷ record { register
 pub pieces : (pieceVerdict (line .blocks) 4 (piece 3 7 7) ≡ Fine) × (pieceVerdict (line .blocks) 4 (piece 3 8 7) ≡ Bad PieceWord 1) × (pieceVerdict (line .blocks) 4 (piece 3 4 7) ≡ Bad PieceWord 1)
     × (pieceVerdict (line .blocks) 4 (piece 3 7 30) ≡ Bad PieceWord 1) × (pieceVerdict (line .blocks) 4 (piece 4 7 7) ≡ Bad PieceWord 1)
     × (assignedVerdict 4 (record { register = 3; slot = 99 } ∷ []) ≡ Fine) × (assignedVerdict 4 (record { register = 3; slot = 0 } ∷ record { register = 4; slot = 99 } ∷ []) ≡ Bad PieceWord 1)
-unfolding first scan badPiece
+unfolding first scan offLine
 pieces = (refl, refl, refl, refl, refl, refl, refl)
 
 -- the block of a point: "of a point before all blocks the first, after all the last"; each block's first and last point
@@ -80,11 +79,6 @@ touch-blocks = (refl, refl, refl, refl, refl, refl, refl, refl, refl, refl)
 pub touched-at : (touched line (range 0 9 ∷ range 20 99 ∷ []) 1 ≡ false) × (touched line (range 0 10 ∷ []) 1 ≡ true) × (touched line (range 19 99 ∷ []) 1 ≡ true)
 unfolding any
 touched-at = (refl, refl, refl)
-
--- number 8: a touch that reaches a block by one point, and one that does not
-pub inverted-at : (invertedVerdict line (range 4 5 ∷ []) ≡ Fine) × (invertedVerdict line (range 3 4 ∷ []) ≡ Bad Inverted 0) × (invertedVerdict line (range 29 30 ∷ []) ≡ Fine) × (invertedVerdict line (range 30 31 ∷ []) ≡ Bad Inverted 0)
-unfolding any holding
-inverted-at = (refl, refl, refl, refl)
 
 -- "the first end at or after its last point, else to the bottom": an end at that point, before it, and of two the first
 pub ends-at : (cover line (13 ∷ []) 1 (range 12 13) ≡ range 12 13) × (cover line (12 ∷ []) 1 (range 12 13) ≡ range 12 19) × (cover line (17 ∷ 15 ∷ 16 ∷ []) 1 (range 12 13) ≡ range 12 15)

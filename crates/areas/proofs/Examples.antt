@@ -1,22 +1,14 @@
--- Moves, slots and touches outside the blocks, on small records, by computation.
+-- Moves and slots on small records, by computation.
 use Prim.Native.Nat.{ℕ}
 use mathlib.Core.Path.{_≡_, refl}
 use mathlib.Core.Option.{some, none}
 use mathlib.Core.List.{List, [], _∷_}
-use Rattle.refusals.specs.declared.Verdict.the-variants.{Fine, Bad}
-use Rattle.refusals.specs.declared.Refusal.the-variants.{Inverted}
 use Rattle.ranges.specs.Points.{range}
-use Rattle.ranges.specs.Merged.{insert, sort, join, merged, joined}
-use Rattle.graph.specs.Paths.{edge}
+use Rattle.ranges.specs.Merged.{insert, sort, join, merged}
 use Rattle.graph.specs.Line.{Stretch, placeIn}
-use Rattle.graph.specs.Rounds.{fed, round}
-use Rattle.carrying.specs.Lists.{any, keep, gather}
+use Rattle.carrying.specs.Lists.{keep, gather}
 use Rattle.carrying.specs.Carried.{Piece}
-use Rattle.areas.specs.Blocks.{holding}
-use Rattle.areas.specs.Inner.{invertedVerdict}
-use Rattle.areas.specs.Pieces.{joinEach, linePieces, plainArea}
 use Rattle.areas.specs.Slots.{Assigned, Move, moved, spilled, slotArea}
-use Rattle.areas.proofs.Stars.{straight}
 
 -- ---- moves and slots
 
@@ -57,16 +49,3 @@ slot-areas = (refl, refl, refl, refl)
 pub no-piece : slotArea live (some 2) (range 8 10 ∷ []) ≡ none
 unfolding keep
 no-piece = refl
-
--- ---- touches lent by themselves
-
--- a touch that lies partly outside is clipped: before all blocks and after all
-pub clipped : (plainArea (record { blocks = blocks; edges = [] }) (range 1 4 ∷ []) ≡ range 3 4 ∷ []) × (plainArea straight (range 27 40 ∷ []) ≡ range 27 29 ∷ [])
-unfolding insert sort join merged joined fed round any keep gather holding joinEach linePieces plainArea
-clipped = (refl, refl)
-
--- number 8: the clipped piece counts, also where row bits would hide it (block 10–19 with an edge to itself, touch 2–3)
-pub inverted-touch : (invertedVerdict (record { blocks = record { number = 0; start = 10; end = 19 } ∷ []; edges = edge 0 0 ∷ [] }) (range 2 3 ∷ []) ≡ Bad Inverted 0)
-    × (invertedVerdict straight (range 5 25 ∷ range 30 31 ∷ []) ≡ Bad Inverted 0) × (invertedVerdict straight (range 5 25 ∷ range 27 40 ∷ []) ≡ Fine)
-unfolding any holding
-inverted-touch = (refl, refl, refl)

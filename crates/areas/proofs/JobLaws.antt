@@ -1,34 +1,32 @@
--- What numbers 2 to 6 leave of a job: a sound line, edges between places, and touches none of which is inverted, so that number 8 has no input.
-use Prim.Native.Nat.{ℕ, _-_, _≤_, _<_, min, max}
+-- What numbers 2 to 6 leave of a job: a sound line, edges between places, and touches that are upright and in the line.
+use Prim.Native.Nat.{ℕ, _-_, _≤_, _<_}
 use native.Mathlib.Omega.{arith}
-use mathlib.Core.Path.{_≡_, sym, refl}
+use mathlib.Core.Path.{_≡_, sym}
 use mathlib.Core.Logic.{_⊎_, inl, inr}
-use mathlib.Core.Bool.{Bool, true, false, cond, not, _&&_, _||_, true≢false}
+use mathlib.Core.Bool.{Bool, true, false, not, _&&_, _||_, true≢false}
 use mathlib.Core.List.{List, _∷_, map, List·Memᴰ, List·Memᴰ·append-cases, Memᴰ·of-map}
 use lib.ListN.{length, getD}
 use lib.Dec.{eqb}
-use borrow.Author.Tests.{leb-false, ltb-false, le-ltb, not-false}
+use borrow.Author.Tests.{leb-false, ltb-false, not-false}
 use Rattle.words.proofs.Bools.{or-neither}
 use Rattle.refusals.specs.declared.Verdict.{Verdict}
-use Rattle.refusals.specs.declared.Verdict.the-variants.{Fine, Bad}
-use Rattle.refusals.specs.declared.Refusal.the-variants.{Inst as InstWord, Stray, Piece as PieceWord, Inverted}
+use Rattle.refusals.specs.declared.Verdict.the-variants.{Fine}
+use Rattle.refusals.specs.declared.Refusal.the-variants.{Inst as InstWord, Stray, Piece as PieceWord}
 use Rattle.refusals.specs.Verdicts.{inOrder}
 use Rattle.refusals.proofs.Laws.{first-left, first-right, scan-fine}
-use Rattle.ranges.specs.declared.Range.{Range}
 use Rattle.ranges.specs.Points.{range}
 use Rattle.graph.specs.Paths.{Between}
-use Rattle.graph.specs.Line.{Sound, placeIn, lineVerdict}
+use Rattle.graph.specs.Line.{Stretch, Sound, placeIn, lineVerdict}
 use Rattle.graph.proofs.Line.{line-sound, place-lt, edges-between, at-mem}
-use Rattle.carrying.specs.Lists.{any, keep, gather}
+use Rattle.carrying.specs.Lists.{keep, gather}
 use Rattle.carrying.specs.Insts.{Inst, instAt, isSet}
 use Rattle.carrying.specs.Carried.{Mention, Piece, mentions, mentioned, carried, livePieces, touchesOf}
 use Rattle.carrying.specs.Checks.{misplaced, badInst, instVerdict, absent, mentionAt, addressVerdict}
-use Rattle.carrying.proofs.ListLaws.{of-kept, of-gathered, any-false, false-any}
-use Rattle.areas.specs.Blocks.{Graph, top, bottom, InBlock, blockOf, clip, reversed, inverted}
-use Rattle.areas.specs.Inner.{invertedVerdict}
-use Rattle.areas.specs.Slots.{badPiece, pieceVerdict}
+use Rattle.carrying.proofs.ListLaws.{of-kept, of-gathered}
+use Rattle.areas.specs.Blocks.{top, bottom, InLine, AllInLine}
+use Rattle.areas.specs.Slots.{offLine, badPiece, pieceVerdict}
 use Rattle.areas.specs.Job.{Job, Checked, graphOf, touchesIn}
-use Rattle.areas.proofs.BlockLaws.{tops, bottoms, locate, block-is}
+use Rattle.areas.proofs.BlockLaws.{tops, bottoms}
 
 pub order-first : (v : Verdict) (vs : List Verdict) → inOrder (v ∷ vs) ≡ Fine → v ≡ Fine
 unfolding inOrder
@@ -42,28 +40,13 @@ pub and-rest : (s t : Bool) → s ≡ true → s && t ≡ false → t ≡ false
 and-rest true t e f = f
 and-rest false t e f = absurd (true≢false (sym e))
 
--- a touch that is upright and lies in the line is not inverted
-module _ (G : Graph) (S : Sound (G .blocks)) where
-  pub fine-touch : (t : Range) → t .start ≤ t .end → top G 0 ≤ t .start → t .end ≤ bottom G (length (G .blocks) - 1) → inverted G t ≡ false
-  fine-touch t u a b =
-      let n = S .some-block in
-      let (j, p, c, d) = locate G S 0 (length (G .blocks) - 1) (t .start) (omega arith) (omega arith) a (omega arith) in
-      let (k, q, e, f) = locate G S 0 (length (G .blocks) - 1) (t .end) (omega arith) (omega arith) (omega arith) b in
-      go j k p q (block-is G S j (t .start) p) (block-is G S k (t .end) q)
-    where
-      up : (k : ℕ) → max (t .start) (top G k) ≤ min (t .end) (bottom G k) → reversed (clip G k t) ≡ false
-      up k h = le-ltb (min (t .end) (bottom G k)) (max (t .start) (top G k)) h
-
-      go : (j k : ℕ) → InBlock G j (t .start) → InBlock G k (t .end) → blockOf G (t .start) ≡ j → blockOf G (t .end) ≡ k
-          → reversed (clip G (blockOf G (t .start)) t) || reversed (clip G (blockOf G (t .end)) t) ≡ false
-      go j k p q x y =
-          let i₁ = p .above in
-          let i₂ = p .under in
-          let i₃ = q .above in
-          let i₄ = q .under in
-          let l : reversed (clip G j t) ≡ false = up j (omega arith) in
-          let m : reversed (clip G k t) ≡ false = up k (omega arith) in
-          rw (x, y, l, m)
+-- number 6 leaves what is upright and in the line
+pub in-line : (bs : List Stretch) (start end : ℕ) → offLine bs start end ≡ false → InLine bs (range start end)
+unfolding offLine
+in-line bs start end e =
+    let (a, r) = or-neither _ _ e in
+    let (b, c) = or-neither _ _ r in
+    record { upright = ltb-false _ _ a; first = ltb-false _ _ b; last = ltb-false _ _ c }
 
 module _ (J : Job) (C : Checked J) (some-block : 0 < length (J .blocks)) where
   -- the verdicts, one by one
@@ -85,22 +68,12 @@ module _ (J : Job) (C : Checked J) (some-block : 0 < length (J .blocks)) where
   pieces-fine : pieceVerdict (J .blocks) (J .code .numbered) (J .pieces) ≡ Fine
   pieces-fine = order-first _ _ (order-rest _ _ (order-rest _ _ (order-rest _ _ (order-rest _ _ (order-rest _ _ (order-rest _ _ (order-rest _ _ C)))))))
 
-  -- a live piece is upright and lies in the line
-  pub piece-in : (p : Piece) → List·Memᴰ p (J .pieces) → (p .start ≤ p .end) × (top (graphOf J) 0 ≤ p .start) × (p .end ≤ bottom (graphOf J) (length (J .blocks) - 1))
-  unfolding badPiece
+  pub piece-in : (p : Piece) → List·Memᴰ p (J .pieces) → InLine (J .blocks) (range (p .start) (p .end))
   piece-in p m =
       let (i, h, e) = at-mem (J .pieces) p (record { register = 0; start = 0; end = 0 }) m in
       let c : badPiece (J .blocks) (J .code .numbered) p ≡ false =
       rw e at (scan-fine PieceWord (λ n. badPiece (J .blocks) (J .code .numbered) (getD (J .pieces) n (record { register = 0; start = 0; end = 0 }))) (length (J .pieces)) pieces-fine i h) in
-      let (a, r) = or-neither _ _ c in
-      let (b, r₂) = or-neither _ _ r in
-      let (d, f) = or-neither _ _ r₂ in
-      (ltb-false _ _ a, ltb-false _ _ b, ltb-false _ _ d)
-
-  piece-fine : (p : Piece) → List·Memᴰ p (J .pieces) → inverted (graphOf J) (range (p .start) (p .end)) ≡ false
-  piece-fine p m =
-      let (a, b, c) = piece-in p m in
-      fine-touch (graphOf J) job-line (range (p .start) (p .end)) a b c
+      in-line (J .blocks) (p .start) (p .end) (or-neither (offLine (J .blocks) (p .start) (p .end)) _ c .0)
 
   -- a placed instruction is upright and lies in its block
   pub placed-in : (n : ℕ) → n < length (J .code .insts) → isSet (instAt (J .code .insts) n .placed) ≡ true
@@ -121,50 +94,37 @@ module _ (J : Job) (C : Checked J) (some-block : 0 < length (J .blocks)) where
           let (b, c) = or-neither _ _ r in
           (placeIn (J .blocks) (i .block), place-lt job-line (i .block) (leb-false _ _ a), (ltb-false _ _ b, u), ltb-false _ _ c)
 
-  inst-fine : (n : ℕ) → n < length (J .code .insts) → isSet (instAt (J .code .insts) n .placed) ≡ true
-      → inverted (graphOf J) (range (instAt (J .code .insts) n .early) (instAt (J .code .insts) n .late)) ≡ false
-  inst-fine n h s =
+  inst-in : (n : ℕ) → n < length (J .code .insts) → isSet (instAt (J .code .insts) n .placed) ≡ true
+      → InLine (J .blocks) (range (instAt (J .code .insts) n .early) (instAt (J .code .insts) n .late))
+  inst-in n h s =
       let (k, l, (x, u), y) = placed-in n h s in
       let t = tops (graphOf J) job-line 0 k (omega arith) l in
       let v = bottoms (graphOf J) job-line k (length (J .blocks) - 1) (omega arith) (omega arith) in
-      fine-touch (graphOf J) job-line (range (instAt (J .code .insts) n .early) (instAt (J .code .insts) n .late)) u (omega arith) (omega arith)
+      record { upright = u; first = omega arith; last = omega arith }
 
-  listed-fine : (m : Mention) → List·Memᴰ m (J .code .addresses)
-      → inverted (graphOf J) (range (mentioned (J .code) m .early) (mentioned (J .code) m .late)) ≡ false
-  listed-fine m l =
+  listed-in : (m : Mention) → List·Memᴰ m (J .code .addresses) → InLine (J .blocks) (range (mentioned (J .code) m .early) (mentioned (J .code) m .late))
+  listed-in m l =
       let (i, h, e) = at-mem (J .code .addresses) m (record { inst = 0; local = 0 }) l in
       let c : absent (J .code .insts) (m .inst) || not (isSet (instAt (J .code .insts) (m .inst) .placed)) ≡ false =
       rw e at (scan-fine Stray (λ n. absent (J .code .insts) (mentionAt (J .code .addresses) n .inst) || not (isSet (instAt (J .code .insts) (mentionAt (J .code .addresses) n .inst) .placed)))
       (length (J .code .addresses)) addresses-fine i h) in
       let (a, b) = or-neither _ _ c in
-      inst-fine (m .inst) (leb-false _ _ a) (not-false _ b)
+      inst-in (m .inst) (leb-false _ _ a) (not-false _ b)
 
-  pub touches-fine : (l : ℕ) (t : Range) → List·Memᴰ t (touchesIn J l) → inverted (graphOf J) t ≡ false
+  pub touches-in : (l : ℕ) → AllInLine (J .blocks) (touchesIn J l)
   unfolding touchesOf
-  touches-fine l t m = go (List·Memᴰ·append-cases (gather (livePieces (J .pieces)) (carried (J .code) l)) m)
+  touches-in l t m = go (List·Memᴰ·append-cases (gather (livePieces (J .pieces)) (carried (J .code) l)) m)
     where
-      live : (r : ℕ) → List·Memᴰ t (livePieces (J .pieces) r) → inverted (graphOf J) t ≡ false
+      live : (r : ℕ) → List·Memᴰ t (livePieces (J .pieces) r) → InLine (J .blocks) t
       live r n =
           let (p, i, e) = Memᴰ·of-map (λ p. range (p .start) (p .end)) (keep (λ p. eqb (p .register) r) (J .pieces)) n in
-          rw (← e) (piece-fine p (of-kept (λ p. eqb (p .register) r) (J .pieces) p i .0))
+          rw (← e) (piece-in p (of-kept (λ p. eqb (p .register) r) (J .pieces) p i .0))
 
       go : List·Memᴰ t (gather (livePieces (J .pieces)) (carried (J .code) l))
-          ⊎ List·Memᴰ t (map (λ m. range (mentioned (J .code) m .early) (mentioned (J .code) m .late)) (mentions (J .code .addresses) l)) → inverted (graphOf J) t ≡ false
+          ⊎ List·Memᴰ t (map (λ m. range (mentioned (J .code) m .early) (mentioned (J .code) m .late)) (mentions (J .code .addresses) l)) → InLine (J .blocks) t
       go (inl n) =
           let (r, i, k) = of-gathered (livePieces (J .pieces)) (carried (J .code) l) t n in
           live r k
       go (inr n) =
           let (a, i, e) = Memᴰ·of-map (λ m. range (mentioned (J .code) m .early) (mentioned (J .code) m .late)) (mentions (J .code .addresses) l) n in
-          rw (← e) (listed-fine a (of-kept (λ k. eqb (k .local) l) (J .code .addresses) a i .0))
-
-  -- in a job number 8 has no input
-  pub job-not-inverted : (l : ℕ) → invertedVerdict (graphOf J) (touchesIn J l) ≡ Fine
-  job-not-inverted l = rw (false-any (inverted (graphOf J)) (touchesIn J l) (touches-fine l))
-
--- touches lent by themselves, once number 8 is ruled out
-pub lent-fine : (G : Graph) (ts : List Range) → invertedVerdict G ts ≡ Fine → (t : Range) → List·Memᴰ t ts → inverted G t ≡ false
-lent-fine G ts e = any-false (inverted G) ts (go (any (inverted G) ts) refl e)
-  where
-    go : (b : Bool) → any (inverted G) ts ≡ b → cond b (Bad Inverted 0) Fine ≡ Fine → any (inverted G) ts ≡ false
-    go false h f = h
-    go true h f = absurd (let z : _≡_ {A = ℕ} 0 1 = cc in omega arith)
+          rw (← e) (listed-in a (of-kept (λ k. eqb (k .local) l) (J .code .addresses) a i .0))

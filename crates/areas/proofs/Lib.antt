@@ -6,6 +6,7 @@ pub mod PlainLaws
 pub mod EndLaws
 pub mod JobLaws
 pub mod Stars
+pub mod UprightLaws
 pub mod ApartLaws
 pub mod Examples
 pub mod PermuteLaws

@@ -107,7 +107,7 @@ perm-keep f (Permuted.swap r s rs) = go (f r) (f s)
     go false false = perm-refl (keep f rs)
 perm-keep f (Permuted.then p q) = Permuted.then (perm-keep f p) (perm-keep f q)
 
-pub any-perm : (f : Range → Bool) {rs ss : List Range} → Permuted rs ss → any f rs ≡ any f ss
+any-perm : (f : Range → Bool) {rs ss : List Range} → Permuted rs ss → any f rs ≡ any f ss
 unfolding any
 any-perm f Permuted.none = refl
 any-perm f (Permuted.keep r p) = ap (λ (t : Bool). f r || t) (any-perm f p)

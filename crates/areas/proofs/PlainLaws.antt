@@ -1,4 +1,4 @@
--- The area of a plain local has exactly the points that paths give it, for touches that are not inverted.
+-- The area of a plain local has exactly the points that paths give it, for touches in the line.
 use Prim.Native.Nat.{ℕ, zero, suc, _≤_, _<_, min, max}
 use native.Mathlib.Omega.{arith}
 use native.Mathlib.Decide.{decLe}
@@ -19,7 +19,7 @@ use Rattle.graph.specs.Flow.{Reached, Reaching}
 use Rattle.graph.proofs.RoundLaws.{reached, reaching, last-or-less}
 use Rattle.carrying.specs.Lists.{keep}
 use Rattle.carrying.proofs.ListLaws.{kept, of-kept}
-use Rattle.areas.specs.Blocks.{Graph, top, bottom, whole, InBlock, bounds, clip, inverted, touched}
+use Rattle.areas.specs.Blocks.{Graph, top, bottom, whole, InBlock, bounds, clip, touched, AllInLine}
 use Rattle.areas.specs.Areas.{Started, Stopping, PlainAt, inner, both, part, PlainPoint}
 use Rattle.areas.specs.Pieces.{clips, throughs, least, most, span, blockPiece, joinEach, linePieces, beforeRow, afterRow, plainArea}
 use Rattle.areas.proofs.BlockLaws.{clip-up}
@@ -132,14 +132,14 @@ module _ (G : Graph) where
       let (i, b) = of-kept (bounds G k) ts t n in
       (t, i, b, e)
 
-  module _ (S : Sound (G .blocks)) (B : Between (length (G .blocks)) (G .edges)) (ts : List Range) (fine : (t : Range) → List·Memᴰ t ts → inverted G t ≡ false) where
-    clip-fits : (k : ℕ) (c : Range) → List·Memᴰ c (clips G ts k) → (top G k ≤ c .start) × (c .start ≤ c .end) × (c .end ≤ bottom G k)
-    clip-fits k c m =
+  module _ (S : Sound (G .blocks)) where
+    pub clip-fits : (ts : List Range) → AllInLine (G .blocks) ts → (k : ℕ) (c : Range) → List·Memᴰ c (clips G ts k) → (top G k ≤ c .start) × (c .start ≤ c .end) × (c .end ≤ bottom G k)
+    clip-fits ts fine k c m =
         let (t, n, b, e) = of-clip ts k c m in
-        let u = clip-up G t (fine t n) k b in
+        let u = clip-up G S t (fine t n) k b in
         rw (← e) (omega arith)
 
-    span-upright : (k : ℕ) (u v : Bool) (cs : List Range) → k < length (G .blocks)
+    pub span-upright : (k : ℕ) (u v : Bool) (cs : List Range) → k < length (G .blocks)
         → ((c : Range) → List·Memᴰ c cs → (top G k ≤ c .start) × (c .start ≤ c .end) × (c .end ≤ bottom G k)) → Upright (span G k u v cs)
     span-upright k u v [] l f = upright-none
     span-upright k u v (c ∷ cs) l f = upright-cons (range (cond u (top G k) (least c cs)) (cond v (bottom G k) (most c cs))) [] (go u v) upright-none
@@ -159,6 +159,7 @@ module _ (G : Graph) where
         go false true = omega (arith, g, i)
         go false false = omega (arith, g, i, j)
 
+  module _ (S : Sound (G .blocks)) (B : Between (length (G .blocks)) (G .edges)) (ts : List Range) (fine : AllInLine (G .blocks) ts) where
     abbrev piece : ℕ → List Range
     piece k = blockPiece G ts (beforeRow G ts) (afterRow G ts) k
 
@@ -167,7 +168,7 @@ module _ (G : Graph) where
       where
         go : (t : Bool) → Upright (cond t (whole G k ∷ []) (span G k (beforeRow G ts k) (afterRow G ts k) (clips G ts k)))
         go true = upright-cons (whole G k) [] (S .upright k l) upright-none
-        go false = span-upright k _ _ (clips G ts k) l (clip-fits k)
+        go false = span-upright S k _ _ (clips G ts k) l (clip-fits S ts fine k)
 
     has-before : (k : ℕ) → (beforeRow G ts k ≡ true) ↔ Reached (G .edges) (touched G ts) k
     has-before k = reached (G .edges) (length (G .blocks)) B (touched G ts) k

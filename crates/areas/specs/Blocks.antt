@@ -1,7 +1,7 @@
 -- Document 01, "Areas of items": where a touch lies in the line, and the tests of a block that the rows of one local start from.
-use Prim.Native.Nat.{ℕ, zero, suc, _≤_, _<_, min, max}
+use Prim.Native.Nat.{ℕ, zero, suc, _-_, _≤_, _<_, min, max}
 use mathlib.Core.Bool.{Bool, cond, not, _&&_, _||_}
-use mathlib.Core.List.{List, [], _∷_}
+use mathlib.Core.List.{List, [], _∷_, List·Memᴰ}
 use lib.ListN.{length}
 use lib.Dec.{eqb, leb, ltb}
 use Rattle.ranges.specs.declared.Range.{Range}
@@ -51,12 +51,14 @@ between G k t = ltb (blockOf G (t .start)) k && ltb k (blockOf G (t .end))
 abbrev pub clip : Graph → ℕ → Range → Range
 clip G k t = range (max (t .start) (top G k)) (min (t .end) (bottom G k))
 
--- number 8: "a computed range that ends before it starts"
-abbrev pub reversed : Range → Bool
-reversed r = ltb (r .end) (r .start)
+-- a touch is upright and in the line: what numbers 4 and 6 leave of it
+pub record InLine (bs : List Stretch) (t : Range) : Type 0 where
+  pub upright : t .start ≤ t .end
+  pub first : blockAt bs 0 .start ≤ t .start
+  pub last : t .end ≤ blockAt bs (length bs - 1) .end
 
-abbrev pub inverted : Graph → Range → Bool
-inverted G t = reversed (clip G (blockOf G (t .start)) t) || reversed (clip G (blockOf G (t .end)) t)
+abbrev pub AllInLine : List Stretch → List Range → Type 0
+AllInLine bs ts = (t : Range) → List·Memᴰ t ts → InLine bs t
 
 -- "a block is touched if any point of a touch lies in it"
 abbrev pub touched : Graph → List Range → ℕ → Bool

@@ -3,4 +3,4 @@ pub mod Areas
 pub mod Pieces
 pub mod Slots
 pub mod Job
-pub mod Inner
+pub mod Upright

@@ -91,11 +91,13 @@ moveAt ms n = getD ms n (record { kind = 0; number = 0; to = 0; from = 0 })
 abbrev pub moveVerdict : List Stretch → List Inst → List Move → Verdict
 moveVerdict bs is ms = scan Stray (λ n. badMove bs is (moveAt ms n .kind) (moveAt ms n .number)) (length ms)
 
+-- of number 6 "reversed, not wholly in the blocks": of a live piece, and of a touch that is lent by itself
+unfoldable pub offLine : List Stretch → ℕ → ℕ → Bool
+offLine bs start end = ltb end start || (ltb start (blockAt bs 0 .start) || ltb (blockAt bs (length bs - 1) .end) end)
+
 -- number 6: "a live piece reversed, not wholly in the blocks or of a register ≥ V; an assignment of one"
-unfoldable pub badPiece : List Stretch → ℕ → Piece → Bool
-badPiece bs v p =
-    ltb (p .end) (p .start)
-    || (ltb (p .start) (blockAt bs 0 .start) || (ltb (blockAt bs (length bs - 1) .end) (p .end) || leb v (p .register)))
+abbrev pub badPiece : List Stretch → ℕ → Piece → Bool
+badPiece bs v p = offLine bs (p .start) (p .end) || leb v (p .register)
 
 abbrev pub pieceVerdict : List Stretch → ℕ → List Piece → Verdict
 pieceVerdict bs v ps = scan PieceWord (λ n. badPiece bs v (getD ps n (record { register = 0; start = 0; end = 0 }))) (length ps)

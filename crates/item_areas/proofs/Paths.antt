@@ -13,6 +13,8 @@ use Rattle.words.specs.Rows.{tabulate, field}
 use Rattle.words.specs.Widths.{partWidth, rangeCount}
 use Rattle.words.proofs.FlatLaws.{flat-length, flat-at}
 use Rattle.areas.specs.Job.{Job, itemCount, itemArea, rangesOf, itemsVerdict}
+use Rattle.areas.specs.Upright.{UprightIn}
+use Rattle.areas.proofs.UprightLaws.{job-upright}
 use Rattle.area_tables.specs.Tables.{areaRows}
 use Rattle.area_points.specs.Parts.{AreasTold}
 use Rattle.area_points.proofs.PartLaws.{rows-told}
@@ -72,3 +74,7 @@ module _ {R : Rows} {areas items work areas′ items′ work′ : List ℕ} {n :
   given-by-paths =
       rows-told J (passed .checked) (passed .sound .some-block) _ 3 0 items′ areas′ areas-written
       (λ i h. (field-written i h 0 (omega arith), field-written i h 1 (omega arith), field-written i h 2 (omega arith)))
+
+  -- number 8 has no input: every range that is computed on the way to the areas is upright
+  pub given-upright : UprightIn J
+  given-upright = job-upright J (passed .checked) (passed .sound .some-block)

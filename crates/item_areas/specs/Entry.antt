@@ -1,4 +1,4 @@
--- Document 01, "Areas of items", of all items of a job's records: what the entry answers and refuses (numbers 1 to 7 and 9; 8 has no input in a job).
+-- Document 01, "Areas of items", of all items of a job's records: what the entry answers and refuses (numbers 1 to 7 and 9).
 use Prim.Native.Nat.{ℕ, _+_, _/_}
 use mathlib.Core.Path.{_≡_}
 use mathlib.Core.Bool.{_||_}

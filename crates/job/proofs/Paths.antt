@@ -9,6 +9,8 @@ use Rattle.refusals.specs.Outcomes.{unless, after}
 use Rattle.words.specs.Rows.{tabulate, field}
 use Rattle.words.specs.Widths.{itemWidth}
 use Rattle.areas.specs.Job.{Job, itemCount, itemArea, rangesOf}
+use Rattle.areas.specs.Upright.{UprightIn}
+use Rattle.areas.proofs.UprightLaws.{job-upright}
 use Rattle.area_tables.specs.Tables.{areaRows}
 use Rattle.area_points.specs.Parts.{AreasTold}
 use Rattle.area_points.proofs.PartLaws.{rows-told}
@@ -44,3 +46,7 @@ module _ {R : Rows} {t : Terms} {cells items areas work cells′ items′ areas�
   shared-by-paths =
       rows-told J (passed E .checked) (passed E .sound .some-block) _ 4 1 items′ areas′ areas-written
       (λ i h. (field-written i h 1 (omega arith), field-written i h 2 (omega arith), field-written i h 3 (omega arith)))
+
+  -- number 8 has no input: every range that is computed on the way to a plan is upright
+  pub shared-upright : UprightIn J
+  shared-upright = job-upright J (passed E .checked) (passed E .sound .some-block)

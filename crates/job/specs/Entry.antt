@@ -1,4 +1,4 @@
--- Document 01, the whole job: what the entry answers and refuses (numbers 1 to 7 and 9; 8 has no input in a job), and what it leaves in the lists that it was lent.
+-- Document 01, the whole job: what the entry answers and refuses (numbers 1 to 7 and 9), and what it leaves in the lists that it was lent.
 use Prim.Native.Nat.{ℕ, _+_, _/_}
 use mathlib.Core.Path.{_≡_}
 use mathlib.Core.Bool.{_||_}

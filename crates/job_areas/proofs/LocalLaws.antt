@@ -2,26 +2,18 @@
 use Prim.Native.Nat.{ℕ, _+_, _/_, _^_, _≤_, _<_}
 use native.Mathlib.Omega.{arith}
 use mathlib.Core.Path.{_≡_, refl, sym, ap, subst, _∙_}
-use mathlib.Core.Bool.{_||_}
 use mathlib.Core.List.{List}
 use lib.ListN.{length}
 use Rattle.words.specs.Widths.{blockCount, localCount, endCount, rangeWidth}
-use Rattle.ranges.specs.declared.Range.{Range}
-use Rattle.graph.specs.Paths.{Edge}
 use Rattle.graph.specs.Line.{blocksOf}
 use Rattle.graph.proofs.Line.{blocks-length}
-use Rattle.components.specs.Entry.{edgesIn}
 use Rattle.carrying.specs.Carried.{piecesOf, touchesOf}
-use Rattle.carrying.proofs.ListLaws.{false-any}
-use Rattle.areas.specs.Blocks.{blockOf, clip, reversed, inverted}
-use Rattle.areas.proofs.JobLaws.{touches-fine}
+use Rattle.areas.proofs.JobLaws.{touches-in}
 use Rattle.reach.specs.declared.Lay.{Lay}
 use Rattle.reach.specs.Prepared.{codeOf}
-use Rattle.spots.specs.Spots.{lineOf}
-use Rattle.spots.proofs.SpotLaws.{holding-edges}
 use Rattle.area_flow.specs.declared.Grid.{Grid}
 use Rattle.area_layout.specs.Inner.{Gridded, markOf}
-use Rattle.area_pieces.specs.Inner.{Upright}
+use Rattle.areas.specs.Blocks.{AllInLine}
 use Rattle.live.specs.Inner.{InOrder}
 use Rattle.slot_spots.specs.declared.Places.{Places as SlotPlaces}
 use Rattle.area_measure.specs.Inner.Locals.{wordOf}
@@ -38,13 +30,6 @@ use Rattle.job_layout.proofs.FitLaws.{ranges-small, locals-laid, layout-fits}
 use Rattle.area_tables.specs.Inner.{listing}
 use Rattle.job_areas.specs.Inner.{Lent, LocalsDone}
 use Rattle.job_space.specs.Rows.{Rows}
-
-same-inverted : (blocks : List ℕ) (d e : List Edge) (t : Range) → inverted (lineOf blocks d) t ≡ inverted (lineOf blocks e) t
-same-inverted blocks d e t =
-    let a = holding-edges blocks d e (length (blocksOf blocks)) (t .start) in
-    let b = holding-edges blocks d e (length (blocksOf blocks)) (t .end) in
-    ap (λ (k : ℕ). reversed (clip (lineOf blocks e) k t) || reversed (clip (lineOf blocks e) (blockOf (lineOf blocks d) (t .end)) t)) a
-    ∙ ap (λ (k : ℕ). reversed (clip (lineOf blocks e) (blockOf (lineOf blocks e) (t .start)) t) || reversed (clip (lineOf blocks e) k t)) b
 
 -- the slots' regions as `slots` gives them
 abbrev slotPlaces : Sizes → ℕ → SlotPlaces
@@ -70,10 +55,8 @@ module _ (R : Rows) (areas : ℕ) (r : Regions) {w₀ : List ℕ}
   abbrev z : Sizes
   z = sizesOf R areas
 
-  upright : (l : ℕ) → Upright (R .blocks) (touchesOf (codeOf (R .v) (R .insts) (R .operands) (R .crossings) (R .addresses) (R .ends)) (piecesOf (R .pieces)) l)
-  upright l es = false-any (inverted (lineOf (R .blocks) es)) (touchesOf (codeOf (R .v) (R .insts) (R .operands) (R .crossings) (R .addresses) (R .ends)) (piecesOf (R .pieces)) l)
-      (λ t m. same-inverted (R .blocks) es (edgesIn (R .blocks) (R .edges)) t
-      ∙ touches-fine (jobOf R) (N .passed .checked) (let q = blocks-length (R .blocks) in let b = N .passed .small .some-block in omega arith) l t m)
+  in-line : (l : ℕ) → AllInLine (blocksOf (R .blocks)) (touchesOf (codeOf (R .v) (R .insts) (R .operands) (R .crossings) (R .addresses) (R .ends)) (piecesOf (R .pieces)) l)
+  in-line l = touches-in (jobOf R) (N .passed .checked) (let q = blocks-length (R .blocks) in let b = N .passed .small .some-block in omega arith) l
 
   -- without locals there is nothing to do
   pub locals-none : localCount (R .locals) ≡ 0 → LocalsDone R areas r w₀ w₀ 0
@@ -119,7 +102,7 @@ module _ (R : Rows) (areas : ℕ) (r : Regions) {w₀ : List ℕ}
           };
           sound = N .passed .sound;
           edges-fine = N .passed .edges-fine;
-          upright = λ l h. upright l;
+          in-line = λ l h. in-line l;
           keys = K;
           laid = record {
             keys-fit = o .keys-fit;

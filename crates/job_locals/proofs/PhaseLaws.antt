@@ -76,7 +76,7 @@ module _ (blocks edges insts operands crossings addresses ends pieces : List ℕ
         marks = record {
           line = K .sound;
           locals = spots;
-          upright = K .upright;
+          in-line = K .in-line;
           counted = K .counted;
           long = G .long;
           apart = omega (arith, K .base-fits, G .edges-fit, G .tarjan-fits);
@@ -125,7 +125,7 @@ module _ (blocks edges insts operands crossings addresses ends pieces : List ℕ
       crossings = crossings;
       prepared = prepared₂;
       rows = Q .rows operands crossings (T .prepared);
-      upright = K .upright;
+      in-line = K .in-line;
     }
 
     pub locals-in : {w : List ℕ} {r : ℕ} → MeasuredLocals blocks insts addresses ends pieces lay p z g mark o w₂ w r

@@ -21,7 +21,7 @@ use Rattle.follow.specs.declared.Sizes.{Sizes}
 use Rattle.chains.specs.Inner.{Chain}
 use Rattle.live.specs.Inner.{InOrder}
 use Rattle.spots.specs.Spots.{lineOf}
-use Rattle.area_pieces.specs.Inner.{Upright}
+use Rattle.areas.specs.Blocks.{AllInLine}
 use Rattle.area_flow.specs.declared.Grid.{Grid}
 use Rattle.area_flow.specs.Inner.{Laid as GridLaid}
 use Rattle.area_measure.specs.declared.Listing.{Listing}
@@ -81,7 +81,7 @@ pub record Asked (blocks edges insts operands crossings addresses ends pieces : 
   pub tables : TablesAsked insts operands addresses ends v locals lay p w
   pub sound : Sound (blocksOf blocks)
   pub edges-fine : edgeVerdict (blocksOf blocks) (jumpsOf edges) ≡ Fine
-  pub upright : (l : ℕ) → l < locals → Upright blocks (touchesOf (codeOf v insts operands crossings addresses ends) (piecesOf pieces) l)
+  pub in-line : (l : ℕ) → l < locals → AllInLine (blocksOf blocks) (touchesOf (codeOf v insts operands crossings addresses ends) (piecesOf pieces) l)
   pub keys : InOrder pieces (p .keys) w
   pub laid : fetching.Laid insts addresses ends pieces lay p (sizes v insts locals 0) w
   pub grid : GridLaid g (blockCount blocks) (edgeCount edges) w

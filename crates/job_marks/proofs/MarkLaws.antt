@@ -4,7 +4,7 @@ use native.Mathlib.Omega.{arith}
 use mathlib.Core.Path.{_≡_, sym, ap, _∙_, subst}
 use mathlib.Core.Logic.{_≢_}
 use mathlib.Core.Bool.{Bool, true≢false}
-use mathlib.Core.List.{List, []}
+use mathlib.Core.List.{List}
 use Rattle.words.specs.Widths.{blockCount}
 use Rattle.ranges.specs.declared.Range.{Range}
 use Rattle.ranges.specs.Merged.{Permuted}
@@ -14,8 +14,8 @@ use Rattle.graph.proofs.Within.{within-trans, within-wider}
 use Rattle.carrying.specs.declared.Kind.{Kind}
 use Rattle.carrying.specs.declared.Kind.the-variants.{Unfollowed, Plain, Ending}
 use Rattle.carrying.specs.Carried.{Code, piecesOf, touchesOf, endsOf}
-use Rattle.areas.specs.Blocks.{Graph, inverted, touched, leaves, passes}
-use Rattle.areas.proofs.PermuteLaws.{any-perm, touched-perm, leaves-perm}
+use Rattle.areas.specs.Blocks.{Graph, touched, leaves, passes}
+use Rattle.areas.proofs.PermuteLaws.{perm-member, touched-perm, leaves-perm}
 use Rattle.reach.specs.declared.Lay.{Lay}
 use Rattle.reach.specs.Prepared.{codeOf}
 use Rattle.follow.specs.declared.Sizes.{Sizes}
@@ -54,7 +54,7 @@ module _ {blocks insts addresses ends pieces : List ℕ} {lay : Lay} {p : Places
       record {
         line = R .line;
         stand = F .stand;
-        upright = any-perm (inverted (lineOf blocks [])) (F .code (R .locals .operands) (R .locals .crossings) (R .locals .prepared) .touches u) ∙ R .upright l h [];
+        in-line = λ t m. R .in-line l h t (perm-member (F .code (R .locals .operands) (R .locals .crossings) (R .locals .prepared) .touches u) t m);
         bit-in = bit-in;
         touches-apart = omega arith;
         ends-apart = omega arith;

@@ -41,7 +41,7 @@ module _ {blocks insts addresses ends pieces : List ℕ} {lay : Lay} {p : Places
           crossings = R .locals .crossings;
           prepared = prepared-kept (R .locals) K (R .locals .operands) (R .locals .crossings) (R .locals .prepared);
         };
-        upright = R .upright;
+        in-line = R .in-line;
         counted = R .counted;
         long = R .long;
         apart = R .apart;

@@ -7,7 +7,7 @@ use Rattle.words.specs.Widths.{blockCount, endCount}
 use Rattle.graph.specs.Paths.{Edge}
 use Rattle.graph.specs.Inner.Work.{Within}
 use Rattle.carrying.specs.Carried.{Code, piecesOf, kindOf, touchesOf, endsOf}
-use Rattle.areas.specs.Blocks.{Graph, touched, leaves, passes}
+use Rattle.areas.specs.Blocks.{Graph, touched, leaves, passes, AllInLine}
 use Rattle.reach.specs.declared.Lay.{Lay}
 use Rattle.reach.specs.Prepared.{codeOf}
 use Rattle.reach.specs.Inner.{Prepared}
@@ -17,7 +17,6 @@ use Rattle.area_flow.specs.declared.Grid.{Grid}
 use Rattle.job_spots.specs.declared.Places.{Places}
 use Rattle.local_marks.specs.Inner.{isPlain, isEnding, Marking, Marks}
 use Rattle.graph.specs.Line.{blocksOf, Sound}
-use Rattle.area_pieces.specs.Inner.{Upright}
 use Rattle.job_spots.specs.Inner as fetching
 
 -- local l's marks by its kind, its touches and its ends
@@ -34,11 +33,11 @@ pub record MarkedOne (blocks insts addresses ends pieces : List ℕ) (lay : Lay)
 
 -- The marks of all locals of a job.
 
--- what the pass reads, and behind it the rows of the places; no touch is inverted: "in a job, 8 has no input"
+-- what the pass reads, and behind it the rows of the places; every touch is in the line
 pub record Ready (blocks insts addresses ends pieces : List ℕ) (lay : Lay) (p : Places) (z : Sizes) (g : Grid) (w : List ℕ) : Type 0 where
   pub line : Sound (blocksOf blocks)
   pub locals : fetching.Ready insts addresses ends pieces lay p z w
-  pub upright : (l : ℕ) → l < z .locals → Upright blocks (touchesOf (codeOf (z .v) insts (locals .operands) (locals .crossings) addresses ends) (piecesOf pieces) l)
+  pub in-line : (l : ℕ) → l < z .locals → AllInLine (blocksOf blocks) (touchesOf (codeOf (z .v) insts (locals .operands) (locals .crossings) addresses ends) (piecesOf pieces) l)
   pub counted : g .locals ≡ z .locals
   pub long : g .locals ≤ g .words * 64
   pub apart : p .ends + endCount ends ≤ g .touched

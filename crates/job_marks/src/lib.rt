@@ -35,7 +35,7 @@ fn mark_one(
     }
 }
 
-// The marks of all locals. No touch is tested for number 8, since in a job none is inverted.
+// The marks of all locals.
 pub fn mark_all(
     blocks: &[u32],
     insts: &[u32],

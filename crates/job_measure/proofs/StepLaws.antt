@@ -22,10 +22,10 @@ use Rattle.graph.proofs.Line.{blocks-length}
 use Rattle.carrying.specs.declared.Kind.{Kind}
 use Rattle.carrying.specs.declared.Kind.the-variants.{Unfollowed, Plain, Ending}
 use Rattle.carrying.specs.Carried.{Code, Piece, piecesOf, kindOf, touchesOf, endsOf}
-use Rattle.areas.specs.Blocks.{Graph, inverted, passes}
+use Rattle.areas.specs.Blocks.{Graph, passes}
 use Rattle.areas.specs.Pieces.{beforeRow, afterRow, arrivesRow}
 use Rattle.areas.specs.Job.{areaBy, rangesIn}
-use Rattle.areas.proofs.PermuteLaws.{any-perm, touched-perm, leaves-perm, plain-permuted, end-permuted}
+use Rattle.areas.proofs.PermuteLaws.{perm-member, touched-perm, leaves-perm, plain-permuted, end-permuted}
 use Rattle.reach.specs.declared.Lay.{Lay}
 use Rattle.reach.specs.Prepared.{codeOf}
 use Rattle.reach.specs.Inner.{Prepared}
@@ -150,7 +150,7 @@ module _ (blocks insts addresses ends pieces : List ℕ) (lay : Lay) (p : Places
       crossings = R .crossings;
       prepared = prepared-stays (R .spots) (record { len = S .len; same = S .tables }) (R .operands) (R .crossings) (R .prepared);
       rows = λ l h. rows-kept w (R .laid) (S .rows) _ (R .edges) l h (R .rows l h);
-      upright = R .upright;
+      in-line = R .in-line;
     }
 
   -- ---- one local
@@ -290,7 +290,7 @@ module _ (blocks insts addresses ends pieces : List ℕ) (lay : Lay) (p : Places
             unmarked = record { none = marks-stay };
             bounded = record { past = rows₁ .rest };
             both = λ e. record { bits = rows₁ .both (sym (told .kind) ∙ plain-number (f .kind) e); bounded = record { past = rows₁ .rest } };
-            upright = λ es. any-perm (inverted (lineOf blocks es)) (told .touches (followed (f .kind) u)) ∙ R .upright l h es;
+            in-line = λ t m. R .in-line l h t (perm-member (told .touches (followed (f .kind) u)) t m);
           }
 
       pub listable : Listable blocks (f .spots) (localAt g n mark l) o total

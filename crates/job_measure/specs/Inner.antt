@@ -11,14 +11,13 @@ use Rattle.ranges.specs.declared.Range.{Range}
 use Rattle.graph.specs.Paths.{Edge}
 use Rattle.graph.specs.Line.{blocksOf, Sound}
 use Rattle.carrying.specs.Carried.{Code, Piece, piecesOf, kindOf, touchesOf, endsOf}
-use Rattle.areas.specs.Blocks.{Graph}
+use Rattle.areas.specs.Blocks.{Graph, AllInLine}
 use Rattle.areas.specs.Job.{areaBy}
 use Rattle.reach.specs.declared.Lay.{Lay}
 use Rattle.reach.specs.Prepared.{codeOf}
 use Rattle.reach.specs.Inner.{Prepared}
 use Rattle.follow.specs.declared.Sizes.{Sizes}
 use Rattle.spots.specs.Spots.{lineOf}
-use Rattle.area_pieces.specs.Inner.{Upright}
 use Rattle.area_flow.specs.declared.Grid.{Grid}
 use Rattle.area_measure.specs.declared.Listing.{Listing}
 use Rattle.area_measure.specs.Inner.Locals.{wordOf, ListedBy}
@@ -51,7 +50,7 @@ pub record Fits (blocks addresses ends pieces : List ℕ) (p : Places) (z : Size
 abbrev pub RowsOf : Code → List Piece → Graph → Grid → ℕ → ℕ → List ℕ → Type 0
 RowsOf C ps G g n l w = RowsBy G (kindOf C l) (touchesOf C ps l) (endsOf C l) g n l w
 
--- every local can be fetched, its rows stand for some edges and some code, no touch is inverted, and no block is marked
+-- every local can be fetched, its rows stand for some edges and some code, every touch is in the line, and no block is marked
 pub record Ready (blocks insts addresses ends pieces : List ℕ) (lay : Lay) (p : Places) (z : Sizes) (g : Grid) (mark : ℕ) (o : Listing) (w : List ℕ) : Type 0 where
   pub sound : Sound (blocksOf blocks)
   pub laid : Fits blocks addresses ends pieces p z g mark o w
@@ -62,7 +61,7 @@ pub record Ready (blocks insts addresses ends pieces : List ℕ) (lay : Lay) (p 
   pub crossings : List ℕ
   pub prepared : Prepared (codeOf (z .v) insts operands crossings addresses ends) lay w (z .locals) (z .edges)
   pub rows : (l : ℕ) → l < z .locals → RowsOf (codeOf (z .v) insts operands crossings addresses ends) (piecesOf pieces) (lineOf blocks edges) g (blockCount blocks) l w
-  pub upright : (l : ℕ) → l < z .locals → Upright blocks (touchesOf (codeOf (z .v) insts operands crossings addresses ends) (piecesOf pieces) l)
+  pub in-line : (l : ℕ) → l < z .locals → AllInLine (blocksOf blocks) (touchesOf (codeOf (z .v) insts operands crossings addresses ends) (piecesOf pieces) l)
 
 -- nothing has changed but the areas, the items, the queue, one local's touches and ends, and the words that areas are made in
 pub record Spared (blocks addresses ends pieces : List ℕ) (lay : Lay) (p : Places) (g : Grid) (mark : ℕ) (o : Listing) (w₀ w : List ℕ) : Type 0 where

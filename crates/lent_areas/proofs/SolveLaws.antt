@@ -5,41 +5,45 @@ use mir.Syntax.{w64}
 use mir.Val.{Fits as WordFits}
 use native.Mathlib.Omega.{arith}
 use mathlib.Core.Path.{_≡_, refl, sym, ap, _∙_}
-use mathlib.Core.Logic.{inl, inr}
-use mathlib.Core.Bool.{Bool, true, false}
-use mathlib.Core.List.{List, []}
+use mathlib.Core.Logic.{inl, inr, ⊎-elim}
+use mathlib.Core.Bool.{Bool, true, false, cond}
+use mathlib.Core.List.{List, [], _∷_, List·Memᴰ, List·Memᴰ·cases-cons, List·Memᴰ·not-nil}
 use lib.ListN.{length, getD}
-use Rattle.words.specs.Rows.{tabulate}
-use Rattle.words.specs.Widths.{blockCount, edgeCount, rangeWidth}
+use lib.Dec.{eqb}
+use Rattle.refusals.specs.declared.Verdict.the-variants.{Fine}
+use Rattle.refusals.specs.declared.Refusal.the-variants.{Piece}
+use Rattle.refusals.proofs.Laws.{scan-fine}
+use Rattle.words.specs.Rows.{rowCount, field, records}
+use Rattle.words.specs.Widths.{blockCount, edgeCount, touchWidth, rangeWidth}
 use Rattle.words.specs.Inner.{touchCount, stopCount}
-use Rattle.words.proofs.RowLaws.{mem-tabulate}
+use Rattle.words.proofs.RowLaws.{mem-of-tabulate}
 use Rattle.bits.specs.Bits.{bitOf}
 use Rattle.bits.proofs.DigitLaws.{bit-zero}
+use Rattle.ranges.specs.Points.{range}
 use Rattle.graph.specs.Paths.{Edge}
+use Rattle.graph.specs.Line.{blocksOf}
+use Rattle.carrying.proofs.ListLaws.{of-gathered}
 use Rattle.components.specs.Entry.{edgesIn}
-use Rattle.carrying.specs.Lists.{any}
-use Rattle.carrying.proofs.ListLaws.{any-false}
-use Rattle.areas.specs.Blocks.{Graph, inverted}
+use Rattle.areas.specs.Blocks.{AllInLine}
+use Rattle.areas.specs.Slots.{offLine}
+use Rattle.areas.proofs.JobLaws.{in-line}
 use Rattle.spots.specs.Spots.{lineOf}
 use Rattle.area_flow.specs.declared.Grid.{Grid}
 use Rattle.area_flow.specs.Inner.{Laid as GridLaid}
 use Rattle.local_spots.specs.declared.Places.{Places}
 use Rattle.local_spots.specs.Locals.{kindFor, touchesFor, endsFor}
 use Rattle.local_spots.specs.Inner.{Laid, Chained}
-use Rattle.local_marks.specs.Marks.{invertedIn, someInverted}
 use Rattle.local_marks.specs.Inner.{MarkedAll, Ready as MarkReady, RowsBy}
 use Rattle.local_marks.proofs.RowLaws.{rows-by}
-use Rattle.local_marks.proofs.BitLaws.{inverted-followed}
 use Rattle.kind_numbers.proofs.KindLaws.{plain-kind, ending-kind}
 use Rattle.area_measure.specs.Locals.{areaFor}
 use Rattle.area_measure.specs.Inner.Locals.{wordOf, Fits, Ready, RowsOf, MeasuredAll}
 use Rattle.area_measure.proofs.ListLaws.{listed-none}
 use Rattle.area_measure.proofs.LocalLaws.{chains-kept}
 use Rattle.area_layout.specs.declared.Sizes.{Sizes}
-use Rattle.lent_areas.specs.declared.Found.the-variants.{Inverted, Ranges}
 use Rattle.area_layout.specs.Layout.{spaceFor}
 use Rattle.area_layout.specs.Inner.{Small, Placed, Gridded, markOf}
-use Rattle.area_checks.specs.Checks.{sizesOf}
+use Rattle.area_checks.specs.Checks.{sizesOf, touchVerdict}
 use Rattle.area_checks.specs.Inner.{Lent}
 use Rattle.lent_areas.specs.Areas.{graphFor}
 use Rattle.lent_areas.specs.Inner.{listing, Markable, Marking, Rowed, Solved}
@@ -53,6 +57,21 @@ past-ends z p s l = omega (arith, s .few-locals, s .few-touches, s .few-ends, s 
 pub near : (n : ℕ) → n ≤ 1048576 → WordFits w64 n
 near n h = omega arith
 
+-- ---- the touches
+
+-- number 6 leaves each local touches that are upright and in the line
+pub lent-in-line : (blocks touches : List ℕ) → touchVerdict blocks touches ≡ Fine → (l : ℕ) → AllInLine (blocksOf blocks) (touchesFor touches l)
+lent-in-line blocks touches e l t m =
+    let (f, n, k) = of-gathered (λ (f : ℕ → ℕ). cond (eqb (f 0) l) (range (f 1) (f 2) ∷ []) []) (records touchWidth (λ f. f) touches) t m in
+    let (i, h, z) = mem-of-tabulate (rowCount touchWidth touches) (λ i. field touchWidth touches i) n in
+    rw (own (eqb (f 0) l) (f 1) (f 2) k, z)
+    (in-line (blocksOf blocks) (field touchWidth touches i 1) (field touchWidth touches i 2)
+    (scan-fine Piece (λ j. offLine (blocksOf blocks) (field touchWidth touches j 1) (field touchWidth touches j 2)) (rowCount touchWidth touches) e i h))
+  where
+    own : (b : Bool) (x y : ℕ) → List·Memᴰ t (cond b (range x y ∷ []) []) → t ≡ range x y
+    own true x y q = ⊎-elim (λ a. a) (λ a. absurd (List·Memᴰ·not-nil a)) (List·Memᴰ·cases-cons q)
+    own false x y q = absurd (List·Memᴰ·not-nil q)
+
 -- ---- the marks
 
 module _ (p : Places) (g : Grid) (blocks kinds touches ends : List ℕ) {w₀ w₁ : List ℕ} (M : Markable p g blocks kinds touches ends w₀) (C : Chained p touches ends w₀ w₁) where
@@ -61,6 +80,7 @@ module _ (p : Places) (g : Grid) (blocks kinds touches ends : List ℕ) {w₀ w�
       let L = M .laid in
       record {
         line = M .line;
+        in-line = M .in-line;
         laid = record { heads-fit = L .heads-fit; nexts-fit = L .nexts-fit; at-fits = L .at-fits; ends-fit = omega (arith, L .ends-fit, C .kept .len) };
         chains = C .chains;
         counted = M .counted;
@@ -71,8 +91,8 @@ module _ (p : Places) (g : Grid) (blocks kinds touches ends : List ℕ) {w₀ w�
         passes-fit = omega (arith, M .passes-fit, C .kept .len);
       }
 
-  pub mark-done : {w : List ℕ} {r : Bool} → ((es : List Edge) → MarkedAll (lineOf blocks es) kinds touches ends p g (blockCount blocks) w₁ w r) → Marking p g blocks kinds touches ends w₀ w r
-  mark-done {w} {r} A =
+  pub mark-done : {w : List ℕ} → ((es : List Edge) → MarkedAll (lineOf blocks es) kinds touches ends p g (blockCount blocks) w₁ w) → Marking p g blocks kinds touches ends w₀ w
+  mark-done {w} A =
       let L = M .laid in
       record {
         kept = record {
@@ -81,7 +101,6 @@ module _ (p : Places) (g : Grid) (blocks kinds touches ends : List ℕ) {w₀ w�
           past = λ i h. A [] .kept .past i h ∙ C .kept .past i (omega (arith, L .nexts-fit, L .at-fits, M .apart, M .touched-fits, M .leaves-fit));
         };
         chains = chains-kept touches ends p (mark-ready .laid) (λ i a b. A [] .kept .below i b) (C .chains);
-        answer = λ es. A es .answer;
         marks = λ es. A es .marks;
       }
 
@@ -144,6 +163,7 @@ module _ (blocks edges kinds touches ends : List ℕ) (areas : ℕ) (p : Places)
       let o = order in
       record {
         line = N .sound;
+        in-line = lent-in-line blocks touches (N .touches-fine);
         laid = places-laid refl;
         counted = G .locals-are ∙ sym (P .locals-are);
         kinds-lent = omega (arith, P .locals-are);
@@ -172,7 +192,7 @@ module _ (blocks edges kinds touches ends : List ℕ) (areas : ℕ) (p : Places)
         long = long;
       }
 
-  pub mark-room : {w : List ℕ} {r : Bool} → Marking p g blocks kinds touches ends w₀ w r → markOf g + g .width ≤ length w
+  pub mark-room : {w : List ℕ} → Marking p g blocks kinds touches ends w₀ w → markOf g + g .width ≤ length w
   mark-room M = omega (arith, order .mark-by, M .kept .len)
 
   -- no sum is too long
@@ -217,22 +237,16 @@ module _ (blocks edges kinds touches ends : List ℕ) (areas : ℕ) (p : Places)
   abbrev es : List Edge
   es = edgesIn blocks edges
 
-  module _ {w₁ w₂ : List ℕ} {r : Bool} (M : Marking p g blocks kinds touches ends w₀ w₁ r) (fine : r ≡ false) (R : Rowed es g n (markOf g) w₁ w₂) where
+  module _ {w₁ w₂ : List ℕ} (M : Marking p g blocks kinds touches ends w₀ w₁) (R : Rowed es g n (markOf g) w₁ w₂) where
     module _ (l : ℕ) (h : l < length kinds) where
       rows-for : RowsBy (graphFor blocks edges) (kindFor kinds l) (touchesFor touches l) (endsFor ends l) g n l w₂
-      rows-for = rows-by blocks w₂ (grid-laid (M .kept .len)) (M .marks es fine) (R .area) (λ i x. R .zero .before i x) l (omega (arith, G .locals-are))
+      rows-for = rows-by blocks w₂ (grid-laid (M .kept .len)) (M .marks es) (R .area) (λ i x. R .zero .before i x) l (omega (arith, G .locals-are))
 
       pub rows-are : RowsOf blocks kinds touches ends g (markOf g) w₂ es l
       rows-are = record {
         plain = λ e. record { written = rows-for .written (plain-kind (getD kinds l 0) e); read = rows-for .read (plain-kind (getD kinds l 0) e) };
         ending = λ e. record { arriving = rows-for .arrives (ending-kind (getD kinds l 0) e) };
       }
-
-    -- number 8 was ruled out
-    upright : (l : ℕ) → l < length kinds → 0 < getD kinds l 0 → (e : List Edge) → any (inverted (lineOf blocks e)) (touchesFor touches l) ≡ false
-    upright l h u e =
-        sym (inverted-followed (lineOf blocks e) (getD kinds l 0) (touchesFor touches l) u)
-        ∙ any-false (λ (m : ℕ). invertedIn (lineOf blocks e) (kindFor kinds m) (touchesFor touches m)) (tabulate (p .locals) (λ m. m)) (sym (M .answer e) ∙ fine) l (mem-tabulate (p .locals) (λ m. m) l (omega (arith, P .locals-are)))
 
     chained : (i : ℕ) → p .heads ≤ i → i < p .at → getD w₂ i 0 ≡ getD w₁ i 0
     chained i a b =
@@ -251,10 +265,10 @@ module _ (blocks edges kinds touches ends : List ℕ) (areas : ℕ) (p : Places)
       unmarked = λ c h. ap (λ (y : ℕ). bitOf y (c % 64)) (R .zero .inside (markOf g + c / 64) (c / 64) refl (omega arith)) ∙ bit-zero (c % 64);
       rest = λ l b h m q. rows-for l h .rest b m q;
       both = λ l k h e m. rows-for l h .both (plain-kind (getD kinds l 0) e) k m;
-      upright = upright;
+      in-line = lent-in-line blocks touches (N .touches-fine);
     }
 
-    pub solved : {w : List ℕ} {t : ℕ} → MeasuredAll blocks kinds touches ends p g (markOf g) (listing (areas / rangeWidth)) w₂ w t → Solved blocks edges kinds touches ends areas w₀ w (Ranges t)
+    pub solved : {w : List ℕ} {t : ℕ} → MeasuredAll blocks kinds touches ends p g (markOf g) (listing (areas / rangeWidth)) w₂ w t → Solved blocks edges kinds touches ends areas w₀ w t
     solved {w} {t} D =
         let o = order in
         record {
@@ -266,28 +280,12 @@ module _ (blocks edges kinds touches ends : List ℕ) (areas : ℕ) (p : Places)
                 ∙ R .area .kept .same i (inr (omega (arith, fit, G .touched-at, o .touched-by, o .leaves-by, o .passes-by, o .rows-by, o .read-by, o .wait-by))) (inr (omega (arith, fit)))
                 ∙ M .kept .past i (omega (arith, fit, o .passes-by, o .rows-by, o .read-by, o .wait-by));
           };
-          found = (ap (λ (k : ℕ). someInverted (graphFor blocks edges) kinds touches k) (sym (P .locals-are)) ∙ sym (M .answer es) ∙ fine, D .listed .is es rows-are);
+          listed = D .listed .is es rows-are;
         }
 
-  pub inverted-found : {w : List ℕ} {r : Bool} → Marking p g blocks kinds touches ends w₀ w r → r ≡ true → Solved blocks edges kinds touches ends areas w₀ w Inverted
-  inverted-found {w} {r} M e =
-      let o = order in
-      record {
-        kept = record {
-          len = M .kept .len;
-          below = λ i h. absurd (omega arith);
-          past = λ i h. M .kept .past i (omega (arith, fit, o .passes-by, o .rows-by, o .read-by, o .wait-by));
-        };
-        found = ap (λ (k : ℕ). someInverted (graphFor blocks edges) kinds touches k) (sym (P .locals-are)) ∙ sym (M .answer es) ∙ e;
-      }
-
 -- without locals
-none-inverted : (G : Graph) (kinds touches : List ℕ) → someInverted G kinds touches 0 ≡ false
-unfolding any tabulate
-none-inverted G kinds touches = refl
-
-pub solved-none : (blocks edges kinds touches ends : List ℕ) (areas : ℕ) (w : List ℕ) → length kinds ≡ 0 → Solved blocks edges kinds touches ends areas w w (Ranges 0)
+pub solved-none : (blocks edges kinds touches ends : List ℕ) (areas : ℕ) (w : List ℕ) → length kinds ≡ 0 → Solved blocks edges kinds touches ends areas w w 0
 solved-none blocks edges kinds touches ends areas w e = record {
   kept = record { len = refl; below = λ i h. refl; past = λ i h. refl };
-  found = (ap (λ (k : ℕ). someInverted (graphFor blocks edges) kinds touches k) e ∙ none-inverted (graphFor blocks edges) kinds touches, rw e (listed-none wordOf (listing (areas / rangeWidth)) (areaFor (graphFor blocks edges) kinds touches ends) w));
+  listed = rw e (listed-none wordOf (listing (areas / rangeWidth)) (areaFor (graphFor blocks edges) kinds touches ends) w);
 }

@@ -1,18 +1,15 @@
 -- What the functions here promise each other. No public promise names these.
 use Prim.Native.Nat.{ℕ, _/_, _+_, _*_, _≤_}
 use mathlib.Core.Path.{_≡_}
-use mathlib.Core.Option.{Option}
 use mathlib.Core.List.{List}
 use lib.ListN.{length}
-use Rattle.ranges.specs.declared.Range.{Range}
+use Rattle.areas.specs.Blocks.{AllInLine}
 use Rattle.spots.specs.Spots.{lineOf}
-use Rattle.local_marks.specs.Marks.{someInverted}
 use Rattle.local_marks.specs.Inner.{Marks}
 use Rattle.area_measure.specs.Locals.{areaFor}
 use Rattle.area_measure.specs.Inner.Locals.{wordOf, ListedBy}
 use Rattle.area_layout.specs.Layout.{spaceFor}
 use Rattle.area_checks.specs.Checks.{sizesOf}
-use mathlib.Core.Bool.{Bool, true, false}
 use Rattle.words.specs.Inner.{Region, touchCount, stopCount}
 use Rattle.words.specs.Widths.{blockCount, rangeWidth}
 use Rattle.graph.specs.Paths.{Edge}
@@ -24,22 +21,16 @@ use Rattle.local_spots.specs.declared.Places.{Places}
 use Rattle.local_spots.specs.Locals.{kindFor, touchesFor, endsFor}
 use Rattle.local_spots.specs.Inner.{Laid, Chains}
 use Rattle.area_measure.specs.declared.Listing.{Listing}
-use Rattle.lent_areas.specs.declared.Found.{Found}
-use Rattle.lent_areas.specs.declared.Found.the-variants.{Inverted, Ranges}
 use Rattle.lent_areas.specs.Areas.{graphFor}
 
 -- the areas stand from 0 on and the items behind their room
 abbrev pub listing : ℕ → Listing
 listing room = record { areas = 0; room = room; items = room }
 
--- what was found: a touch that is inverted, or the areas, of so many ranges
-abbrev pub FoundAs : Bool → (ℕ → Option (List Range)) → ℕ → ℕ → List ℕ → Found → Type 0
-FoundAs bad A locals room w Inverted = bad ≡ true
-FoundAs bad A locals room w (Ranges n) = (bad ≡ false) × ListedBy wordOf (listing room) A locals n w
-
--- where the marks go
+-- touches in the line, and where the marks go
 pub record Markable (p : Places) (g : Grid) (blocks kinds touches ends w : List ℕ) : Type 0 where
   pub line : Sound (blocksOf blocks)
+  pub in-line : (l : ℕ) → AllInLine (blocksOf blocks) (touchesFor touches l)
   pub laid : Laid p (touchCount touches) (stopCount ends) w
   pub counted : g .locals ≡ p .locals
   pub kinds-lent : p .locals ≤ length kinds
@@ -49,12 +40,11 @@ pub record Markable (p : Places) (g : Grid) (blocks kinds touches ends w : List 
   pub leaves-fit : g .leaves + blockCount blocks * g .words ≤ g .passes
   pub passes-fit : g .passes + blockCount blocks * g .words ≤ length w
 
--- number 8 is r, and where it is not the case all locals are chained and marked
-pub record Marking (p : Places) (g : Grid) (blocks kinds touches ends w₀ w : List ℕ) (r : Bool) : Type 0 where
+-- all locals are chained and marked
+pub record Marking (p : Places) (g : Grid) (blocks kinds touches ends w₀ w : List ℕ) : Type 0 where
   pub kept : Within (p .heads) (g .passes + blockCount blocks * g .words) w₀ w
   pub chains : Chains p touches ends w
-  pub answer : (es : List Edge) → r ≡ someInverted (lineOf blocks es) kinds touches (p .locals)
-  pub marks : (es : List Edge) → r ≡ false → Marks (lineOf blocks es) (kindFor kinds) (touchesFor touches) (endsFor ends) g (blockCount blocks) w
+  pub marks : (es : List Edge) → Marks (lineOf blocks es) (kindFor kinds) (touchesFor touches) (endsFor ends) g (blockCount blocks) w
 
 -- the rows stand, and behind them no block is marked
 pub record Rowed (es : List Edge) (g : Grid) (n from : ℕ) (w₀ w : List ℕ) : Type 0 where
@@ -63,6 +53,6 @@ pub record Rowed (es : List Edge) (g : Grid) (n from : ℕ) (w₀ w : List ℕ) 
   pub zero : Region mid w from (g .width) (λ _. 0)
 
 -- all of it: nothing past W has changed
-pub record Solved (blocks edges kinds touches ends : List ℕ) (areas : ℕ) (w₀ w : List ℕ) (r : Found) : Type 0 where
+pub record Solved (blocks edges kinds touches ends : List ℕ) (areas : ℕ) (w₀ w : List ℕ) (r : ℕ) : Type 0 where
   pub kept : Within 0 (spaceFor (sizesOf blocks edges (length kinds) (length touches) (length ends) areas)) w₀ w
-  pub found : FoundAs (someInverted (graphFor blocks edges) kinds touches (length kinds)) (areaFor (graphFor blocks edges) kinds touches ends) (length kinds) (areas / rangeWidth) w r
+  pub listed : ListedBy wordOf (listing (areas / rangeWidth)) (areaFor (graphFor blocks edges) kinds touches ends) (length kinds) r w

@@ -19,13 +19,7 @@ use words::widths::range;
 use words::widths::stop;
 use words::widths::touch;
 
-// Some touch is inverted, or how many ranges the areas have.
-pub enum Found {
-    Inverted,
-    Ranges(usize),
-}
-
-// The locals are chained and marked; whether some touch is inverted.
+// The locals are chained and marked.
 fn mark(
     blocks: &[u32],
     kinds: &[u32],
@@ -34,12 +28,12 @@ fn mark(
     work: &mut [u64],
     p: Places,
     g: Grid,
-) -> bool
+)
     requires { ⌜ Markable p g (now blocks) (now kinds) (now touches) (now ends) (now work) ⌝ }
-    ensures { λ r. ⌜ Marking p g (now (blocks .entry)) (now (kinds .entry)) (now (touches .entry)) (now (ends .entry)) (now (work .entry)) (now (work .exit)) r ⌝ }
+    ensures { λ _. ⌜ Marking p g (now (blocks .entry)) (now (kinds .entry)) (now (touches .entry)) (now (ends .entry)) (now (work .entry)) (now (work .exit)) ⌝ }
 {
     local_spots::chains(touches, ends, work, p);
-    local_marks::mark_all(blocks, kinds, touches, ends, work, p, g)
+    local_marks::mark_all(blocks, kinds, touches, ends, work, p, g);
 }
 
 // What flows and arrives, by the marks, and an empty row over the blocks from `from` on.
@@ -52,8 +46,7 @@ fn rows(blocks: &[u32], edges: &[u32], work: &mut [u64], g: Grid, from: usize)
     words::fill(work, from, g.width, 0);
 }
 
-// The areas of lists that were checked, with an area list of `areas` numbers. All locals are marked before one is measured, so that number 8 comes
-// before number 9; without locals there is nothing to lay out.
+// The areas of lists that were checked, with an area list of `areas` numbers; how many ranges they have. Without locals there is nothing to lay out.
 pub fn solve(
     blocks: &[u32],
     edges: &[u32],
@@ -62,12 +55,12 @@ pub fn solve(
     ends: &[u32],
     work: &mut [u64],
     areas: usize,
-) -> Found
+) -> usize
     requires { ⌜ Lent (now blocks) (now edges) (now kinds) (now touches) (now ends) areas (now work) ⌝ }
     ensures { λ r. ⌜ Solved (now (blocks .entry)) (now (edges .entry)) (now (kinds .entry)) (now (touches .entry)) (now (ends .entry)) areas (now (work .entry)) (now (work .exit)) r ⌝ }
 {
     if kinds.len() == 0 {
-        return Found::Ranges(0);
+        return 0;
     }
     let z = Sizes {
         blocks: blocks.len() / block::WIDTH,
@@ -80,12 +73,9 @@ pub fn solve(
     let p = area_layout::places(z);
     let g = area_layout::grid(z, p.ends + z.ends);
     let from = g.to + g.locals * g.width;
-    let bad = mark(blocks, kinds, touches, ends, work, p, g);
-    if bad {
-        return Found::Inverted;
-    }
+    mark(blocks, kinds, touches, ends, work, p, g);
     rows(blocks, edges, work, g, from);
-    let n = area_measure::locals::measure_all(
+    area_measure::locals::measure_all(
         blocks,
         kinds,
         touches,
@@ -99,6 +89,5 @@ pub fn solve(
             room: areas / range::WIDTH,
             items: areas / range::WIDTH,
         },
-    );
-    Found::Ranges(n)
+    )
 }

@@ -1,7 +1,7 @@
 -- Laws of one local's marks: what each call leaves of the rows, by the local's touches and its ends as they are lent.
 use Prim.Native.Nat.{ℕ, zero, suc, _+_, _*_, _/_, _%_, _≤_, _<_}
 use native.Mathlib.Omega.{arith}
-use mathlib.Core.Path.{_≡_, refl, sym, ap, _∙_, subst}
+use mathlib.Core.Path.{_≡_, refl, ap, _∙_, subst}
 use mathlib.Core.Logic.{_⊎_, inl, inr, ⊎-elim}
 use mathlib.Core.Bool.{Bool, true, false, not, _&&_, _||_}
 use mathlib.Core.List.{List, []}
@@ -17,9 +17,8 @@ use Rattle.ranges.specs.declared.Range.{Range}
 use Rattle.graph.specs.Paths.{Edge}
 use Rattle.graph.specs.Inner.Work.{Within}
 use Rattle.graph.proofs.Within.{within-refl, within-trans, within-wider}
-use Rattle.carrying.specs.Lists.{any}
 use Rattle.kind_numbers.specs.Numbers.{kindBy}
-use Rattle.areas.specs.Blocks.{Graph, inverted, touched, leaves, passes}
+use Rattle.areas.specs.Blocks.{Graph, touched, leaves, passes}
 use Rattle.spots.specs.declared.Spots.{Spots}
 use Rattle.spots.specs.Spots.{lineOf}
 use Rattle.spots.specs.Inner.{touchesAt, endsAt}
@@ -32,7 +31,6 @@ use Rattle.local_spots.specs.Locals.{touchesFor, endsFor}
 use Rattle.local_spots.specs.Inner.{Fetched}
 use Rattle.local_spots.proofs.OrderLaws.{passes-sorted, leaves-sorted}
 use Rattle.local_marks.specs.Inner.{isPlain, isEnding, Ready, Bits, Marking, Standing, MarkedOne}
-use Rattle.local_marks.specs.Marks.{invertedIn}
 
 -- local l in the rows from `from` on
 abbrev pub columnAt : Grid → ℕ → ℕ → ℕ → Column
@@ -169,11 +167,6 @@ module _ (blocks : List ℕ) (s : Spots) (g : Grid) (l : ℕ) {w₀ : List ℕ} 
 
 -- ---- one local by the number of its kind
 
-pub inverted-followed : (G : Graph) (n : ℕ) (ts : List Range) → 0 < n → invertedIn G (kindBy n) ts ≡ any (inverted G) ts
-inverted-followed G zero ts h = absurd (omega arith)
-inverted-followed G (suc zero) ts h = refl
-inverted-followed G (suc (suc n)) ts h = refl
-
 -- marked as plain where the number is 1, else as ending
 by-kind : (kind : ℕ) → 0 < kind → {g : Grid} {n l : ℕ} {t v q : ℕ → Bool} {w₀ w : List ℕ} → Marking g n l (eqb kind 1) (not (eqb kind 1)) t v q w₀ w
     → Marking g n l (isPlain (kindBy kind)) (isEnding (kindBy kind)) t v q w₀ w
@@ -183,29 +176,22 @@ by-kind (suc (suc k)) u {g} {n} {l} {t} {v} {q} {w₀} {w} M = subst (λ (b : Bo
 
 -- an unfollowed local is not marked
 pub none-one : {p : Places} {g : Grid} {blocks touches ends : List ℕ} {l : ℕ} {w : List ℕ} → Ready p g blocks touches ends w → l < p .locals → (kind : ℕ) → kind ≡ 0
-    → (es : List Edge) → MarkedOne (lineOf blocks es) kind touches ends g (blockCount blocks) l w w false
+    → (es : List Edge) → MarkedOne (lineOf blocks es) kind touches ends g (blockCount blocks) l w w
 none-one {w = w} R h kind e es =
     let a = R .touched-fits in let b = R .leaves-fit in let c = R .long in let d = R .counted in
-    rw e (record { answer = refl; marks = λ _. marking-none (within-refl 0 0 w) (omega arith) (omega arith) (omega arith) (omega arith) })
+    rw e (marking-none (within-refl 0 0 w) (omega arith) (omega arith) (omega arith) (omega arith))
 
 -- ---- one local, fetched
 
 module _ {p : Places} {g : Grid} {blocks touches ends : List ℕ} {l : ℕ} {w₀ w₁ : List ℕ} {s : Spots} (R : Ready p g blocks touches ends w₀) (h : l < p .locals) (F : Fetched p touches ends l w₀ w₁ s) where
-  -- number 8 by the touches as they are lent
-  fetched-answer : (es : List Edge) (r : Bool) → r ≡ any (inverted (lineOf blocks es)) (touchesAt s w₁) → r ≡ any (inverted (lineOf blocks es)) (touchesFor touches l)
-  fetched-answer es r e = e ∙ ap (any (inverted (lineOf blocks es))) (F .touches-are)
-
-  pub inverted-one : (kind : ℕ) → 0 < kind → (r : Bool) → r ≡ true → ((es : List Edge) → r ≡ any (inverted (lineOf blocks es)) (touchesAt s w₁)) → (es : List Edge) → MarkedOne (lineOf blocks es) kind touches ends g (blockCount blocks) l w₀ w₁ true
-  inverted-one kind u r t e es = record { answer = sym t ∙ fetched-answer es r (e es) ∙ sym (inverted-followed (lineOf blocks es) kind (touchesFor touches l) u); marks = λ f. absurd (let z : _≡_ {A = ℕ} 0 1 = cc in omega arith) }
-
-  pub standing : (r : Bool) → r ≡ false → ((es : List Edge) → r ≡ any (inverted (lineOf blocks es)) (touchesAt s w₁)) → Standing blocks s g l w₁
-  standing r f e =
+  pub standing : Standing blocks s g l w₁
+  standing =
       let a = R .apart in let b = R .long in let c = R .counted in let d = R .passes-fit in let k = F .kept .len in
       let x = F .touches-high in let y = F .ends-high in let z = R .laid .at-fits in
       record {
         line = R .line;
         stand = F .stand;
-        upright = sym (e []) ∙ f;
+        in-line = rw (F .touches-are) (R .in-line l);
         bit-in = omega arith;
         touches-apart = omega arith;
         ends-apart = omega arith;
@@ -214,17 +200,17 @@ module _ {p : Places} {g : Grid} {blocks touches ends : List ℕ} {l : ℕ} {w�
         passes-fit = omega arith;
       }
 
-  pub fetched-kept : Within (p .at) (g .passes + blockCount blocks * g .words) w₀ w₁
+  fetched-kept : Within (p .at) (g .passes + blockCount blocks * g .words) w₀ w₁
   fetched-kept = let a = R .apart in let b = R .touched-fits in let c = R .leaves-fit in within-wider (p .at) (g .passes + blockCount blocks * g .words) (omega arith) (omega arith) (F .kept)
 
   module _ {w : List ℕ} (K : Within (g .touched) (g .passes + blockCount blocks * g .words) w₁ w) where
     pub one-kept : Within (p .at) (g .passes + blockCount blocks * g .words) w₀ w
     one-kept = let a = R .apart in let z = R .laid .at-fits in within-trans fetched-kept (within-wider (p .at) (g .passes + blockCount blocks * g .words) (omega arith) (omega arith) K)
 
-    pub marked-one : (kind : ℕ) → 0 < kind → (r : Bool) → r ≡ false → ((es : List Edge) → r ≡ any (inverted (lineOf blocks es)) (touchesAt s w₁))
+    pub marked-one : (kind : ℕ) → 0 < kind
         → ((es : List Edge) → Marking g (blockCount blocks) l (eqb kind 1) (not (eqb kind 1)) (touched (lineOf blocks es) (touchesAt s w₁)) (leaves (lineOf blocks es) (touchesAt s w₁) (endsAt s w₁)) (passes (lineOf blocks es) (endsAt s w₁)) w₁ w)
-        → (es : List Edge) → MarkedOne (lineOf blocks es) kind touches ends g (blockCount blocks) l w₀ w false
-    marked-one kind u r f e M es = record { answer = sym f ∙ fetched-answer es r (e es) ∙ sym (inverted-followed G kind (touchesFor touches l) u); marks = λ _. by-kind kind u since }
+        → (es : List Edge) → MarkedOne (lineOf blocks es) kind touches ends g (blockCount blocks) l w₀ w
+    marked-one kind u M es = by-kind kind u since
       where
         G : Graph
         G = lineOf blocks es

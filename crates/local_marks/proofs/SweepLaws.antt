@@ -1,13 +1,11 @@
--- Laws of a pass over the locals: the first l are marked; of touches lent by themselves none of these is inverted.
+-- Laws of a pass over the locals: the first l are marked.
 use Prim.Native.Nat.{ℕ, _+_, _*_, _≤_, _<_}
 use native.Mathlib.Omega.{arith}
 use mathlib.Core.Path.{_≡_, sym, ap, _∙_, subst}
 use mathlib.Core.Bool.{Bool, true, false, not, _&&_, _||_, or-false, and-true}
 use mathlib.Core.List.{List}
 use lib.ListN.{getD}
-use Rattle.words.specs.Rows.{tabulate}
 use Rattle.words.specs.Widths.{blockCount}
-use Rattle.words.proofs.RowLaws.{mem-tabulate, mem-of-tabulate}
 use Rattle.words.proofs.Points.{same}
 use Rattle.bits.specs.Bits.{bit}
 use Rattle.ranges.specs.declared.Range.{Range}
@@ -15,7 +13,6 @@ use Rattle.graph.specs.Paths.{Edge}
 use Rattle.graph.specs.Inner.Work.{Within}
 use Rattle.graph.proofs.Within.{within-refl, within-trans, within-wider}
 use Rattle.carrying.specs.declared.Kind.{Kind}
-use Rattle.carrying.proofs.ListLaws.{any-true, false-any}
 use Rattle.areas.specs.Blocks.{Graph, touched, leaves, passes}
 use Rattle.spots.specs.Spots.{lineOf}
 use Rattle.area_rows.proofs.ColumnLaws.{Columns}
@@ -25,7 +22,6 @@ use Rattle.local_spots.specs.declared.Places.{Places}
 use Rattle.local_spots.specs.Locals.{kindFor, touchesFor, endsFor}
 use Rattle.local_spots.proofs.ChainLaws.{chains-kept}
 use Rattle.local_marks.specs.Inner.{isPlain, isEnding, Ready, Marks, MarkedAll, Bits, Marking, MarkedOne}
-use Rattle.local_marks.specs.Marks.{invertedIn}
 
 -- a change behind the chains
 pub ready-kept : {p : Places} {g : Grid} {blocks touches ends w w' : List ℕ} {hi : ℕ} → Ready p g blocks touches ends w → Within (p .at) hi w w' → Ready p g blocks touches ends w'
@@ -33,6 +29,7 @@ ready-kept {p} {w' = w'} R K =
     let a = R .laid .ends-fit in let b = R .passes-fit in let k = K .len in let n = R .laid .nexts-fit in
     record {
       line = R .line;
+      in-line = R .in-line;
       laid = record { heads-fit = R .laid .heads-fit; nexts-fit = R .laid .nexts-fit; at-fits = R .laid .at-fits; ends-fit = omega arith };
       chains = chains-kept (R .laid .heads-fit) (λ i x y. K .below i (omega arith)) (R .chains);
       counted = R .counted;
@@ -91,7 +88,6 @@ pub record Sweep (p : Places) (g : Grid) (blocks kinds touches ends w₀ w : Lis
   pub ready : Ready p g blocks touches ends w
   pub kept : Within (p .at) (g .passes + blockCount blocks * g .words) w₀ w
   pub l-le : l ≤ p .locals
-  pub none : (es : List Edge) (m : ℕ) → m < l → invertedIn (lineOf blocks es) (kindFor kinds m) (touchesFor touches m) ≡ false
   pub so-far : (es : List Edge) → MarkedTo (lineOf blocks es) (kindFor kinds) (touchesFor touches) (endsFor ends) g (blockCount blocks) l w
 
 pub cleared-kept : {p : Places} {g : Grid} {blocks touches ends w₀ w : List ℕ} → Ready p g blocks touches ends w₀ → Unmarked g (blockCount blocks) w₀ w → Within (p .at) (g .passes + blockCount blocks * g .words) w₀ w
@@ -102,35 +98,24 @@ sweep-start p g blocks kinds touches ends {w₀} {w} R U = record {
   ready = ready-kept R (cleared-kept R U);
   kept = within-refl _ _ w;
   l-le = omega arith;
-  none = λ es m h. absurd (omega arith);
   so-far = λ es. marked-start U;
 }
 
-module _ {p : Places} {g : Grid} {blocks kinds touches ends w₀ w : List ℕ} {l : ℕ} (d : Sweep p g blocks kinds touches ends w₀ w l) (h : l < p .locals) {w' : List ℕ} {r : Bool}
-    (K : Within (p .at) (g .passes + blockCount blocks * g .words) w w') (O : (es : List Edge) → MarkedOne (lineOf blocks es) (getD kinds l 0) touches ends g (blockCount blocks) l w w' r) where
-  pub sweep-more : r ≡ false → Sweep p g blocks kinds touches ends w₀ w' (l + 1)
-  sweep-more f = record {
+module _ {p : Places} {g : Grid} {blocks kinds touches ends w₀ w : List ℕ} {l : ℕ} (d : Sweep p g blocks kinds touches ends w₀ w l) (h : l < p .locals) {w' : List ℕ}
+    (K : Within (p .at) (g .passes + blockCount blocks * g .words) w w') (O : (es : List Edge) → MarkedOne (lineOf blocks es) (getD kinds l 0) touches ends g (blockCount blocks) l w w') where
+  pub sweep-more : Sweep p g blocks kinds touches ends w₀ w' (l + 1)
+  sweep-more = record {
     ready = ready-kept (d .ready) K;
     kept = within-trans (d .kept) K;
     l-le = omega arith;
-    none = λ es m a. same m l (λ z. rw z (sym (O es .answer) ∙ f)) (λ z. d .none es m (omega arith));
-    so-far = λ es. marked-next (d .so-far es) (let a = d .ready .long in let b = d .ready .counted in omega arith) (O es .marks f);
-  }
-
-  pub sweep-found : {v : List ℕ} → Within (p .at) (g .passes + blockCount blocks * g .words) v w₀ → r ≡ true → (es : List Edge) → MarkedAll (lineOf blocks es) kinds touches ends p g (blockCount blocks) v w' true
-  sweep-found C f es = record {
-    kept = within-trans C (within-trans (d .kept) K);
-    answer = sym (any-true (λ m. invertedIn (lineOf blocks es) (kindFor kinds m) (touchesFor touches m)) (tabulate (p .locals) (λ m. m)) l (mem-tabulate (p .locals) (λ m. m) l h) (sym (O es .answer) ∙ f));
-    marks = λ e. absurd (let z : _≡_ {A = ℕ} 0 1 = cc in omega arith);
+    so-far = λ es. marked-next (d .so-far es) (let a = d .ready .long in let b = d .ready .counted in omega arith) (O es);
   }
 
 pub sweep-done : {p : Places} {g : Grid} {blocks kinds touches ends v w₀ w : List ℕ} {l : ℕ} → Sweep p g blocks kinds touches ends w₀ w l → p .locals ≤ l → Within (p .at) (g .passes + blockCount blocks * g .words) v w₀
-    → (es : List Edge) → MarkedAll (lineOf blocks es) kinds touches ends p g (blockCount blocks) v w false
-sweep-done {p} {g} {blocks} {kinds} {touches} d h C es =
+    → (es : List Edge) → MarkedAll (lineOf blocks es) kinds touches ends p g (blockCount blocks) v w
+sweep-done d h C es =
     let b = d .ready .counted in let c = d .l-le in
     record {
       kept = within-trans C (d .kept);
-      answer = sym (false-any (λ m. invertedIn (lineOf blocks es) (kindFor kinds m) (touchesFor touches m)) (tabulate (p .locals) (λ m. m))
-          (λ m q. let (i, z, e) = mem-of-tabulate (p .locals) (λ m. m) q in d .none es m (omega arith)));
-      marks = λ _. marked-done (d .so-far es) (omega arith) (d .ready .long);
+      marks = marked-done (d .so-far es) (omega arith) (d .ready .long);
     }

@@ -2,19 +2,16 @@
 use Prim.Native.Nat.{ℕ, _+_, _*_, _≤_, _<_}
 use mathlib.Core.Path.{_≡_}
 use mathlib.Core.Bool.{Bool, false, not, _&&_, _||_, true}
-use mathlib.Core.List.{List, []}
+use mathlib.Core.List.{List}
 use Rattle.kind_numbers.specs.Numbers.{kindBy}
-use Rattle.areas.specs.Blocks.{Graph, touched, leaves, passes, inverted}
+use Rattle.areas.specs.Blocks.{Graph, touched, leaves, passes, AllInLine}
 use Rattle.area_flow.specs.declared.Grid.{Grid}
 use Rattle.local_spots.specs.Locals.{touchesFor, endsFor, kindFor}
-use Rattle.local_marks.specs.Marks.{invertedIn, someInverted}
 use mathlib.Core.Logic.{_≢_}
 use lib.ListN.{length}
 use Rattle.words.specs.Widths.{blockCount}
 use Rattle.graph.specs.Line.{blocksOf, Sound}
-use Rattle.carrying.specs.Lists.{any}
 use Rattle.spots.specs.declared.Spots.{Spots}
-use Rattle.spots.specs.Spots.{lineOf}
 use Rattle.spots.specs.Inner.{touchesAt, Stand}
 use Rattle.area_flow.specs.Inner.{rowBit, Quiet, blockBit}
 use Rattle.words.specs.Inner.{touchCount, stopCount}
@@ -39,11 +36,11 @@ pub record Marking (g : Grid) (n l : ℕ) (plain ending : Bool) (touched leaves 
   pub leaves-bits : Bits g (g .leaves) n l (λ k. ending && leaves k || rowBit g (g .leaves) w₀ k l) w₀ w
   pub passes-bits : Bits g (g .passes) n l (λ k. (not ending || passes k) && rowBit g (g .passes) w₀ k l) w₀ w
 
--- local l's touches, none inverted, and its ends stand before the rows of the places
+-- local l's touches, in the line, and its ends stand before the rows of the places
 pub record Standing (blocks : List ℕ) (s : Spots) (g : Grid) (l : ℕ) (w : List ℕ) : Type 0 where
   pub line : Sound (blocksOf blocks)
   pub stand : Stand s w
-  pub upright : any (inverted (lineOf blocks [])) (touchesAt s w) ≡ false
+  pub in-line : AllInLine (blocksOf blocks) (touchesAt s w)
   pub bit-in : l < g .words * 64
   pub touches-apart : s .at + s .count ≤ g .touched
   pub ends-apart : s .ends + s .stops ≤ g .touched
@@ -62,15 +59,15 @@ isEnding Unfollowed = false
 isEnding Plain = false
 isEnding Ending = true
 
--- r is number 8 of local l, of the kind with this number, and where it is not the case, the local is marked
-pub record MarkedOne (G : Graph) (kind : ℕ) (touches ends : List ℕ) (g : Grid) (n l : ℕ) (w₀ w : List ℕ) (r : Bool) : Type 0 where
-  pub answer : r ≡ invertedIn G (kindBy kind) (touchesFor touches l)
-  pub marks : r ≡ false → Marking g n l (isPlain (kindBy kind)) (isEnding (kindBy kind)) (touched G (touchesFor touches l)) (leaves G (touchesFor touches l) (endsFor ends l))
-      (passes G (endsFor ends l)) w₀ w
+-- local l, of the kind with this number, is marked
+abbrev pub MarkedOne : Graph → ℕ → List ℕ → List ℕ → Grid → ℕ → ℕ → List ℕ → List ℕ → Type 0
+MarkedOne G kind touches ends g n l w₀ w =
+    Marking g n l (isPlain (kindBy kind)) (isEnding (kindBy kind)) (touched G (touchesFor touches l)) (leaves G (touchesFor touches l) (endsFor ends l)) (passes G (endsFor ends l)) w₀ w
 
--- the regions of the locals' rows, and behind them the rows of the places
+-- touches in the line, the regions of the locals' rows, and behind them the rows of the places
 pub record Ready (p : Places) (g : Grid) (blocks touches ends w : List ℕ) : Type 0 where
   pub line : Sound (blocksOf blocks)
+  pub in-line : (l : ℕ) → AllInLine (blocksOf blocks) (touchesFor touches l)
   pub laid : Laid p (touchCount touches) (stopCount ends) w
   pub chains : Chains p touches ends w
   pub counted : g .locals ≡ p .locals
@@ -87,11 +84,10 @@ pub record Marks (G : Graph) (K : ℕ → Kind) (T : ℕ → List Range) (E : �
   pub passes : (l k : ℕ) → l < g .locals → k < n → rowBit g (g .passes) w k l ≡ (not (isEnding (K l)) || passes G (E l) k)
   pub quiet : Quiet g n w
 
--- r is number 8, and where it is not the case, all locals are marked; nothing has changed but the regions of one local, what follows them, and the rows
-pub record MarkedAll (G : Graph) (kinds touches ends : List ℕ) (p : Places) (g : Grid) (n : ℕ) (w₀ w : List ℕ) (r : Bool) : Type 0 where
+-- all locals are marked; nothing has changed but the regions of one local, what follows them, and the rows
+pub record MarkedAll (G : Graph) (kinds touches ends : List ℕ) (p : Places) (g : Grid) (n : ℕ) (w₀ w : List ℕ) : Type 0 where
   pub kept : Within (p .at) (g .passes + n * g .words) w₀ w
-  pub answer : r ≡ someInverted G kinds touches (p .locals)
-  pub marks : r ≡ false → Marks G (kindFor kinds) (touchesFor touches) (endsFor ends) g n w
+  pub marks : Marks G (kindFor kinds) (touchesFor touches) (endsFor ends) g n w
 
 -- A local's rows, made from its marks.
 

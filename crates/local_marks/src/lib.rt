@@ -1,4 +1,4 @@
-// The first pass over the locals: number 8, and the marks of every local in the rows of the places.
+// The first pass over the locals: the marks of every local in the rows of the places.
 ghost use mathlib.Core.Bool.{not};
 ghost use mathlib.Core.List.{List};
 ghost use Prim.Native.Nat.{_+_, _*_, _/_, _≤_, _<_};
@@ -63,8 +63,7 @@ pub fn mark_spots(blocks: &[u32], work: &mut [u64], s: Spots, g: Grid, l: usize,
     );
 }
 
-// One local by the number of its kind: fetched, tested, and marked if no touch is inverted; whether one is. An unfollowed one has no marks, and its touches
-// are not tested.
+// One local by the number of its kind: fetched and marked. An unfollowed one has no marks.
 fn mark_one(
     blocks: &[u32],
     touches: &[u32],
@@ -74,24 +73,20 @@ fn mark_one(
     g: Grid,
     l: usize,
     kind: u32,
-) -> bool
+)
     requires { ⌜ Ready p g (now blocks) (now touches) (now ends) (now work) × (l < p .locals) ⌝ }
     ensures { λ _. ⌜ Within (p .at) (g .passes + blockCount (now (blocks .entry)) * g .words) (now (work .entry)) (now (work .exit)) ⌝ }
-    ensures { λ r. ⌜ ((es : List Edge) → MarkedOne (lineOf (now (blocks .entry)) es) kind (now (touches .entry)) (now (ends .entry)) g (blockCount (now (blocks .entry))) l
-        (now (work .entry)) (now (work .exit)) r) ⌝ }
+    ensures { λ _. ⌜ ((es : List Edge) → MarkedOne (lineOf (now (blocks .entry)) es) kind (now (touches .entry)) (now (ends .entry)) g (blockCount (now (blocks .entry))) l
+        (now (work .entry)) (now (work .exit))) ⌝ }
 {
     if kind == 0 {
-        return false;
+        return;
     }
     let s = local_spots::fetch(touches, ends, work, p, l);
-    if spots::any_inverted(blocks, work, s.at, s.count) {
-        return true;
-    }
     mark_spots(blocks, work, s, g, l, kind == 1);
-    false
 }
 
-// The marks of all locals; whether some touch is inverted, after which the marks are not whole.
+// The marks of all locals.
 pub fn mark_all(
     blocks: &[u32],
     kinds: &[u32],
@@ -100,19 +95,16 @@ pub fn mark_all(
     work: &mut [u64],
     p: Places,
     g: Grid,
-) -> bool
+)
     requires { ⌜ Ready p g (now blocks) (now touches) (now ends) (now work) × (p .locals ≤ length (now kinds)) ⌝ }
-    ensures { λ r. ⌜ ((es : List Edge) → MarkedAll (lineOf (now (blocks .entry)) es) (now (kinds .entry)) (now (touches .entry)) (now (ends .entry)) p g (blockCount (now (blocks .entry)))
-        (now (work .entry)) (now (work .exit)) r) ⌝ }
+    ensures { λ _. ⌜ ((es : List Edge) → MarkedAll (lineOf (now (blocks .entry)) es) (now (kinds .entry)) (now (touches .entry)) (now (ends .entry)) p g (blockCount (now (blocks .entry)))
+        (now (work .entry)) (now (work .exit))) ⌝ }
 {
     area_flow::clear_marks(work, g, blocks.len() / block::WIDTH);
     let mut l = 0;
     while l < p.locals {
         let kind = kinds[l];
-        if mark_one(blocks, touches, ends, work, p, g, l, kind) {
-            return true;
-        }
+        mark_one(blocks, touches, ends, work, p, g, l, kind);
         l += 1;
     }
-    false
 }

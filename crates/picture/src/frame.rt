@@ -76,7 +76,7 @@ pub fn close(height: u64)
 
 // Where the word of a refusal begins in the list of words.
 fn word(r: Refusal) -> usize
-    ensures { λ n. ⌜ n ≤ 80 ⌝ }
+    ensures { λ n. ⌜ n ≤ 72 ⌝ }
 {
     match r {
         Refusal::Count => 0,
@@ -86,10 +86,9 @@ fn word(r: Refusal) -> usize
         Refusal::Stray => 32,
         Refusal::Piece => 40,
         Refusal::Space => 48,
-        Refusal::Inverted => 56,
-        Refusal::List => 64,
-        Refusal::Want => 72,
-        Refusal::Text => 80,
+        Refusal::List => 56,
+        Refusal::Want => 64,
+        Refusal::Text => 72,
     }
 }
 
@@ -109,7 +108,7 @@ pub fn refuse(r: Refusal, i: usize) {
         &ns,
     );
     say_word(
-        b"count   line    edge    inst    stray   piece   space   invertedlist    want    text    ",
+        b"count   line    edge    inst    stray   piece   space   list    want    text    ",
         word(r),
     );
     say(b"</text>\n</svg>\n");

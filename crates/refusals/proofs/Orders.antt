@@ -10,7 +10,7 @@ use borrow.Author.Tests.{leb-true}
 use Rattle.refusals.specs.Verdicts.{first, inOrder, scan, check, countedOn, rankOf}
 use Rattle.refusals.specs.Orders.{Gives, Giving, rising, Ordered}
 use Rattle.refusals.specs.declared.Refusal.{Refusal}
-use Rattle.refusals.specs.declared.Refusal.the-variants.{Count, Line, Edge, Inst, Stray, Piece, Space, Inverted, List as ListFull, Want, Text}
+use Rattle.refusals.specs.declared.Refusal.the-variants.{Count, Line, Edge, Inst, Stray, Piece, Space, List as ListFull, Want, Text}
 use Rattle.refusals.specs.declared.Verdict.{Verdict}
 use Rattle.refusals.specs.declared.Verdict.the-variants.{Fine, Bad}
 use Rattle.refusals.proofs.Laws.{first-assoc, check-last}
@@ -119,7 +119,7 @@ lowest-wins rank rs vs o r s i j e m = lowest rank 0 rs vs (o .rises) (o .gives)
 
 -- document 01's table in its order: 11 first, then by number
 abbrev pub base : List Refusal
-base = Text ∷ Count ∷ Line ∷ Edge ∷ Inst ∷ Stray ∷ Piece ∷ Space ∷ Inverted ∷ ListFull ∷ Want ∷ []
+base = Text ∷ Count ∷ Line ∷ Edge ∷ Inst ∷ Stray ∷ Piece ∷ Space ∷ ListFull ∷ Want ∷ []
 
 pub base-rises : rising rankOf 0 base ≡ true
 base-rises = refl

@@ -4,11 +4,11 @@ use mathlib.Core.Bool.{Bool, true, false, cond, _||_}
 use mathlib.Core.List.{List, [], _∷_}
 use lib.Dec.{ltb}
 use Rattle.refusals.specs.declared.Refusal.{Refusal}
-use Rattle.refusals.specs.declared.Refusal.the-variants.{Count, Line, Edge, Inst, Stray, Piece, Space, Inverted, List as ListFull, Want, Text}
+use Rattle.refusals.specs.declared.Refusal.the-variants.{Count, Line, Edge, Inst, Stray, Piece, Space, List as ListFull, Want, Text}
 use Rattle.refusals.specs.declared.Verdict.{Verdict}
 use Rattle.refusals.specs.declared.Verdict.the-variants.{Fine, Bad}
 
--- document 01, the table's first column
+-- document 01, the table's first column; 8 is retired: "the number is not given out again"
 abbrev pub numberOf : Refusal → ℕ
 numberOf Count = 1
 numberOf Line = 2
@@ -17,7 +17,6 @@ numberOf Inst = 4
 numberOf Stray = 5
 numberOf Piece = 6
 numberOf Space = 7
-numberOf Inverted = 8
 numberOf ListFull = 9
 numberOf Want = 10
 numberOf Text = 11
@@ -65,6 +64,5 @@ rankOf Inst = 4
 rankOf Stray = 5
 rankOf Piece = 6
 rankOf Space = 7
-rankOf Inverted = 8
 rankOf ListFull = 9
 rankOf Want = 10

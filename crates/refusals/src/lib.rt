@@ -11,7 +11,6 @@ pub enum Refusal {
     Stray,
     Piece,
     Space,
-    Inverted,
     List,
     Want,
     Text,
@@ -29,7 +28,7 @@ pub enum Answer {
     Refused(Refusal, usize),
 }
 
-// The number of a refusal in document 01's table.
+// The number of a refusal in document 01's table. 8 is retired and not given out again.
 pub fn number(r: Refusal) -> u32
     ensures { λ n. ⌜ n ≡ numberOf r ⌝ }
 {
@@ -41,7 +40,6 @@ pub fn number(r: Refusal) -> u32
         Refusal::Stray => 5,
         Refusal::Piece => 6,
         Refusal::Space => 7,
-        Refusal::Inverted => 8,
         Refusal::List => 9,
         Refusal::Want => 10,
         Refusal::Text => 11,

@@ -13,7 +13,7 @@ use Rattle.carrying.specs.declared.Kind.{Kind}
 use Rattle.carrying.specs.declared.Kind.the-variants.{Unfollowed, Plain, Ending}
 use Rattle.carrying.specs.Carried.{kindOf, endsOf}
 use Rattle.areas.specs.Job.{Job, Checked, graphOf, touchesIn, areaBy, slotAreaIn, itemCount}
-use Rattle.areas.proofs.JobLaws.{job-line, job-edges, touches-fine}
+use Rattle.areas.proofs.JobLaws.{job-line, job-edges, touches-in}
 use Rattle.areas.proofs.PlainLaws.{plain-exact}
 use Rattle.areas.proofs.EndLaws.{end-exact}
 use Rattle.fitting.specs.Wants.{Want, wantAt, orderOf, Names}
@@ -68,9 +68,9 @@ module _ (J : Job) where
         by-kind : (k : Kind) → Covers (graphOf J) (accessBy k (touchesIn J i) (endsOf (J .code) i)) (areaBy (graphOf J) k (touchesIn J i) (endsOf (J .code) i))
         by-kind Unfollowed = refl
         by-kind Plain = (
-          touches-fine J C some-block i,
+          touches-in J C some-block i,
           λ rs e x p.
-              let y = plain-exact (graphOf J) (job-line J C some-block) (job-edges J C some-block) (touchesIn J i) (touches-fine J C some-block i) x .1 p in
+              let y = plain-exact (graphOf J) (job-line J C some-block) (job-edges J C some-block) (touchesIn J i) (touches-in J C some-block i) x .1 p in
               rw (Option·some-injective _ rs e) at y,
         )
         by-kind Ending = λ rs e x p.

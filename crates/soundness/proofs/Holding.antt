@@ -21,7 +21,7 @@ use Rattle.graph.proofs.RoundLaws.{cons-route}
 use Rattle.graph.proofs.Line.{mem-at}
 use Rattle.carrying.specs.Lists.{any}
 use Rattle.carrying.proofs.ListLaws.{any-true, any-false, false-any}
-use Rattle.areas.specs.Blocks.{Graph, top, bottom, InBlock, bounds, between, clip, inverted, touched, cover, leaves, passes}
+use Rattle.areas.specs.Blocks.{Graph, top, bottom, InBlock, bounds, between, clip, touched, cover, leaves, passes, AllInLine}
 use Rattle.areas.specs.Areas.{Started, Stopping, PlainAt, both, part, UpTo, EndAt, covered, arrived, PlainPoint, EndPoint}
 use Rattle.areas.proofs.BlockLaws.{seen, touched-bound, touched-between}
 use Rattle.areas.proofs.EndLaws.{until-has}
@@ -33,7 +33,7 @@ use Rattle.soundness.proofs.Agreement.{Held, alike}
 abbrev pub Covers : Graph → Access → Option (List Range) → Type 0
 Covers G unfollowed a = a ≡ none
 Covers G (plain ts) a =
-    ((t : Range) → List·Memᴰ t ts → inverted G t ≡ false) × ((rs : List Range) → a ≡ some rs → (x : ℕ) → PlainPoint G ts x → Point rs x)
+    AllInLine (G .blocks) ts × ((rs : List Range) → a ≡ some rs → (x : ℕ) → PlainPoint G ts x → Point rs x)
 Covers G (ending ts es) a = (rs : List Range) → a ≡ some rs → (x : ℕ) → EndPoint G ts es x → Point rs x
 Covers G slot a = Unit {0}
 
@@ -93,7 +93,7 @@ module _ (G : Graph) (S : Sound (G .blocks)) (ts : List Range) where
   meet k x (Behind.started r) (Ahead.reaching s) = part (r .touch) (r .listed) (r .bound) (inr r) (inl s)
   meet k x (Behind.started r) (Ahead.stopping s) = part (r .touch) (r .listed) (r .bound) (inr r) (inr s)
 
-  module _ (fine : (t : Range) → List·Memᴰ t ts → inverted G t ≡ false) where
+  module _ (fine : AllInLine (G .blocks) ts) where
     behind-over : (k x l : ℕ) → InBlock G k x → Link (G .edges) k l → Behind G ts k x → Reached (G .edges) (touched G ts) l
     behind-over k x l b a (Behind.inner t m e) = (k, touched-between G S ts k t m (fine t m) (b .block) e, one a)
     behind-over k x l b a (Behind.reached (j, t, r)) = (j, t, more r a)
@@ -203,7 +203,7 @@ module _ (F : Frame) (first : ℕ) (w : List Step) where
     in-block zero = record { block = L .begins; above = omega arith; under = S .upright _ (L .begins) }
     in-block (suc n) = block-step (getElem? w n) n (L .steps n) (in-block n)
 
-    module _ (ts : List Range) (fine : (t : Range) → List·Memᴰ t ts → inverted (F .graph) t ≡ false) where
+    module _ (ts : List Range) (fine : AllInLine (F .graph .blocks) ts) where
       behind-step : (l : ℕ) → Moves (Behind (F .graph) ts) l
       unfolding at Moves
       behind-step l = go (getElem? w l) (L .steps l)

@@ -12,7 +12,7 @@ use Rattle.carrying.specs.Lists.{any, keep, gather, below}
 use Rattle.carrying.specs.Insts.{dealt, instsOf, eachAddress}
 use Rattle.carrying.specs.Carried.{mentionsOf, carried, kindOf, touchesOf}
 use Rattle.carrying.specs.Checks.{badInst}
-use Rattle.areas.specs.Slots.{badPiece}
+use Rattle.areas.specs.Slots.{offLine}
 use Rattle.areas.specs.Blocks.{holding}
 use Rattle.areas.specs.Pieces.{joinEach, linePieces, plainArea}
 use Rattle.areas.specs.Job.{Job, localsOf, Checked, itemArea}
@@ -41,7 +41,7 @@ star-1-job = record {
 }
 
 pub star-1-checked : Checked star-1-job
-unfolding first inOrder scan tabulate placeIn usedBefore badBlock badInst badPiece any dealt
+unfolding first inOrder scan tabulate placeIn usedBefore badBlock badInst offLine any dealt
 star-1-checked = refl
 
 pub star-1-areas : (itemArea star-1-job 0 ≡ some (range 2 3 ∷ [])) × (itemArea star-1-job 1 ≡ some (range 6 7 ∷ []))

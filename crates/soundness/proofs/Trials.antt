@@ -19,7 +19,7 @@ use Rattle.carrying.specs.Lists.{any, keep, gather, below}
 use Rattle.carrying.specs.Insts.{dealt, instsOf, eachAddress}
 use Rattle.carrying.specs.Carried.{mentionsOf, carried, kindOf, touchesOf}
 use Rattle.carrying.specs.Checks.{badInst}
-use Rattle.areas.specs.Slots.{badPiece}
+use Rattle.areas.specs.Slots.{offLine}
 use Rattle.areas.specs.Blocks.{holding}
 use Rattle.areas.specs.Pieces.{joinEach, linePieces, plainArea}
 use Rattle.areas.specs.Job.{Job, localsOf, Checked}
@@ -112,7 +112,7 @@ clashing = record {
 }
 
 pub clashing-checked : Checked clashing
-unfolding firstOf inOrder scan tabulate placeIn usedBefore badBlock badInst badPiece any dealt
+unfolding firstOf inOrder scan tabulate placeIn usedBefore badBlock badInst offLine any dealt
 clashing-checked = refl
 
 abbrev clash-steps : List Step

@@ -1,24 +1,22 @@
 -- What each way out of a check comes to: number 5 of moves, and number 6.
-use Prim.Native.Nat.{ℕ, zero, suc, _-_, _*_, _≤_, _<_}
+use Prim.Native.Nat.{ℕ, zero, suc, _*_, _<_}
 use native.Mathlib.Nat.{add-zero}
 use native.Mathlib.Omega.{arith}
 use mathlib.Core.Path.{_≡_, refl, sym, ap, _∙_}
-use mathlib.Core.Bool.{Bool, true, not, _||_}
+use mathlib.Core.Bool.{Bool, true, false, not, _||_}
 use mathlib.Core.List.{List}
 use lib.ListN.{length, getD}
 use lib.Dec.{leb}
-use borrow.Author.Tests.{lt-ltb, le-ltb}
 use Rattle.refusals.specs.declared.Refusal.the-variants.{Piece as PieceWord}
 use Rattle.refusals.specs.Verdicts.{scan}
-use Rattle.words.specs.Widths.{blockCount, blockEnd, pieceWidth, pieceCount, assignedWidth, assignedCount, moveWidth, moveCount}
+use Rattle.words.specs.Widths.{pieceWidth, pieceCount, assignedWidth, assignedCount, moveWidth, moveCount}
 use Rattle.words.specs.Inner.{assignedRegister, moveKind, moveNumber, moveTo, moveFrom}
 use Rattle.words.proofs.RowLaws.{length-records, getD-records}
-use Rattle.graph.specs.Line.{Stretch, blocksOf, blockAt}
-use Rattle.graph.proofs.Line.{blocks-length, start-is, end-is}
+use Rattle.graph.specs.Line.{Stretch}
 use Rattle.carrying.specs.Insts.{Inst, instAt, isSet}
 use Rattle.carrying.specs.Carried.{Piece, piecesOf}
 use Rattle.carrying.specs.Checks.{absent}
-use Rattle.areas.specs.Slots.{Assigned, Move, assignedOf, movesOf, badMove, moveAt, badPiece, assignedVerdict}
+use Rattle.areas.specs.Slots.{Assigned, Move, assignedOf, movesOf, badMove, moveAt, offLine, badPiece, assignedVerdict}
 use Rattle.insts.proofs.DealtLaws.{scan-same}
 use Rattle.spill_checks.specs.Inner.{pieceAt}
 
@@ -66,30 +64,12 @@ module _ (s : List ℕ) where
   pub piece-at : (i : ℕ) → i < pieceCount s → getD (piecesOf s) i (record { register = 0; start = 0; end = 0 }) ≡ pieceAt s i
   piece-at i h = getD-records pieceWidth (λ f. record { register = f 0; start = f 1; end = f 2 }) s i _ h
 
--- the line's first and last point
-module _ (blocks : List ℕ) (some : 1 ≤ blockCount blocks) where
-  pub line-start : blockAt (blocksOf blocks) 0 .start ≡ getD blocks 1 0
-  line-start = start-is blocks 0 (omega arith)
-
-  pub line-end : blockAt (blocksOf blocks) (length (blocksOf blocks) - 1) .end ≡ blockEnd blocks (blockCount blocks - 1)
-  line-end = ap (λ (n : ℕ). blockAt (blocksOf blocks) (n - 1) .end) (blocks-length blocks) ∙ end-is blocks (blockCount blocks - 1) (omega arith)
-
 module _ (bs : List Stretch) (v : ℕ) (p : Piece) where
-  pub piece-1 : p .end < p .start → true ≡ badPiece bs v p
-  unfolding badPiece
-  piece-1 h = simp (lt-ltb (p .end) (p .start) h)
+  pub piece-off : offLine bs (p .start) (p .end) ≡ true → true ≡ badPiece bs v p
+  piece-off e = simp e
 
-  pub piece-2 : p .start ≤ p .end → p .start < blockAt bs 0 .start → true ≡ badPiece bs v p
-  unfolding badPiece
-  piece-2 h i = simp (le-ltb (p .end) (p .start) h, lt-ltb (p .start) (blockAt bs 0 .start) i)
-
-  pub piece-3 : p .start ≤ p .end → blockAt bs 0 .start ≤ p .start → blockAt bs (length bs - 1) .end < p .end → true ≡ badPiece bs v p
-  unfolding badPiece
-  piece-3 h i j = simp (le-ltb (p .end) (p .start) h, le-ltb (p .start) (blockAt bs 0 .start) i, lt-ltb (blockAt bs (length bs - 1) .end) (p .end) j)
-
-  pub piece-4 : p .start ≤ p .end → blockAt bs 0 .start ≤ p .start → p .end ≤ blockAt bs (length bs - 1) .end → leb v (p .register) ≡ badPiece bs v p
-  unfolding badPiece
-  piece-4 h i j = simp (le-ltb (p .end) (p .start) h, le-ltb (p .start) (blockAt bs 0 .start) i, le-ltb (blockAt bs (length bs - 1) .end) (p .end) j)
+  pub piece-on : offLine bs (p .start) (p .end) ≡ false → leb v (p .register) ≡ badPiece bs v p
+  piece-on e = simp e
 
 -- ---- assignments
 

@@ -102,16 +102,7 @@ fn bad_piece(blocks: &[u32], v: u32, pieces: &[u32], i: usize) -> bool
     requires { ⌜ (1 ≤ blockCount (now blocks)) × (i < pieceCount (now pieces)) ⌝ }
     ensures { λ r. ⌜ r ≡ badPiece (blocksOf (now (blocks .entry))) v (pieceAt (now (pieces .entry)) i) ⌝ }
 {
-    let start = pieces[piece::WIDTH * i + piece::START];
-    let end = pieces[piece::WIDTH * i + piece::END];
-    if end < start {
-        return true;
-    }
-    if start < blocks[1] {
-        return true;
-    }
-    let last = blocks.len() / block::WIDTH - 1;
-    if blocks[block::WIDTH * last + block::END] < end {
+    if area_checks::off_line(blocks, pieces, i) {
         return true;
     }
     v <= pieces[piece::WIDTH * i]

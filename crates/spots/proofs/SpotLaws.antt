@@ -1,29 +1,26 @@
 -- The block of a point by a count of starts, the first end by a count of ends, and the touches of a work space by index.
-use Prim.Native.Nat.{ℕ, zero, suc, _+_, _-_, _/_, _%_, _^_, _≤_, _<_, min, max}
+use Prim.Native.Nat.{ℕ, zero, suc, _+_, _-_, _/_, _%_, _^_, _≤_, _<_}
 use native.Mathlib.Omega.{arith}
 use mathlib.Core.Path.{_≡_, refl, sym, ap, _∙_, subst}
 use mathlib.Core.Logic.{_⊎_, inl, inr}
-use mathlib.Core.Bool.{Bool, true, false, cond}
+use mathlib.Core.Bool.{true, false, cond}
 use mathlib.Core.List.{List, [], List·Memᴰ}
 use lib.ListN.{length, getD}
 use lib.Dec.{leb, ltb}
 use borrow.Author.Tests.{ltb-true, ltb-false}
 use Rattle.words.specs.Inner.{Rising, Splits, part}
-use Rattle.words.specs.Widths.{blockCount, blockStart, blockEnd}
+use Rattle.words.specs.Widths.{blockCount, blockStart}
 use Rattle.words.proofs.SortLaws.{rising-le}
 use Rattle.words.proofs.Points.{cut}
 use Rattle.words.proofs.RegionLaws.{length-part, getD-part}
-use Rattle.words.proofs.Bools.{or-left}
 use Rattle.ranges.specs.declared.Range.{Range}
 use Rattle.ranges.specs.Points.{range}
 use Rattle.ranges.specs.Inner.{unpack, unpacked}
 use Rattle.ranges.proofs.FormLaws.{unpacked-at, unpacked-length}
 use Rattle.graph.specs.Paths.{Edge}
 use Rattle.graph.specs.Line.{blocksOf, blockAt, Sound}
-use Rattle.graph.proofs.Line.{mem-at, at-mem, blocks-length, start-is, end-is}
-use Rattle.carrying.specs.Lists.{any}
-use Rattle.carrying.proofs.ListLaws.{any-true, false-any}
-use Rattle.areas.specs.Blocks.{Graph, top, bottom, holding, blockOf, clip, reversed, inverted, until}
+use Rattle.graph.proofs.Line.{mem-at, at-mem, blocks-length, start-is}
+use Rattle.areas.specs.Blocks.{Graph, top, holding, blockOf, until}
 use Rattle.areas.specs.Areas.{UpTo}
 use Rattle.areas.proofs.BlockLaws.{block-below}
 use Rattle.areas.proofs.EndLaws.{until-has, until-only}
@@ -120,22 +117,6 @@ module _ (w : List ℕ) (ends stops : ℕ) (fits : ends + stops ≤ length w) wh
 
 -- ---- touches
 
-pub clip-is : (blocks : List ℕ) (k start end first last : ℕ) (es : List Edge) → k < blockCount blocks
-    → last ≡ min end (blockEnd blocks k) → first ≡ max start (blockStart blocks k)
-    → ltb last first ≡ reversed (clip (lineOf blocks es) k (range start end))
-clip-is blocks k start end first last es h e f =
-    ap (λ (x : ℕ). ltb x first) (e ∙ ap (λ (b : ℕ). min end b) (sym (end-is blocks k h)))
-    ∙ ap (λ (x : ℕ). ltb (min end (bottom (lineOf blocks es) k)) x) (f ∙ ap (λ (b : ℕ). max start b) (sym (start-is blocks k h)))
-
-module _ (G : Graph) (t : Range) (k : ℕ) where
-  pub inverted-first : k ≡ blockOf G (t .start) → true ≡ reversed (clip G k t) → true ≡ inverted G t
-  inverted-first e r = sym (or-left (reversed (clip G (blockOf G (t .start)) t)) _ (rw (← e) (sym r)))
-
-  pub inverted-last : k ≡ blockOf G (t .start) → false ≡ reversed (clip G k t) → (l : ℕ) (v : Bool) → l ≡ blockOf G (t .end) → v ≡ reversed (clip G l t) → v ≡ inverted G t
-  inverted-last e r l v f q =
-      let z : reversed (clip G (blockOf G (t .start)) t) ≡ false = rw (← e) (sym r) in
-      rw z (q ∙ ap (λ (j : ℕ). reversed (clip G j t)) f)
-
 -- a word taken apart
 pub unpack-is : (x s e : ℕ) → s ≡ x / 2 ^ 32 → e ≡ x % 2 ^ 32 → range s e ≡ unpack x
 unpack-is x s e p q = ap (λ (a : ℕ). range a e) p ∙ ap (λ (b : ℕ). range (x / 2 ^ 32) b) q
@@ -151,11 +132,3 @@ module _ (w : List ℕ) (at count : ℕ) (fits : at + count ≤ length w) where
       let (i, h, q) = at-mem (unpacked (part at count w)) t (range 0 0) m in
       let l : i < count = rw (unpacked-length (part at count w), length-part at count w fits) at h in
       (i, l, ap unpack (sym (getD-part at count w i l)) ∙ sym (unpacked-at (part at count w) i) ∙ q)
-
-  -- a test of each touch in turn
-  module _ (f : Range → Bool) where
-    pub any-hit : (i : ℕ) → i < count → f (unpack (getD w (at + i) 0)) ≡ true → true ≡ any f (unpacked (part at count w))
-    any-hit i h e = sym (any-true f (unpacked (part at count w)) (unpack (getD w (at + i) 0)) (touch-in i h) e)
-
-    pub any-none : ((i : ℕ) → i < count → f (unpack (getD w (at + i) 0)) ≡ false) → false ≡ any f (unpacked (part at count w))
-    any-none g = sym (false-any f (unpacked (part at count w)) (λ t m. let (i, h, e) = touch-of t m in subst (λ (s : Range). f s ≡ false) e (g i h)))

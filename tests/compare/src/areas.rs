@@ -71,14 +71,14 @@ pub fn lines(case: &Case) -> Vec<Option<String>> {
     vec![Some(format!("{} {}:{given} |{told} | {}", case.name, ranges.len() / 2, lent.space(head[1] as usize)))]
 }
 
-/// A touch that is not reversed where it is clipped to its first and its last block: it starts at or before its last block's end, and ends in or after its first.
+/// A touch in the line: of one spot, from a spot to another, or from the first or to the last point of all.
 fn touch(r: &mut Random, blocks: &[u32]) -> [u32; 2] {
     let (_, start, end) = r.spot(blocks);
     let (_, other, far) = r.spot(blocks);
     let (low, high) = (blocks[1], blocks[blocks.len() - 1]);
     match r.below(8) {
-        0 => [low.saturating_sub(r.below(3)), end],
-        1 => [start, high + r.below(3)],
+        0 => [low, end],
+        1 => [start, high],
         2 | 3 => [start.min(other), end.max(far)],
         _ => [start, end],
     }

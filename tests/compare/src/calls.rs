@@ -70,7 +70,7 @@ impl Called {
         Self { answer: call(&mut after), before, after }
     }
 
-    /// Holds it to what is wanted; W words of the work space are zero after an answer and after 8 and 9. The refusal's number, or 0, or the last place of a tally for absent.
+    /// Holds it to what is wanted; W words of the work space are zero after an answer and after 9. The refusal's number, or 0, or the last place of a tally for absent.
     pub fn hold(self, wanted: Wanted, w: usize, lent: &dyn std::fmt::Debug) -> usize {
         let mut left = self.before;
         let (answer, number) = match &wanted {
@@ -82,7 +82,7 @@ impl Called {
             Wanted::Absent => (ABSENT, Tally::NONE),
             Wanted::Refused(number, index) => (code(*number, *index), *number as usize),
         };
-        if [0, 8, 9, Tally::NONE].contains(&number) {
+        if [0, 9, Tally::NONE].contains(&number) {
             left.work[..w].fill(0);
         }
         let told = |code: u64| if code >> 32 == 0 || code == ABSENT { format!("{code}") } else { format!("refusal {} at {}", code >> 32, code as u32) };

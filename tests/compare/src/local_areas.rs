@@ -34,7 +34,14 @@ fn answer(areas: &Areas, room: usize) -> Wanted {
 /// The most that `local_areas` may be lent of kinds, touches and ends.
 const LIMITS: [(usize, usize); 3] = [(KINDS, 2048), (TOUCHES, 65536), (ENDS, 65536)];
 
-/// Numbers 1 to 7: 2 and 3 by the blocks and edges, 4 a kind over 2, at its local.
+/// Number 6: the first touch that is reversed or has a point in no block, whoever's it is: one has none where as many of its points lie in blocks as it has.
+fn outside(lent: &Lent) -> Option<(u32, u32)> {
+    let shared = |b: &[u32], touch: &[u32]| (u64::from(b[2].min(touch[2])) + 1).saturating_sub(u64::from(b[1].max(touch[1])));
+    let within = |touch: &[u32]| touch[1] <= touch[2] && lent.rows(BLOCKS).map(|b| shared(b, touch)).sum::<u64>() == u64::from(touch[2] - touch[1]) + 1;
+    lent.rows(TOUCHES).position(|touch| !within(touch)).map(|touch| (6, touch as u32))
+}
+
+/// Numbers 1 to 7: 2 and 3 by the blocks and edges, 4 a kind over 2, at its local, 6 a touch, at that touch.
 fn refused(lent: &Lent, lists: [usize; 2], work: usize) -> Option<(u32, u32)> {
     let mut graph = Job { points: lent.points, ..Job::default() };
     [BLOCKS, EDGES].into_iter().for_each(|group| graph.groups[group] = lent.groups[group].clone());
@@ -42,17 +49,23 @@ fn refused(lent: &Lent, lists: [usize; 2], work: usize) -> Option<(u32, u32)> {
     let over = LIMITS.iter().any(|&(group, most)| lent.count(group) > most);
     let kind = || lent.groups[KINDS].iter().position(|&kind| kind > 2).map(|local| (4, local as u32));
     let short = [work < lent.space(lists[0]), lists[1] / 3 < lent.locals()];
-    refusals::records(&graph, cut || over).or_else(kind).or_else(|| refusals::space(&short))
+    refusals::records(&graph, cut || over).or_else(kind).or_else(|| outside(lent)).or_else(|| refusals::space(&short))
 }
 
-/// Number 8: a touch of a local that is followed ends before it starts where it is clipped to its first or to its last block. The block of a point before all blocks is
-/// the first, after all the last.
-fn inverted(lent: &Lent) -> bool {
-    let blocks: Vec<&[u32]> = lent.rows(BLOCKS).collect();
-    let holding = |point: u32| blocks.iter().rposition(|b| b[1] <= point).unwrap_or(0);
-    let counts = |local: u32| lent.groups[KINDS].get(local as usize).is_some_and(|&kind| kind != 0);
-    let reversed = |touch: &[u32], at: usize| touch[1].max(blocks[at][1]) > touch[2].min(blocks[at][2]);
-    lent.rows(TOUCHES).any(|touch| counts(touch[0]) && (reversed(touch, holding(touch[1])) || reversed(touch, holding(touch[2]))))
+/// One touch reversed by a point or two, or moved to the first or the last point of the blocks, or past it.
+fn stray(r: &mut Random, lent: &mut Lent) {
+    let (low, high) = (lent.groups[BLOCKS][1], lent.groups[BLOCKS][lent.groups[BLOCKS].len() - 1]);
+    let count = lent.count(TOUCHES) as u32;
+    if count == 0 {
+        return;
+    }
+    let at = 3 * r.below(count) as usize;
+    let touch = &mut lent.groups[TOUCHES][at..at + 3];
+    match r.below(3) {
+        0 => touch[1] = touch[2].saturating_add(1 + r.below(2)),
+        1 => touch[1] = low.wrapping_sub(r.below(3)),
+        _ => touch[2] = high.saturating_add(r.below(3)),
+    }
 }
 
 fn damage(r: &mut Random, lent: &mut Lent) {
@@ -79,6 +92,9 @@ fn damage(r: &mut Random, lent: &mut Lent) {
 
 pub fn local_areas(r: &mut Random) -> usize {
     let mut lent = some(r);
+    if r.one_in(4) {
+        stray(r, &mut lent);
+    }
     if r.below(5) < 2 {
         (0..1 + r.below(3)).for_each(|_| damage(r, &mut lent));
     }
@@ -99,7 +115,6 @@ pub fn local_areas(r: &mut Random) -> usize {
     });
     let wanted = match refused {
         Some((number, index)) => Wanted::Refused(number, index),
-        None if inverted(&lent) => Wanted::Refused(8, 0),
         None => answer(&lent.areas(), list),
     };
     called.hold(wanted, w, &lent)

@@ -71,7 +71,7 @@ impl Left {
 
 fn sample() -> (String, String) {
     let (mut jobs, mut answers, mut counts) = (String::new(), String::new(), [0; 6]);
-    // number 8 has no input in a job
+    // number 8 is retired
     let mut left = Left { plain: PLAIN, showing: SHOWING, refused: std::array::from_fn(|number| if number == 0 || number == 8 { 0 } else { REFUSED }) };
     for seed in 1.. {
         for (kind, (job, lent)) in [("random", random(seed)), ("damaged", damaged(seed))] {

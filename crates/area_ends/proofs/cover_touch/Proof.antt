@@ -47,7 +47,7 @@ same-length c = search needs
 returns : tie.Need-returns
 returns c =
     let u = c .before .before .before .before .before .before .before .before .before .before in
-    λ es. covered-one (lineOf (now (u .args .blocks)) es) (u .pre .0 .0) (endsAt (u .args .t) (now (u .args .work))) (u .args .s) (u .args .x) (u .args .m) (u .pre .0 .2 es) _ _
+    λ es. covered-one (lineOf (now (u .args .blocks)) es) (u .pre .0 .0) (endsAt (u .args .t) (now (u .args .work))) (u .args .s) (u .args .x) (u .args .m) (u .pre .0 .2) _ _
     (c .before .before .before .before .before .before .holding .ensures .is es ∙ ap (λ (y : ℕ). blockOf (lineOf (now (u .args .blocks)) es) y)
     (c .before .before .before .before .before .before .before .start-of .ensures)) (c .before .before .before .before .holding2 .ensures .is es ∙ ap
     (λ (y : ℕ). blockOf (lineOf (now (u .args .blocks)) es) y) (c .before .before .before .before .before .end-of .ensures)) (now (u .args .work)) (u .pre .1 .2) _
@@ -90,7 +90,7 @@ returns-2 c =
     let u = c .before .before .before .before .before .before in
     let p = u .before .before in
     let q = p .before .before .before .before .before .before in
-    λ es. covered-two (lineOf (now (q .args .blocks)) es) (q .pre .0 .0) (endsAt (q .args .t) (now (q .args .work))) (q .args .s) (q .args .x) (q .args .m) (q .pre .0 .2 es) _ _
+    λ es. covered-two (lineOf (now (q .args .blocks)) es) (q .pre .0 .0) (endsAt (q .args .t) (now (q .args .work))) (q .args .s) (q .args .x) (q .args .m) (q .pre .0 .2) _ _
     (p .before .before .holding .ensures .is es ∙ ap (λ (y : ℕ). blockOf (lineOf (now (q .args .blocks)) es) y) (p .before .before .before .start-of .ensures))
     (p .holding2 .ensures .is es ∙ ap (λ (y : ℕ). blockOf (lineOf (now (q .args .blocks)) es) y) (p .before .end-of .ensures)) (now (q .args .work)) (q .pre .1 .2) _
     (u .cover .ensures) _ (c .before .before .cover2 .ensures ∙ ap (λ (l : List ℕ). cover (lineOf (now (q .args .blocks)) es) l (p .holding2 .result .0) (unpack (q .args .x)))
@@ -126,7 +126,7 @@ returns-3 c =
     let u = c .before .before .before .before .before .before .before .before in
     let p = u .before .before in
     let q = p .before .before .before .before .before .before in
-    λ es. covered-three (lineOf (now (q .args .blocks)) es) (q .pre .0 .0) (endsAt (q .args .t) (now (q .args .work))) (q .args .s) (q .args .x) (q .args .m) (q .pre .0 .2 es) _ _
+    λ es. covered-three (lineOf (now (q .args .blocks)) es) (q .pre .0 .0) (endsAt (q .args .t) (now (q .args .work))) (q .args .s) (q .args .x) (q .args .m) (q .pre .0 .2) _ _
     (p .before .before .holding .ensures .is es ∙ ap (λ (y : ℕ). blockOf (lineOf (now (q .args .blocks)) es) y) (p .before .before .before .start-of .ensures))
     (p .holding2 .ensures .is es ∙ ap (λ (y : ℕ). blockOf (lineOf (now (q .args .blocks)) es) y) (p .before .end-of .ensures)) (now (q .args .work)) (q .pre .1 .2) _
     (u .cover .ensures) _ (c .before .before .before .before .cover2 .ensures ∙ ap (λ (l : List ℕ). cover (lineOf (now (q .args .blocks)) es) l (p .holding2 .result .0)

@@ -5,18 +5,19 @@ use mathlib.Core.Path.{refl}
 use denote.Ref.{now}
 use mathlib.Core.List.{List, []}
 use Rattle.graph.specs.Paths.{Edge}
+use Rattle.graph.specs.Line.{blocksOf}
 use Rattle.spots.specs.Spots.{lineOf}
 use Rattle.spots.specs.Inner.{touchesAt}
-use Rattle.area_pieces.specs.Inner.{Upright}
+use Rattle.areas.specs.Blocks.{AllInLine}
 use lib.ListN.{length}
-use Rattle.area_pieces.proofs.SpanLaws.{touch-upright}
+use Rattle.area_pieces.proofs.SpanLaws.{touch-inline}
 use Rattle.area_ends.proofs.CoverLaws.{Covering, cover-begin, cover-fits, cover-stand, cover-room, cover-word, cover-more, cover-done}
 use Rattle.area_ends.proofs.covers.Statement.{statement}
 use Rattle.area_ends.proofs.covers.Tie as tie
 use Rattle.words.specs.Widths.{blockCount}
 
 abbrev Inv-loop : tie.InvT-loop
-Inv-loop blocks work₀ t s m₀ i₀ work m i = Upright blocks (touchesAt t work₀) × ((es : List Edge) → Covering (lineOf blocks es) t s (blockCount blocks) work₀ work i m)
+Inv-loop blocks work₀ t s m₀ i₀ work m i = AllInLine (blocksOf blocks) (touchesAt t work₀) × ((es : List Edge) → Covering (lineOf blocks es) t s (blockCount blocks) work₀ work i m)
 
 abbrev μ-loop : tie.MeasureT-loop
 μ-loop blocks work₀ t s m₀ i₀ work m i = t .count - i
@@ -40,7 +41,7 @@ cover-touch-requires c κs =
       (
         u .pre .0,
         cover-stand (s .loop .inv .1 []),
-        touch-upright (now (u .args .blocks)) (u .args .t) (now (u .args .work)) (s .loop .i) _ (omega (arith, u .pre .2)) (s .loop .inv .0)
+        touch-inline (now (u .args .blocks)) (u .args .t) (now (u .args .work)) (s .loop .i) _ (omega (arith, u .pre .2)) (s .loop .inv .0)
             (omega arith) (cover-word (s .loop .inv .1 []) (omega arith)),
       ),
       (

@@ -1,4 +1,4 @@
--- `local_areas` meets its contract: refused, or measured and told.
+-- `local_areas` meets its contract: refused, or measured and listed.
 use native.Mathlib.Omega.{arith}
 use mathlib.Core.Path.{sym, _∙_}
 use lib.ListN.{length}
@@ -37,13 +37,13 @@ solve-requires c κs =
     (lent (now (a .blocks)) (now (a .edges)) (a .points) (now (a .kinds)) (now (a .touches)) (now (a .ends)) (length (now (a .areas))) (length (now (a .items))) (now (a .work))
     (sym ((c .before .before .before .before .refusal) .ensures) ∙ (c .before .before .enum-told) .given .1)) .0
 
-tell-requires : tie.Need-tell-requires
-tell-requires c κs =
+list-requires : tie.Need-list-requires
+list-requires c κs =
     let s = c .before .before .before .before .before in
     let a = (s .before .before .before .before .before .before .before .before .before .before .before .before .before .before .args) in
     let l = (lent (now (a .blocks)) (now (a .edges)) (a .points) (now (a .kinds)) (now (a .touches)) (now (a .ends)) (length (now (a .areas))) (length (now (a .items))) (now (a .work))
     (sym (s .before .before .before .before .before .refusal .ensures) ∙ s .before .before .before .enum-told .given .1)) in
-    (record { bad = _; area = _; found = s .solve .ensures .found }, l .1, l .0 .small .few-ranges, omega (arith, l .0 .space, s .solve .ensures .kept .len))
+    (record { area = _; found = s .solve .ensures .listed }, l .1, l .0 .small .few-ranges, omega (arith, l .0 .space, s .solve .ensures .kept .len))
 
 clear-requires : tie.Need-clear-requires
 clear-requires c κs =
@@ -74,8 +74,8 @@ returns-2 c =
     let a = (s .before .before .before .before .before .before .before .before .before .before .before .before .before .before .args) in
     answered-entry (now (a .blocks)) (now (a .edges)) (a .points) (now (a .kinds)) (now (a .touches)) (now (a .ends)) (now (a .areas)) (now (a .items)) (now (a .work))
     (sym (s .before .before .before .before .before .refusal .ensures) ∙ s .before .before .before .enum-told .given .1)
-    (c .before .before .before .before .before .before .before .before .tell .ensures _ _ (s .solve .ensures .found)) (s .solve .ensures .kept) (s .before .before .needed .ensures)
+    (c .before .before .before .before .before .before .before .before .list .ensures _ (s .solve .ensures .listed)) (s .solve .ensures .kept) (s .before .before .needed .ensures)
     (c .before .before .clear .ensures)
 
 pub local-areas-spec : {M : Type 1} → statement M
-local-areas-spec = tie.close (tie.spec refusal-requires enum-known-v returns enum-told needed-requires solve-requires tell-requires clear-requires same-length same-length-2 same-length-3 returns-2)
+local-areas-spec = tie.close (tie.spec refusal-requires enum-known-v returns enum-told needed-requires solve-requires list-requires clear-requires same-length same-length-2 same-length-3 returns-2)

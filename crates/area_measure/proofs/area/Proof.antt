@@ -10,7 +10,7 @@ use Rattle.area_measure.proofs.area.Tie as tie
 plain-requires : tie.Need-plain-requires
 plain-requires c κs =
     let s = c .before .before .before .before in
-    let m = s .pre .1 in ((s .pre .0, laid-less _ (m .laid) (omega arith), m .flowing), (m .unmarked, m .both (omega arith), m .upright))
+    let m = s .pre .1 in ((s .pre .0, laid-less _ (m .laid) (omega arith), m .flowing), (m .unmarked, m .both (omega arith), m .in-line))
 
 same-length : tie.Need-same-length
 same-length c = search needs
@@ -23,7 +23,7 @@ returns c =
 ending-requires : tie.Need-ending-requires
 ending-requires c κs =
     let s = c .before .before .before .before in
-    let m = s .pre .1 in ((s .pre .0, m .laid, m .stand), (m .bounded, m .upright))
+    let m = s .pre .1 in ((s .pre .0, m .laid, m .stand), (m .bounded, m .in-line))
 
 same-length-2 : tie.Need-same-length-2
 same-length-2 c = search needs

@@ -13,11 +13,12 @@ use Rattle.bits.specs.Bits.{bit}
 use Rattle.ranges.specs.declared.Range.{Range}
 use Rattle.ranges.specs.Inner.{unpacked}
 use Rattle.graph.specs.Paths.{Edge}
+use Rattle.graph.specs.Line.{blocksOf}
 use Rattle.carrying.specs.Lists.{gather}
 use Rattle.areas.specs.Job.{rangesIn, rangesOf}
 use Rattle.spots.specs.Spots.{lineOf}
 use Rattle.area_pieces.specs.declared.Local.{Local}
-use Rattle.area_pieces.specs.Inner.{Upright}
+use Rattle.areas.specs.Blocks.{AllInLine}
 use Rattle.area_flow.specs.declared.Grid.{Grid}
 use Rattle.area_flow.specs.Inner.{rowBit, blockBit}
 use Rattle.local_spots.specs.declared.Places.{Places}
@@ -74,14 +75,14 @@ pub record Fits (blocks kinds touches ends : List ℕ) (p : Places) (g : Grid) (
   pub long : length kinds ≤ g .words * 64
   pub few : length kinds * mostIn blocks touches < 2 ^ 32
 
--- the rows of every local stand, number 8 was ruled out of each followed one, and no block is marked
+-- the rows of every local stand, its touches are in the line, and no block is marked
 pub record Ready (blocks kinds touches ends : List ℕ) (p : Places) (g : Grid) (mark : ℕ) (o : Listing) (w : List ℕ) : Type 0 where
   pub laid : Fits blocks kinds touches ends p g mark o w
   pub chains : Chains p touches ends w
   pub unmarked : (c : ℕ) → c < g .width * 64 → bit w mark c ≡ false
   pub rest : (l b : ℕ) → l < length kinds → blockCount blocks ≤ b → b < g .width * 64 → blockBit g w l b ≡ false
   pub both : (l k : ℕ) → l < length kinds → getD kinds l 0 ≡ 1 → k < blockCount blocks → blockBit g w l k ≡ (rowBit g (g .written) w k l && rowBit g (g .read) w k l)
-  pub upright : (l : ℕ) → l < length kinds → 0 < getD kinds l 0 → Upright blocks (touchesFor touches l)
+  pub in-line : (l : ℕ) → AllInLine (blocksOf blocks) (touchesFor touches l)
 
 -- local l's rows are those of its kind, its touches and its ends
 abbrev pub RowsOf : List ℕ → List ℕ → List ℕ → List ℕ → Grid → ℕ → List ℕ → List Edge → ℕ → Type 0

@@ -10,14 +10,15 @@ use Rattle.words.specs.Widths.{blockCount}
 use Rattle.ranges.specs.declared.Range.{Range}
 use Rattle.ranges.specs.Inner.{unpacked}
 use Rattle.graph.specs.Paths.{Edge}
+use Rattle.graph.specs.Line.{blocksOf}
 use Rattle.graph.specs.Inner.Work.{Within}
-use Rattle.areas.specs.Blocks.{Graph}
+use Rattle.areas.specs.Blocks.{Graph, AllInLine}
 use Rattle.areas.specs.Job.{areaBy, rangesIn}
 use Rattle.spots.specs.declared.Spots.{Spots}
 use Rattle.spots.specs.Spots.{lineOf}
 use Rattle.spots.specs.Inner.{touchesAt, endsAt, Stand}
 use Rattle.area_pieces.specs.declared.Local.{Local}
-use Rattle.area_pieces.specs.Inner.{Laid, Flowing, Unmarked, Bounded, Both, Upright, PlainRows}
+use Rattle.area_pieces.specs.Inner.{Laid, Flowing, Unmarked, Bounded, Both, PlainRows}
 use Rattle.area_ends.specs.Inner.{EndRow}
 use Rattle.kind_numbers.specs.Numbers.{kindBy}
 use Rattle.area_measure.specs.declared.Listing.{Listing}
@@ -33,7 +34,7 @@ pub record RowsFor (G : Graph) (kind : ℕ) (s : Local) (ts : List Range) (es : 
   pub plain : kind ≡ 1 → PlainRows G s ts w
   pub ending : 1 < kind → EndRow G s ts es w
 
--- a plain or ending local, by its kind's number, whose touches, ends and rows stand in the work space, and whose number 8 was ruled out
+-- a plain or ending local, by its kind's number, whose touches, ends and rows stand in the work space, the touches in the line
 pub record Measurable (blocks : List ℕ) (kind : ℕ) (t : Spots) (s : Local) (w : List ℕ) : Type 0 where
   pub followed : 0 < kind
   pub laid : Laid t s (blockCount blocks) (mostOf blocks t) w
@@ -42,7 +43,7 @@ pub record Measurable (blocks : List ℕ) (kind : ℕ) (t : Spots) (s : Local) (
   pub unmarked : Unmarked s w
   pub bounded : Bounded s (blockCount blocks) w
   pub both : kind ≡ 1 → Both s (blockCount blocks) w
-  pub upright : Upright blocks (touchesAt t w)
+  pub in-line : AllInLine (blocksOf blocks) (touchesAt t w)
 
 -- its area stands from `to` on
 pub record AreaIn (blocks : List ℕ) (kind : ℕ) (t : Spots) (s : Local) (w₀ w : List ℕ) (r : ℕ) : Type 0 where

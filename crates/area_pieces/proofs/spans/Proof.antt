@@ -5,17 +5,18 @@ use mathlib.Core.Path.{refl}
 use mathlib.Core.List.{List, []}
 use denote.Ref.{now}
 use Rattle.graph.specs.Paths.{Edge}
+use Rattle.graph.specs.Line.{blocksOf}
 use Rattle.spots.specs.Spots.{lineOf}
 use Rattle.spots.specs.Inner.{touchesAt}
-use Rattle.area_pieces.specs.Inner.{Upright}
+use Rattle.areas.specs.Blocks.{AllInLine}
 use lib.ListN.{length}
-use Rattle.area_pieces.proofs.SpanLaws.{Spanning, span-start, span-word, span-free, span-more, span-done, touch-upright}
+use Rattle.area_pieces.proofs.SpanLaws.{Spanning, span-start, span-word, span-free, span-more, span-done, touch-inline}
 use Rattle.area_pieces.proofs.spans.Statement.{statement}
 use Rattle.area_pieces.proofs.spans.Tie as tie
 use Rattle.words.specs.Widths.{blockCount}
 
 abbrev Inv-loop : tie.InvT-loop
-Inv-loop blocks work₀ t s m₀ i₀ work m i = Upright blocks (touchesAt t work₀) × ((es : List Edge) → Spanning (lineOf blocks es) t s (blockCount blocks) work₀ work i m)
+Inv-loop blocks work₀ t s m₀ i₀ work m i = AllInLine (blocksOf blocks) (touchesAt t work₀) × ((es : List Edge) → Spanning (lineOf blocks es) t s (blockCount blocks) work₀ work i m)
 
 abbrev μ-loop : tie.MeasureT-loop
 μ-loop blocks work₀ t s m₀ i₀ work m i = t .count - i
@@ -38,7 +39,7 @@ touch-requires c κs =
     let u = s .before .before .before in (
       u .pre .0,
       span-free (s .loop .inv .1 []) (omega arith),
-      touch-upright (now (u .args .blocks)) (u .args .t) (now (u .args .work)) (s .loop .i) _
+      touch-inline (now (u .args .blocks)) (u .args .t) (now (u .args .work)) (s .loop .i) _
           (omega (arith, s .loop .inv .1 [])) (s .loop .inv .0) (omega arith) (span-word (s .loop .inv .1 []) (omega arith)),
     )
 

@@ -37,7 +37,7 @@ returns c =
     let t = c .before .before .before .before .before in
     let u = t .before .before in
     let p = u .before .before .before .before in
-    λ es. put-one (lineOf (now (p .args .blocks)) es) (p .pre .0) (p .args .s) (p .args .x) (p .args .m) (p .pre .2 es) _ _ _
+    λ es. put-one (lineOf (now (p .args .blocks)) es) (p .pre .0) (p .args .s) (p .args .x) (p .args .m) (p .pre .2) _ _ _
     (u .holding .ensures .is es ∙ ap (λ (y : ℕ). blockOf (lineOf (now (p .args .blocks)) es) y) (u .before .start-of .ensures))
     (t .holding2 .ensures .is es ∙ ap (λ (y : ℕ). blockOf (lineOf (now (p .args .blocks)) es) y) (t .before .end-of .ensures)) (p .pre .1 .wide) (u .holding .ensures .below)
     (t .holding2 .ensures .below) (p .pre .1 .fits) (omega arith) (c .before .before .before .clip .ensures)
@@ -61,7 +61,7 @@ returns-2 c =
     let t = c .before .before .before .before .before .before .before .before .before .before in
     let u = t .before .before in
     let p = u .before .before .before .before in
-    λ es. put-two (lineOf (now (p .args .blocks)) es) (p .pre .0) (p .args .s) (p .args .x) (p .args .m) (p .pre .2 es) _ _ _
+    λ es. put-two (lineOf (now (p .args .blocks)) es) (p .pre .0) (p .args .s) (p .args .x) (p .args .m) (p .pre .2) _ _ _
     (u .holding .ensures .is es ∙ ap (λ (y : ℕ). blockOf (lineOf (now (p .args .blocks)) es) y) (u .before .start-of .ensures))
     (t .holding2 .ensures .is es ∙ ap (λ (y : ℕ). blockOf (lineOf (now (p .args .blocks)) es) y) (t .before .end-of .ensures)) (p .pre .1 .wide) (u .holding .ensures .below)
     (t .holding2 .ensures .below) (p .pre .1 .fits) (omega arith) (omega arith) (c .before .before .before .before .before .before .before .before .clip .ensures)
@@ -96,7 +96,7 @@ returns-3 c =
     let t = c .before .before .before .before .before .before .before .before .before .before .before .before in
     let u = t .before .before in
     let p = u .before .before .before .before in
-    λ es. put-three (lineOf (now (p .args .blocks)) es) (p .pre .0) (p .args .s) (p .args .x) (p .args .m) (p .pre .2 es) _ _ _
+    λ es. put-three (lineOf (now (p .args .blocks)) es) (p .pre .0) (p .args .s) (p .args .x) (p .args .m) (p .pre .2) _ _ _
     (u .holding .ensures .is es ∙ ap (λ (y : ℕ). blockOf (lineOf (now (p .args .blocks)) es) y) (u .before .start-of .ensures))
     (t .holding2 .ensures .is es ∙ ap (λ (y : ℕ). blockOf (lineOf (now (p .args .blocks)) es) y) (t .before .end-of .ensures)) (p .pre .1 .wide) (u .holding .ensures .below)
     (t .holding2 .ensures .below) _ (p .pre .1 .mark-fits) (p .pre .1 .span-fits) (p .pre .1 .fits) (omega arith) (c .before .between .ensures)

@@ -3,7 +3,7 @@ use denote.Ref.{now}
 use borrow.Author.Needs.{needs}
 use mathlib.Core.List.{[]}
 use Rattle.words.proofs.FitLaws.{positive}
-use Rattle.lent_areas.proofs.SolveLaws.{markable, grid-laid, mark-room, mark-fits, past-ends, near, ready, solved, inverted-found, solved-none}
+use Rattle.lent_areas.proofs.SolveLaws.{markable, grid-laid, mark-room, mark-fits, past-ends, near, ready, solved, solved-none}
 use Rattle.lent_areas.proofs.solve.Statement.{statement}
 use Rattle.lent_areas.proofs.solve.Tie as tie
 
@@ -43,21 +43,9 @@ mark-requires c κs =
     (positive _ (c .before .before .before .before .before .before .before .if1 .left)) (c .before .before .before .before .before .before .places .ensures)
     (c .before .before .before .grid .ensures)
 
-same-length : tie.Need-same-length
-same-length c = search needs
-
-returns-2 : tie.Need-returns-2
-returns-2 c =
-    let s = c .before .before .before .before .before .before .before .before .before .before .before .before .before .before .before .before .before .before in
-    let a = (s .args) in
-    inverted-found (now (a .blocks)) (now (a .edges)) (now (a .kinds)) (now (a .touches)) (now (a .ends)) (a .areas) _ _ (s .pre)
-    (positive _ (c .before .before .before .before .before .before .before .before .before .before .before .if1 .left))
-    (c .before .before .before .before .before .before .before .before .before .before .places .ensures) (c .before .before .before .before .before .before .before .grid .ensures)
-    (c .before .before .before .mark .ensures) (c .if2 .taken)
-
 rows-requires : tie.Need-rows-requires
 rows-requires c κs =
-    let s = c .before .before .before .before in
+    let s = c .before .before .before in
     let t = s .before .before .before .before in
     let u = t .before .before .before in
     let p = u .before in
@@ -66,44 +54,40 @@ rows-requires c κs =
       (
         q .pre .sound,
         q .pre .edges-fine,
-        grid-laid (now (a .blocks)) (now (a .edges)) (now (a .kinds)) (now (a .touches)) (now (a .ends)) (a .areas) _ _ (q .pre)
-            (positive _ (p .if1 .left)) (u .places .ensures) (t .grid .ensures) (s .mark .ensures .kept .len),
+        grid-laid (now (a .blocks)) (now (a .edges)) (now (a .kinds)) (now (a .touches)) (now (a .ends)) (a .areas) _ _ (q .pre) (positive _ (p .if1 .left)) (u .places .ensures) (t .grid .ensures) (s .mark .ensures .kept .len),
       ),
       (
-        s .mark .ensures .marks [] (c .before .if2 .left) .quiet,
-        mark-room
-            (now (a .blocks)) (now (a .edges)) (now (a .kinds)) (now (a .touches)) (now (a .ends)) (a .areas) _ _ (q .pre) (positive _ (p .if1 .left)) (u .places .ensures) (t .grid .ensures)
-            (s .mark .ensures),
+        s .mark .ensures .marks [] .quiet,
+        mark-room (now (a .blocks)) (now (a .edges)) (now (a .kinds)) (now (a .touches)) (now (a .ends)) (a .areas) _ _ (q .pre) (positive _ (p .if1 .left)) (u .places .ensures) (t .grid .ensures) (s .mark .ensures),
       ),
     )
 
 measure-all-requires : tie.Need-measure-all-requires
 measure-all-requires c κs =
-    let s = c .before .before .before .before .before .before .before .before .before .before .before .before .before .before .before .before .before .before .before .before .before .before .before in
-    let a = (s .args) in (
-      s .pre .sound,
-      ready (now (a .blocks)) (now (a .edges)) (now (a .kinds)) (now (a .touches)) (now (a .ends)) (a .areas) _ _ (s .pre)
-          (positive _ (c .before .before .before .before .before .before .before .before .before .before .before .before .before .before .before .before .if1 .left))
-          (c .before .before .before .before .before .before .before .before .before .before .before .before .before .before .before .places .ensures)
-          (c .before .before .before .before .before .before .before .before .before .before .before .before .grid .ensures)
-          (c .before .before .before .before .before .before .before .before .mark .ensures) (c .before .before .before .before .before .if2 .left)
-          (c .before .before .before .rows .ensures),
+    let m = c .before .before .before .before .before .before .before in
+    let t = m .before .before .before .before in
+    let u = t .before .before .before in
+    let p = u .before in
+    let q = p .before .before .before .before .before .before .before in
+    let a = (q .args) in (
+      q .pre .sound,
+      ready (now (a .blocks)) (now (a .edges)) (now (a .kinds)) (now (a .touches)) (now (a .ends)) (a .areas) _ _ (q .pre) (positive _ (p .if1 .left)) (u .places .ensures) (t .grid .ensures) (m .mark .ensures) (c .before .before .before .rows .ensures),
     )
 
-same-length-2 : tie.Need-same-length-2
-same-length-2 c = search needs
+same-length : tie.Need-same-length
+same-length c = search needs
 
-returns-3 : tie.Need-returns-3
-returns-3 c =
-    let s = c .before .before .before .before .before .before .before .before .before .before .before .before .before .before .before .before .before .before .before .before .before .before .before .before .before .before in
-    let a = (s .args) in
-    solved (now (a .blocks)) (now (a .edges)) (now (a .kinds)) (now (a .touches)) (now (a .ends)) (a .areas) _ _ (s .pre)
-    (positive _ (c .before .before .before .before .before .before .before .before .before .before .before .before .before .before .before .before .before .before .before .if1 .left))
-    (c .before .before .before .before .before .before .before .before .before .before .before .before .before .before .before .before .before .before .places .ensures)
-    (c .before .before .before .before .before .before .before .before .before .before .before .before .before .before .before .grid .ensures)
-    (c .before .before .before .before .before .before .before .before .before .before .before .mark .ensures)
-    (c .before .before .before .before .before .before .before .before .if2 .left) (c .before .before .before .before .before .before .rows .ensures)
+returns-2 : tie.Need-returns-2
+returns-2 c =
+    let r = c .before .before .before .before .before .before in
+    let m = r .before .before .before .before in
+    let t = m .before .before .before .before in
+    let u = t .before .before .before in
+    let p = u .before in
+    let q = p .before .before .before .before .before .before .before in
+    let a = (q .args) in
+    solved (now (a .blocks)) (now (a .edges)) (now (a .kinds)) (now (a .touches)) (now (a .ends)) (a .areas) _ _ (q .pre) (positive _ (p .if1 .left)) (u .places .ensures) (t .grid .ensures) (m .mark .ensures) (r .rows .ensures)
     (c .before .before .measure-all .ensures)
 
 pub solve-spec : {M : Type 1} → statement M
-solve-spec = tie.close (tie.spec returns places-requires add-grid grid-requires mul-from add-from mark-requires same-length returns-2 rows-requires measure-all-requires same-length-2 returns-3)
+solve-spec = tie.close (tie.spec returns places-requires add-grid grid-requires mul-from add-from mark-requires rows-requires measure-all-requires same-length returns-2)

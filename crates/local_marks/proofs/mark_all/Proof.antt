@@ -1,5 +1,5 @@
 -- `local_marks::mark_all` meets its contract: the first l locals are marked.
-use Rattle.local_marks.proofs.SweepLaws.{Sweep, cleared-kept, sweep-start, sweep-more, sweep-found, sweep-done}
+use Rattle.local_marks.proofs.SweepLaws.{Sweep, cleared-kept, sweep-start, sweep-more, sweep-done}
 use native.Mathlib.Omega.{arith}
 use Prim.Native.Nat.{_-_}
 use Rattle.local_marks.proofs.mark_all.Statement.{statement}
@@ -31,21 +31,6 @@ shared-slice-read-kind c = omega arith
 mark-one-requires : tie.Need-mark-one-requires Inv-loop μ-loop
 mark-one-requires c κs = ((c .before .before .before .before .loop) .inv .ready, omega arith)
 
-same-length : tie.Need-same-length Inv-loop μ-loop
-same-length c =
-    let a = (c .before .before .before .before .before .before .before .before .loop) .inv .kept .len in
-    let b = (c .before .before .before .mark-one) .ensures .0 .len in
-    let z = (cleared-kept ((c .before .before .before .before .before .before .before .before .before .before .before .before .before .before .before .before .before .before .pre) .0)
-    ((c .before .before .before .before .before .before .before .before .before .before .before .clear-marks) .ensures)) .len in
-    omega arith
-
-returns : tie.Need-returns Inv-loop μ-loop
-returns c =
-    let s = c .before .before .before in
-    sweep-found (s .before .before .before .before .before .loop .inv) (omega arith) (s .mark-one .ensures .0) (s .mark-one .ensures .1) (cleared-kept
-    (s .before .before .before .before .before .before .before .before .before .before .before .before .before .before .before .pre .0)
-    (s .before .before .before .before .before .before .before .before .clear-marks .ensures)) (c .if2 .taken)
-
 add-l : tie.Need-add-l Inv-loop μ-loop
 add-l c = omega arith
 
@@ -54,14 +39,14 @@ loop-less c = omega arith
 
 loop-again : tie.Need-loop-again Inv-loop μ-loop
 loop-again c =
-    let s = c .before .before .before in
-    sweep-more (s .before .before .before .before .before .loop .inv) (omega arith) (s .mark-one .ensures .0) (s .mark-one .ensures .1) (c .if2 .left)
+    let s = c .before .before in
+    sweep-more (s .before .before .before .before .before .loop .inv) (omega arith) (s .mark-one .ensures .0) (s .mark-one .ensures .1)
 
-same-length-2 : tie.Need-same-length-2 Inv-loop μ-loop
-same-length-2 c = let a = (c .before .before .loop) .inv .kept .len in let z = (cleared-kept ((c .before .before .before .before .before .before .before .before .before .before .before .before .pre) .0) ((c .before .before .before .before .before .clear-marks) .ensures)) .len in omega arith
+same-length : tie.Need-same-length Inv-loop μ-loop
+same-length c = let a = (c .before .before .loop) .inv .kept .len in let z = (cleared-kept ((c .before .before .before .before .before .before .before .before .before .before .before .before .pre) .0) ((c .before .before .before .before .before .clear-marks) .ensures)) .len in omega arith
 
-returns-2 : tie.Need-returns-2 Inv-loop μ-loop
-returns-2 c = sweep-done ((c .before .before .loop) .inv) (omega arith) (cleared-kept ((c .before .before .before .before .before .before .before .before .before .before .before .before .pre) .0) ((c .before .before .before .before .before .clear-marks) .ensures))
+returns : tie.Need-returns Inv-loop μ-loop
+returns c = sweep-done ((c .before .before .loop) .inv) (omega arith) (cleared-kept ((c .before .before .before .before .before .before .before .before .before .before .before .before .pre) .0) ((c .before .before .before .before .before .clear-marks) .ensures))
 
 pub mark-all-spec : {M : Type 1} → statement M
 mark-all-spec =
@@ -74,10 +59,8 @@ mark-all-spec =
     mul-kind
     shared-slice-read-kind
     mark-one-requires
-    same-length
-    returns
     add-l
     loop-less
     loop-again
-    same-length-2
-    returns-2)
+    same-length
+    returns)

@@ -1,5 +1,5 @@
 -- `local_marks::mark_one` meets its contract.
-use Rattle.local_marks.proofs.BitLaws.{none-one, fetched-kept, inverted-one, standing, one-kept, marked-one}
+use Rattle.local_marks.proofs.BitLaws.{none-one, standing, one-kept, marked-one}
 use native.Mathlib.Omega.{arith}
 use borrow.Author.Needs.{needs}
 use Rattle.graph.proofs.Within.{within-refl}
@@ -16,48 +16,22 @@ fetch-requires c κs =
     let s = c .before .before .before .before .before .before in
     (s .pre .0 .laid, s .pre .0 .chains, s .pre .1)
 
-any-inverted-requires : tie.Need-any-inverted-requires
-any-inverted-requires c κs = ((c .before .before .before .before .before .before .before .before .before .before .pre) .0 .line, let z = (c .before .before .before .fetch) .ensures .stand .touches-fit in omega arith)
+mark-spots-requires : tie.Need-mark-spots-requires
+mark-spots-requires c κs =
+    let s = c .before .before .before .before .before .before .before .before .before .before in
+    standing (s .pre .0) (s .pre .1) (c .before .before .before .fetch .ensures)
 
 same-length : tie.Need-same-length
 same-length c = search needs
 
 returns-2 : tie.Need-returns-2
 returns-2 c =
-    let s = c .before .before .before .before .before in
-    let t = s .before .before .before .before .before .before .before in (
-      fetched-kept (t .pre .0) (t .pre .1) (s .fetch .ensures),
-      inverted-one (t .pre .0) (t .pre .1) (s .fetch .ensures) (t .args .kind) (omega arith) _ (c .if2 .taken)
-          (c .before .any-inverted .ensures),
-    )
-
-mark-spots-requires : tie.Need-mark-spots-requires
-mark-spots-requires c κs =
-    let s = c .before .before .before .before .before .before .before .before .before .before .before .before .before in
-    standing (s .pre .0) (s .pre .1) (c .before .before .before .before .before .before .fetch .ensures) _ (c .before .if2 .left) (c .before .before .any-inverted .ensures)
-
-same-length-2 : tie.Need-same-length-2
-same-length-2 c = search needs
-
-returns-3 : tie.Need-returns-3
-returns-3 c =
     let s = c .before .before in
-    let t = s .before .before .before .before .before .before .before in
+    let t = s .before .before .before .before in
     let u = t .before .before .before .before .before .before .before in (
       one-kept (u .pre .0) (u .pre .1) (t .fetch .ensures) (s .mark-spots .ensures .0),
-      marked-one (u .pre .0) (u .pre .1) (t .fetch .ensures) (s .mark-spots .ensures .0)
-          (u .args .kind) (omega arith) _ (s .before .before .if2 .left) (s .before .before .before .any-inverted .ensures) (s .mark-spots .ensures .1),
+      marked-one (u .pre .0) (u .pre .1) (t .fetch .ensures) (s .mark-spots .ensures .0) (u .args .kind) (omega arith) (s .mark-spots .ensures .1),
     )
 
 pub mark-one-spec : {M : Type 1} → statement M
-mark-one-spec =
-    tie.close
-    (tie.spec
-    returns
-    fetch-requires
-    any-inverted-requires
-    same-length
-    returns-2
-    mark-spots-requires
-    same-length-2
-    returns-3)
+mark-one-spec = tie.close (tie.spec returns fetch-requires mark-spots-requires same-length returns-2)

@@ -10,7 +10,7 @@ use Rattle.local_marks.proofs.mark_spots.Tie as tie
 mark-touched-requires : tie.Need-mark-touched-requires
 mark-touched-requires c κs =
     let t = c .before .before .before .before in
-    (touches-ready (t .args .blocks .now) (t .args .s) (t .args .g) (t .args .l) (t .pre) _ (omega arith) (omega arith), t .pre .upright)
+    (touches-ready (t .args .blocks .now) (t .args .s) (t .args .g) (t .args .l) (t .pre) _ (omega arith) (omega arith), t .pre .in-line)
 
 same-length : tie.Need-same-length
 same-length c = search needs
