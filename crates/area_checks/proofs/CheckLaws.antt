@@ -114,8 +114,9 @@ module _ (blocks edges : List ℕ) (points : ℕ) (kinds touches : List ℕ) (en
     pub by-rest : graphVerdict blocks edges points ≡ Fine → {v k t s u : Verdict} → k ≡ kindsVerdict kinds → t ≡ touchVerdict blocks touches → s ≡ spaceVerdict z items work → u ≡ first t s → v ≡ first k u
         → v ≡ all
     unfolding lentVerdict
-    by-rest f {v} {k} {t} {s} {u} g h q j l = (let x : v ≡ first (kindsVerdict kinds) (first (touchVerdict blocks touches) (spaceVerdict z items work)) = cc in x)
-        ∙ sym (first-fine count _ e ∙ first-fine (graphVerdict blocks edges points) _ f)
+    by-rest f {v} g h q j l =
+        let x : v ≡ first (kindsVerdict kinds) (first (touchVerdict blocks touches) (spaceVerdict z items work)) = cc in
+        x ∙ sym (first-fine count _ e ∙ first-fine (graphVerdict blocks edges points) _ f)
 
 -- where nothing is refused
 module _ (blocks edges : List ℕ) (points : ℕ) (kinds touches ends : List ℕ) (areas items : ℕ) (w : List ℕ) where

@@ -204,9 +204,9 @@ take-touch t w i h l =
     ap (λ (k : ℕ). take k (touchesAt t w)) (add-one i) ∙ take-suc (touchesAt t w) i (range 0 0) (omega arith)
     ∙ ap (λ (r : Range). take i (touchesAt t w) ++ (r ∷ [])) (unpacked-at (part (t .at) (t .count) w) i ∙ ap unpack (getD-part (t .at) (t .count) w i l))
 
-pub touch-inline : (blocks : List ℕ) (t : Spots) (w : List ℕ) (i x : ℕ) → t .at + t .count ≤ length w → AllInLine (blocksOf blocks) (touchesAt t w) → i < t .count → x ≡ getD w (t .at + i) 0
+pub touch-in-line : (blocks : List ℕ) (t : Spots) (w : List ℕ) (i x : ℕ) → t .at + t .count ≤ length w → AllInLine (blocksOf blocks) (touchesAt t w) → i < t .count → x ≡ getD w (t .at + i) 0
     → InLine (blocksOf blocks) (unpack x)
-touch-inline blocks t w i x h u l e = rw e (u (unpack (getD w (t .at + i) 0)) (touch-in w (t .at) (t .count) h i l))
+touch-in-line blocks t w i x h u l e = rw e (u (unpack (getD w (t .at + i) 0)) (touch-in w (t .at) (t .count) h i l))
 
 -- the first i touches are put, with m between-pieces
 pub record Spanning (G : Graph) (t : Spots) (s : Local) (n : ℕ) (w₀ w : List ℕ) (i m : ℕ) : Type 0 where

@@ -68,7 +68,7 @@ module _ (J : Job) (C : Checked J) (some-block : 0 < length (J .blocks)) where
   pieces-fine : pieceVerdict (J .blocks) (J .code .numbered) (J .pieces) ≡ Fine
   pieces-fine = order-first _ _ (order-rest _ _ (order-rest _ _ (order-rest _ _ (order-rest _ _ (order-rest _ _ (order-rest _ _ (order-rest _ _ C)))))))
 
-  pub piece-in : (p : Piece) → List·Memᴰ p (J .pieces) → InLine (J .blocks) (range (p .start) (p .end))
+  piece-in : (p : Piece) → List·Memᴰ p (J .pieces) → InLine (J .blocks) (range (p .start) (p .end))
   piece-in p m =
       let (i, h, e) = at-mem (J .pieces) p (record { register = 0; start = 0; end = 0 }) m in
       let c : badPiece (J .blocks) (J .code .numbered) p ≡ false =
@@ -111,20 +111,20 @@ module _ (J : Job) (C : Checked J) (some-block : 0 < length (J .blocks)) where
       let (a, b) = or-neither _ _ c in
       inst-in (m .inst) (leb-false _ _ a) (not-false _ b)
 
+  pub live-in : (r : ℕ) → AllInLine (J .blocks) (livePieces (J .pieces) r)
+  live-in r t m =
+      let (p, i, e) = Memᴰ·of-map (λ p. range (p .start) (p .end)) (keep (λ p. eqb (p .register) r) (J .pieces)) m in
+      rw (← e) (piece-in p (of-kept (λ p. eqb (p .register) r) (J .pieces) p i .0))
+
   pub touches-in : (l : ℕ) → AllInLine (J .blocks) (touchesIn J l)
   unfolding touchesOf
   touches-in l t m = go (List·Memᴰ·append-cases (gather (livePieces (J .pieces)) (carried (J .code) l)) m)
     where
-      live : (r : ℕ) → List·Memᴰ t (livePieces (J .pieces) r) → InLine (J .blocks) t
-      live r n =
-          let (p, i, e) = Memᴰ·of-map (λ p. range (p .start) (p .end)) (keep (λ p. eqb (p .register) r) (J .pieces)) n in
-          rw (← e) (piece-in p (of-kept (λ p. eqb (p .register) r) (J .pieces) p i .0))
-
       go : List·Memᴰ t (gather (livePieces (J .pieces)) (carried (J .code) l))
           ⊎ List·Memᴰ t (map (λ m. range (mentioned (J .code) m .early) (mentioned (J .code) m .late)) (mentions (J .code .addresses) l)) → InLine (J .blocks) t
       go (inl n) =
           let (r, i, k) = of-gathered (livePieces (J .pieces)) (carried (J .code) l) t n in
-          live r k
+          live-in r t k
       go (inr n) =
           let (a, i, e) = Memᴰ·of-map (λ m. range (mentioned (J .code) m .early) (mentioned (J .code) m .late)) (mentions (J .code .addresses) l) n in
           rw (← e) (listed-in a (of-kept (λ k. eqb (k .local) l) (J .code .addresses) a i .0))

@@ -17,7 +17,7 @@ use Rattle.ranges.proofs.PointLaws.{upright-none, upright-cons, upright-append}
 use Rattle.graph.specs.Line.{Sound, Stretch, blockAt, usedBefore, placeIn, badBlock, pastPoints, gapAt}
 use Rattle.graph.proofs.Line.{place-lt, at-mem}
 use Rattle.carrying.specs.Lists.{keep, gather}
-use Rattle.carrying.specs.Carried.{endsOf, livePieces}
+use Rattle.carrying.specs.Carried.{endsOf}
 use Rattle.carrying.proofs.ListLaws.{of-kept, of-gathered}
 use Rattle.areas.specs.Blocks.{Graph, top, bottom, whole, blockOf, bounds, clip, until, cover, AllInLine}
 use Rattle.areas.specs.Pieces.{through}
@@ -27,7 +27,7 @@ use Rattle.areas.specs.Upright.{UprightOf, UprightIn}
 use Rattle.areas.proofs.BlockLaws.{clip-up, block-below, bottoms}
 use Rattle.areas.proofs.PlainLaws.{clip-fits, span-upright}
 use Rattle.areas.proofs.EndLaws.{until-has}
-use Rattle.areas.proofs.JobLaws.{order-first, order-rest, line-fine, job-line, touches-in, placed-in, piece-in}
+use Rattle.areas.proofs.JobLaws.{order-first, order-rest, line-fine, job-line, live-in, touches-in, placed-in}
 
 -- every range of lists put one after another
 gather-upright : {A : Type 0} (f : A → List Range) (l : List A) → ((a : A) → List·Memᴰ a l → Upright (f a)) → Upright (gather f l)
@@ -139,16 +139,10 @@ module _ (J : Job) (C : Checked J) (some-block : 0 < length (J .blocks)) where
           two : (t u : Bool) → position (J .blocks) (J .code .insts) (m .kind) (m .number) ≤ J .points → Upright (cond t (piece ∷ []) [] ++ cond u (piece ∷ []) [])
           two t u h = upright-append (cond t (piece ∷ []) []) (cond u (piece ∷ []) []) (one t h) (one u h)
 
-  live-upright : (r : ℕ) → Upright (livePieces (J .pieces) r)
-  live-upright r s m =
-      let (p, i, e) = Memᴰ·of-map (λ p. range (p .start) (p .end)) (keep (λ p. eqb (p .register) r) (J .pieces)) m in
-      let u = piece-in J C some-block p (of-kept (λ p. eqb (p .register) r) (J .pieces) p i .0) in
-      rw (← e) (u .upright)
-
   -- in a job number 8 has no input
   pub job-upright : UprightIn J
   job-upright = record {
     locals = λ l. local-upright (graphOf J) (job-line J C some-block) (touchesIn J l) (touches-in J C some-block l) (endsOf (J .code) l);
-    pieces = live-upright;
+    pieces = λ r s m. live-in J C some-block r s m .upright;
     moves = moved-upright;
   }

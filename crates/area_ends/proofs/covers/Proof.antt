@@ -10,7 +10,7 @@ use Rattle.spots.specs.Spots.{lineOf}
 use Rattle.spots.specs.Inner.{touchesAt}
 use Rattle.areas.specs.Blocks.{AllInLine}
 use lib.ListN.{length}
-use Rattle.area_pieces.proofs.SpanLaws.{touch-inline}
+use Rattle.area_pieces.proofs.SpanLaws.{touch-in-line}
 use Rattle.area_ends.proofs.CoverLaws.{Covering, cover-begin, cover-fits, cover-stand, cover-room, cover-word, cover-more, cover-done}
 use Rattle.area_ends.proofs.covers.Statement.{statement}
 use Rattle.area_ends.proofs.covers.Tie as tie
@@ -41,7 +41,7 @@ cover-touch-requires c κs =
       (
         u .pre .0,
         cover-stand (s .loop .inv .1 []),
-        touch-inline (now (u .args .blocks)) (u .args .t) (now (u .args .work)) (s .loop .i) _ (omega (arith, u .pre .2)) (s .loop .inv .0)
+        touch-in-line (now (u .args .blocks)) (u .args .t) (now (u .args .work)) (s .loop .i) _ (omega (arith, u .pre .2)) (s .loop .inv .0)
             (omega arith) (cover-word (s .loop .inv .1 []) (omega arith)),
       ),
       (

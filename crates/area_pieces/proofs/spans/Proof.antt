@@ -10,7 +10,7 @@ use Rattle.spots.specs.Spots.{lineOf}
 use Rattle.spots.specs.Inner.{touchesAt}
 use Rattle.areas.specs.Blocks.{AllInLine}
 use lib.ListN.{length}
-use Rattle.area_pieces.proofs.SpanLaws.{Spanning, span-start, span-word, span-free, span-more, span-done, touch-inline}
+use Rattle.area_pieces.proofs.SpanLaws.{Spanning, span-start, span-word, span-free, span-more, span-done, touch-in-line}
 use Rattle.area_pieces.proofs.spans.Statement.{statement}
 use Rattle.area_pieces.proofs.spans.Tie as tie
 use Rattle.words.specs.Widths.{blockCount}
@@ -39,7 +39,7 @@ touch-requires c κs =
     let u = s .before .before .before in (
       u .pre .0,
       span-free (s .loop .inv .1 []) (omega arith),
-      touch-inline (now (u .args .blocks)) (u .args .t) (now (u .args .work)) (s .loop .i) _
+      touch-in-line (now (u .args .blocks)) (u .args .t) (now (u .args .work)) (s .loop .i) _
           (omega (arith, s .loop .inv .1 [])) (s .loop .inv .0) (omega arith) (span-word (s .loop .inv .1 []) (omega arith)),
     )
 
