@@ -34,10 +34,12 @@ int main(void) {
     slots_cell cells[COUNT(locals)];
     slots_item items[COUNT(locals)];
     slots_range areas[64];
+    int32_t offsets[COUNT(locals)];
     slots_plan plan = {0};
     plan.cells = cells, plan.cells_room = COUNT(cells);
     plan.items = items, plan.items_room = COUNT(items);
     plan.areas = areas, plan.areas_room = COUNT(areas);
+    plan.offsets = offsets, plan.offsets_room = COUNT(offsets);
     plan.work_room = (size_t)slots_job_words(&job, plan.areas_room);
     plan.work = malloc(plan.work_room * sizeof *plan.work);
     if (plan.work == NULL) return 1;

@@ -16,7 +16,7 @@
  * That every answer is below 2^32 and every index whole is proved. The functions that count words of work space, whose names end in _words, are
  * no such answers: they refuse nothing, and what they count can be 2^32 or more.
  * A refusal changes no answer list. Entries of an answer list past the answer stay as they were. The first W words of a work space are zero after
- * an answer, and as they were after a refusal with 1 to 7, 10 or 11; after 9 they are zero. The words past them never change. */
+ * an answer, and as they were after a refusal with 1 to 7, 10 or 11; after 9, 12 and 13 they are zero. The words past them never change. */
 #ifndef SLOTS_H
 #define SLOTS_H
 
@@ -41,7 +41,9 @@ enum slots_refusal {
     /* 8 is retired: no function gives it, and it is not given out again */
     SLOTS_LIST = 9,     /* all areas together exceed the area list */
     SLOTS_WANT = 10,    /* index: the range, the want, or the item. A range or a lent plan that is not as it has to be */
-    SLOTS_TEXT = 11     /* index: the line. Malformed; slots_print_text says so in its text, and none of the functions below gives it */
+    SLOTS_TEXT = 11,    /* index: the line. Malformed; slots_print_text says so in its text, and none of the functions below gives it */
+    SLOTS_ALIGN = 12,   /* index: the cell. Its alignment is no power of two; 0 is none */
+    SLOTS_DEPTH = 13    /* index: the cell. The first whose depth, padding counted, is over 2,147,483,647 */
 };
 
 /* There is no such local or slot, or no shared area. No refusal and no answer is this number. */
@@ -114,20 +116,23 @@ typedef char slots_rows_are_packed[sizeof(slots_block) == 12 && sizeof(slots_edg
 
 /* ---- the whole job ---- */
 
-/* Which items of a job may share a cell. Rather than this, call slots_plan_job below, which takes the lists by name.
+/* Which items of a job may share a cell, and where each cell lies. Rather than this, call slots_plan_job below, which takes the lists by name.
  * Reads: points, the last point there is; v, how many registers are numbered; budget, how many cells may be probed; and the records.
  * On 0: cells has the plan's cells, items a row for each local and then for each slot, areas the ranges of all items' areas in item order
- * (each area's in order, with at least one point between any two), counts the number of cells, the probes spent and the depth (the sum of the
- * cells' sizes).
- * Cells and items need room for as many rows as there are locals and slots, counts for its three numbers, work for W words.
- * Refuses with 1 to 7 and 9. */
+ * (each area's in order, with at least one point between any two), offsets a number for each cell, counts the number of cells, the probes
+ * spent and the depth.
+ * Cells lie below the frame base in cell order. A cell's depth is the depth before it plus its size, rounded up to its alignment; its offset is
+ * minus that depth. So each offset is a multiple of its cell's alignment, and the cell's bytes, offset to offset + size - 1, are no other cell's.
+ * The depth of counts is the last cell's, with all padding; 0 without cells.
+ * Cells and items need room for as many rows as there are locals and slots, offsets for as many numbers, counts for its three numbers, work for
+ * W words. Refuses with 1 to 7, 9, 12 and 13. */
 uint64_t slots_share(
     uint32_t points, uint32_t v, uint32_t budget,
     const uint32_t *blocks, size_t blocks_len, const uint32_t *edges, size_t edges_len, const uint32_t *insts, size_t insts_len,
     const uint32_t *operands, size_t operands_len, const uint32_t *crossings, size_t crossings_len, const uint32_t *locals, size_t locals_len,
     const uint32_t *slots, size_t slots_len, const uint32_t *addresses, size_t addresses_len, const uint32_t *ends, size_t ends_len,
     const uint32_t *pieces, size_t pieces_len, const uint32_t *assigned, size_t assigned_len, const uint32_t *moves, size_t moves_len,
-    uint32_t *cells, size_t cells_len, uint32_t *items, size_t items_len, uint32_t *areas, size_t areas_len,
+    uint32_t *cells, size_t cells_len, uint32_t *items, size_t items_len, uint32_t *areas, size_t areas_len, int32_t *offsets, size_t offsets_len,
     uint64_t *counts, size_t counts_len, uint64_t *work, size_t work_len);
 
 /* W of a job, in 64-bit words, by the numbers of its records (not of their numbers), the ranges of its area list and v:
@@ -139,11 +144,12 @@ uint64_t slots_work_words(
 /* ---- fitting alone ---- */
 
 /* Fits given wants, the first `locals` of them locals. areas: rows of slots_range. The answer lists and counts are those of slots_share;
- * an item's row is its cell, then the want's part, or 0, 0, 0 without an area. Refuses with 1, 7 and 10 (an area outside its list,
- * reversed, unsorted or overlapping itself). */
+ * an item's row is its cell, then the want's part, or 0, 0, 0 without an area. Refuses with 1, 7, 10 (an area outside its list,
+ * reversed, unsorted or overlapping itself), 12 and 13. */
 uint64_t slots_fit_wants(
     const uint32_t *wants, size_t wants_len, const uint32_t *areas, size_t areas_len, uint32_t locals, uint32_t budget,
-    uint32_t *cells, size_t cells_len, uint32_t *items, size_t items_len, uint64_t *counts, size_t counts_len, uint64_t *work, size_t work_len);
+    uint32_t *cells, size_t cells_len, uint32_t *items, size_t items_len, int32_t *offsets, size_t offsets_len,
+    uint64_t *counts, size_t counts_len, uint64_t *work, size_t work_len);
 
 /* W of fitting alone: 8 * (wants + ranges). Exact for any numbers, 2^32 and more included. */
 uint64_t slots_fit_words(uint32_t wants, uint32_t ranges);
@@ -167,9 +173,10 @@ uint64_t slots_crowded(
     const uint32_t *cells, size_t cells_len, const uint32_t *items, size_t items_len, uint32_t locals, uint32_t *out, size_t out_len);
 /* Items less cells. */
 uint64_t slots_saved(const uint32_t *cells, size_t cells_len, const uint32_t *items, size_t items_len, uint32_t locals);
-/* Lowers the alignment of the first `count` cells to `most`. Refuses with 1 a list that is no whole rows or has fewer cells, and a count over 4,096. */
+/* Lowers the alignment of the first `count` cells to `most`. Refuses with 1 a list that is no whole rows or has fewer cells, and a count over 4,096.
+ * No cell moves: where `most` is a power of two, a plan's offsets stay multiples of its cells' alignments. */
 uint64_t slots_cap(uint32_t *cells, size_t cells_len, uint32_t count, uint32_t most);
-/* The plan in which nothing is shared: a cell for each item, in order, and no areas. Refuses with 1 and 7. */
+/* The plan in which nothing is shared: a cell for each item, in order, no areas and no offsets. Refuses with 1 and 7. */
 uint64_t slots_apart(
     const uint32_t *locals, size_t locals_len, const uint32_t *slots, size_t slots_len,
     uint32_t *cells, size_t cells_len, uint32_t *items, size_t items_len);
@@ -320,9 +327,10 @@ typedef struct slots_plan {
     slots_cell *cells; size_t cells_room;   /* at least the items */
     slots_item *items; size_t items_room;   /* at least the items */
     slots_range *areas; size_t areas_room;  /* as many ranges as all areas have, else SLOTS_LIST */
+    int32_t *offsets; size_t offsets_room;  /* at least the items; a number for each cell, from the frame base */
     uint64_t *work; size_t work_room;       /* at least slots_job_words(job, areas_room) */
     uint32_t cells_used;                    /* told: how many cells the plan has */
-    uint64_t probes, depth;                 /* told: probes spent, and the sum of the cells' sizes */
+    uint64_t probes, depth;                 /* told: probes spent, and the last cell's depth, with all padding */
 } slots_plan;
 
 static inline uint32_t slots_at_most_32_bits(size_t n) { return n > UINT32_MAX ? UINT32_MAX : (uint32_t)n; }
@@ -343,6 +351,7 @@ static inline uint64_t slots_job_words(const slots_job *job, size_t ranges) {
 static inline uint64_t slots_plan_job(const slots_job *job, slots_plan *plan) {
     const uint32_t none = 0;
     uint32_t no_cell = 0, no_item = 0, no_area = 0;
+    int32_t no_offset = 0;
     uint64_t no_word = 0, counts[3] = {0, 0, 0};
     const uint64_t code = slots_share(job->points, job->v, job->budget,
         job->blocks_count ? (const uint32_t *)job->blocks : &none, job->blocks_count * 3,
@@ -360,6 +369,7 @@ static inline uint64_t slots_plan_job(const slots_job *job, slots_plan *plan) {
         plan->cells_room ? (uint32_t *)plan->cells : &no_cell, plan->cells_room * 2,
         plan->items_room ? (uint32_t *)plan->items : &no_item, plan->items_room * 4,
         plan->areas_room ? (uint32_t *)plan->areas : &no_area, plan->areas_room * 2,
+        plan->offsets_room ? plan->offsets : &no_offset, plan->offsets_room,
         counts, 3, plan->work_room ? plan->work : &no_word, plan->work_room);
     if (code == 0) {
         plan->cells_used = (uint32_t)counts[0];

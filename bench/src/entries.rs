@@ -13,7 +13,7 @@ extern "C" {
     ) -> u64;
     fn slots_fit_wants(
         wants: *const u32, wants_len: usize, areas: *const u32, areas_len: usize, locals: u32, budget: u32, cells: *mut u32, cells_len: usize,
-        items: *mut u32, items_len: usize, counts: *mut u64, counts_len: usize, work: *mut u64, work_len: usize,
+        items: *mut u32, items_len: usize, offsets: *mut i32, offsets_len: usize, counts: *mut u64, counts_len: usize, work: *mut u64, work_len: usize,
     ) -> u64;
     fn slots_share(
         points: u32, v: u32, budget: u32, blocks: *const u32, blocks_len: usize, edges: *const u32, edges_len: usize, insts: *const u32, insts_len: usize,
@@ -21,7 +21,7 @@ extern "C" {
         slots: *const u32, slots_len: usize, addresses: *const u32, addresses_len: usize, ends: *const u32, ends_len: usize,
         pieces: *const u32, pieces_len: usize, assigned: *const u32, assigned_len: usize, moves: *const u32, moves_len: usize,
         cells: *mut u32, cells_len: usize, items: *mut u32, items_len: usize, areas: *mut u32, areas_len: usize,
-        counts: *mut u64, counts_len: usize, work: *mut u64, work_len: usize,
+        offsets: *mut i32, offsets_len: usize, counts: *mut u64, counts_len: usize, work: *mut u64, work_len: usize,
     ) -> u64;
 }
 
@@ -46,13 +46,13 @@ pub fn spread(blocks: &[u32], edges: &[u32], points: u32, leaves: &[u64], passes
     }
 }
 
-#[allow(clippy::too_many_arguments)]
-pub fn fit_wants(wants: &[u32], areas: &[u32], locals: u32, budget: u32, cells: &mut [u32], items: &mut [u32], counts: &mut [u64], work: &mut [u64]) -> u64 {
+/// Fitting alone, which is lent its areas: `areas` of the lists is not.
+pub fn fit_wants(wants: &[u32], areas: &[u32], locals: u32, budget: u32, l: &mut Lists) -> u64 {
     // SAFETY: as above.
     unsafe {
         slots_fit_wants(
-            wants.as_ptr(), wants.len(), areas.as_ptr(), areas.len(), locals, budget, cells.as_mut_ptr(), cells.len(), items.as_mut_ptr(),
-            items.len(), counts.as_mut_ptr(), counts.len(), work.as_mut_ptr(), work.len(),
+            wants.as_ptr(), wants.len(), areas.as_ptr(), areas.len(), locals, budget, l.cells.as_mut_ptr(), l.cells.len(), l.items.as_mut_ptr(), l.items.len(),
+            l.offsets.as_mut_ptr(), l.offsets.len(), l.counts.as_mut_ptr(), l.counts.len(), l.work.as_mut_ptr(), l.work.len(),
         )
     }
 }
@@ -66,7 +66,7 @@ pub fn share(job: &Job, lists: &mut Lists) -> u64 {
             job.slots.as_ptr(), job.slots.len(), job.addresses.as_ptr(), job.addresses.len(), job.ends.as_ptr(), job.ends.len(),
             job.pieces.as_ptr(), job.pieces.len(), job.assigned.as_ptr(), job.assigned.len(), job.moves.as_ptr(), job.moves.len(),
             lists.cells.as_mut_ptr(), lists.cells.len(), lists.items.as_mut_ptr(), lists.items.len(), lists.areas.as_mut_ptr(), lists.areas.len(),
-            lists.counts.as_mut_ptr(), lists.counts.len(), lists.work.as_mut_ptr(), lists.work.len(),
+            lists.offsets.as_mut_ptr(), lists.offsets.len(), lists.counts.as_mut_ptr(), lists.counts.len(), lists.work.as_mut_ptr(), lists.work.len(),
         )
     }
 }

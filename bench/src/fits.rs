@@ -1,6 +1,7 @@
 //! Fitting alone.
 use crate::entries;
 use crate::timing::{once, row, timed, Random};
+use crate::whole::Lists;
 use reference::slots::probe;
 use rucc_regalloc::live::Range;
 
@@ -26,20 +27,14 @@ fn wants(list: Vec<(u32, u32, Option<Vec<(u32, u32)>>)>) -> Wants {
 
 fn time(name: &str, w: &Wants, budget: u32) {
     let n = w.lent.len();
-    let mut cells = vec![0u32; 2 * n];
-    let mut items = vec![0u32; 4 * n];
-    let mut counts = [0u64; 3];
-    let mut work = vec![0u64; 8 * (n + w.areas.len() / 2)];
-    assert_eq!(entries::fit_wants(&w.rows, &w.areas, 0, budget, &mut cells, &mut items, &mut counts, &mut work), 0);
+    let mut lists = Lists::new(n, 0, 8 * (n + w.areas.len() / 2));
+    assert_eq!(entries::fit_wants(&w.rows, &w.areas, 0, budget, &mut lists), 0);
     let plan = probe::fit(w.lent.clone(), 0, budget as usize);
-    assert_eq!(plan.cells().len() as u64, counts[0]);
-    for (i, cell) in plan.cells().iter().enumerate() {
-        assert_eq!((cell.size, cell.align), (cells[2 * i], cells[2 * i + 1]));
-    }
+    let cells = lists.hold_cells(&plan, name);
     for i in 0..n {
-        assert_eq!(plan.slot(i as u32), Some(items[4 * i] as usize));
+        assert_eq!(plan.slot(i as u32), Some(lists.items[4 * i] as usize));
     }
-    let name = format!("fit, {name}: {n} to {} cells", counts[0]);
+    let name = format!("fit, {name}: {n} to {cells} cells");
     row(
         &name,
         &mut || {
@@ -47,7 +42,7 @@ fn time(name: &str, w: &Wants, budget: u32) {
             let lent = w.lent.clone();
             once(|| probe::fit(lent, 0, budget as usize))
         },
-        &mut || timed(|| entries::fit_wants(&w.rows, &w.areas, 0, budget, &mut cells, &mut items, &mut counts, &mut work)),
+        &mut || timed(|| entries::fit_wants(&w.rows, &w.areas, 0, budget, &mut lists)),
     );
 }
 

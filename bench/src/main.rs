@@ -14,6 +14,8 @@ mod graphs;
 #[path = "../../tests/compare/src/job.rs"]
 mod job;
 mod jobs;
+#[path = "../../tests/compare/src/layout.rs"]
+mod layout;
 #[allow(dead_code)]
 #[path = "../../tests/compare/src/spills.rs"]
 mod spills;

@@ -1,6 +1,7 @@
 //! Whole jobs, from the records to the plan: `slots_share` and slots.rs's `reach` and `Slots::share`.
 use crate::cases::Records;
 use crate::jobs::{self, Job};
+use crate::layout::{laid, Layout};
 use crate::timing::{compared, timed};
 use crate::touching::touching_joined;
 use crate::{carry, entries, spills};
@@ -57,15 +58,31 @@ pub struct Lists {
     pub cells: Vec<u32>,
     pub items: Vec<u32>,
     pub areas: Vec<u32>,
+    pub offsets: Vec<i32>,
     pub counts: [u64; 3],
     pub work: Vec<u64>,
 }
 
+impl Lists {
+    /// With room for so many items and ranges.
+    pub fn new(items: usize, ranges: usize, work: usize) -> Self {
+        Self { cells: vec![0; 2 * items], items: vec![0; 4 * items], areas: vec![0; 2 * ranges], offsets: vec![0; items], counts: [0; 3], work: vec![0; work] }
+    }
+
+    /// The cells are slots.rs's, and lie where the plain model lays them out; gives how many they are.
+    pub fn hold_cells(&self, plan: &Slots, name: &str) -> usize {
+        let cells: Vec<(u32, u32)> = plan.cells().iter().map(|c| (c.size, c.align)).collect();
+        assert_eq!(self.counts[0] as usize, cells.len(), "{name}: cells");
+        assert!(self.cells.chunks(2).map(|c| (c[0], c[1])).take(cells.len()).eq(cells.iter().copied()), "{name}: sizes and alignments");
+        let own = Layout { depth: self.counts[2], offsets: self.offsets[..cells.len()].to_vec() };
+        assert_eq!(Ok(own), laid(&cells), "{name}: depth and offsets");
+        cells.len()
+    }
+}
+
 /// Both sides' cells, the cell of each item, and the areas of all items, slots.rs's with the ranges that touch joined, are the same; gives how many cells.
 fn agree(job: &Job, lists: &Lists, plan: &Slots, areas: &[Option<Vec<Range>>]) -> usize {
-    let cells: Vec<u32> = plan.cells().iter().flat_map(|c| [c.size, c.align]).collect();
-    assert_eq!(lists.counts[0] as usize, plan.cells().len(), "{}: cells", job.name);
-    assert_eq!(&lists.cells[..cells.len()], &cells, "{}: sizes and alignments", job.name);
+    let cells = lists.hold_cells(plan, job.name);
     let locals = job.locals.len() / 2;
     for (i, (item, area)) in lists.items.chunks(4).zip(areas).enumerate() {
         let cell = if i < locals { plan.local(i) } else { plan.slot((i - locals) as u32) };
@@ -74,7 +91,7 @@ fn agree(job: &Job, lists: &Lists, plan: &Slots, areas: &[Option<Vec<Range>>]) -
         let own: Vec<Range> = part.chunks(2).map(|r| Range { start: r[0], end: r[1] }).collect();
         assert_eq!((item[1] == 1).then_some(own), area.as_deref().map(touching_joined), "{}: the area of item {i}", job.name);
     }
-    cells.len() / 2
+    cells
 }
 
 /// Compares, then times: the answers of a job, and a line of the table.
@@ -84,8 +101,7 @@ fn time(job: &Job) -> String {
     let ranges: usize = areas.iter().flatten().map(Vec::len).sum();
     let items = areas.len();
     let room = (2 * ranges).max(job.ranges).clamp(64, 65_536);
-    let mut lists =
-        Lists { cells: vec![0; 2 * items], items: vec![0; 4 * items], areas: vec![0; 2 * room], counts: [0; 3], work: vec![0; job.space(room)] };
+    let mut lists = Lists::new(items, room, job.space(room));
     let answer = entries::share(job, &mut lists);
     assert_eq!(answer, 0, "{}: refused with number {}, index {}", job.name, answer >> 32, answer & 0xffff_ffff);
     let cells = agree(job, &lists, &lent.plan(&job.slots), &areas);

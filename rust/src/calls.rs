@@ -17,7 +17,7 @@ extern "C" {
         pieces: *const u32, pieces_len: usize,
         assigned: *const u32, assigned_len: usize,
         moves: *const u32, moves_len: usize,
-        cells: *mut u32, cells_len: usize, items: *mut u32, items_len: usize, areas: *mut u32, areas_len: usize,
+        cells: *mut u32, cells_len: usize, items: *mut u32, items_len: usize, areas: *mut u32, areas_len: usize, offsets: *mut i32, offsets_len: usize,
         counts: *mut u64, counts_len: usize, work: *mut u64, work_len: usize,
     ) -> u64;
     fn slots_work_words(
@@ -26,7 +26,7 @@ extern "C" {
     ) -> u64;
     fn slots_fit_wants(
         wants: *const u32, wants_len: usize, areas: *const u32, areas_len: usize, locals: u32, budget: u32, cells: *mut u32, cells_len: usize,
-        items: *mut u32, items_len: usize, counts: *mut u64, counts_len: usize, work: *mut u64, work_len: usize,
+        items: *mut u32, items_len: usize, offsets: *mut i32, offsets_len: usize, counts: *mut u64, counts_len: usize, work: *mut u64, work_len: usize,
     ) -> u64;
     fn slots_fit_words(wants: u32, ranges: u32) -> u64;
     fn slots_local(cells: *const u32, cells_len: usize, items: *const u32, items_len: usize, locals: u32, i: u32) -> u64;
@@ -153,7 +153,9 @@ pub(crate) fn count(n: usize) -> u32 {
 // Each call below passes pointers of slices, of rows of 32-bit numbers or of numbers, each with that slice's length in numbers; slices lent for writing are
 // exclusive. The component asks nothing more.
 
-pub(crate) fn share(job: &Job, cells: &mut [Cell], items: &mut [Item], areas: &mut [Range], counts: &mut [u64; 3], work: &mut [u64]) -> Result<(), Refusal> {
+pub(crate) fn share(
+    job: &Job, cells: &mut [Cell], items: &mut [Item], areas: &mut [Range], offsets: &mut [i32], counts: &mut [u64; 3], work: &mut [u64],
+) -> Result<(), Refusal> {
     let (blocks, blocks_len) = lent(&job.blocks);
     let (edges, edges_len) = lent(&job.edges);
     let (insts, insts_len) = lent(&job.insts);
@@ -176,7 +178,8 @@ pub(crate) fn share(job: &Job, cells: &mut [Cell], items: &mut [Item], areas: &m
             blocks, blocks_len, edges, edges_len, insts, insts_len, operands, operands_len,
             crossings, crossings_len, locals, locals_len, slots, slots_len, addresses, addresses_len,
             ends, ends_len, pieces, pieces_len, assigned, assigned_len, moves, moves_len,
-            cells, cells_len, items, items_len, areas, areas_len, counts.as_mut_ptr(), counts.len(), work.as_mut_ptr(), work.len(),
+            cells, cells_len, items, items_len, areas, areas_len, offsets.as_mut_ptr(), offsets.len(),
+            counts.as_mut_ptr(), counts.len(), work.as_mut_ptr(), work.len(),
         )
     };
     answer(code).map(drop)
@@ -194,7 +197,8 @@ pub(crate) fn work_words(job: &Job, ranges: usize) -> u64 {
 
 #[allow(clippy::too_many_arguments)]
 pub(crate) fn fit_wants(
-    wants: &[Want], areas: &[Range], locals: u32, budget: u32, cells: &mut [Cell], items: &mut [Item], counts: &mut [u64; 3], work: &mut [u64],
+    wants: &[Want], areas: &[Range], locals: u32, budget: u32, cells: &mut [Cell], items: &mut [Item], offsets: &mut [i32], counts: &mut [u64; 3],
+    work: &mut [u64],
 ) -> Result<(), Refusal> {
     let (wants, wants_len) = lent(wants);
     let (areas, areas_len) = lent(areas);
@@ -203,7 +207,7 @@ pub(crate) fn fit_wants(
     // SAFETY: slices with their lengths, exclusive where they are written.
     let code = unsafe {
         slots_fit_wants(
-            wants, wants_len, areas, areas_len, locals, budget, cells, cells_len, items, items_len,
+            wants, wants_len, areas, areas_len, locals, budget, cells, cells_len, items, items_len, offsets.as_mut_ptr(), offsets.len(),
             counts.as_mut_ptr(), counts.len(), work.as_mut_ptr(), work.len(),
         )
     };

@@ -42,14 +42,14 @@ pub struct Job {
     pub moves: Vec<Move>,
 }
 
-/// What a plan in lent lists has: how many cells, the probes spent, the sum of the cells' sizes.
+/// What a plan in lent lists has: how many cells, the probes spent, the depth.
 #[derive(Clone, Copy, Debug, PartialEq, Eq)]
 pub struct Counts {
     /// How many cells.
     pub cells: usize,
     /// The probes spent.
     pub probes: u64,
-    /// The sum of the cells' sizes.
+    /// The last cell's depth, which is minus its offset: the bytes of all cells, with the padding. 0 without cells.
     pub depth: u64,
 }
 
@@ -146,7 +146,8 @@ impl Job {
     /// The plan, its lists and the work space allocated here. The area list starts at a guess and grows, up to [`MOST_RANGES`], until all areas fit.
     ///
     /// # Errors
-    /// The first record that is not as it has to be, or [`Kind::List`] where all areas together have more ranges than an area list may have.
+    /// The first record that is not as it has to be; [`Kind::List`] where all areas together have more ranges than an area list may have; [`Kind::Align`] or
+    /// [`Kind::Depth`] of the first cell whose alignment is no power of two, or that lies too deep.
     pub fn share(&self) -> Result<Plan, Refusal> {
         let mut ranges = self.first_ranges();
         loop {
@@ -164,19 +165,21 @@ impl Job {
     pub fn share_within(&self, ranges: usize) -> Result<Plan, Refusal> {
         let mut areas = vec![Range::default(); ranges];
         let mut work = vec![0; self.words_within_limits(ranges)];
-        let (mut cells, mut items) = (vec![Cell::default(); self.items()], vec![Item::default(); self.items()]);
-        let counts = self.share_into(&mut cells, &mut items, &mut areas, &mut work)?;
-        Ok(Plan::new(cells, items, areas, self.locals.len() as u32, [counts.cells as u64, counts.probes, counts.depth]))
+        let (mut cells, mut items, mut offsets) = (vec![Cell::default(); self.items()], vec![Item::default(); self.items()], vec![0; self.items()]);
+        let counts = self.share_into(&mut cells, &mut items, &mut areas, &mut offsets, &mut work)?;
+        Ok(Plan::new(cells, items, areas, offsets, self.locals.len() as u32, [counts.cells as u64, counts.probes, counts.depth]))
     }
 
-    /// The plan into lists that are lent. A refusal changes none of `cells`, `items` and `areas`, and none but [`Kind::List`] changes `work`;
-    /// a plan, and [`Kind::List`], leave the first [`Job::work_words`] words of `work` zero.
+    /// The plan into lists that are lent. A refusal changes none of `cells`, `items`, `areas` and `offsets`, and none but [`Kind::List`], [`Kind::Align`] and
+    /// [`Kind::Depth`] changes `work`; a plan, and these three, leave the first [`Job::work_words`] words of `work` zero.
     ///
     /// # Errors
     /// As [`Job::share_within`]; [`Kind::Space`] for a list under the items or a work space under [`Job::work_words`].
-    pub fn share_into(&self, cells: &mut [Cell], items: &mut [Item], areas: &mut [Range], work: &mut [u64]) -> Result<Counts, Refusal> {
+    pub fn share_into(
+        &self, cells: &mut [Cell], items: &mut [Item], areas: &mut [Range], offsets: &mut [i32], work: &mut [u64],
+    ) -> Result<Counts, Refusal> {
         let mut counts = [0; 3];
-        calls::share(self, cells, items, areas, &mut counts, work)?;
+        calls::share(self, cells, items, areas, offsets, &mut counts, work)?;
         Ok(Counts { cells: counts[0] as usize, probes: counts[1], depth: counts[2] })
     }
 

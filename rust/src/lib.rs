@@ -1,8 +1,8 @@
 //! Which locals and spill slots of a function may use the same bytes of its stack frame, by a component that is proved.
 //!
 //! A [`Job`] has a function's records: blocks and edges, instructions with their operands, which of them hold the address of a local, live ranges
-//! of registers, and the moves of spilled ones. [`Job::share`] answers with a [`Plan`], the cells of the frame and the cell of each item, or with a
-//! [`Refusal`], which names the first record that is not as it has to be. Whatever the records are, there is an answer.
+//! of registers, and the moves of spilled ones. [`Job::share`] answers with a [`Plan`], the cells of the frame, where they lie and the cell of each item,
+//! or with a [`Refusal`], which names the first record that is not as it has to be. Whatever the records are, there is an answer.
 //!
 //! ```
 //! use slots::{Inst, Job};
@@ -17,6 +17,7 @@
 //! let plan = job.share()?;
 //! assert_eq!(plan.local(a), plan.local(b)); // they are never in use at the same point, so one cell of 8 bytes serves both
 //! assert_eq!((plan.cells().len(), plan.saved(), plan.depth()), (1, 1, 8));
+//! assert_eq!(plan.offsets(), [-8]); // the cell's first byte, from the frame base
 //! # Ok::<(), slots::Refusal>(())
 //! ```
 //!

@@ -51,6 +51,7 @@ pub struct Plan {
     cells: Vec<Cell>,
     items: Vec<Item>,
     areas: Vec<Range>,
+    offsets: Vec<i32>,
     locals: u32,
     probes: u64,
     depth: u64,
@@ -59,27 +60,28 @@ pub struct Plan {
 const OWN: &str = "no query refuses a plan that the component made";
 
 impl Plan {
-    pub(crate) fn new(mut cells: Vec<Cell>, items: Vec<Item>, mut areas: Vec<Range>, locals: u32, counts: [u64; 3]) -> Plan {
+    pub(crate) fn new(mut cells: Vec<Cell>, items: Vec<Item>, mut areas: Vec<Range>, mut offsets: Vec<i32>, locals: u32, counts: [u64; 3]) -> Plan {
         cells.truncate(counts[0] as usize);
+        offsets.truncate(counts[0] as usize);
         areas.truncate(items.iter().map(|item| (item.first + item.count) as usize).max().unwrap_or(0));
-        Plan { cells, items, areas, locals, probes: counts[1], depth: counts[2] }
+        Plan { cells, items, areas, offsets, locals, probes: counts[1], depth: counts[2] }
     }
 
-    /// The plan in which nothing is shared: a cell for each item, in order, and no areas.
+    /// The plan in which nothing is shared: a cell for each item, in order, no areas and no offsets. Its depth is the sum of the cells' sizes.
     pub fn apart(locals: &[Local], slots: &[u32]) -> Result<Plan, Refusal> {
         let n = locals.len() + slots.len();
         let (mut cells, mut items) = (vec![Cell::default(); n], vec![Item::default(); n]);
         calls::apart(locals, slots, &mut cells, &mut items)?;
         let depth = cells.iter().map(|cell| u64::from(cell.size)).sum();
-        Ok(Plan::new(cells, items, Vec::new(), locals.len() as u32, [n as u64, 0, depth]))
+        Ok(Plan::new(cells, items, Vec::new(), Vec::new(), locals.len() as u32, [n as u64, 0, depth]))
     }
 
     /// The plan of wants with given areas, the first `locals` of them locals: fitting alone.
     pub fn fit(wants: &[Want], areas: &[Range], locals: u32, budget: u32) -> Result<Plan, Refusal> {
-        let (mut cells, mut items) = (vec![Cell::default(); wants.len()], vec![Item::default(); wants.len()]);
+        let (mut cells, mut items, mut offsets) = (vec![Cell::default(); wants.len()], vec![Item::default(); wants.len()], vec![0; wants.len()]);
         let (mut counts, mut work) = ([0; 3], vec![0; calls::fit_words(wants.len(), areas.len()) as usize]);
-        calls::fit_wants(wants, areas, locals, budget, &mut cells, &mut items, &mut counts, &mut work)?;
-        Ok(Plan::new(cells, items, areas.to_vec(), locals, counts))
+        calls::fit_wants(wants, areas, locals, budget, &mut cells, &mut items, &mut offsets, &mut counts, &mut work)?;
+        Ok(Plan::new(cells, items, areas.to_vec(), offsets, locals, counts))
     }
 
     /// The plan's rows.
@@ -106,6 +108,13 @@ impl Plan {
         &self.areas
     }
 
+    /// Where each cell lies, from the frame base: its bytes are the offset to the offset plus the cell's size less 1, which no other cell has. Each offset is a
+    /// multiple of its cell's alignment, and 0 or below. A plan made by [`Plan::apart`] has none.
+    #[must_use]
+    pub fn offsets(&self) -> &[i32] {
+        &self.offsets
+    }
+
     /// The area of an item: none if it has none, or past the end.
     #[must_use]
     pub fn area(&self, item: usize) -> Option<&[Range]> {
@@ -119,7 +128,8 @@ impl Plan {
         self.probes
     }
 
-    /// The sum of the cells' sizes.
+    /// The last cell's depth, which is minus its offset: the bytes of all cells, with the padding. 0 without cells; of a plan made by [`Plan::apart`] the sum
+    /// of the cells' sizes.
     #[must_use]
     pub fn depth(&self) -> u64 {
         self.depth
@@ -155,7 +165,7 @@ impl Plan {
         self.lent().saved().expect(OWN)
     }
 
-    /// Lowers each cell's alignment to a maximum.
+    /// Lowers each cell's alignment to a maximum. No cell moves: where the maximum is a power of two, each offset stays a multiple of its cell's alignment.
     pub fn cap(&mut self, most: u32) {
         calls::cap(&mut self.cells, most).expect(OWN)
     }

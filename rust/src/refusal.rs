@@ -25,18 +25,23 @@ pub enum Kind {
     Want = 10,
     /// A malformed line of a job text.
     Text = 11,
+    /// A cell whose alignment is no power of two.
+    Align = 12,
+    /// A cell whose depth, padding counted, is over 2,147,483,647.
+    Depth = 13,
 }
 
 /// Each kind.
-const KINDS: [Kind; 10] =
-    [Kind::Count, Kind::Line, Kind::Edge, Kind::Inst, Kind::Stray, Kind::Piece, Kind::Space, Kind::List, Kind::Want, Kind::Text];
+const KINDS: [Kind; 12] = [
+    Kind::Count, Kind::Line, Kind::Edge, Kind::Inst, Kind::Stray, Kind::Piece, Kind::Space, Kind::List, Kind::Want, Kind::Text, Kind::Align, Kind::Depth,
+];
 
-/// A refusal: what is wrong, and the index of the first offending record of its group.
+/// A refusal: what is wrong, and the index of the first offending record of its group, or of the first such cell.
 #[derive(Clone, Copy, Debug, PartialEq, Eq, Hash)]
 pub struct Refusal {
     /// What is wrong.
     pub kind: Kind,
-    /// The record, counted from 0 in its group; 0 where none is named.
+    /// The record, counted from 0 in its group, or the cell; 0 where none is named.
     pub index: u32,
 }
 
@@ -61,6 +66,8 @@ impl Refusal {
             Kind::List => "list",
             Kind::Want => "want",
             Kind::Text => "text",
+            Kind::Align => "align",
+            Kind::Depth => "depth",
         }
     }
 
@@ -78,13 +85,15 @@ impl Refusal {
             Kind::List => "all areas together exceed the area list",
             Kind::Want => "a range is reversed or out of order, or a lent plan's part is outside its list",
             Kind::Text => "a line of a job text is malformed",
+            Kind::Align => "a cell's alignment is no power of two",
+            Kind::Depth => "a cell's depth, padding counted, is over 2,147,483,647",
         }
     }
 
     /// The refusal that a code above the answers stands for.
     pub(crate) fn of(code: u64) -> Refusal {
         let kind = KINDS.into_iter().find(|&kind| u64::from(kind as u32) == code >> 32);
-        Refusal { kind: kind.expect("a refusal's number is 1 to 7 or 9 to 11"), index: code as u32 }
+        Refusal { kind: kind.expect("a refusal's number is 1 to 7 or 9 to 13"), index: code as u32 }
     }
 }
 

@@ -94,11 +94,12 @@ fn star_1() {
     assert_eq!((plan.local(a), plan.local(b), plan.local(2), plan.slot(0)), (Some(0), Some(0), None, None));
     assert_eq!((plan.shared(a), plan.shared(b)), (Some(&[Range::new(2, 3)][..]), Some(&[Range::new(6, 7)][..])));
     assert_eq!((plan.saved(), plan.probes(), plan.depth()), (1, 1, 8));
+    assert_eq!(plan.offsets(), [-8]);
 }
 
 #[test]
 fn queries_are_the_rows() {
-    let (mut plans, mut shared_cells) = (0, 0);
+    let (mut plans, mut shared_cells, mut padding) = (0, 0, 0);
     for seed in 1..2_000 {
         let job = random_job(seed);
         let plan = job.share().unwrap();
@@ -106,7 +107,6 @@ fn queries_are_the_rows() {
         let (locals, slots) = (job.locals.len(), job.slots.len());
         assert_eq!(plan.items().len(), locals + slots);
         assert_eq!(plan.saved(), locals + slots - plan.cells().len());
-        assert_eq!(plan.depth(), plan.cells().iter().map(|cell| u64::from(cell.size)).sum::<u64>());
         for i in 0..locals as u32 + 2 {
             let row = plan.items()[..locals].get(i as usize);
             assert_eq!(plan.local(i), row.map(|item| item.cell as usize));
@@ -120,9 +120,11 @@ fn queries_are_the_rows() {
         assert_eq!(plan.crowded(), crowded);
         shared_cells += plan.saved();
         members_fit_and_do_not_meet(&job, &plan);
+        padding += cells_lie_below_one_another(&plan);
     }
     assert_eq!(plans, 1_999);
     assert!(shared_cells > 1_000, "the jobs share too little to show anything: {shared_cells}");
+    assert!(padding > 1_000, "the cells need too little padding to show anything: {padding}");
 }
 
 /// A cell has room for its members, and no two members' areas have a common point.
@@ -144,11 +146,69 @@ fn members_fit_and_do_not_meet(job: &Job, plan: &Plan) {
     }
 }
 
+/// Each cell ends at or below where the one before it starts, starts at a multiple of its alignment, and has less padding above it than its alignment; the last
+/// one's start is the depth. How much padding there is.
+fn cells_lie_below_one_another(plan: &Plan) -> i64 {
+    let (mut depth, mut padding) = (0, 0);
+    assert_eq!(plan.offsets().len(), plan.cells().len());
+    for (cell, &offset) in plan.cells().iter().zip(plan.offsets()) {
+        let (offset, size, align) = (i64::from(offset), i64::from(cell.size), i64::from(cell.align));
+        let above = -depth - (offset + size);
+        assert!(offset % align == 0 && 0 <= above && above < align);
+        depth = -offset;
+        padding += above;
+    }
+    assert_eq!(plan.depth() as i64, depth);
+    padding
+}
+
+/// Locals without areas, so that each has a cell of its own.
+fn alone(locals: &[(u32, u32)]) -> Result<Plan, Refusal> {
+    let mut job = Job::new(0, 0);
+    job.block(0, 0, 0);
+    for &(size, align) in locals {
+        job.local(size, align);
+    }
+    job.share()
+}
+
+#[test]
+fn offsets() {
+    let laid = |locals: &[(u32, u32)]| alone(locals).map(|plan| (plan.offsets().to_vec(), plan.depth()));
+    assert_eq!(laid(&[]), Ok((vec![], 0)));
+    assert_eq!(laid(&[(8, 8), (4, 4), (8, 8)]), Ok((vec![-8, -16, -20], 20))); // cell 1 is local 2's: alignments fall
+    assert_eq!(laid(&[(20, 16), (8, 8)]), Ok((vec![-32, -40], 40))); // 12 bytes of padding
+    assert_eq!(laid(&[(12, 8)]), Ok((vec![-16], 16)));
+    assert_eq!(laid(&[(0, 8)]), Ok((vec![0], 0))); // no bytes, at the base
+    assert_eq!(laid(&[(4, 8), (0, 8), (1, 1)]), Ok((vec![-8, -8, -9], 9))); // one without bytes where another lies
+    assert_eq!(laid(&[(2_147_483_647, 1)]), Ok((vec![-2_147_483_647], 2_147_483_647)));
+    assert_eq!(laid(&[(0, 2_147_483_648)]), Ok((vec![0], 0)));
+}
+
+#[test]
+fn offsets_of_fitting_alone() {
+    // the second's alignment is no power of two: it may join a cell, and may not open one
+    let wants = [Want { size: 8, align: 8, present: 1, first: 0, count: 1 }, Want { size: 20, align: 3, present: 1, first: 1, count: 1 }];
+    let areas = [Range::new(0, 0), Range::new(2, 2)];
+    let plan = Plan::fit(&wants, &areas, 1, 1).unwrap();
+    assert_eq!((plan.cells(), plan.offsets(), plan.depth()), (&[Cell { size: 20, align: 8 }][..], &[-24][..], 24));
+    assert_eq!(Plan::fit(&wants, &areas, 1, 0), Err(Refusal { kind: Kind::Align, index: 1 }));
+}
+
+#[test]
+fn cap_moves_no_cell() {
+    let mut plan = alone(&[(12, 16), (8, 8), (4, 4)]).unwrap();
+    assert_eq!(plan.offsets(), [-16, -24, -28]);
+    plan.cap(8);
+    assert_eq!((plan.offsets(), plan.depth()), (&[-16, -24, -28][..], 28));
+    assert!(plan.cells().iter().zip(plan.offsets()).all(|(cell, offset)| cell.align <= 8 && offset % cell.align as i32 == 0));
+}
+
 #[test]
 fn cap_lowers_alignments() {
     let mut plan = Plan::apart(&[Local { size: 24, align: 16 }, Local { size: 3, align: 1 }], &[8, 4]).unwrap();
     assert_eq!((plan.saved(), plan.depth(), plan.crowded(), plan.shared(0)), (0, 39, vec![], None));
-    assert_eq!((plan.local(1), plan.slot(1)), (Some(1), Some(3)));
+    assert_eq!((plan.local(1), plan.slot(1), plan.offsets().len()), (Some(1), Some(3), 0));
     plan.cap(4);
     assert_eq!(plan.cells().iter().map(|cell| (cell.size, cell.align)).collect::<Vec<_>>(), [(24, 4), (3, 1), (8, 4), (4, 4)]);
 }

@@ -32,17 +32,19 @@ fn refused(kind: Kind, index: u32, change: impl Fn(&mut Job)) {
     let mut job = sound();
     change(&mut job);
     let rows = job.items() + 1;
-    refused_in(&job, kind, index, rows, rows, 64, job.work_words(64) as usize + 3);
+    refused_in(&job, kind, index, [rows; 3], 64, job.work_words(64) as usize + 3);
     assert_eq!(job.share().map(drop), Err(Refusal { kind, index }));
 }
 
-fn refused_in(job: &Job, kind: Kind, index: u32, cells: usize, items: usize, ranges: usize, words: usize) {
+/// The same of a job in room for so many cells, items and offsets, ranges and words.
+fn refused_in(job: &Job, kind: Kind, index: u32, [cells, items, offsets]: [usize; 3], ranges: usize, words: usize) {
     let (cell, item, range) = (Cell { size: 7, align: 8 }, Item { cell: 9, present: 10, first: 11, count: 12 }, Range { start: 13, end: 14 });
     let (mut cells, mut items, mut areas, mut work) = (vec![cell; cells], vec![item; items], vec![range; ranges], vec![15; words]);
-    let answer = job.share_into(&mut cells, &mut items, &mut areas, &mut work);
+    let mut offsets = vec![16; offsets];
+    let answer = job.share_into(&mut cells, &mut items, &mut areas, &mut offsets, &mut work);
     assert_eq!(answer, Err(Refusal { kind, index }));
-    assert!(cells.iter().all(|c| *c == cell) && items.iter().all(|i| *i == item) && areas.iter().all(|r| *r == range));
-    let zero = if kind == Kind::List { job.work_words(ranges) as usize } else { 0 };
+    assert!(cells.iter().all(|c| *c == cell) && items.iter().all(|i| *i == item) && areas.iter().all(|r| *r == range) && offsets.iter().all(|o| *o == 16));
+    let zero = if [Kind::List, Kind::Align, Kind::Depth].contains(&kind) { job.work_words(ranges) as usize } else { 0 };
     assert!(work[..zero].iter().all(|w| *w == 0) && work[zero..].iter().all(|w| *w == 15));
 }
 
@@ -50,6 +52,15 @@ fn refused_in(job: &Job, kind: Kind, index: u32, cells: usize, items: usize, ran
 fn the_sound_job_has_a_plan() {
     let plan = sound().share().unwrap();
     assert_eq!(plan.items().len(), 4);
+}
+
+#[test]
+fn offsets_past_the_cells_stay_as_they_were() {
+    let job = sound();
+    let (mut cells, mut items, mut areas, mut offsets) = ([Cell::default(); 4], [Item::default(); 4], [Range::default(); 64], [16; 5]);
+    let counts = job.share_into(&mut cells, &mut items, &mut areas, &mut offsets, &mut vec![15; job.work_words(64) as usize]);
+    assert_eq!(counts.map(|counts| (counts.cells, counts.depth)), Ok((2, 16)));
+    assert_eq!(offsets, [-8, -16, 16, 16, 16]);
 }
 
 #[test]
@@ -103,16 +114,42 @@ fn piece() {
 fn space() {
     let job = sound();
     let words = job.work_words(64) as usize;
-    refused_in(&job, Kind::Space, 0, 4, 4, 64, words - 1);
-    refused_in(&job, Kind::Space, 0, 3, 4, 64, words);
-    refused_in(&job, Kind::Space, 0, 4, 3, 64, words);
+    refused_in(&job, Kind::Space, 0, [4, 4, 4], 64, words - 1);
+    refused_in(&job, Kind::Space, 0, [3, 4, 4], 64, words);
+    refused_in(&job, Kind::Space, 0, [4, 3, 4], 64, words);
+    refused_in(&job, Kind::Space, 0, [4, 4, 3], 64, words); // the plan has two cells, and there are four items
 }
 
 #[test]
 fn list() {
     let job = sound();
-    refused_in(&job, Kind::List, 0, 4, 4, 1, job.work_words(1) as usize + 1);
+    refused_in(&job, Kind::List, 0, [4, 4, 4], 1, job.work_words(1) as usize + 1);
     assert_eq!(job.share_within(1), Err(Refusal { kind: Kind::List, index: 0 }));
+}
+
+#[test]
+fn align() {
+    refused(Kind::Align, 0, |job| job.locals[0].align = 12);
+    // with no budget each item has a cell, the largest alignment first
+    refused(Kind::Align, 3, |job| (job.budget, job.slots[1]) = (0, 3));
+    refused(Kind::Align, 3, |job| (job.budget, job.locals[1].align) = (0, 0));
+    let mut job = sound();
+    job.slots[1] = 3; // it joins a cell of alignment 8
+    assert_eq!(job.share().map(|plan| (plan.slot(1), plan.cells()[0].align)), Ok((Some(0), 8)));
+    job.locals[0].align = 12; // after 9
+    refused_in(&job, Kind::List, 0, [4, 4, 4], 1, job.work_words(1) as usize);
+}
+
+#[test]
+fn depth() {
+    refused(Kind::Depth, 0, |job| job.locals[0].size = 1 << 31);
+    refused(Kind::Depth, 1, |job| job.locals[0].size = (1 << 31) - 8);
+    refused(Kind::Depth, 0, |job| job.locals[0].align = 1 << 31); // rounded up
+    let mut job = sound();
+    job.locals[0].size = (1 << 31) - 16;
+    assert_eq!(job.share().map(|plan| plan.offsets().to_vec()), Ok(vec![-(i32::MAX - 15), -(i32::MAX - 7)]));
+    // 12 of any cell comes before 13 of any
+    refused(Kind::Align, 3, |job| (job.budget, job.locals[0].size, job.slots[1]) = (0, 1 << 31, 3));
 }
 
 #[test]
@@ -158,6 +195,8 @@ fn said_in_words() {
     let refusal = job.share().unwrap_err();
     assert_eq!((refusal.number(), refusal.word(), refusal.index), (3, "edge", 0));
     assert_eq!(refusal.to_string(), "refusal 3 (edge) at 0: an edge names no block");
+    let deep = Refusal { kind: Kind::Depth, index: 1 };
+    assert_eq!(deep.to_string(), "refusal 13 (depth) at 1: a cell's depth, padding counted, is over 2,147,483,647");
     let error: Box<dyn std::error::Error> = refusal.into();
     assert!(error.source().is_none());
 }

@@ -34,4 +34,11 @@ fn a_refused_job_is_a_line() {
     assert_eq!(print_text(b"H,20,0,1048577\nB,0,0,19\n"), b"N,1,0\n");
     assert_eq!(print_text(b"H,20,0,1\nB,0,0\n"), b"N,11,1\n");
     assert_eq!(print_text(b"\xff\n"), b"N,11,0\n");
+    assert_eq!(print_text(b"H,0,0,0\nB,0,0,0\nL,8,3\n"), b"N,12,0\n");
+    assert_eq!(print_text(b"H,0,0,0\nB,0,0,0\nL,2147483647,1\nL,1,1\n"), b"N,13,1\n");
+}
+
+#[test]
+fn a_depth_has_its_padding() {
+    assert_eq!(print_text(b"H,0,0,0\nB,0,0,0\nL,12,8\n"), b"C,0,12,8\nL,0,0\nT,1,0,0,16\n");
 }

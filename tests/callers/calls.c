@@ -40,34 +40,37 @@ static slots_job first_job(void) {
 }
 
 /* Lists of the heap, each exactly as long as it is said to be, so that a sanitizer sees a step past an end. */
-static slots_plan room_for(size_t cells, size_t items, size_t areas, size_t work) {
+static slots_plan room_for(size_t cells, size_t items, size_t areas, size_t offsets, size_t work) {
     slots_plan plan;
     memset(&plan, 0, sizeof plan);
     plan.cells = malloc(cells * sizeof *plan.cells), plan.cells_room = cells;
     plan.items = malloc(items * sizeof *plan.items), plan.items_room = items;
     plan.areas = malloc(areas * sizeof *plan.areas), plan.areas_room = areas;
+    plan.offsets = malloc(offsets ? offsets * sizeof *plan.offsets : 1), plan.offsets_room = offsets;
     plan.work = malloc(work * sizeof *plan.work), plan.work_room = work;
     memset(plan.cells, 0x5a, cells * sizeof *plan.cells);
     memset(plan.items, 0x5a, items * sizeof *plan.items);
     memset(plan.areas, 0x5a, areas * sizeof *plan.areas);
+    memset(plan.offsets, 0x5a, offsets * sizeof *plan.offsets);
     memset(plan.work, 0x5a, work * sizeof *plan.work);
     return plan;
 }
 
 static void done_with(slots_plan *plan) {
-    free(plan->cells), free(plan->items), free(plan->areas), free(plan->work);
+    free(plan->cells), free(plan->items), free(plan->areas), free(plan->offsets), free(plan->work);
 }
 
 static int lists_unchanged(const slots_plan *plan) {
     return all_are(plan->cells, plan->cells_room * sizeof *plan->cells, 0x5a) && all_are(plan->items, plan->items_room * sizeof *plan->items, 0x5a)
-        && all_are(plan->areas, plan->areas_room * sizeof *plan->areas, 0x5a) && plan->cells_used == 0 && plan->probes == 0 && plan->depth == 0;
+        && all_are(plan->areas, plan->areas_room * sizeof *plan->areas, 0x5a) && all_are(plan->offsets, plan->offsets_room * sizeof *plan->offsets, 0x5a)
+        && plan->cells_used == 0 && plan->probes == 0 && plan->depth == 0;
 }
 
 static void the_first_job(void) {
     const slots_job job = first_job();
     const size_t words = (size_t)slots_job_words(&job, 64);
     HOLDS(words == 576);
-    slots_plan plan = room_for(3, 3, 64, words + 1);
+    slots_plan plan = room_for(3, 3, 64, 3, words + 1);
     HOLDS(slots_plan_job(&job, &plan) == 0);
     HOLDS(plan.cells_used == 1 && plan.probes == 1 && plan.depth == 8);
     HOLDS(plan.cells[0].size == 8 && plan.cells[0].align == 8);
@@ -76,12 +79,13 @@ static void the_first_job(void) {
     HOLDS(plan.areas[0].start == 2 && plan.areas[0].end == 3 && plan.areas[1].start == 6 && plan.areas[1].end == 7);
     HOLDS(all_are(plan.cells + 1, 2 * sizeof *plan.cells, 0x5a) && all_are(plan.items + 2, sizeof *plan.items, 0x5a));
     HOLDS(all_are(plan.areas + 2, 62 * sizeof *plan.areas, 0x5a));
+    HOLDS(plan.offsets[0] == -8 && all_are(plan.offsets + 1, 2 * sizeof *plan.offsets, 0x5a));
     HOLDS(all_are(plan.work, words * 8, 0) && all_are(plan.work + words, 8, 0x5a));
     done_with(&plan);
 }
 
 static void refused(const slots_job *job, uint32_t number, uint32_t index) {
-    slots_plan plan = room_for(2, 2, 64, (size_t)slots_job_words(job, 64));
+    slots_plan plan = room_for(2, 2, 64, 2, (size_t)slots_job_words(job, 64));
     REFUSED(slots_plan_job(job, &plan), number, index);
     HOLDS(lists_unchanged(&plan) && all_are(plan.work, plan.work_room * 8, 0x5a));
     done_with(&plan);
@@ -112,18 +116,56 @@ static void refusals_of_a_job(void) {
     refused(&job, SLOTS_PIECE, 0);
 
     job = first_job();
-    slots_plan plan = room_for(1, 2, 64, 576);
+    slots_plan plan = room_for(1, 2, 64, 2, 576);
     REFUSED(slots_plan_job(&job, &plan), SLOTS_SPACE, 0);
     HOLDS(lists_unchanged(&plan) && all_are(plan.work, 576 * 8, 0x5a));
     done_with(&plan);
-    plan = room_for(2, 2, 64, 575);
+    plan = room_for(2, 2, 64, 2, 575);
     REFUSED(slots_plan_job(&job, &plan), SLOTS_SPACE, 0);
     done_with(&plan);
     const size_t words = (size_t)slots_job_words(&job, 1);
-    plan = room_for(2, 2, 1, words + 1);
+    plan = room_for(2, 2, 1, 2, words + 1);
     REFUSED(slots_plan_job(&job, &plan), SLOTS_LIST, 0);
     HOLDS(lists_unchanged(&plan) && all_are(plan.work, words * 8, 0) && all_are(plan.work + words, 8, 0x5a));
     done_with(&plan);
+}
+
+/* The first job with other locals and no budget, so with a cell for each of the two: where they lie. */
+static void laid_out(const slots_local_size *two, int32_t first, int32_t second) {
+    slots_job job = first_job();
+    job.locals = two, job.budget = 0;
+    slots_plan plan = room_for(2, 2, 2, 3, (size_t)slots_job_words(&job, 2));
+    HOLDS(slots_plan_job(&job, &plan) == 0 && plan.cells_used == 2);
+    HOLDS(plan.offsets[0] == first && plan.offsets[1] == second && all_are(plan.offsets + 2, sizeof *plan.offsets, 0x5a));
+    HOLDS(plan.depth == (uint64_t)-(int64_t)second);
+    done_with(&plan);
+}
+
+/* Or its refusal, which comes after fitting: the work space is zero, the answer lists are as they were. */
+static void not_laid_out(const slots_local_size *two, uint32_t number, uint32_t index) {
+    slots_job job = first_job();
+    job.locals = two, job.budget = 0;
+    const size_t words = (size_t)slots_job_words(&job, 2);
+    slots_plan plan = room_for(2, 2, 2, 2, words + 1);
+    REFUSED(slots_plan_job(&job, &plan), number, index);
+    HOLDS(lists_unchanged(&plan) && all_are(plan.work, words * 8, 0) && all_are(plan.work + words, 8, 0x5a));
+    done_with(&plan);
+}
+
+static void offsets_of_a_job(void) {
+    laid_out((const slots_local_size[]){{8, 8}, {4, 4}}, -8, -12);
+    laid_out((const slots_local_size[]){{20, 16}, {12, 8}}, -32, -48); /* 12 bytes of padding, then 4 */
+    laid_out((const slots_local_size[]){{0, 8}, {1, 1}}, 0, -1);       /* a cell without bytes */
+    laid_out((const slots_local_size[]){{4, 8}, {0, 8}}, -8, -8);
+    laid_out((const slots_local_size[]){{0, 0x80000000u}, {0, 1}}, 0, 0);
+    laid_out((const slots_local_size[]){{0x7ffffffeu, 1}, {1, 1}}, -0x7ffffffe, -0x7fffffff);
+    not_laid_out((const slots_local_size[]){{8, 12}, {4, 4}}, SLOTS_ALIGN, 0);
+    not_laid_out((const slots_local_size[]){{8, 8}, {4, 3}}, SLOTS_ALIGN, 1);
+    not_laid_out((const slots_local_size[]){{8, 8}, {4, 0}}, SLOTS_ALIGN, 1);
+    not_laid_out((const slots_local_size[]){{0x80000000u, 8}, {4, 4}}, SLOTS_DEPTH, 0);
+    not_laid_out((const slots_local_size[]){{1, 0x80000000u}, {4, 4}}, SLOTS_DEPTH, 0); /* rounded up */
+    not_laid_out((const slots_local_size[]){{0x7fffffffu, 1}, {1, 1}}, SLOTS_DEPTH, 1);
+    not_laid_out((const slots_local_size[]){{0x80000000u, 8}, {4, 3}}, SLOTS_ALIGN, 1); /* cell 0 is too deep, but 12 comes first */
 }
 
 /* slots_share itself on the first job, with room for so many counts; the other lists are `plan`'s. */
@@ -131,7 +173,26 @@ static uint64_t share_with(uint32_t budget, uint64_t *counts, size_t room, slots
     const uint32_t none = 0;
     return slots_share(20, 0, budget, (const uint32_t *)line, 3, &none, 0, (const uint32_t *)code, 18, &none, 0, &none, 0, (const uint32_t *)sizes, 4, &none, 0,
         (const uint32_t *)held, 4, &none, 0, &none, 0, &none, 0, &none, 0, (uint32_t *)plan->cells, 2 * plan->cells_room, (uint32_t *)plan->items, 4 * plan->items_room,
-        (uint32_t *)plan->areas, 2 * plan->areas_room, counts, room, plan->work, plan->work_room);
+        (uint32_t *)plan->areas, 2 * plan->areas_room, plan->offsets, plan->offsets_room, counts, room, plan->work, plan->work_room);
+}
+
+/* Offsets under the items are refused with 7, also where there are as many as cells: after 1, before 9, and nothing is written. */
+static void offsets_in_less_room(void) {
+    for (size_t room = 0; room <= 3; room++) {
+        uint64_t counts[3] = {77, 77, 77};
+        slots_plan plan = room_for(2, 2, 64, room, 576), narrow = room_for(2, 2, 1, room, 72);
+        if (room < 2) {
+            REFUSED(share_with(9, counts, 3, &plan), SLOTS_SPACE, 0);
+            REFUSED(share_with(9, counts, 3, &narrow), SLOTS_SPACE, 0);
+            REFUSED(share_with(SLOTS_MOST_BUDGET + 1, counts, 3, &plan), SLOTS_COUNT, 0);
+            HOLDS(lists_unchanged(&plan) && lists_unchanged(&narrow) && all_are(plan.work, 576 * 8, 0x5a) && counts[0] == 77);
+        } else {
+            HOLDS(share_with(9, counts, 3, &plan) == 0 && counts[0] == 1 && plan.offsets[0] == -8);
+            HOLDS(all_are(plan.offsets + 1, (room - 1) * sizeof *plan.offsets, 0x5a));
+        }
+        done_with(&plan);
+        done_with(&narrow);
+    }
 }
 
 /* Counts under three numbers are refused with 7: after 1, before 9, and nothing is written. */
@@ -139,7 +200,7 @@ static void counts_in_less_room(void) {
     for (size_t room = 0; room <= 4; room++) {
         uint64_t *counts = malloc(room ? room * 8 : 1);
         memset(counts, 0x5a, room * 8);
-        slots_plan plan = room_for(2, 2, 64, 576), narrow = room_for(2, 2, 1, 72);
+        slots_plan plan = room_for(2, 2, 64, 2, 576), narrow = room_for(2, 2, 1, 2, 72);
         if (room < 3) {
             REFUSED(share_with(9, counts, room, &plan), SLOTS_SPACE, 0);
             REFUSED(share_with(9, counts, room, &narrow), SLOTS_SPACE, 0);
@@ -179,21 +240,47 @@ static void fitting_alone(void) {
     const slots_range areas[] = {{0, 1}, {2, 3}, {4, 5}};
     slots_cell cells[4];
     slots_item items[4];
-    uint64_t counts[3], work[56];
-    memset(work, 0x5a, sizeof work);
-    HOLDS(slots_fit_wants((const uint32_t *)wants, 20, (const uint32_t *)areas, 6, 2, 1, (uint32_t *)cells, 8, (uint32_t *)items, 16, counts, 3, work, 56) == 0);
+    int32_t offsets[5];
+    uint64_t counts[3], work[57];
+    memset(offsets, 0x5a, sizeof offsets), memset(work, 0x5a, sizeof work);
+    HOLDS(slots_fit_wants((const uint32_t *)wants, 20, (const uint32_t *)areas, 6, 2, 1, (uint32_t *)cells, 8, (uint32_t *)items, 16, offsets, 5, counts, 3, work, 56) == 0);
     HOLDS(counts[0] == 3 && counts[1] == 1 && counts[2] == 14);
+    HOLDS(offsets[0] == -8 && offsets[1] == -12 && offsets[2] == -14 && all_are(offsets + 3, 2 * sizeof *offsets, 0x5a));
     HOLDS(items[0].cell == 0 && items[1].cell == 0 && items[2].cell == 1 && items[3].cell == 2);
-    HOLDS(items[3].present == 0 && items[3].first == 0 && items[3].count == 0 && all_are(work, sizeof work, 0));
-    memset(items, 0x5a, sizeof items);
-    REFUSED(slots_fit_wants((const uint32_t *)wants, 20, (const uint32_t *)areas, 4, 2, 1, (uint32_t *)cells, 8, (uint32_t *)items, 16, counts, 3, work, 56), SLOTS_WANT, 2);
-    REFUSED(slots_fit_wants((const uint32_t *)wants, 20, (const uint32_t *)areas, 6, 2, 1, (uint32_t *)cells, 8, (uint32_t *)items, 16, counts, 3, work, 55), SLOTS_SPACE, 0);
+    HOLDS(items[3].present == 0 && items[3].first == 0 && items[3].count == 0 && all_are(work, 56 * 8, 0) && all_are(work + 56, 8, 0x5a));
+    memset(items, 0x5a, sizeof items), memset(offsets, 0x5a, sizeof offsets), memset(work, 0x5a, sizeof work);
+    REFUSED(slots_fit_wants((const uint32_t *)wants, 20, (const uint32_t *)areas, 4, 2, 1, (uint32_t *)cells, 8, (uint32_t *)items, 16, offsets, 4, counts, 3, work, 56), SLOTS_WANT, 2);
+    REFUSED(slots_fit_wants((const uint32_t *)wants, 20, (const uint32_t *)areas, 6, 2, 1, (uint32_t *)cells, 8, (uint32_t *)items, 16, offsets, 4, counts, 3, work, 55), SLOTS_SPACE, 0);
+    REFUSED(slots_fit_wants((const uint32_t *)wants, 20, (const uint32_t *)areas, 4, 2, 1, (uint32_t *)cells, 8, (uint32_t *)items, 16, offsets, 3, counts, 3, work, 56), SLOTS_SPACE, 0);
+    REFUSED(slots_fit_wants((const uint32_t *)wants, 19, (const uint32_t *)areas, 6, 2, 1, (uint32_t *)cells, 8, (uint32_t *)items, 16, offsets, 3, counts, 3, work, 56), SLOTS_COUNT, 0);
     for (size_t room = 0; room < 3; room++) { /* before 10, and after 1; also where no word of work space is needed */
-        REFUSED(slots_fit_wants((const uint32_t *)wants, 20, (const uint32_t *)areas, 4, 2, 1, (uint32_t *)cells, 8, (uint32_t *)items, 16, counts, room, work, 56), SLOTS_SPACE, 0);
-        REFUSED(slots_fit_wants((const uint32_t *)wants, 19, (const uint32_t *)areas, 6, 2, 1, (uint32_t *)cells, 8, (uint32_t *)items, 16, counts, room, work, 56), SLOTS_COUNT, 0);
-        REFUSED(slots_fit_wants((const uint32_t *)wants, 0, (const uint32_t *)areas, 0, 0, 1, (uint32_t *)cells, 8, (uint32_t *)items, 16, counts, room, work, 56), SLOTS_SPACE, 0);
+        REFUSED(slots_fit_wants((const uint32_t *)wants, 20, (const uint32_t *)areas, 4, 2, 1, (uint32_t *)cells, 8, (uint32_t *)items, 16, offsets, 4, counts, room, work, 56), SLOTS_SPACE, 0);
+        REFUSED(slots_fit_wants((const uint32_t *)wants, 19, (const uint32_t *)areas, 6, 2, 1, (uint32_t *)cells, 8, (uint32_t *)items, 16, offsets, 4, counts, room, work, 56), SLOTS_COUNT, 0);
+        REFUSED(slots_fit_wants((const uint32_t *)wants, 0, (const uint32_t *)areas, 0, 0, 1, (uint32_t *)cells, 8, (uint32_t *)items, 16, offsets, 4, counts, room, work, 56), SLOTS_SPACE, 0);
     }
-    HOLDS(all_are(items, sizeof items, 0x5a) && counts[0] == 3 && counts[1] == 1 && counts[2] == 14);
+    HOLDS(all_are(items, sizeof items, 0x5a) && all_are(offsets, sizeof offsets, 0x5a) && all_are(work, sizeof work, 0x5a));
+    HOLDS(counts[0] == 3 && counts[1] == 1 && counts[2] == 14);
+}
+
+/* Two wants that may share: the second's alignment is no power of two, so it may join a cell and not open one. */
+static void offsets_of_fitting_alone(void) {
+    const slots_want odd[] = {{8, 8, 1, 0, 1}, {20, 3, 1, 1, 1}}, deep[] = {{0x80000000u, 4, 0, 0, 0}, {20, 3, 1, 1, 1}};
+    const slots_range areas[] = {{0, 0}, {2, 2}}, reversed[] = {{0, 0}, {2, 1}};
+    uint32_t cells[4], items[8];
+    int32_t offsets[3];
+    uint64_t counts[3] = {77, 77, 77}, work[33];
+    memset(cells, 0x5a, sizeof cells), memset(items, 0x5a, sizeof items), memset(offsets, 0x5a, sizeof offsets), memset(work, 0x5a, sizeof work);
+    REFUSED(slots_fit_wants((const uint32_t *)odd, 10, (const uint32_t *)reversed, 4, 1, 0, cells, 4, items, 8, offsets, 2, counts, 3, work, 32), SLOTS_WANT, 1);
+    HOLDS(all_are(work, sizeof work, 0x5a));
+    REFUSED(slots_fit_wants((const uint32_t *)odd, 10, (const uint32_t *)areas, 4, 1, 0, cells, 4, items, 8, offsets, 2, counts, 3, work, 32), SLOTS_ALIGN, 1);
+    HOLDS(all_are(work, 32 * 8, 0) && all_are(work + 32, 8, 0x5a));
+    REFUSED(slots_fit_wants((const uint32_t *)deep, 10, (const uint32_t *)areas, 4, 1, 9, cells, 4, items, 8, offsets, 2, counts, 3, work, 32), SLOTS_ALIGN, 1);
+    memset(work, 0x5a, sizeof work);
+    REFUSED(slots_fit_wants((const uint32_t *)deep, 5, (const uint32_t *)areas, 4, 1, 9, cells, 4, items, 8, offsets, 2, counts, 3, work, 33), SLOTS_DEPTH, 0);
+    HOLDS(all_are(work, 24 * 8, 0) && all_are(work + 24, 9 * 8, 0x5a));
+    HOLDS(all_are(cells, sizeof cells, 0x5a) && all_are(items, sizeof items, 0x5a) && all_are(offsets, sizeof offsets, 0x5a) && counts[0] == 77 && counts[2] == 77);
+    HOLDS(slots_fit_wants((const uint32_t *)odd, 10, (const uint32_t *)areas, 4, 1, 1, cells, 4, items, 8, offsets, 3, counts, 3, work, 32) == 0);
+    HOLDS(counts[0] == 1 && counts[1] == 1 && counts[2] == 24 && offsets[0] == -24 && all_are(offsets + 1, 2 * sizeof *offsets, 0x5a));
 }
 
 /* A plan of two locals and three slots in three cells: local 0 with slot 0, local 1 alone, slots 1 and 2. */
@@ -408,14 +495,20 @@ static void texts(void) {
     text_in_text_out("H,20,0,1\nB,0,0,19\nE,0,0\nE,0,1\n", "N,3,1\n"); /* the second edge names no block */
     text_in_text_out("H,20,0,1048577\nB,0,0,19\n", "N,1,0\n");
     text_in_text_out("H,20,0,1\nB,0,0\n", "N,11,1\n"); /* a malformed line */
+    text_in_text_out("H,0,0,0\nB,0,0,0\nL,12,8\n", "C,0,12,8\nL,0,0\nT,1,0,0,16\n"); /* padding counts */
+    text_in_text_out("H,0,0,0\nB,0,0,0\nL,8,3\n", "N,12,0\n");
+    text_in_text_out("H,0,0,0\nB,0,0,0\nL,2147483647,1\nL,1,1\n", "N,13,1\n");
 }
 
 int main(void) {
     the_first_job();
     refusals_of_a_job();
+    offsets_of_a_job();
+    offsets_in_less_room();
     counts_in_less_room();
     words_needed();
     fitting_alone();
+    offsets_of_fitting_alone();
     queries();
     ranges();
     rows_of_bits();

@@ -14,6 +14,7 @@ struct Planned {
     std::vector<slots_cell> cells;
     std::vector<slots_item> items;
     std::vector<slots_range> areas;
+    std::vector<int32_t> offsets;
 };
 
 const uint32_t none = 0;
@@ -27,11 +28,13 @@ template <class T> void lend(const T *&list, size_t &count, const std::vector<T>
 }
 
 Planned plan_of(const slots_job &job, size_t ranges) {
-    Planned p = {0, slots_plan(), std::vector<slots_cell>(slots_job_items(&job)), std::vector<slots_item>(slots_job_items(&job)), std::vector<slots_range>(ranges)};
+    Planned p = {0, slots_plan(), std::vector<slots_cell>(slots_job_items(&job)), std::vector<slots_item>(slots_job_items(&job)), std::vector<slots_range>(ranges),
+        std::vector<int32_t>(slots_job_items(&job))};
     std::vector<uint64_t> work(slots_job_words(&job, ranges));
     p.plan.cells = p.cells.data(), p.plan.cells_room = p.cells.size();
     p.plan.items = p.items.data(), p.plan.items_room = p.items.size();
     p.plan.areas = p.areas.data(), p.plan.areas_room = p.areas.size();
+    p.plan.offsets = p.offsets.data(), p.plan.offsets_room = p.offsets.size();
     p.plan.work = work.data(), p.plan.work_room = work.size();
     p.code = slots_plan_job(&job, &p.plan);
     return p;
@@ -57,11 +60,14 @@ void by_parts(const slots_job &job, const Planned &plan, const std::vector<slots
     std::vector<slots_cell> cells(items + 1);
     std::vector<slots_item> rows(items + 1);
     std::vector<slots_range> areas(ranges + 1);
+    std::vector<int32_t> offsets(items + 1, 77);
     uint64_t counts[3] = {0, 0, 0};
     holds(slots_share(job.points, v, job.budget, numbers(blocks), 3 * blocks.size(), &none, 0, numbers(insts), 9 * insts.size(), &none, 0, &none, 0,
         numbers(locals), 2 * locals.size(), numbers(widths), widths.size(), numbers(addresses), 2 * addresses.size(), &none, 0, numbers(pieces), 3 * pieces.size(),
-        numbers(assigned), 2 * assigned.size(), &none, 0, numbers(cells), 2 * items, numbers(rows), 4 * items, numbers(areas), 2 * ranges, counts, 3, work.data(), work.size()) == plan.code
-        && counts[0] == plan.plan.cells_used && counts[2] == plan.plan.depth, "the same job by vectors");
+        numbers(assigned), 2 * assigned.size(), &none, 0, numbers(cells), 2 * items, numbers(rows), 4 * items, numbers(areas), 2 * ranges,
+        offsets.data(), items, counts, 3, work.data(), work.size()) == plan.code
+        && counts[0] == plan.plan.cells_used && counts[2] == plan.plan.depth && std::equal(offsets.begin(), offsets.begin() + counts[0], plan.offsets.begin())
+        && offsets[size_t(counts[0])] == 77, "the same job by vectors");
     std::vector<slots_area> own(items + 1);
     holds(slots_item_areas(job.points, v, numbers(blocks), 3 * blocks.size(), &none, 0, numbers(insts), 9 * insts.size(), &none, 0, &none, 0,
         numbers(locals), 2 * locals.size(), numbers(widths), widths.size(), numbers(addresses), 2 * addresses.size(), &none, 0, numbers(pieces), 3 * pieces.size(),
@@ -123,10 +129,12 @@ void wants_and_ranges(uint32_t n) {
     }
     std::vector<slots_cell> cells(n + 1);
     std::vector<slots_item> items(n + 1);
+    std::vector<int32_t> offsets(n + 1, 77);
     std::vector<uint64_t> work(size_t(slots_fit_words(n, n)) + 1);
     uint64_t counts[3], part[2] = {77, 77};
-    holds(slots_fit_wants(numbers(wants), 5 * n, numbers(areas), 2 * n, n, SLOTS_MOST_BUDGET, numbers(cells), 2 * n, numbers(items), 4 * n, counts, 3, work.data(), work.size()) == 0
-        && counts[0] == (n ? 1u : 0u), "wants that do not meet share one cell");
+    holds(slots_fit_wants(numbers(wants), 5 * n, numbers(areas), 2 * n, n, SLOTS_MOST_BUDGET, numbers(cells), 2 * n, numbers(items), 4 * n,
+        offsets.data(), n, counts, 3, work.data(), work.size()) == 0
+        && counts[0] == (n ? 1u : 0u) && offsets[0] == (n ? -8 : 77), "wants that do not meet share one cell");
     const std::vector<slots_cell> &told = cells;
     const std::vector<slots_item> &rows = items;
     holds(slots_local(numbers(told), 2 * counts[0], numbers(rows), 4 * n, n, 0) == (n ? 0 : SLOTS_ABSENT), "a local's cell");
@@ -188,11 +196,29 @@ void at_once(uint32_t n) {
     lend(job.assigned, job.assigned_count, assigned);
     const Planned p = plan_of(job, n);
     holds(p.code == 0 && p.plan.cells_used == n && p.plan.depth == 8u * n, "items that meet have a cell each");
+    for (uint32_t i = 0; i < n; i++) holds(p.offsets[i] == -8 * (int32_t(i) + 1), "cells lie below one another");
     std::vector<uint32_t> out(n + 1, 77);
     holds(slots_crowded(numbers(p.cells), 2 * p.plan.cells_used, numbers(p.items), 4 * p.items.size(), 0, out.data(), out.size()) == 0 && out[0] == 77, "none is crowded");
     for (uint32_t i = 0; i <= n; i++)
         holds(slots_slot(numbers(p.cells), 2 * p.plan.cells_used, numbers(p.items), 4 * p.items.size(), 0, i) == (i < n ? p.items[i].cell : SLOTS_ABSENT), "a slot's cell");
     by_parts(job, p, blocks, {}, {}, {}, widths, pieces, assigned);
+}
+
+// n locals without areas, all of one size and alignment: each cell reaches down to the next multiple of the alignment. Sizes that are none leave padding.
+void laid_out(uint32_t n, uint32_t size, uint32_t align) {
+    const std::vector<slots_block> blocks = {{0, 0, 0}};
+    const std::vector<slots_local_size> locals(n, {size, align});
+    slots_job job = slots_job();
+    lend(job.blocks, job.blocks_count, blocks);
+    lend(job.locals, job.locals_count, locals);
+    const Planned p = plan_of(job, 0);
+    const uint64_t step = (uint64_t(size) + align - 1) / align * align, fit = step ? INT32_MAX / step : n;
+    if (n > fit) {
+        holds(p.code == ((uint64_t)SLOTS_DEPTH << 32 | fit), "the first cell that lies too deep");
+    } else {
+        holds(p.code == 0 && p.plan.depth == n * step, "the depth has its padding");
+        for (uint32_t i = 0; i < n; i++) holds(p.offsets[i] == -int64_t((i + 1) * step), "a cell's offset");
+    }
 }
 
 // n locals as text, each held by an instruction of its own, with room for any text; then with as much as it took, and with a byte less.
@@ -226,6 +252,8 @@ int main() {
         at_once(n);
         wants_and_ranges(n);
         if (n > 0) over_graphs(n);
+        for (uint32_t size : {0u, 1u, 8u, 20u, 1048575u, 1048576u, 0x7fffffffu, 0x80000000u, UINT32_MAX})
+            for (uint32_t align = 1; align; align *= 2) laid_out(n, size, align);
     }
     slots_job more = slots_job();
     const std::vector<slots_local_size> locals(2049);

@@ -12,9 +12,10 @@ uint64_t slots_share(uint32_t points, uint32_t v, uint32_t budget, const uint32_
     const uint32_t *locals, size_t locals_len, const uint32_t *slots, size_t slots_len, const uint32_t *addresses, size_t addresses_len,
     const uint32_t *ends, size_t ends_len, const uint32_t *pieces, size_t pieces_len, const uint32_t *assigned, size_t assigned_len,
     const uint32_t *moves, size_t moves_len, uint32_t *cells, size_t cells_len, uint32_t *items, size_t items_len, uint32_t *areas, size_t areas_len,
-    uint64_t *counts, size_t counts_len, uint64_t *work, size_t work_len);
+    int32_t *offsets, size_t offsets_len, uint64_t *counts, size_t counts_len, uint64_t *work, size_t work_len);
 
-enum { GROUPS = 12, LISTS = 17, WAYS = 3 };
+/* The last two lists are of 64-bit words, the others of 32-bit ones. */
+enum { GROUPS = 12, ANSWERS = 6, LISTS = GROUPS + ANSWERS, LONG = LISTS - 2, WAYS = 3 };
 
 /* A list: its bytes, and what was mapped for it. */
 struct list {
@@ -56,14 +57,14 @@ static void give_back(struct list *l) {
 }
 
 /* Runs one job in one way; the lists are lent in the order of the parameters. */
-static void run(int way, const uint32_t head[3], const uint32_t lengths[LISTS], const size_t sizes[LISTS], void *const before[LISTS], void *const after[5],
+static void run(int way, const uint32_t head[3], const uint32_t lengths[LISTS], const size_t sizes[LISTS], void *const before[LISTS], void *const after[ANSWERS],
     uint64_t expected) {
     struct list l[LISTS];
     for (int k = 0; k < LISTS; k++) l[k] = lend(way, before[k], sizes[k]);
 #define IN(k) (const uint32_t *)l[k].at, lengths[k]
 #define OUT(k, word) (word *)l[k].at, lengths[k]
     uint64_t answer = slots_share(head[0], head[1], head[2], IN(0), IN(1), IN(2), IN(3), IN(4), IN(5), IN(6), IN(7), IN(8), IN(9), IN(10), IN(11),
-        OUT(12, uint32_t), OUT(13, uint32_t), OUT(14, uint32_t), OUT(15, uint64_t), OUT(16, uint64_t));
+        OUT(12, uint32_t), OUT(13, uint32_t), OUT(14, uint32_t), OUT(15, int32_t), OUT(16, uint64_t), OUT(17, uint64_t));
     if (answer != expected) fail("another answer");
     for (int k = 0; k < LISTS; k++) {
         const void *must = k < GROUPS ? before[k] : after[k - GROUPS];
@@ -77,12 +78,12 @@ int main(void) {
     unsigned long jobs = 0, plans = 0;
     while (get(head, sizeof head)) {
         size_t sizes[LISTS];
-        void *before[LISTS], *after[5];
+        void *before[LISTS], *after[ANSWERS];
         uint64_t expected;
         if (!get(lengths, sizeof lengths)) fail("a job is cut off");
-        for (int k = 0; k < LISTS + 5; k++) {
-            int list = k < LISTS ? k : k - 5;
-            sizes[list] = lengths[list] * (list < 15 ? sizeof(uint32_t) : sizeof(uint64_t));
+        for (int k = 0; k < LISTS + ANSWERS; k++) {
+            int list = k < LISTS ? k : k - ANSWERS;
+            sizes[list] = lengths[list] * (list < LONG ? sizeof(uint32_t) : sizeof(uint64_t));
             void *bytes = malloc(sizes[list]);
             if (bytes == NULL || !get(bytes, sizes[list])) fail("a job is cut off");
             if (k < LISTS) before[k] = bytes;
@@ -91,7 +92,7 @@ int main(void) {
         if (!get(&expected, sizeof expected)) fail("a job is cut off");
         for (int way = 0; way < WAYS; way++) run(way, head, lengths, sizes, before, after, expected);
         for (int k = 0; k < LISTS; k++) free(before[k]);
-        for (int k = 0; k < 5; k++) free(after[k]);
+        for (int k = 0; k < ANSWERS; k++) free(after[k]);
         jobs++;
         plans += expected == 0;
     }

@@ -10,11 +10,11 @@ use borrow.Author.Tests.{ltb-false}
 use Rattle.refusals.specs.declared.Verdict.{Verdict}
 use Rattle.refusals.specs.declared.Verdict.the-variants.{Fine}
 use Rattle.refusals.specs.declared.Refusal.the-variants.{Count, Space, List as ListWord}
-use Rattle.refusals.specs.Verdicts.{inOrder}
+use Rattle.refusals.specs.Verdicts.{inOrder, check}
 use Rattle.refusals.proofs.Laws.{first-left, first-right, check-told}
 use Rattle.words.specs.Rows.{tabulate}
-use Rattle.words.specs.Widths.{edgeWidth, mentionWidth, addressCount, endCount, pieceWidth, pieceCount, assignedWidth, assignedCount, moveWidth, moveCount, cellWidth, itemWidth, partWidth, rangeWidth}
-use Rattle.words.proofs.RowLaws.{length-records}
+use Rattle.words.specs.Widths.{edgeWidth, mentionWidth, localWidth, localCount, addressCount, endCount, pieceWidth, pieceCount, assignedWidth, assignedCount, moveWidth, moveCount, cellWidth, itemWidth, partWidth, rangeWidth}
+use Rattle.words.proofs.RowLaws.{length-tabulate, length-records}
 use Rattle.graph.specs.Line.{blocksOf, jumpsOf}
 use Rattle.graph.proofs.Line.{blocks-length, jumps-length}
 use Rattle.carrying.specs.Insts.{instsOf}
@@ -22,18 +22,21 @@ use Rattle.carrying.specs.Carried.{mentionsOf, piecesOf}
 use Rattle.insts.specs.Counts.{rowsVerdict}
 use Rattle.insts.proofs.DealtLaws.{insts-length}
 use Rattle.areas.specs.Slots.{movesOf, assignedOf}
-use Rattle.areas.specs.Job.{Job, checks, rangesOf, itemCount, itemArea}
+use Rattle.areas.specs.Job.{Job, checks, localsOf, rangesOf, itemCount, itemArea}
 use Rattle.job_space.specs.declared.Sizes.{Sizes}
 use Rattle.job_space.specs.Space.{sizesOf, spaceOf, badShape}
 use Rattle.job_checks.specs.Job.{jobOf, otherCounts, countVerdict}
 use Rattle.job_checks.proofs.CheckLaws.{told, lent-counted}
+use Rattle.soundness.specs.Demand.{wantOf, wantsOf}
 use Rattle.job.specs.Entry.{lentVerdict}
+use Rattle.job.specs.Inner.{spaceVerdict}
 use Rattle.item_areas.specs.Entry.{itemChecks, spaceVerdict as areasSpace, lentVerdict as areasLent}
 use Rattle.item_areas.proofs.OrderLaws.{item-verdict}
 use Rattle.job_codes.specs.Job.{codedVerdict}
 use Rattle.want_codes.specs.Plans.{fewCounts}
 use Rattle.codes.specs.Inner.{Fits}
 use Rattle.codes.proofs.IndexLaws.{check-fits, first-fits}
+use Rattle.answer_bounds.proofs.PlanBounds.{layout-fits}
 use Rattle.answer_bounds.proofs.Steps.{AllFit, no-more, order-fit, next-fits, rows-fits, most-fits, carry-counts-fit, line-fits, edge-fits, inst-fits, crossing-fits, address-fits, end-fits, move-fits, piece-fits, assigned-fits}
 use Rattle.job_space.specs.Rows.{Rows}
 use Rattle.fitting.specs.declared.Terms.{Terms}
@@ -99,20 +102,28 @@ module _ (R : Rows) (areas : ℕ) where
       omega arith
 
 -- the whole job
-module _ (R : Rows) (t : Terms) (cells items areas counts work : ℕ) where
+module _ (R : Rows) (t : Terms) (cells items areas offsets counts work : ℕ) where
   abbrev y : Sizes
   y = sizesOf R areas
 
-  lent-fits : Fits (lentVerdict R t cells items areas work)
+  lent-fits : Fits (lentVerdict R t cells items areas offsets work)
   unfolding lentVerdict
   lent-fits =
       order-fit
       (next-fits (check-fits Count (badShape t cells items))
       (λ _. next-fits (counts-fit R areas)
       (λ e. checks-fit R areas _ e
-      (next-fits (check-fits Space (ltb work (spaceOf y) || (ltb (cells / cellWidth) (y .locals + y .slots) || ltb (items / itemWidth) (y .locals + y .slots)))) (λ _. no-more)))))
+      (next-fits (check-fits Space (ltb work (spaceOf y) || (ltb (cells / cellWidth) (y .locals + y .slots) || (ltb (items / itemWidth) (y .locals + y .slots) || ltb offsets (y .locals + y .slots))))) (λ _. no-more)))))
 
-  pub job-fits : Fits (codedVerdict R t cells items areas counts work)
+  lent-items : lentVerdict R t cells items areas offsets work ≡ Fine → itemCount (jobOf R) ≤ 4096
+  unfolding lentVerdict
+  lent-items e =
+      let s = told R areas (lent-counted R areas (check Count (badShape t cells items)) (spaceVerdict y cells items offsets work) e) .small in
+      let l : length (localsOf (R .locals)) ≡ localCount (R .locals) = length-records localWidth (λ f. record { size = f 0; align = f 1 }) (R .locals) in
+      omega (arith, s .few-locals, s .few-slots)
+
+  pub job-fits : Fits (codedVerdict R t cells items areas offsets counts work)
   job-fits =
       first-fits _ _ (first-fits _ _ lent-fits (λ _. check-fits Space (fewCounts counts)))
-      (λ _. check-fits ListWord (ltb (areas / rangeWidth) (rangesOf (tabulate (itemCount (jobOf R)) (itemArea (jobOf R))))))
+      (λ e. first-fits _ _ (check-fits ListWord (ltb (areas / rangeWidth) (rangesOf (tabulate (itemCount (jobOf R)) (itemArea (jobOf R))))))
+      (λ _. layout-fits (wantsOf (jobOf R)) (t .budget) (omega (arith, length-tabulate (itemCount (jobOf R)) (wantOf (jobOf R)), lent-items (first-left (lentVerdict R t cells items areas offsets work) _ e)))))

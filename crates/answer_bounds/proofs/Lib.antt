@@ -2,7 +2,7 @@ pub mod Steps
 pub mod GraphBounds
 pub mod AreaBounds
 pub mod CarryBounds
-pub mod JobBounds
 pub mod PlanBounds
+pub mod JobBounds
 pub mod QueryBounds
 pub mod RangeBounds

@@ -55,6 +55,20 @@ pub fn show(list: &[u32]) {
     }
 }
 
+// Numbers with a sign.
+pub fn show_signed(list: &[i32]) {
+    let mut i = 0;
+    while i < list.len() {
+        let z = list[i] as i64;
+        if z < 0 {
+            put(b" -", (-z) as u64);
+        } else {
+            put(b" ", z as u64);
+        }
+        i += 1;
+    }
+}
+
 // An answer list that others follow.
 pub fn listed(list: &[u32]) {
     show(list);
@@ -76,6 +90,16 @@ fn zeros(work: &[u64]) -> usize {
 // What was left: an answer list, and how many words at the front of the work space are zero.
 pub fn left(answer: &[u32], work: &[u64]) {
     show(answer);
+    left_words(work);
+}
+
+// The same of offsets.
+pub fn left_offsets(offsets: &[i32], work: &[u64]) {
+    show_signed(offsets);
+    left_words(work);
+}
+
+fn left_words(work: &[u64]) {
     put(b" | ", zeros(work) as u64);
     text(b"\n");
 }

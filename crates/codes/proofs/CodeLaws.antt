@@ -5,14 +5,14 @@ use Prim.Native.Nat.{ℕ, _/_, _%_, _^_, _≤_, _<_}
 use native.Mathlib.Omega.{arith}
 use lib.ListN.{length, set, drop}
 use Rattle.refusals.specs.declared.Refusal.{Refusal}
-use Rattle.refusals.specs.declared.Refusal.the-variants.{Count, Line, Edge, Inst, Stray, Piece, Space, List as ListFull, Want, Text}
+use Rattle.refusals.specs.declared.Refusal.the-variants.{Count, Line, Edge, Inst, Stray, Piece, Space, List as ListFull, Want, Text, Align, Depth}
 use Rattle.refusals.specs.Verdicts.{numberOf}
 use Rattle.refusals.proofs.Numbers.{no-eight}
 use Rattle.codes.specs.Codes.{refusalCode, absentCode}
 
 -- ---- a refusal's code is no answer, is not that of absence, and gives its number and index back
 
-number-small : (r : Refusal) → (1 ≤ numberOf r) × (numberOf r ≤ 11)
+number-small : (r : Refusal) → (1 ≤ numberOf r) × (numberOf r ≤ 13)
 number-small Count = (omega arith, omega arith)
 number-small Line = (omega arith, omega arith)
 number-small Edge = (omega arith, omega arith)
@@ -23,6 +23,8 @@ number-small Space = (omega arith, omega arith)
 number-small ListFull = (omega arith, omega arith)
 number-small Want = (omega arith, omega arith)
 number-small Text = (omega arith, omega arith)
+number-small Align = (omega arith, omega arith)
+number-small Depth = (omega arith, omega arith)
 
 pub refusal-no-answer : (r : Refusal) (i n : ℕ) → n < 2 ^ 32 → n < refusalCode (numberOf r) i
 refusal-no-answer r i n h = let s = number-small r in omega arith

@@ -2,6 +2,7 @@
 use Prim.Native.Nat.{ℕ, _^_, _<_}
 use mathlib.Core.Path.{refl}
 use mathlib.Core.List.{List}
+use lib.IntN.{ℤ}
 use Rattle.area_points.specs.Parts.{AreasTold}
 use Rattle.job.proofs.Paths.{shared-by-paths}
 use Rattle.job_codes.specs.Job.{JobCoded}
@@ -10,7 +11,7 @@ use Rattle.job_space.specs.Rows.{Rows}
 use Rattle.fitting.specs.declared.Terms.{Terms}
 use Rattle.job_checks.specs.Job.{jobOf}
 
-module _ {R : Rows} {t : Terms} {cells items areas counts work cells′ items′ areas′ counts′ work′ : List ℕ} {r : ℕ}
-    (E : JobCoded R t cells items areas counts work r cells′ items′ areas′ counts′ work′) (h : r < 2 ^ 32) where
+module _ {R : Rows} {t : Terms} {cells items areas counts work cells′ items′ areas′ counts′ work′ : List ℕ} {offsets offsets′ : List ℤ} {r : ℕ}
+    (E : JobCoded R t cells items areas offsets counts work r cells′ items′ areas′ offsets′ counts′ work′) (h : r < 2 ^ 32) where
   pub export-by-paths : AreasTold (jobOf R) 4 1 items′ areas′
   export-by-paths = shared-by-paths (shared E h _ _ _ refl)

@@ -5,6 +5,7 @@ use mathlib.Core.Path.{_≡_, refl, sym, ap, subst, _∙_}
 use mathlib.Core.Logic.{inl, inr}
 use mathlib.Core.Option.{Option, some, none}
 use mathlib.Core.List.{List, []}
+use lib.IntN.{ℤ}
 use lib.ListN.{length}
 use lib.Dec.{ltb}
 use Rattle.refusals.specs.declared.Verdict.{Verdict}
@@ -19,6 +20,7 @@ use Rattle.ranges.specs.Forms.{columns}
 use Rattle.range_checks.specs.Verdicts.{mergedVerdict, joinedVerdict, unionVerdict, clashesVerdict}
 use Rattle.range_entries.specs.Entries.{size, mergedOf, joinedOf, unionOf, clashesOf}
 use Rattle.fitting.specs.Queries.{slotsOf, local, slot, saved, crowded}
+use Rattle.fitting.specs.Layout.{laidVerdict}
 use Rattle.wants.specs.Entry.{tallyOf, planFor}
 use Rattle.query_checks.specs.Checks.{planVerdict, toldVerdict, crowdedVerdict}
 use Rattle.queries.specs.Entry.{localOf, slotOf, savedBy}
@@ -43,7 +45,7 @@ use Rattle.planning.specs.Program.{programText}
 use Rattle.planning.proofs.TextLaws.{program-short}
 use Rattle.codes.specs.Codes.{codeOf, countCode, optionCode, truthCode, Small, SmallOrAbsent, Read}
 use Rattle.codes.proofs.IndexLaws.{check-fits, read-back, read-verdict, read-count, read-truth, read-option}
-use Rattle.want_codes.specs.Plans.{codedVerdict as fitVerdict, codedOutcome, PlanCoded}
+use Rattle.want_codes.specs.Plans.{codedVerdict as fitVerdict, PlanCoded}
 use Rattle.job_codes.specs.Job.{codedVerdict, JobCoded}
 use Rattle.answer_bounds.proofs.Steps.{no-more, order-fit, next-fits}
 use Rattle.answer_bounds.proofs.GraphBounds.{components-fits, few-blocks, flowed-fits, spread-fits}
@@ -63,19 +65,20 @@ use Rattle.fitting.specs.declared.Terms.{Terms}
 
 -- ---- the whole job and fitting alone
 
-module _ {R : Rows} {t : Terms} {cells items areas counts work cells′ items′ areas′ counts′ work′ : List ℕ} {r : ℕ} where
-  pub share-read : JobCoded R t cells items areas counts work r cells′ items′ areas′ counts′ work′
-      → Read Small (codedVerdict R t (length cells) (length items) (length areas) (length counts) (length work)) r
+module _ {R : Rows} {t : Terms} {cells items areas counts work cells′ items′ areas′ counts′ work′ : List ℕ} {offsets offsets′ : List ℤ} {r : ℕ} where
+  pub share-read : JobCoded R t cells items areas offsets counts work r cells′ items′ areas′ offsets′ counts′ work′
+      → Read Small (codedVerdict R t (length cells) (length items) (length areas) (length offsets) (length counts) (length work)) r
   share-read E =
-      read-back _ (job-fits R t (length cells) (length items) (length areas) (length counts) (length work))
+      read-back _ (job-fits R t (length cells) (length items) (length areas) (length offsets) (length counts) (length work))
       (λ e. let z : r ≡ 0 = E .answer ∙ ap (λ (w : Verdict). codeOf (tallyOf (unless w (jobPlan (jobOf R) (t .budget))))) e in omega arith)
       (λ k i e. E .answer ∙ ap (λ (w : Verdict). codeOf (tallyOf (unless w (jobPlan (jobOf R) (t .budget))))) e)
 
-module _ (wants areas : List ℕ) (locals budget : ℕ) {cells items counts work cells′ items′ counts′ work′ : List ℕ} {r : ℕ} where
-  pub fit-wants-read : PlanCoded wants areas (codedOutcome wants areas locals budget (length cells) (length items) (length counts) (length work)) cells items counts work r cells′ items′ counts′ work′
-      → Read Small (fitVerdict wants areas locals budget (length cells) (length items) (length counts) (length work)) r
+module _ (wants areas : List ℕ) (locals budget : ℕ) {cells items counts work cells′ items′ counts′ work′ : List ℕ} {offsets offsets′ : List ℤ} {r : ℕ} where
+  pub fit-wants-read : PlanCoded wants areas (fitVerdict wants areas locals budget (length cells) (length items) (length offsets) (length counts) (length work)) (planFor wants areas budget)
+      cells items offsets counts work r cells′ items′ offsets′ counts′ work′
+      → Read Small (laidVerdict (fitVerdict wants areas locals budget (length cells) (length items) (length offsets) (length counts) (length work)) (planFor wants areas budget)) r
   fit-wants-read E =
-      read-back _ (wants-fit wants areas locals budget (length cells) (length items) (length counts) (length work))
+      read-back _ (wants-fit wants areas locals budget (length cells) (length items) (length offsets) (length counts) (length work))
       (λ e. let z : r ≡ 0 = E .answer ∙ ap (λ (w : Verdict). codeOf (tallyOf (unless w (planFor wants areas budget)))) e in omega arith)
       (λ k i e. E .answer ∙ ap (λ (w : Verdict). codeOf (tallyOf (unless w (planFor wants areas budget)))) e)
 

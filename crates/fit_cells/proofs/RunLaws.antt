@@ -14,7 +14,7 @@ use Rattle.words.proofs.RowLaws.{length-tabulate, getD-tabulate, tabulate-eq, t
 use Rattle.fitting.specs.Wants.{Want, wantAt, Names, orderOf}
 use Rattle.fitting.specs.Plan.{Plan, nothing, put, fit, planOf}
 use Rattle.fitting.proofs.OrderLaws.{order-names, length-ordered}
-use Rattle.fit_tables.specs.Inner.{sizeOf, alignOf, OrderedIn, wantTable, orderTable, cellTable, homeTable, behind, rangesAt, areaIn, wantIn, wantsIn, Lent, planIn, Fitted, upTo, orderIn, placedIn, orderAt, headAt, Probed, enteredIn, Holds, InOrder, Ready, Stepped, Placed, Each, Summed, Folded}
+use Rattle.fit_tables.specs.Inner.{sizeOf, alignOf, OrderedIn, wantTable, orderTable, cellTable, homeTable, behind, rangesAt, areaIn, wantIn, wantsIn, Lent, planIn, Fitted, upTo, orderIn, placedIn, orderAt, headAt, Probed, enteredIn, Holds, InOrder, Ready, Stepped, Placed, Each, Folded}
 use Rattle.sorting.proofs.RankLaws.{mem-at}
 use Rattle.fit_tables.specs.declared.Progress.{Progress}
 use Rattle.fit_tables.proofs.TableLaws.{area-none, area-some, want-at, sized, area-kept, lent-kept, wants-kept}
@@ -212,19 +212,17 @@ module _ {w₀ w₁ w₂ : List ℕ} {t : Tables} (L : Lent w₀ t) (low : behin
   plan-same : (budget : ℕ) → placedIn w₂ t budget ≡ planIn w₀ t budget
   plan-same budget = ap (λ (ws : List Want). planOf ws budget (orderIn w₂ t)) wants-same ∙ ap (λ (o : List ℕ). planOf (wantsIn w₀ t) budget o) order-is
 
-  pub fitted : {w₃ : List ℕ} {budget : ℕ} {s : Progress} (d : ℕ) → Placed w₂ w₃ t budget s → Summed w₃ (cellTable t) (s .cells) d
-      → Fitted w₀ w₃ t budget (record { cells = s .cells; probes = budget - s .left; depth = d })
-  fitted {w₃} {budget} {s} d P D =
+  pub fitted : {w₃ : List ℕ} {budget : ℕ} {s : Progress} → Placed w₂ w₃ t budget s → Fitted w₀ w₃ t budget (record { cells = s .cells; probes = budget - s .left })
+  fitted {w₃} {budget} {s} P =
       let H = subst (λ (q : Plan). Holds w₂ w₃ (upTo t (P .rows)) budget (t .n) s q) (plan-same budget) (P .holds) in
       record {
         len = H .len ∙ same-length;
         cells = H .cells-is;
         few = H .cells-le;
         probes = omega (arith, H .left-is);
-        depth = D .is (planIn w₀ t budget .cells) (sym (H .cells-is)) (λ c h. H .shown .size c (rw (H .cells-is) at h));
         shown = record { size = H .shown .size; align = H .shown .align; cell = H .shown .cell };
         rest = λ x o. ⊎-elim (λ h. H .tables x (omega arith) ∙ tables-kept x h) (λ h. P .rest x h ∙ F .after x (omega arith) ∙ O .rest x (inr (omega arith))) o;
       }
 
-  pub cells-few : {w₃ : List ℕ} {budget : ℕ} {s : Progress} → Placed w₂ w₃ t budget s → (s .cells ≤ t .n) × (length w₃ ≡ length w₀) × (s .left ≤ budget)
-  cells-few P = (P .holds .cells-le, P .holds .len ∙ same-length, omega (arith, P .holds .left-is))
+  pub left-less : {w₃ : List ℕ} {budget : ℕ} {s : Progress} → Placed w₂ w₃ t budget s → s .left ≤ budget
+  left-less P = omega (arith, P .holds .left-is)

@@ -2,10 +2,8 @@
 ghost use mathlib.Core.Path.{_≡_};
 ghost use Prim.Native.Nat.{ℕ, _+_, _-_, _*_, _/_, _^_, _<_, _≤_};
 ghost use lib.ListN.{length, getD};
-ghost use Rattle.fit_tables.specs.Inner.{homeTable, behind, Lent, Fitted, InOrder, Gridded, Placed, Each, Summed};
-use fit_tables::CELLS;
+ghost use Rattle.fit_tables.specs.Inner.{homeTable, behind, Lent, Fitted, InOrder, Gridded, Placed, Each};
 use fit_tables::Counts;
-use fit_tables::HALF;
 use fit_tables::HOMES;
 use fit_tables::ORDER;
 use fit_tables::Progress;
@@ -69,20 +67,6 @@ fn place(w: &mut [u64], t: Tables, budget: u64) -> Progress
     each(w, below, width, step, budget)
 }
 
-// The sum of the cells' sizes.
-fn depth(w: &[u64], from: usize, cells: usize) -> u64
-    requires { ⌜ (from + cells ≤ length (now w)) × (cells ≤ 4096) ⌝ }
-    ensures { λ r. ⌜ Summed (now (w .entry)) from cells r ⌝ }
-{
-    let mut sum = 0;
-    let mut c = 0;
-    while c < cells {
-        sum += w[from + c] / HALF;
-        c += 1;
-    }
-    sum
-}
-
 // Fits the items of the tables: the plan stands in the tables behind the wants'. The words up to `end` hold the cells' areas and sample points meanwhile.
 pub fn fit(w: &mut [u64], t: Tables, budget: u64) -> Counts
     requires { ⌜ Lent (now w) t × (behind t ≤ t .end) × (t .end ≤ length (now w)) × (t .end < 2 ^ 32) ⌝ }
@@ -91,10 +75,8 @@ pub fn fit(w: &mut [u64], t: Tables, budget: u64) -> Counts
     fit_tables::order::order(w, t.items + t.n, t.n, t.items + ORDER * t.n);
     words::fill(w, t.items + HOMES * t.n, t.n, 0);
     let s = place(w, t, budget);
-    let d = depth(w, t.items + CELLS * t.n, s.cells);
     Counts {
         cells: s.cells,
         probes: budget - s.left,
-        depth: d,
     }
 }

@@ -15,7 +15,7 @@ use Rattle.words.specs.Inner.{part, wantSize, wantAlign}
 use Rattle.bits.specs.Bits.{bitOf, bit}
 use Rattle.bits.specs.Inner.{Row}
 use Rattle.fitting.specs.Wants.{Names, Want, wantAt, orderOf}
-use Rattle.fitting.specs.Plan.{Cell, cellAt, joinable, Plan, put, planOf, depthOf}
+use Rattle.fitting.specs.Plan.{cellAt, joinable, Plan, put, planOf}
 use Rattle.fit_tables.specs.declared.Tables.{Tables}
 use Rattle.fit_tables.specs.declared.Progress.{Progress}
 use Rattle.fit_tables.specs.declared.Part.{Part}
@@ -84,10 +84,6 @@ upTo t rows = record { at = t .at; items = t .items; n = t .n; end = rows }
 -- a want's size and alignment in one word: the size above, the alignment in the low 32 bits
 abbrev pub sizeOf : ℕ → ℕ
 sizeOf x = x / 2 ^ 32
-
--- r is the sum of the sizes of the cells whose words stand from `at` on
-pub record Summed (w : List ℕ) (at cells r : ℕ) : Type 0 where
-  pub is : (cs : List Cell) → length cs ≡ cells → ((c : ℕ) → c < cells → sizeOf (getD w (at + c) 0) ≡ cellAt cs c .size) → r ≡ depthOf cs
 
 abbrev pub alignOf : ℕ → ℕ
 alignOf x = x % 2 ^ 32
@@ -346,9 +342,14 @@ pub record Fitted (w₀ w : List ℕ) (t : Tables) (budget : ℕ) (r : Counts) :
   pub cells : r .cells ≡ length (planIn w₀ t budget .cells)
   pub few : r .cells ≤ t .n
   pub probes : r .probes ≡ planIn w₀ t budget .probes
-  pub depth : r .depth ≡ depthOf (planIn w₀ t budget .cells)
   pub shown : Shown w t (planIn w₀ t budget)
   pub rest : (x : ℕ) → (x < orderTable t) ⊎ (t .end ≤ x) → getD w x 0 ≡ getD w₀ x 0
+
+-- a plan of `count` items in the tables behind the room for `room` ranges, and in the counts
+pub record Made (p : Plan) (count room : ℕ) (w : List ℕ) (r : Counts) : Type 0 where
+  pub cells : r .cells ≡ length (p .cells)
+  pub probes : r .probes ≡ p .probes
+  pub shown : Shown w (tablesAt room count) p
 
 -- an item's word, as fitting reads it
 abbrev pub itemWord : ℕ → ℕ → ℕ → ℕ

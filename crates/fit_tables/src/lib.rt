@@ -39,11 +39,10 @@ pub const TABLES: usize = 8;
 // Two numbers in a word: one above, the other in the low 32 bits.
 pub const HALF: u64 = 0x1_0000_0000;
 
-// A plan's counts: its cells, the probes spent and the sum of the cells' sizes.
+// A plan's counts: its cells and the probes spent.
 pub struct Counts {
     pub cells: usize,
     pub probes: u64,
-    pub depth: u64,
 }
 
 // The cells opened so far, what is left of the budget, and where the stored lists end.

@@ -1,15 +1,21 @@
--- The corners of the definitions, by computation: every field told apart, each query on a plan of three items, depth of cells whose size is not their alignment.
+-- The corners of the definitions, by computation: every field told apart, each query on a plan of three items, the layout of cells whose size is not their alignment.
 use Prim.Native.Nat.{ℕ}
 use mathlib.Core.Path.{_≡_, refl}
 use mathlib.Core.Bool.{true, false}
 use mathlib.Core.Option.{some, none}
 use mathlib.Core.List.{List, [], _∷_}
+use lib.IntN.{pos, negsuc}
+use Rattle.refusals.specs.declared.Verdict.the-variants.{Fine, Bad}
+use Rattle.refusals.specs.declared.Refusal.the-variants.{Align, Depth}
+use Rattle.refusals.specs.Verdicts.{first, inOrder, scan}
 use Rattle.words.specs.Rows.{tabulate}
 use Rattle.ranges.specs.Points.{range}
 use Rattle.ranges.specs.Merged.{insert as insertRange, sort, join, merged, meets, clashes}
 use Rattle.fitting.specs.Wants.{Want, before, insert, ordered, orderOf}
-use Rattle.fitting.specs.Plan.{Cell, takes, lowest, spent, widened, nothing, put, fit, planOf, depthOf}
-use Rattle.fitting.specs.Queries.{Slots, partOf, roomsOf, itemsOf, slotsOf, local, slot, countIn, shared, crowdedFrom, crowded, saved, apart, cap, answered}
+use Rattle.fitting.specs.Plan.{Cell, takes, lowest, spent, widened, nothing, put, fit, planOf}
+use Rattle.fitting.specs.Queries.{Room, Slots, partOf, roomsOf, itemsOf, slotsOf, local, slot, countIn, shared, crowdedFrom, crowded, saved, apart, cap, answered}
+use Rattle.fitting.specs.Layout.{roundUp, depthBefore, depthOf, offsetsOf, amongPowers, isPower, depthVerdict, layoutVerdict}
+use Rattle.fitting.proofs.PowerLaws.{power-tells}
 
 -- cells 2 numbers: size, align; items 4: cell, present, first, count
 pub rows : (roomsOf (4 ∷ 5 ∷ 6 ∷ 7 ∷ []) ≡ record { size = 4; align = 5 } ∷ record { size = 6; align = 7 } ∷ [])
@@ -82,10 +88,32 @@ probes = (refl, refl, refl, refl, refl, refl, refl, refl)
 pub free : (put (record { size = 8; align = 4; area = none } ∷ []) 5 0 (record { cells = four; cell = λ i. 9; probes = 3 }) .probes ≡ 3) × (put (record { size = 8; align = 4; area = none } ∷ []) 5 0 nothing .cells ≡ record { size = 8; align = 4; area = none } ∷ [])
 free = (refl, refl)
 
--- "depth is the sum of cell sizes"
-pub depth : (depthOf [] ≡ 0) × (depthOf (cell 16 8 0 ∷ cell 4 2 0 ∷ []) ≡ 20)
-unfolding depthOf
-depth = (refl, refl)
+-- ---- the layout
+
+abbrev room : ℕ → ℕ → Room
+room size align = record { size = size; align = align }
+
+-- "rounded up": at a multiple, one past it, and 0
+pub rounded : (roundUp 16 8 ≡ 16) × (roundUp 17 8 ≡ 24) × (roundUp 0 8 ≡ 0) × (roundUp 12 1 ≡ 12)
+unfolding roundUp
+rounded = (refl, refl, refl, refl)
+
+-- "0 with no cells"; the sum is rounded up, not the size; a cell of size 0 lies at the depth before it, rounded up
+pub depths : (depthOf [] ≡ 0) × (depthOf (room 12 8 ∷ []) ≡ 16) × (depthOf (room 0 8 ∷ []) ≡ 0) × (depthOf (room 3 1 ∷ room 3 2 ∷ room 0 4 ∷ room 0 4 ∷ []) ≡ 8)
+    × (offsetsOf (room 3 1 ∷ room 3 2 ∷ room 0 4 ∷ room 0 4 ∷ []) ≡ negsuc 2 ∷ negsuc 5 ∷ negsuc 7 ∷ negsuc 7 ∷ []) × (offsetsOf (room 0 8 ∷ []) ≡ pos 0 ∷ [])
+unfolding tabulate roundUp depthBefore
+depths = (refl, refl, refl, refl, refl, refl)
+
+-- 13: "a depth over 2,147,483,647", at it and one past it, by padding too; 12: no power of two, 0 is none; 12 of any cell before 13 of any
+pub layouts : (layoutVerdict (room 2147483647 1 ∷ []) ≡ Fine) × (offsetsOf (room 2147483647 1 ∷ []) ≡ negsuc 2147483646 ∷ []) × (layoutVerdict (room 2147483647 1 ∷ room 1 1 ∷ []) ≡ Bad Depth 1)
+    × (layoutVerdict (room 2147483647 2 ∷ []) ≡ Bad Depth 0) × (layoutVerdict (room 8 3 ∷ []) ≡ Bad Align 0) × (layoutVerdict (room 8 0 ∷ []) ≡ Bad Align 0) × (layoutVerdict (room 2147483648 4 ∷ room 8 3 ∷ []) ≡ Bad Align 1)
+unfolding tabulate roundUp depthBefore amongPowers layoutVerdict inOrder first scan
+layouts = (refl, refl, refl, refl, refl, refl, refl)
+
+-- the highest power of two in 32 bits: size 0 lies at 0, size 1 too deep
+pub highest : (isPower 2147483648 ≡ true) × (depthVerdict (room 0 2147483648 ∷ []) ≡ Fine) × (depthVerdict (room 1 2147483648 ∷ []) ≡ Bad Depth 0)
+unfolding roundUp depthBefore first scan
+highest = (power-tells 2147483648 (31, refl), refl, refl)
 
 -- three wants and their plan as the queries see them: the second shares the first's cell
 abbrev wants : List Want

@@ -1,7 +1,9 @@
-pub mod Corners
 pub mod OrderLaws
 pub mod SearchLaws
 pub mod PlanLaws
 pub mod PutLaws
+pub mod PowerLaws
+pub mod Corners
+pub mod LayoutLaws
 pub mod Stars
 pub mod CellLaws

@@ -95,8 +95,3 @@ fit ws budget (i ∷ order) p = fit ws budget order (put ws budget i p)
 
 abbrev pub planOf : List Want → ℕ → List ℕ → Plan
 planOf ws budget order = fit ws budget order nothing
-
--- "depth is the sum of cell sizes"
-unfoldable pub depthOf : List Cell → ℕ
-depthOf [] = 0
-depthOf (c ∷ cs) = c .size + depthOf cs

@@ -1,11 +1,13 @@
 // Runs fitting alone and the queries on the cases of standard input and prints what they answer and leave: held to the file `stdout`.
 // Answer lists and work space have 7s at first, so that what is written past an answer, or by a refusal, shows. A fit's line: cells, probes and depth; the list of cells; the list of items;
-// how many words of the work space are zero. The cells and the items' cells of every fit that is not refused are those that `fit` of slots.rs gives for the same wants.
+// the list of offsets; how many words of the work space are zero. The cells and the items' cells of every fit that is not refused are those that `fit` of slots.rs gives for the same wants.
 // A case's name is that of what it asks. The columns of `fit`: locals, budget; wants, areas. Of `local`, which asks for locals 0 and 2, slots 0 and 2 and what is saved, of `shared`, which asks
 // for locals 0, 1 and 2, and of `crowded`: locals; cells, items, areas. Of `apart`: none; locals, slots. Of `cap`: how many cells, the largest alignment.
 // The cases of `fit`: the three wants of star 9, whose areas do not clash, with three budgets; alignment, then size, then index, and the size and the alignment of a cell are the largest of its
 // members; a want without area opens a cell, spends nothing, and its cell still costs a probe; an empty area clashes with none; nothing; four counts that are refused; more items than the lists
-// take, and a work space under W; four wants that are refused. Then two locals and two slots in two cells, where local 1 is alone: its places, shares and crowded slots, and those of a plan
+// take, and a work space under W; four wants that are refused. Of the layout: two wants in one cell of alignment 8, and with no budget in two, of which the second's is 3;
+// cells with padding; a cell of size 0; the deepest cell; one too deep; a cell too deep before one whose alignment is 3.
+// Then two locals and two slots in two cells, where local 1 is alone: its places, shares and crowded slots, and those of a plan
 // without locals. Places refused: a row cut short, more locals than items, an item that names no cell, more cells than items. Shares refused: an area list cut short, a part outside it before an
 // item that names no cell, more cells than items. Crowded slots refused: a row cut short; a list under the slots comes before an item that names no cell; such an item. Then `apart` and `cap`.
 ghost use mathlib.Core.Path.{_≡_};
@@ -30,6 +32,7 @@ fn fitted(f: Fitted) {
 fn fit(wants: &[u32], areas: &[u32], locals: u32, budget: u32) {
     let mut cells = [7u32; 8];
     let mut items = [7u32; 16];
+    let mut offsets = [7i32; 4];
     let mut work = [7u64; 60];
     let terms = Terms { budget: budget };
     fitted(wants::fit_wants(
@@ -39,10 +42,12 @@ fn fit(wants: &[u32], areas: &[u32], locals: u32, budget: u32) {
         terms,
         &mut cells,
         &mut items,
+        &mut offsets,
         &mut work,
     ));
     cases::listed(&cells);
-    cases::left(&items, &work);
+    cases::listed(&items);
+    cases::left_offsets(&offsets, &work);
 }
 
 fn number(x: usize) {

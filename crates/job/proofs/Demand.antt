@@ -4,6 +4,7 @@ use native.Mathlib.Omega.{arith}
 use native.Mathlib.Nat.{add-zero, not-suc-le-zero}
 use mathlib.Core.Path.{_≡_, refl, sym, ap, _∙_}
 use mathlib.Core.List.{List, [], _∷_, _++_, map}
+use lib.IntN.{ℤ}
 use lib.ListN.{length, getD, drop}
 use Rattle.refusals.specs.declared.Verdict.{Verdict}
 use Rattle.refusals.specs.declared.Verdict.the-variants.{Fine}
@@ -11,7 +12,7 @@ use Rattle.refusals.specs.Outcomes.{unless, after}
 use Rattle.refusals.proofs.Laws.{first-left}
 use Rattle.words.specs.Rows.{flat}
 use Rattle.words.specs.Widths.{cellWidth, itemWidth, rangeCount}
-use Rattle.areas.specs.Job.{Job, Checked, itemCount, itemArea, itemsVerdict}
+use Rattle.areas.specs.Job.{Job, Checked, itemCount, itemArea}
 use Rattle.fitting.specs.Wants.{orderOf}
 use Rattle.fitting.specs.Plan.{Cell, cellAt}
 use Rattle.wants.specs.Inner.{cellRow}
@@ -22,7 +23,7 @@ use Rattle.soundness.specs.Inner.{Separate}
 use Rattle.soundness.specs.Demand.{wantsOf, frameOf, jobPlan, AsPrivate}
 use Rattle.soundness.proofs.Demand.{job-order, separate, uses, any-cells, demand-3}
 use Rattle.job_answers.specs.declared.Shared.the-variants.{Plan as Planned}
-use Rattle.job_answers.specs.Answers.{itemRows}
+use Rattle.job_answers.specs.Answers.{itemRows, answerVerdict}
 use Rattle.job_answers.proofs.SeenLaws.{cell-listed}
 use Rattle.wants.proofs.TallyLaws.{not-refused}
 use Rattle.job.specs.Entry.{lentVerdict, verdictOf, SharedAs}
@@ -40,20 +41,20 @@ listed-size (x ∷ cs) old (suc c) b h =
     let e : cellWidth * suc c ≡ suc (suc (cellWidth * c)) = omega arith in
     rw e (listed-size cs old c b h)
 
-module _ {R : Rows} {t : Terms} {cells items areas work cells′ items′ areas′ work′ : List ℕ} {c p d : ℕ}
-    (E : SharedAs R t cells items areas work (Planned c p d) cells′ items′ areas′ work′) where
+module _ {R : Rows} {t : Terms} {cells items areas work cells′ items′ areas′ work′ : List ℕ} {offsets offsets′ : List ℤ} {c p d : ℕ}
+    (E : SharedAs R t cells items areas offsets work (Planned c p d) cells′ items′ areas′ offsets′ work′) where
   -- the job's records
   abbrev J : Job
   J = jobOf R
 
-  pub none-refused : verdictOf R t (length cells) (length items) (length areas) (length work) ≡ Fine
+  pub none-refused : verdictOf R t (length cells) (length items) (length areas) (length offsets) (length work) ≡ Fine
   none-refused = not-refused _ (jobPlan J (t .budget)) _ (E .lists .answer)
 
+  pub lent-fine : lentVerdict R t (length cells) (length items) (length areas) (length offsets) (length work) ≡ Fine
+  lent-fine = first-left _ (answerVerdict (itemCount J) (itemArea J) (rangeCount areas) (jobPlan J (t .budget))) none-refused
+
   pub passed : Passed R (length areas)
-  passed =
-      granted R t (length cells) (length items) (length areas) work
-      (first-left (lentVerdict R t (length cells) (length items) (length areas) (length work)) (itemsVerdict J (rangeCount areas)) none-refused)
-      .lent .passed
+  passed = granted R t (length cells) (length items) (length areas) (length offsets) work lent-fine .lent .passed
 
   checked : Checked J
   checked = passed .checked
@@ -69,11 +70,12 @@ module _ {R : Rows} {t : Terms} {cells items areas work cells′ items′ areas�
       ∙ ap (λ (k : ℕ). getD (itemRows (itemCount J) (itemArea J) (jobPlan J (t .budget)) ++ drop (length (itemRows (itemCount J) (itemArea J) (jobPlan J (t .budget)))) items) k 0) (sym (add-zero (itemWidth * i)))
       ∙ cell-listed (itemArea J) (itemCount J) (jobPlan J (t .budget)) i h _
 
+  -- the cell list, with what stood behind the cells' rows
+  pub cells-written : cells′ ≡ cellRows (jobPlan J (t .budget)) ++ drop (length (cellRows (jobPlan J (t .budget)))) cells
+  cells-written = E .lists .in-cells ∙ ap (λ (x : Verdict). after (unless x (jobPlan J (t .budget))) cellRows cells) none-refused
+
   sizes-listed : (c b : ℕ) → b < cellAt (jobPlan J (t .budget) .cells) c .size → b < sizeIn cells′ c
-  sizes-listed c b h =
-      let e : cells′ ≡ cellRows (jobPlan J (t .budget)) ++ drop (length (cellRows (jobPlan J (t .budget)))) cells =
-      E .lists .in-cells ∙ ap (λ (x : Verdict). after (unless x (jobPlan J (t .budget))) cellRows cells) none-refused in
-      rw e (listed-size (jobPlan J (t .budget) .cells) _ c b h)
+  sizes-listed c b h = rw cells-written (listed-size (jobPlan J (t .budget) .cells) _ c b h)
 
   listed-separate : Separate (frameOf J) (cellIn items′)
   listed-separate i j h k d e = separate J (t .budget) (orderOf (wantsOf J)) (job-order J) i j h k d (sym (cells-listed i h) ∙ e ∙ cells-listed j k)

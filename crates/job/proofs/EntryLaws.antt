@@ -5,6 +5,7 @@ use mathlib.Core.Path.{_≡_, refl, sym, ap, subst, _∙_}
 use mathlib.Core.Bool.{Bool, cond}
 use mathlib.Core.Option.{Option}
 use mathlib.Core.List.{List, _++_}
+use lib.IntN.{ℤ}
 use lib.ListN.{length, getD, drop, replicate, length-replicate}
 use borrow.Author.Tests.{lt-ltb, le-ltb}
 use native.Mathlib.Nat.{mul-le-mul-right}
@@ -20,7 +21,7 @@ use Rattle.words.proofs.RowLaws.{length-records, getD-records, tabulate-eq}
 use Rattle.graph.specs.Inner.Work.{Within}
 use Rattle.components.proofs.Entries.{cleared-same}
 use Rattle.ranges.specs.declared.Range.{Range}
-use Rattle.areas.specs.Job.{Local, localsOf, itemCount, itemArea, itemsVerdict, areasVerdict}
+use Rattle.areas.specs.Job.{Local, localsOf, itemCount, itemArea}
 use Rattle.areas.proofs.ApartLaws.{areas-apart}
 use Rattle.fitting.specs.Wants.{Want, orderOf}
 use Rattle.fitting.specs.Plan.{Plan, planOf}
@@ -35,7 +36,7 @@ use Rattle.soundness.specs.Demand.{wantOf, jobPlan}
 use Rattle.job_answers.specs.declared.Shared.{Shared}
 use Rattle.job_answers.specs.declared.Shared.the-variants.{Refused}
 use Rattle.job.specs.Entry.{lentVerdict, SharedAs}
-use Rattle.job_answers.specs.Answers.{AnsweredBy}
+use Rattle.job_answers.specs.Answers.{answerVerdict, AnsweredBy}
 use Rattle.job_answers.specs.Inner.{Measured}
 use Rattle.job.proofs.CheckLaws.{Granted}
 use Rattle.job_space.specs.Rows.{Rows}
@@ -90,20 +91,20 @@ space-small z s =
 
 -- ---- the entry
 
-module _ (R : Rows) (t : Terms) (cells items areas work : List ℕ) where
+module _ (R : Rows) (t : Terms) (cells items areas : List ℕ) (offsets : List ℤ) (work : List ℕ) where
   abbrev space : ℕ
   space = spaceOf (sizesOf R (length areas))
 
-  pub refused-entry : (r : Refusal) (i : ℕ) → lentVerdict R t (length cells) (length items) (length areas) (length work) ≡ Bad r i
-      → SharedAs R t cells items areas work (Refused r i) cells items areas work
+  pub refused-entry : (r : Refusal) (i : ℕ) → lentVerdict R t (length cells) (length items) (length areas) (length offsets) (length work) ≡ Bad r i
+      → SharedAs R t cells items areas offsets work (Refused r i) cells items areas offsets work
   refused-entry r i e = record {
-    lists = rw (first-bad (lentVerdict R t (length cells) (length items) (length areas) (length work)) (itemsVerdict (jobOf R) (rangeCount areas)) r i e) (record { answer = refl; in-cells = refl; in-items = refl; in-areas = refl });
+    lists = rw (first-bad (lentVerdict R t (length cells) (length items) (length areas) (length offsets) (length work)) (answerVerdict (itemCount (jobOf R)) (itemArea (jobOf R)) (rangeCount areas) (jobPlan (jobOf R) (t .budget))) r i e) (record { answer = refl; in-cells = refl; in-items = refl; in-areas = refl; in-offsets = refl });
     in-work = rw e refl;
   }
 
   -- what the answer asks
-  pub asked : {w : List ℕ} {n end : ℕ} → Granted R (length cells) (length items) (length areas) work → Solved R (length areas) work w n → end ≡ space
-      → Measured (countOf (R .locals) (R .slots)) (rangeCount areas) n end (length cells) (length items) w
+  pub asked : {w : List ℕ} {n end : ℕ} → Granted R (length cells) (length items) (length areas) (length offsets) work → Solved R (length areas) work w n → end ≡ space
+      → Measured (countOf (R .locals) (R .slots)) (rangeCount areas) n end (length cells) (length items) (length offsets) w
   asked {w} {n} {end} G T e =
       let P = G .lent .passed in
       let q = space-small (sizesOf R (length areas)) (P .small) in
@@ -115,6 +116,7 @@ module _ (R : Rows) (t : Terms) (cells items areas work : List ℕ) where
         short = P .small .few-ranges;
         in-cells = G .in-cells;
         in-items = G .in-items;
+        in-offsets = G .in-offsets;
         space = rw e (q .0);
         inside = omega (arith, G .lent .space, T .kept .len);
         small = rw e (q .1);
@@ -123,19 +125,21 @@ module _ (R : Rows) (t : Terms) (cells items areas work : List ℕ) where
       some-block : 0 < blockCount (R .blocks) → 0 < length ((jobOf R) .blocks)
       some-block h = rw (length-records 3 _ (R .blocks)) h
 
-  pub answered-entry : lentVerdict R t (length cells) (length items) (length areas) (length work) ≡ Fine → {r : Shared} {cells′ items′ areas′ w w′ work′ : List ℕ} {n end : ℕ}
+  pub answered-entry : lentVerdict R t (length cells) (length items) (length areas) (length offsets) (length work) ≡ Fine → {r : Shared} {cells′ items′ areas′ w w′ work′ : List ℕ} {offsets′ : List ℤ} {n end : ℕ}
       → Solved R (length areas) work w n
       → end ≡ space → Within 0 end w w′
       → ((A : ℕ → Option (List Range)) → ListedBy wordOf (listing (rangeCount areas) (rangeCount areas)) A (countOf (R .locals) (R .slots)) n w
-      → AnsweredBy (areasVerdict (countOf (R .locals) (R .slots)) A (rangeCount areas)) (countOf (R .locals) (R .slots)) A (planFor (R .locals) (R .slots) A (t .budget)) cells items areas r cells′ items′ areas′)
-      → work′ ≡ cleared end w′ → SharedAs R t cells items areas work r cells′ items′ areas′ work′
-  answered-entry e {r} {cells′} {items′} {areas′} {w} {w′} {work′} {n} {end} T en K B Z = record {
-    lists = rw (first-fine (lentVerdict R t (length cells) (length items) (length areas) (length work)) (itemsVerdict (jobOf R) (rangeCount areas)) e) listed-all;
+      → AnsweredBy (answerVerdict (countOf (R .locals) (R .slots)) A (rangeCount areas) (planFor (R .locals) (R .slots) A (t .budget))) (countOf (R .locals) (R .slots)) A (planFor (R .locals) (R .slots) A (t .budget))
+      cells items areas offsets r cells′ items′ areas′ offsets′)
+      → work′ ≡ cleared end w′ → SharedAs R t cells items areas offsets work r cells′ items′ areas′ offsets′ work′
+  answered-entry e {r} {cells′} {items′} {areas′} {w} {w′} {work′} {offsets′} {n} {end} T en K B Z = record {
+    lists = rw (first-fine (lentVerdict R t (length cells) (length items) (length areas) (length offsets) (length work)) (answerVerdict (itemCount (jobOf R)) (itemArea (jobOf R)) (rangeCount areas) (jobPlan (jobOf R) (t .budget))) e) listed-all;
     in-work = rw e (Z ∙ ap (λ (k : ℕ). cleared k w′) en ∙ cleared-same space w w′ (subst (λ (k : ℕ). Within 0 k w w′) en K) ∙ cleared-same space work w (T .kept) ∙ ap (λ (k : ℕ). replicate space 0 ++ drop k work) (sym (length-replicate space 0)));
   }
     where
-      listed-all : AnsweredBy (itemsVerdict (jobOf R) (rangeCount areas)) (itemCount (jobOf R)) (itemArea (jobOf R)) (jobPlan (jobOf R) (t .budget)) cells items areas r cells′ items′ areas′
+      listed-all : AnsweredBy (answerVerdict (itemCount (jobOf R)) (itemArea (jobOf R)) (rangeCount areas) (jobPlan (jobOf R) (t .budget))) (itemCount (jobOf R)) (itemArea (jobOf R)) (jobPlan (jobOf R) (t .budget))
+          cells items areas offsets r cells′ items′ areas′ offsets′
       listed-all =
-          subst (λ (k : ℕ). AnsweredBy (areasVerdict k (itemArea (jobOf R)) (rangeCount areas)) k (itemArea (jobOf R)) (jobPlan (jobOf R) (t .budget)) cells items areas r cells′ items′ areas′) (sym (many R))
-          (subst (λ (p : Plan). AnsweredBy (areasVerdict (countOf (R .locals) (R .slots)) (itemArea (jobOf R)) (rangeCount areas)) (countOf (R .locals) (R .slots)) (itemArea (jobOf R)) p cells items areas r cells′ items′ areas′) (plan-is R (t .budget))
+          subst (λ (k : ℕ). AnsweredBy (answerVerdict k (itemArea (jobOf R)) (rangeCount areas) (jobPlan (jobOf R) (t .budget))) k (itemArea (jobOf R)) (jobPlan (jobOf R) (t .budget)) cells items areas offsets r cells′ items′ areas′ offsets′) (sym (many R))
+          (subst (λ (p : Plan). AnsweredBy (answerVerdict (countOf (R .locals) (R .slots)) (itemArea (jobOf R)) (rangeCount areas) p) (countOf (R .locals) (R .slots)) (itemArea (jobOf R)) p cells items areas offsets r cells′ items′ areas′ offsets′) (plan-is R (t .budget))
           (B (itemArea (jobOf R)) (subst (λ (k : ℕ). ListedBy wordOf (listing (rangeCount areas) (rangeCount areas)) (itemArea (jobOf R)) k n w) (many R) (T .listed))))

@@ -3,6 +3,7 @@ use Prim.Native.Nat.{ℕ, _<_}
 use native.Mathlib.Omega.{arith}
 use mathlib.Core.Path.{_≡_, ap, _∙_}
 use mathlib.Core.List.{List, _∷_, _++_}
+use lib.IntN.{ℤ}
 use lib.ListN.{length, getD, drop}
 use Rattle.refusals.specs.declared.Verdict.{Verdict}
 use Rattle.refusals.specs.Outcomes.{unless, after}
@@ -25,8 +26,8 @@ use Rattle.job.proofs.Demand.{none-refused, passed, items-written}
 use Rattle.job_space.specs.Rows.{Rows}
 use Rattle.fitting.specs.declared.Terms.{Terms}
 
-module _ {R : Rows} {t : Terms} {cells items areas work cells′ items′ areas′ work′ : List ℕ} {c p d : ℕ}
-    (E : SharedAs R t cells items areas work (Planned c p d) cells′ items′ areas′ work′) where
+module _ {R : Rows} {t : Terms} {cells items areas work cells′ items′ areas′ work′ : List ℕ} {offsets offsets′ : List ℤ} {c p d : ℕ}
+    (E : SharedAs R t cells items areas offsets work (Planned c p d) cells′ items′ areas′ offsets′ work′) where
   -- the job's records
   abbrev J : Job
   J = jobOf R

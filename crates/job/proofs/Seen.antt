@@ -4,6 +4,7 @@ use native.Mathlib.Omega.{arith}
 use mathlib.Core.Path.{_≡_, refl, ap, _∙_}
 use mathlib.Core.Option.{none}
 use mathlib.Core.List.{List, _++_}
+use lib.IntN.{ℤ}
 use lib.ListN.{length, getD, take, drop, length-append, length-drop, List·getD-append}
 use borrow.Author.Tests.{ltb-false}
 use Rattle.refusals.specs.declared.Verdict.{Verdict}
@@ -17,6 +18,7 @@ use Rattle.words.proofs.RowLaws.{length-tabulate, getD-tabulate, length-records
 use Rattle.areas.specs.Job.{Job, itemCount, itemArea, rangesOf, itemsVerdict}
 use Rattle.fitting.specs.Wants.{Want, wantAt, orderOf}
 use Rattle.fitting.specs.Plan.{Plan}
+use Rattle.fitting.specs.Layout.{roomsIn, layoutVerdict, RowsLaid}
 use Rattle.fitting.specs.Lowest.{PutLowest}
 use Rattle.ranges.specs.Forms.{areasOf}
 use Rattle.fitting.specs.Queries.{partOf, answered}
@@ -27,23 +29,24 @@ use Rattle.queries.specs.Seen.{PlanSeen}
 use Rattle.queries.proofs.SeenLaws.{RowsHold, roomAt, itemOf, answered-seen, cut-held}
 use Rattle.area_tables.specs.Tables.{areaRows}
 use Rattle.area_tables.proofs.PartLaws.{areas-long}
-use Rattle.wants.specs.Entry.{cellRows}
-use Rattle.wants.proofs.SeenLaws.{cells-long, front-is, told-cells}
+use Rattle.wants.specs.Entry.{Tally, tallied, cellRows, cellOffsets}
+use Rattle.wants.proofs.ListLaws.{cells-long}
+use Rattle.wants.proofs.SeenLaws.{front-is, told-tally, rows-laid}
 use Rattle.soundness.specs.Demand.{wantOf, wantsOf, jobPlan}
 use Rattle.soundness.proofs.Demand.{job-order}
 use Rattle.job_answers.specs.declared.Shared.the-variants.{Plan as Planned}
-use Rattle.job_answers.specs.Answers.{itemRows}
+use Rattle.job_answers.specs.Answers.{itemRows, answerVerdict}
 use Rattle.job_answers.proofs.SeenLaws.{items-long, cell-listed, area-listed, rows-held}
 use Rattle.job_checks.specs.Job.{jobOf}
 use Rattle.job_space.specs.Space.{sizesOf, Small}
 use Rattle.job.specs.Entry.{lentVerdict, verdictOf, SharedAs}
 use Rattle.job.proofs.CheckLaws.{granted, whole-list}
-use Rattle.job.proofs.Demand.{none-refused}
+use Rattle.job.proofs.Demand.{none-refused, lent-fine, cells-written}
 use Rattle.job_space.specs.Rows.{Rows}
 use Rattle.fitting.specs.declared.Terms.{Terms}
 
-module _ {R : Rows} {t : Terms} {cells items areas work cells′ items′ areas′ work′ : List ℕ} {c p d : ℕ}
-    (E : SharedAs R t cells items areas work (Planned c p d) cells′ items′ areas′ work′) where
+module _ {R : Rows} {t : Terms} {cells items areas work cells′ items′ areas′ work′ : List ℕ} {offsets offsets′ : List ℤ} {c p d : ℕ}
+    (E : SharedAs R t cells items areas offsets work (Planned c p d) cells′ items′ areas′ offsets′ work′) where
   -- the job's records, its plan, and how many locals and items it has
   abbrev J : Job
   J = jobOf R
@@ -54,14 +57,14 @@ module _ {R : Rows} {t : Terms} {cells items areas work cells′ items′ areas�
   abbrev many : ℕ
   many = localCount (R .locals) + slotCount (R .slots)
 
-  verdict-fine : verdictOf R t (length cells) (length items) (length areas) (length work) ≡ Fine
+  verdict-fine : verdictOf R t (length cells) (length items) (length areas) (length offsets) (length work) ≡ Fine
   verdict-fine = none-refused E
 
-  lent-fine : lentVerdict R t (length cells) (length items) (length areas) (length work) ≡ Fine
-  lent-fine = first-left _ (itemsVerdict J (rangeCount areas)) verdict-fine
+  answer-fine : answerVerdict (itemCount J) (itemArea J) (rangeCount areas) P ≡ Fine
+  answer-fine = first-right (lentVerdict R t (length cells) (length items) (length areas) (length offsets) (length work)) (answerVerdict (itemCount J) (itemArea J) (rangeCount areas) P) verdict-fine
 
   small : Small (sizesOf R (length areas))
-  small = granted R t (length cells) (length items) (length areas) work lent-fine .lent .passed .small
+  small = granted R t (length cells) (length items) (length areas) (length offsets) work (lent-fine E) .lent .passed .small
 
   count-is : itemCount J ≡ many
   count-is = ap (λ (k : ℕ). k + slotCount (R .slots)) (length-records localWidth (λ f. record { size = f 0; align = f 1 }) (R .locals))
@@ -70,14 +73,24 @@ module _ {R : Rows} {t : Terms} {cells items areas work cells′ items′ areas�
   ranges-fit : rangesOf (tabulate (itemCount J) (itemArea J)) ≤ rangeCount areas
   ranges-fit =
       ltb-false (rangeCount areas) (rangesOf (tabulate (itemCount J) (itemArea J)))
-      (check-told ListWord _ (first-right (lentVerdict R t (length cells) (length items) (length areas) (length work)) (itemsVerdict J (rangeCount areas)) verdict-fine))
+      (check-told ListWord _ (first-left (itemsVerdict J (rangeCount areas)) (layoutVerdict (roomsIn P)) answer-fine))
 
   -- ---- the lists, by their rows
 
+  tally-is : record { cells = c; probes = p; depth = d } ≡ tallied P
+  tally-is = told-tally (verdictOf R t (length cells) (length items) (length areas) (length offsets) (length work)) P (record { cells = c; probes = p; depth = d }) (E .lists .answer)
+
+  used-is : c ≡ length (P .cells)
+  used-is = ap (λ (x : Tally). x .cells) tally-is
+
   cells-front : take (cellWidth * c) cells′ ≡ cellRows P
-  cells-front =
-      ap (take (cellWidth * c)) (E .lists .in-cells ∙ ap (λ (x : Verdict). after (unless x P) cellRows cells) verdict-fine)
-      ∙ front-is (cellRows P) cells (cellWidth * c) (omega (arith, cells-long P, told-cells (verdictOf R t (length cells) (length items) (length areas) (length work)) P c p d (E .lists .answer)))
+  cells-front = ap (take (cellWidth * c)) (cells-written E) ∙ front-is (cellRows P) cells (cellWidth * c) (omega (arith, cells-long P, used-is))
+
+  -- the offsets that the job wrote, by the cells and the depth that it wrote: each a multiple of its cell's alignment, no byte in two cells
+  pub job-laid : RowsLaid c cells′ offsets′ d
+  job-laid =
+      rw (cells-written E, E .lists .in-offsets ∙ ap (λ (x : Verdict). after (unless x P) cellOffsets offsets) verdict-fine, used-is, ap (λ (x : Tally). x .depth) tally-is)
+      (rows-laid P (first-right (itemsVerdict J (rangeCount areas)) (layoutVerdict (roomsIn P)) answer-fine) _ _)
 
   items-whole : items′ ≡ itemRows (itemCount J) (itemArea J) P ++ drop (length (itemRows (itemCount J) (itemArea J) P)) items
   items-whole = E .lists .in-items ∙ ap (λ (x : Verdict). after (unless x P) (itemRows (itemCount J) (itemArea J)) items) verdict-fine
@@ -101,7 +114,7 @@ module _ {R : Rows} {t : Terms} {cells items areas work cells′ items′ areas�
   -- the rows that stand there hold the plan
   pub held : RowsHold (take (cellWidth * c) cells′) (take (itemWidth * many) items′) areas′ (localCount (R .locals)) (length (P .cells)) (itemCount J) (roomAt P) (itemOf (wantsOf J) P)
   held =
-      let w = whole-list R t (length cells) (length items) (length areas) work lent-fine in
+      let w = whole-list R t (length cells) (length items) (length areas) (length offsets) work (lent-fine E) in
       rw (cells-front, items-front, areas-whole)
       (rows-held (itemArea J) (itemCount J) P (wantsOf J) area-of
       (facts (wantsOf J) (t .budget) (itemCount J) (orderOf (wantsOf J)) (job-order J) .known)

@@ -6,5 +6,5 @@ use Rattle.job_space.specs.Space.{spaceOf}
 use Rattle.job.specs.Entry.{shortVerdict}
 
 -- the same by numbers of records
-abbrev pub spaceVerdict : Sizes → ℕ → ℕ → ℕ → Verdict
-spaceVerdict z cells items work = shortVerdict (spaceOf z) (z .locals + z .slots) cells items work
+abbrev pub spaceVerdict : Sizes → ℕ → ℕ → ℕ → ℕ → Verdict
+spaceVerdict z cells items offsets work = shortVerdict (spaceOf z) (z .locals + z .slots) cells items offsets work

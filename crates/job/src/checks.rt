@@ -11,10 +11,10 @@ use refusals::Verdict;
 use words::widths::cell;
 use words::widths::item;
 
-// Refusal 7: work space under W, or a cell or an item list under the items.
-fn short(z: Sizes, cells: usize, items: usize, work: usize) -> Verdict
+// Refusal 7: work space under W, or a cell, an item or an offset list under the items.
+fn short(z: Sizes, cells: usize, items: usize, offsets: usize, work: usize) -> Verdict
     requires { ⌜ Small z ⌝ }
-    ensures { λ r. ⌜ r ≡ spaceVerdict z cells items work ⌝ }
+    ensures { λ r. ⌜ r ≡ spaceVerdict z cells items offsets work ⌝ }
 {
     if work < job_space::needed(z) {
         return Verdict::Bad(Refusal::Space, 0);
@@ -23,6 +23,9 @@ fn short(z: Sizes, cells: usize, items: usize, work: usize) -> Verdict
         return Verdict::Bad(Refusal::Space, 0);
     }
     if items / item::WIDTH < z.locals + z.slots {
+        return Verdict::Bad(Refusal::Space, 0);
+    }
+    if offsets < z.locals + z.slots {
         return Verdict::Bad(Refusal::Space, 0);
     }
     Verdict::Fine
@@ -46,10 +49,11 @@ pub fn refusal(
     cells: usize,
     items: usize,
     areas: usize,
+    offsets: usize,
     work: usize,
 ) -> Verdict
     ensures { λ r. ⌜ r ≡ lentVerdict (lentRows (head .points) (head .v) blocks edges insts operands crossings locals slots addresses ends pieces assigned moves)
-        (head .terms) cells items areas work ⌝ }
+        (head .terms) cells items areas offsets work ⌝ }
 {
     if job_space::bad_shape(head.terms, cells, items) {
         return Verdict::Bad(Refusal::Count, 0);
@@ -106,5 +110,5 @@ pub fn refusal(
         moves,
         areas,
     );
-    short(z, cells, items, work)
+    short(z, cells, items, offsets, work)
 }

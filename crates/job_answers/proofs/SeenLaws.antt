@@ -21,7 +21,8 @@ use Rattle.item_lists.specs.Lists.{itemRow}
 use Rattle.item_lists.proofs.TableLaws.{row-long}
 use Rattle.queries.proofs.SeenLaws.{RowsHold, roomAt, itemOf}
 use Rattle.wants.specs.Entry.{cellRows}
-use Rattle.wants.proofs.SeenLaws.{cells-long, cells-seen}
+use Rattle.wants.proofs.ListLaws.{cells-long}
+use Rattle.wants.proofs.SeenLaws.{cells-seen}
 use Rattle.job_answers.specs.Answers.{itemRows}
 
 module _ (A : ℕ → Option (List Range)) (n : ℕ) (p : Plan) where

@@ -11,7 +11,7 @@ use Rattle.area_tables.specs.Inner.{listing}
 use Rattle.words.specs.Widths.{cellWidth, itemWidth}
 
 -- the areas of some items, each in order and apart, and room for their plan
-pub record Measured (n room total end cells items : ℕ) (w : List ℕ) : Type 0 where
+pub record Measured (n room total end cells items offsets : ℕ) (w : List ℕ) : Type 0 where
   pub area : ℕ → Option (List Range)
   pub listed : ListedBy wordOf (listing room room) area n total w
   pub apart : (i : ℕ) (rs : List Range) → area i ≡ some rs → Apart rs
@@ -19,6 +19,7 @@ pub record Measured (n room total end cells items : ℕ) (w : List ℕ) : Type 0
   pub short : room ≤ 65536
   pub in-cells : cellWidth * n ≤ cells
   pub in-items : itemWidth * n ≤ items
+  pub in-offsets : n ≤ offsets
   pub space : room + 8 * n ≤ end
   pub inside : end ≤ length w
   pub small : end < 2 ^ 32

@@ -50,10 +50,11 @@ fn short(
     cells: usize,
     items: usize,
     areas: usize,
+    offsets: usize,
     work: usize,
 ) -> u64
     ensures { λ r. ⌜ r ≡ verdictCode (first (lentVerdict (lentRows (head .points) (head .v) blocks edges insts operands crossings locals slots addresses ends pieces assigned moves)
-        (head .terms) cells items areas work) (Bad Space 0)) ⌝ }
+        (head .terms) cells items areas offsets work) (Bad Space 0)) ⌝ }
 {
     let lent = job::checks::refusal(
         head,
@@ -72,6 +73,7 @@ fn short(
         cells,
         items,
         areas,
+        offsets,
         work,
     );
     if let Verdict::Bad(r, i) = lent {
@@ -98,12 +100,13 @@ pub fn share(
     cells: &mut [u32],
     items: &mut [u32],
     areas: &mut [u32],
+    offsets: &mut [i32],
     counts: &mut [u64],
     work: &mut [u64],
 ) -> u64
     ensures { λ r. ⌜ JobCoded (lentRows (head .points) (head .v) blocks edges insts operands crossings locals slots addresses ends pieces assigned moves) (head .terms)
-        (now (cells .entry)) (now (items .entry)) (now (areas .entry)) (now (counts .entry)) (now (work .entry)) r
-        (now (cells .exit)) (now (items .exit)) (now (areas .exit)) (now (counts .exit)) (now (work .exit)) ⌝ }
+        (now (cells .entry)) (now (items .entry)) (now (areas .entry)) (now (offsets .entry)) (now (counts .entry)) (now (work .entry)) r
+        (now (cells .exit)) (now (items .exit)) (now (areas .exit)) (now (offsets .exit)) (now (counts .exit)) (now (work .exit)) ⌝ }
 {
     if counts.len() < 3 {
         return short(
@@ -123,6 +126,7 @@ pub fn share(
             cells.len(),
             items.len(),
             areas.len(),
+            offsets.len(),
             work.len(),
         );
     }
@@ -145,6 +149,7 @@ pub fn share(
             cells,
             items,
             areas,
+            offsets,
             work,
         ),
     )

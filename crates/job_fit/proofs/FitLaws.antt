@@ -17,11 +17,11 @@ use Rattle.words.proofs.RegionLaws.{region-next}
 use Rattle.ranges.specs.declared.Range.{Range}
 use Rattle.fitting.specs.Wants.{Want, orderOf}
 use Rattle.fitting.specs.Plan.{planOf}
-use Rattle.fit_tables.specs.Inner.{sizeOf, alignOf, wantIn, wantsIn, Lent, Fitted}
+use Rattle.fit_tables.specs.Inner.{sizeOf, alignOf, wantIn, wantsIn, Lent, Fitted, Made}
 use Rattle.fit_tables.specs.declared.Counts.{Counts}
 use Rattle.area_measure.specs.Inner.Locals.{wordOf, ListedBy}
 use Rattle.area_tables.specs.Inner.{listing}
-use Rattle.job_fit.specs.Inner.{tablesFor, countOf, sizeAt, alignAt, localWord, slotWord, wantWord, wantFor, wantsFor, planFor, Ready, Holds, FittedFor}
+use Rattle.job_fit.specs.Inner.{tablesFor, countOf, sizeAt, alignAt, localWord, slotWord, wantWord, wantFor, wantsFor, planFor, Ready, FittedFor}
 use Rattle.job_fit.proofs.AreaLaws.{area-is, proper-is, listed-kept}
 
 -- ---- the wants' table
@@ -78,10 +78,10 @@ module _ (locals slots : List ℕ) where
 
       module _ {end budget : ℕ} {w : List ℕ} {r : Counts} (inside : room + 8 * countOf locals slots ≤ end) (F : Fitted w₁ w (tablesFor (countOf locals slots) room end) budget r) where
         holds : (A : ℕ → Option (List Range)) (total : ℕ) → ListedBy wordOf (listing room room) A (countOf locals slots) total w₀ → total ≤ room
-            → Holds (planFor locals slots A budget) (countOf locals slots) room w r
+            → Made (planFor locals slots A budget) (countOf locals slots) room w r
         holds A total D fits =
-            subst (λ (ws : List Want). Holds (planOf ws budget (orderOf ws)) (countOf locals slots) room w r) (wants-are end D fits)
-            (record { cells = F .cells; probes = F .probes; depth = F .depth; shown = record { size = F .shown .size; align = F .shown .align; cell = F .shown .cell } })
+            subst (λ (ws : List Want). Made (planOf ws budget (orderOf ws)) (countOf locals slots) room w r) (wants-are end D fits)
+            (record { cells = F .cells; probes = F .probes; shown = record { size = F .shown .size; align = F .shown .align; cell = F .shown .cell } })
 
         pub fitted-for : FittedFor locals slots budget room end w₀ w r
         fitted-for = record {

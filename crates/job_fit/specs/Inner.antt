@@ -13,10 +13,10 @@ use Rattle.ranges.specs.declared.Range.{Range}
 use Rattle.ranges.specs.Points.{Apart}
 use Rattle.graph.specs.Inner.Work.{Within}
 use Rattle.fitting.specs.Wants.{Want, orderOf}
-use Rattle.fitting.specs.Plan.{Plan, planOf, depthOf}
+use Rattle.fitting.specs.Plan.{Plan, planOf}
 use Rattle.fit_tables.specs.declared.Counts.{Counts}
 use Rattle.fit_tables.specs.declared.Tables.{Tables}
-use Rattle.fit_tables.specs.Inner.{tablesAt, Shown}
+use Rattle.fit_tables.specs.Inner.{Made}
 use Rattle.area_measure.specs.Inner.Locals.{wordOf, ListedBy}
 use Rattle.area_tables.specs.Inner.{listing}
 
@@ -70,18 +70,11 @@ pub record Ready (count room end : ℕ) (w : List ℕ) : Type 0 where
 abbrev pub tablesFor : ℕ → ℕ → ℕ → Tables
 tablesFor count room end = record { at = 0; items = room; n = count; end = end }
 
--- a plan in the tables and in the answer
-pub record Holds (p : Plan) (count room : ℕ) (w : List ℕ) (r : Counts) : Type 0 where
-  pub cells : r .cells ≡ length (p .cells)
-  pub probes : r .probes ≡ p .probes
-  pub depth : r .depth ≡ depthOf (p .cells)
-  pub shown : Shown w (tablesAt room count) p
-
 -- the plan of the items' wants, whatever the areas are that stand there; these stand there still, and nothing from `end` on has changed
 pub record FittedFor (locals slots : List ℕ) (budget room end : ℕ) (w₀ w : List ℕ) (r : Counts) : Type 0 where
   pub kept : Within 0 end w₀ w
   pub few : r .cells ≤ countOf locals slots
   pub plan : (A : ℕ → Option (List Range)) (total : ℕ) → ListedBy wordOf (listing room room) A (countOf locals slots) total w₀ → total ≤ room
-      → Holds (planFor locals slots A budget) (countOf locals slots) room w r
+      → Made (planFor locals slots A budget) (countOf locals slots) room w r
   pub listed : (A : ℕ → Option (List Range)) (total : ℕ) → ListedBy wordOf (listing room room) A (countOf locals slots) total w₀ → total ≤ room
       → ListedBy wordOf (listing room room) A (countOf locals slots) total w

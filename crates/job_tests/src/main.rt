@@ -1,7 +1,7 @@
 // Replays a recorded sample: runs `share` on each job of standard input and prints what it answers and leaves, held to the file `stdout`, which was recorded from slots.rs
 // and a model of the refusals. Answer lists and work space have 7s at first, so that what is written past an answer, or by a refusal, shows. The last line counts what
 // the plans show.
-// The columns of a case: points, V, budget, the lengths of the cell, the item and the area list and of the work space; then the records of a job, in the job text's group order.
+// The columns of a case: points, V, budget, the lengths of the cell, the item, the area and the offset list and of the work space; then the records of a job, in the job text's group order.
 ghost use mathlib.Core.Path.{_≡_};
 ghost use lib.ListN.{length};
 ghost use Rattle.cases.specs.Inner.{Ordered};
@@ -56,12 +56,13 @@ fn kept(work: &[u64]) -> usize {
     n
 }
 
-fn show(cells: &[u32], items: &[u32], areas: &[u32], work: &[u64]) {
+fn show(cells: &[u32], items: &[u32], areas: &[u32], offsets: &[i32], work: &[u64]) {
     cases::put(b" ", kept(work) as u64);
     cases::text(b" |");
     cases::listed(cells);
     cases::listed(items);
-    cases::left(areas, work);
+    cases::listed(areas);
+    cases::left_offsets(offsets, work);
 }
 
 // What `share` answers for the records that stand in `n`, a group from where one column ends to where the next one does.
@@ -71,6 +72,7 @@ fn shared(
     cells: &mut [u32],
     items: &mut [u32],
     areas: &mut [u32],
+    offsets: &mut [i32],
     work: &mut [u64],
 ) -> Shared
     requires { ⌜ (length (now n) ≡ 1024) × Ordered e 1024 ⌝ }
@@ -112,6 +114,7 @@ fn shared(
         cells,
         items,
         areas,
+        offsets,
         work,
     )
 }
@@ -233,13 +236,14 @@ fn plan(
     cells: &mut [u32],
     items: &mut [u32],
     areas: &mut [u32],
+    offsets: &mut [i32],
     work: &mut [u64],
 ) -> Counts
     requires { ⌜ (length (now n) ≡ 1024) × Ordered e 1024 ⌝ }
 {
-    let s = shared(n, e, cells, items, areas, work);
+    let s = shared(n, e, cells, items, areas, offsets, work);
     told(s);
-    show(cells, items, areas, work);
+    show(cells, items, areas, offsets, work);
     counted(t, s, n, e)
 }
 
@@ -250,11 +254,13 @@ fn run(n: &[u32], e: Cuts, t: Counts) -> Counts
     let mut cells = [7u32; 160];
     let mut items = [7u32; 320];
     let mut areas = [7u32; 128];
+    let mut offsets = [7i32; 80];
     let mut work = [7u64; 4096];
     let c = n[3] as usize;
     let i = n[4] as usize;
     let a = n[5] as usize;
-    let w = n[6] as usize;
+    let o = n[6] as usize;
+    let w = n[7] as usize;
     if c > 160 {
         return t;
     }
@@ -262,6 +268,9 @@ fn run(n: &[u32], e: Cuts, t: Counts) -> Counts
         return t;
     }
     if a > 128 {
+        return t;
+    }
+    if o > 80 {
         return t;
     }
     if w > 4096 {
@@ -274,6 +283,7 @@ fn run(n: &[u32], e: Cuts, t: Counts) -> Counts
         &mut cells[0..c],
         &mut items[0..i],
         &mut areas[0..a],
+        &mut offsets[0..o],
         &mut work[0..w],
     )
 }

@@ -76,7 +76,7 @@ pub fn close(height: u64)
 
 // Where the word of a refusal begins in the list of words.
 fn word(r: Refusal) -> usize
-    ensures { λ n. ⌜ n ≤ 72 ⌝ }
+    ensures { λ n. ⌜ n ≤ 88 ⌝ }
 {
     match r {
         Refusal::Count => 0,
@@ -89,6 +89,8 @@ fn word(r: Refusal) -> usize
         Refusal::List => 56,
         Refusal::Want => 64,
         Refusal::Text => 72,
+        Refusal::Align => 80,
+        Refusal::Depth => 88,
     }
 }
 
@@ -108,7 +110,7 @@ pub fn refuse(r: Refusal, i: usize) {
         &ns,
     );
     say_word(
-        b"count   line    edge    inst    stray   piece   space   list    want    text    ",
+        b"count   line    edge    inst    stray   piece   space   list    want    text    align   depth   ",
         word(r),
     );
     say(b"</text>\n</svg>\n");

@@ -69,10 +69,19 @@ fn plan(rows: &[u32], counts: &[u32])
     let mut cells = [0u32; 256];
     let mut items = [0u32; 512];
     let mut areas = [0u32; 128];
+    let mut offsets = [0i32; 128];
     let mut work = [0u64; 8192];
     let n = held(counts, LOCALS) + held(counts, SLOTS);
     let blocks = records(rows, counts, BLOCKS);
-    let r = planned(rows, counts, &mut cells, &mut items, &mut areas, &mut work);
+    let r = planned(
+        rows,
+        counts,
+        &mut cells,
+        &mut items,
+        &mut areas,
+        &mut offsets,
+        &mut work,
+    );
     match r {
         Shared::Plan(c, probes, depth) => {
             frame::open(c as u32, n as u32, probes, depth);

@@ -4,6 +4,7 @@ use native.Mathlib.Omega.{arith}
 use mathlib.Core.Path.{_≡_, refl, ap, sym, subst, _∙_}
 use mathlib.Core.Bool.{false}
 use mathlib.Core.List.{List, _++_}
+use lib.IntN.{ℤ}
 use lib.ListN.{length, getD, take, drop, length-append}
 use lib.Seq.{take-append-seam}
 use lib.Dec.{lit<}
@@ -13,13 +14,13 @@ use Rattle.refusals.specs.declared.Verdict.the-variants.{Fine, Bad}
 use Rattle.refusals.specs.declared.Refusal.{Refusal}
 use Rattle.refusals.specs.Verdicts.{numberOf, first}
 use Rattle.refusals.specs.Outcomes.{Outcome, given, refused, unless, after}
-use Rattle.refusals.proofs.Laws.{first-left, first-right}
+use Rattle.refusals.proofs.Laws.{first-left}
 use Rattle.refusals.proofs.Numbers.{numbered-same}
 use Rattle.words.specs.Inner.{part}
 use Rattle.words.specs.Widths.{localWidth, cellWidth, itemWidth}
 use Rattle.words.proofs.RowLaws.{length-records}
 use Rattle.words.proofs.RegionLaws.{length-part}
-use Rattle.areas.specs.Job.{Job, Local, itemCount, itemArea, itemsVerdict}
+use Rattle.areas.specs.Job.{Job, Local, itemCount, itemArea}
 use Rattle.fitting.specs.Plan.{Plan}
 use Rattle.query_checks.specs.Checks.{sharedVerdict}
 use Rattle.wants.specs.Entry.{Tally, tallied, tallyOf, cellRows}
@@ -42,13 +43,14 @@ use Rattle.text_plan.specs.Printed.{printed, refusalText, inRoom, writtenOf, Pr
 use Rattle.text_plan.proofs.PlanLaws.{room-told, plan-in-room}
 use Rattle.planning.specs.Groups.{termsFor, job, lentFor, verdictFor, SharedFor}
 use Rattle.planning.specs.Inner.{numbersAt, Few, Read, Stands, Answers}
-use Rattle.planning.specs.Program.{told, jobText, refusal, printedFor, numbersIn, programText, cellNumbers, itemNumbers, areaNumbers, workWords}
+use Rattle.planning.specs.Program.{told, jobText, refusal, printedFor, numbersIn, programText, cellNumbers, itemNumbers, areaNumbers, offsetNumbers, workWords}
 use Rattle.wants.proofs.TallyLaws.{not-refused}
-use Rattle.wants.proofs.SeenLaws.{cells-long}
+use Rattle.wants.proofs.ListLaws.{cells-long}
+use Rattle.wants.proofs.SeenLaws.{told-tally}
 use Rattle.job_answers.proofs.SeenLaws.{items-long}
 use Rattle.planning.proofs.GroupLaws.{same-printed}
 use Rattle.planning.proofs.PrintLaws.{Printable, plan-fine, text-before, printed-same}
-use Rattle.planning.proofs.JobLaws.{job-printable}
+use Rattle.planning.proofs.JobLaws.{list-fine, job-printable}
 
 -- ---- a text that was written
 
@@ -130,10 +132,6 @@ told-refused (Bad r k) p n i e t =
 take-front : (l more : List ℕ) (b : ℕ) → b ≡ length l → take (b - 0) (drop 0 (l ++ more)) ≡ l
 take-front l more b e = let f : b - 0 ≡ length l = omega arith in ap (λ (k : ℕ). take k (l ++ more)) f ∙ take-append-seam l more
 
-abbrev held-tally : Outcome Tally → Tally
-held-tally (given t) = t
-held-tally (refused n i) = record { cells = 0; probes = 0; depth = 0 }
-
 fine-same : {c c′ i i′ a a′ : List ℕ} {l l′ : ℕ} → c ≡ c′ → i ≡ i′ → a ≡ a′ → l ≡ l′ → sharedVerdict c′ i′ a′ l′ ≡ Fine → sharedVerdict c i a l ≡ Fine
 fine-same e f k g h = rw (e, f, k, g) h
 
@@ -163,10 +161,11 @@ module _ (rows counts : List ℕ) (long : length rows ≡ rowNumbers) (F : Few c
   abbrev P : Plan
   P = jobPlan J (termsFor group .budget)
 
-  module _ (cells items areas work : List ℕ) (r : Shared) (cells′ items′ areas′ work′ : List ℕ) (E : SharedFor group cells items areas work r cells′ items′ areas′ work′)
-      (lc : length cells ≡ cellNumbers) (li : length items ≡ itemNumbers) (la : length areas ≡ areaNumbers) (lw : length work ≡ workWords) where
-    verdict-is : verdictFor group (length cells) (length items) (length areas) (length work) ≡ refusal group
-    verdict-is = rw (lc, li, la, lw) refl
+  module _ (cells items areas : List ℕ) (offsets : List ℤ) (work : List ℕ) (r : Shared) (cells′ items′ areas′ : List ℕ) (offsets′ : List ℤ) (work′ : List ℕ)
+      (E : SharedFor group cells items areas offsets work r cells′ items′ areas′ offsets′ work′)
+      (lc : length cells ≡ cellNumbers) (li : length items ≡ itemNumbers) (la : length areas ≡ areaNumbers) (lo : length offsets ≡ offsetNumbers) (lw : length work ≡ workWords) where
+    verdict-is : verdictFor group (length cells) (length items) (length areas) (length offsets) (length work) ≡ refusal group
+    verdict-is = rw (lc, li, la, lo, lw) refl
 
     answer-is : answered r ≡ tallyOf (unless (refusal group) P)
     answer-is = E .lists .answer ∙ ap (λ (v : Verdict). tallyOf (unless v P)) verdict-is
@@ -184,10 +183,10 @@ module _ (rows counts : List ℕ) (long : length rows ≡ rowNumbers) (F : Few c
       printable : Printable (itemCount J) (length (J .locals)) (itemArea J) P
       printable =
           job-printable J (termsFor group .budget) (let a = local-count in let f = F .few localGroup (lit< tt) in omega arith) (let a = slot-count in let f = F .few slotGroup (lit< tt) in omega arith)
-          (first-right (lentFor group cellNumbers itemNumbers areaNumbers workWords) (itemsVerdict J 64) none-refused)
+          (list-fine J P (lentFor group cellNumbers itemNumbers areaNumbers offsetNumbers workWords) none-refused)
 
       tally-is : record { cells = c; probes = p; depth = d } ≡ tallied P
-      tally-is = ap held-tally (ap answered (sym re) ∙ answer-is ∙ ap (λ (v : Verdict). tallyOf (unless v P)) none-refused)
+      tally-is = told-tally (refusal group) P _ (ap answered (sym re) ∙ answer-is)
 
       cells-are : cells′ ≡ cellRows P ++ drop (length (cellRows P)) cells
       cells-are = E .lists .in-cells ∙ ap (λ (v : Verdict). after (unless v P) cellRows cells) (verdict-is ∙ none-refused)

@@ -17,9 +17,10 @@ use Rattle.words.specs.Widths.{cellWidth, cellCount, cellSize, cellAlign, itemR
 use Rattle.words.proofs.Points.{cut}
 use Rattle.words.proofs.FlatLaws.{flat-at}
 use Rattle.ranges.specs.declared.Range.{Range}
-use Rattle.areas.specs.Job.{Job, Checked, itemCount, itemArea, rangesOf, itemsVerdict}
+use Rattle.areas.specs.Job.{Job, Checked, itemCount, itemArea, rangesOf}
 use Rattle.fitting.specs.Wants.{orderOf}
-use Rattle.fitting.specs.Plan.{Plan, Cell, cellAt, depthOf}
+use Rattle.fitting.specs.Plan.{Plan, Cell, cellAt}
+use Rattle.fitting.specs.Layout.{roomsIn, depthOf}
 use Rattle.wants.specs.Inner.{cellRow}
 use Rattle.wants.specs.Entry.{cellRows}
 use Rattle.area_tables.specs.Tables.{areaRows}
@@ -29,13 +30,13 @@ use Rattle.soundness.specs.Walks.{Step, Legal}
 use Rattle.soundness.specs.Inner.{Separate}
 use Rattle.soundness.specs.Demand.{wantsOf, frameOf, jobPlan, AsPrivate}
 use Rattle.soundness.proofs.Demand.{job-order, separate, uses, any-cells, demand-3}
-use Rattle.job_answers.specs.Answers.{itemRows}
+use Rattle.job_answers.specs.Answers.{itemRows, answerVerdict}
 use Rattle.text_grammar.specs.Text.{readVerdict}
 use Rattle.text_plan.specs.Lines.{lineText}
 use Rattle.planning.specs.Groups.{termsFor, job, lentFor}
-use Rattle.planning.specs.Program.{told, textOf, jobText, refusal, printedFor, numbersIn, programText, cellNumbers, itemNumbers, areaNumbers, workWords}
+use Rattle.planning.specs.Program.{told, textOf, jobText, refusal, printedFor, numbersIn, programText, cellNumbers, itemNumbers, areaNumbers, offsetNumbers, workWords}
 use Rattle.planning.specs.Named.{Listed, Named}
-use Rattle.wants.proofs.SeenLaws.{cells-long}
+use Rattle.wants.proofs.ListLaws.{cells-long}
 use Rattle.job_answers.proofs.SeenLaws.{items-long}
 use Rattle.planning.proofs.GroupLaws.{checked-for}
 use Rattle.planning.proofs.PrintLaws.{Printable}
@@ -76,18 +77,18 @@ module _ {n locals : ℕ} {A : ℕ → Option (List Range)} {p : Plan} (P : Prin
   local-listed : (i : ℕ) → i < locals → Listed text (lineText 76 (i ∷ p .cell i ∷ []))
   local-listed i h =
       subst (λ (c : ℕ). Listed text (lineText 76 (i ∷ c ∷ []))) (ap (λ (k : ℕ). itemCell (itemRows n A p) k) (zero-add i) ∙ item-cell i (omega (arith, P .locals-in)))
-      (local-in (cellRows p) (itemRows n A p) (areaRows n A) locals (p .probes) (depthOf (p .cells)) i h)
+      (local-in (cellRows p) (itemRows n A p) (areaRows n A) locals (p .probes) (depthOf (roomsIn p)) i h)
 
   slot-listed : (i : ℕ) → i < n - locals → Listed text (lineText 83 (i ∷ p .cell (locals + i) ∷ []))
   slot-listed i h =
       subst (λ (c : ℕ). Listed text (lineText 83 (i ∷ c ∷ []))) (item-cell (locals + i) (omega arith))
-      (slot-in (cellRows p) (itemRows n A p) (areaRows n A) locals (p .probes) (depthOf (p .cells)) i (let e = item-count in omega arith))
+      (slot-in (cellRows p) (itemRows n A p) (areaRows n A) locals (p .probes) (depthOf (roomsIn p)) i (let e = item-count in omega arith))
 
   cell-listed : (c : ℕ) → c < length (p .cells) → (align : ℕ) × Listed text (lineText 67 (c ∷ cellAt (p .cells) c .size ∷ align ∷ []))
   cell-listed c h = (
     cellAlign (cellRows p) c,
     subst (λ (s : ℕ). Listed text (lineText 67 (c ∷ s ∷ cellAlign (cellRows p) c ∷ []))) (cell-size (p .cells) c h)
-        (cell-in (cellRows p) (itemRows n A p) (areaRows n A) locals (p .probes) (depthOf (p .cells)) c (let e = cell-count in omega arith)),
+        (cell-in (cellRows p) (itemRows n A p) (areaRows n A) locals (p .probes) (depthOf (roomsIn p)) c (let e = cell-count in omega arith)),
   )
 
   -- and they tell no other cell and no other size
@@ -96,7 +97,7 @@ module _ {n locals : ℕ} {A : ℕ → Option (List Range)} {p : Plan} (P : Prin
 
   local-only : (i c : ℕ) → i < locals → c < 2 ^ 64 → Listed text (lineText 76 (i ∷ c ∷ [])) → c ≡ p .cell i
   local-only i c h k m =
-      let f = local-line (cellRows p) (itemRows n A p) (areaRows n A) locals (p .probes) (depthOf (p .cells)) (lineText 76 (i ∷ c ∷ [])) m refl in
+      let f = local-line (cellRows p) (itemRows n A p) (areaRows n A) locals (p .probes) (depthOf (roomsIn p)) (lineText 76 (i ∷ c ∷ [])) m refl in
       let j = f .0 in
       let g : itemCell (itemRows n A p) (0 + j) ≡ p .cell j = ap (λ (x : ℕ). itemCell (itemRows n A p) x) (zero-add j) ∙ item-cell j (let q = f .1 in omega (arith, P .locals-in)) in
       let b = few-cells j (let q = f .1 in omega (arith, P .locals-in)) in
@@ -105,7 +106,7 @@ module _ {n locals : ℕ} {A : ℕ → Option (List Range)} {p : Plan} (P : Prin
 
   slot-only : (i c : ℕ) → i < n - locals → c < 2 ^ 64 → Listed text (lineText 83 (i ∷ c ∷ [])) → c ≡ p .cell (locals + i)
   slot-only i c h k m =
-      let f = slot-line (cellRows p) (itemRows n A p) (areaRows n A) locals (p .probes) (depthOf (p .cells)) (lineText 83 (i ∷ c ∷ [])) m refl in
+      let f = slot-line (cellRows p) (itemRows n A p) (areaRows n A) locals (p .probes) (depthOf (roomsIn p)) (lineText 83 (i ∷ c ∷ [])) m refl in
       let j = f .0 in
       let q = f .1 in
       let e = item-count in
@@ -116,7 +117,7 @@ module _ {n locals : ℕ} {A : ℕ → Option (List Range)} {p : Plan} (P : Prin
 
   size-only : (c s align : ℕ) → c < length (p .cells) → s < 2 ^ 64 → Listed text (lineText 67 (c ∷ s ∷ align ∷ [])) → s ≡ cellAt (p .cells) c .size
   size-only c s align h k m =
-      let f = cell-line (cellRows p) (itemRows n A p) (areaRows n A) locals (p .probes) (depthOf (p .cells)) (lineText 67 (c ∷ s ∷ align ∷ [])) m refl in
+      let f = cell-line (cellRows p) (itemRows n A p) (areaRows n A) locals (p .probes) (depthOf (roomsIn p)) (lineText 67 (c ∷ s ∷ align ∷ [])) m refl in
       let j = f .0 in
       let q = f .1 in
       let e = cell-count in
@@ -144,8 +145,8 @@ module _ (text : List ℕ) (fine : first (readVerdict text) (refusal (numbersIn 
 
   checked : Checked J
   checked =
-      checked-for group cellNumbers itemNumbers areaNumbers workWords
-      (first-left (lentFor group cellNumbers itemNumbers areaNumbers workWords) (itemsVerdict J 64) (first-right (readVerdict text) (refusal group) fine))
+      checked-for group cellNumbers itemNumbers areaNumbers offsetNumbers workWords
+      (first-left (lentFor group cellNumbers itemNumbers areaNumbers offsetNumbers workWords) (answerVerdict (itemCount J) (itemArea J) 64 plan) (first-right (readVerdict text) (refusal group) fine))
 
   printable : Printable (itemCount J) (length (J .locals)) (itemArea J) plan
   printable = text-printable text fine

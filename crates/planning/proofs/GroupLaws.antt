@@ -5,6 +5,7 @@ use native.Mathlib.Nat.{zero-add, mul-le-mul-left}
 use mathlib.Core.Path.{_≡_, refl, sym, ap, _∙_}
 use mathlib.Core.Bool.{Bool}
 use mathlib.Core.List.{List}
+use lib.IntN.{ℤ}
 use lib.ListN.{length, getD, take, drop, replicate, length-replicate}
 use lib.Dec.{leb, leb→le}
 use Rattle.refusals.specs.declared.Verdict.{Verdict}
@@ -59,21 +60,21 @@ reads-in rows i h e = omega arith
 -- ---- by their numbers only
 
 -- the job of lists that are the groups'
-pub shared-for : (group : ℕ → List ℕ) {p v b : ℕ} {g1 g2 g3 g4 g5 g6 g7 g8 g9 g10 g11 g12 : List ℕ} {cells items areas work : List ℕ} {r : Shared} {cells′ items′ areas′ work′ : List ℕ}
+pub shared-for : (group : ℕ → List ℕ) {p v b : ℕ} {g1 g2 g3 g4 g5 g6 g7 g8 g9 g10 g11 g12 : List ℕ} {cells items areas work cells′ items′ areas′ work′ : List ℕ} {offsets offsets′ : List ℤ} {r : Shared}
     → p ≡ rowsFor group .points → v ≡ rowsFor group .v → b ≡ termsFor group .budget
     → g1 ≡ group blockGroup → g2 ≡ group edgeGroup → g3 ≡ group instGroup → g4 ≡ group operandGroup → g5 ≡ group crossingGroup → g6 ≡ group localGroup
     → g7 ≡ group slotGroup → g8 ≡ group addressGroup → g9 ≡ group endGroup → g10 ≡ group pieceGroup → g11 ≡ group assignedGroup → g12 ≡ group moveGroup
-    → SharedAs (rowsOf p v g1 g2 g3 g4 g5 g6 g7 g8 g9 g10 g11 g12) (record { budget = b }) cells items areas work r cells′ items′ areas′ work′
-    → SharedFor group cells items areas work r cells′ items′ areas′ work′
+    → SharedAs (rowsOf p v g1 g2 g3 g4 g5 g6 g7 g8 g9 g10 g11 g12) (record { budget = b }) cells items areas offsets work r cells′ items′ areas′ offsets′ work′
+    → SharedFor group cells items areas offsets work r cells′ items′ areas′ offsets′ work′
 shared-for group a b c e1 e2 e3 e4 e5 e6 e7 e8 e9 e10 e11 e12 E =
     rw (sym a, sym b, sym c, sym e1, sym e2, sym e3, sym e4, sym e5, sym e6, sym e7, sym e8, sym e9, sym e10, sym e11, sym e12) E
 
 -- where nothing is refused, the job is as the whole job asks
-pub checked-for : (group : ℕ → List ℕ) (cells items areas work : ℕ) → lentFor group cells items areas work ≡ Fine → Checked (job group)
-checked-for group cells items areas work e =
+pub checked-for : (group : ℕ → List ℕ) (cells items areas offsets work : ℕ) → lentFor group cells items areas offsets work ≡ Fine → Checked (job group)
+checked-for group cells items areas offsets work e =
     granted (rowsFor group) (termsFor group)
-    cells items areas (replicate work 0)
-    (ap (lentFor group cells items areas) (length-replicate {A = ℕ} work 0) ∙ e) .lent .passed .checked
+    cells items areas offsets (replicate work 0)
+    (ap (lentFor group cells items areas offsets) (length-replicate {A = ℕ} work 0) ∙ e) .lent .passed .checked
 
 pub same-printed : (g h : ℕ → List ℕ) (v : Verdict)
     → g headGroup ≡ h headGroup → g blockGroup ≡ h blockGroup → g edgeGroup ≡ h edgeGroup → g instGroup ≡ h instGroup → g operandGroup ≡ h operandGroup

@@ -18,13 +18,14 @@ use Rattle.area_tables.specs.Tables.{areaRows}
 use Rattle.area_tables.proofs.RowLaws.{ranges-below}
 use Rattle.area_tables.proofs.PartLaws.{areas-long}
 use Rattle.fitting.specs.Wants.{Want, wantAt}
-use Rattle.fitting.specs.Plan.{Plan, depthOf}
+use Rattle.fitting.specs.Plan.{Plan}
+use Rattle.fitting.specs.Layout.{roomsIn, depthOf}
 use Rattle.fitting.specs.Queries.{Slots, slotsOf, crowd, sharedBy, shared}
 use Rattle.query_checks.specs.Checks.{sharedVerdict}
 use Rattle.queries.proofs.QueryLaws.{there}
 use Rattle.queries.proofs.SeenLaws.{RowsHold, planBy, roomAt, itemOf, shared-passes, plan-seen}
 use Rattle.wants.specs.Entry.{cellRows}
-use Rattle.wants.proofs.SeenLaws.{cells-long}
+use Rattle.wants.proofs.ListLaws.{cells-long}
 use Rattle.job_answers.specs.Answers.{itemRows}
 use Rattle.job_answers.proofs.SeenLaws.{items-long, rows-held}
 use Rattle.text_plan.specs.Printed.{cellLines, itemLines, rangeLine, areaLines, sharedLines, totalLine, printed}
@@ -94,9 +95,9 @@ module _ {n locals : ℕ} {A : ℕ → Option (List Range)} {p : Plan} (P : Prin
       ap (slotsOf locals (cellRows p) (itemRows n A p)) (sym (append-nil (areaRows n A))) ∙ plan-seen (held [] (omega arith) (omega (arith, P .ranges))) .rows
 
   -- and numbers behind the areas do not show
-  pub text-before : (more : List ℕ) → length (areaRows n A ++ more) ≡ 128 → printed (cellRows p) (itemRows n A p) (areaRows n A ++ more) locals (p .probes) (depthOf (p .cells)) ≡ textOf n A locals p
+  pub text-before : (more : List ℕ) → length (areaRows n A ++ more) ≡ 128 → printed (cellRows p) (itemRows n A p) (areaRows n A ++ more) locals (p .probes) (depthOf (roomsIn p)) ≡ textOf n A locals p
   text-before more e =
-      ap (λ (s : List ℕ). cellLines (cellRows p) ++ (itemLines 76 (itemRows n A p) 0 locals ++ (itemLines 83 (itemRows n A p) locals (itemRowCount (itemRows n A p) - locals) ++ (s ++ totalLine (cellRows p) (itemRows n A p) (p .probes) (depthOf (p .cells))))))
+      ap (λ (s : List ℕ). cellLines (cellRows p) ++ (itemLines 76 (itemRows n A p) 0 locals ++ (itemLines 83 (itemRows n A p) locals (itemRowCount (itemRows n A p) - locals) ++ (s ++ totalLine (cellRows p) (itemRows n A p) (p .probes) (depthOf (roomsIn p))))))
       (ap flat (tabulate-eq locals _ _ (λ i h. ap (λ (S : Slots). areaLines i (shared S i)) (plan-seen (held more (omega arith) (omega arith)) .rows ∙ sym areas-alone))))
 
   -- the text has room in the program's list
@@ -131,13 +132,13 @@ module _ {n locals : ℕ} {A : ℕ → Option (List Range)} {p : Plan} (P : Prin
       let s = items-length 83 (itemRows n A p) locals (itemRowCount (itemRows n A p) - locals) in
       let g = shared-long in
       let h = local-ranges in
-      let t = line-length 84 (cellCount (cellRows p) ∷ (itemRowCount (itemRows n A p) - cellCount (cellRows p)) ∷ p .probes ∷ depthOf (p .cells) ∷ []) (lit≤ tt) in
+      let t = line-length 84 (cellCount (cellRows p) ∷ (itemRowCount (itemRows n A p) - cellCount (cellRows p)) ∷ p .probes ∷ depthOf (roomsIn p) ∷ []) (lit≤ tt) in
       let e₁ = length-append (cellLines (cellRows p))
       (itemLines 76 (itemRows n A p) 0 locals ++ (itemLines 83 (itemRows n A p) locals (itemRowCount (itemRows n A p) - locals)
-      ++ (sharedLines (cellRows p) (itemRows n A p) (areaRows n A) locals ++ totalLine (cellRows p) (itemRows n A p) (p .probes) (depthOf (p .cells))))) in
-      let e₂ = length-append (itemLines 76 (itemRows n A p) 0 locals) (itemLines 83 (itemRows n A p) locals (itemRowCount (itemRows n A p) - locals) ++ (sharedLines (cellRows p) (itemRows n A p) (areaRows n A) locals ++ totalLine (cellRows p) (itemRows n A p) (p .probes) (depthOf (p .cells)))) in
-      let e₃ = length-append (itemLines 83 (itemRows n A p) locals (itemRowCount (itemRows n A p) - locals)) (sharedLines (cellRows p) (itemRows n A p) (areaRows n A) locals ++ totalLine (cellRows p) (itemRows n A p) (p .probes) (depthOf (p .cells))) in
-      let e₄ = length-append (sharedLines (cellRows p) (itemRows n A p) (areaRows n A) locals) (totalLine (cellRows p) (itemRows n A p) (p .probes) (depthOf (p .cells))) in
+      ++ (sharedLines (cellRows p) (itemRows n A p) (areaRows n A) locals ++ totalLine (cellRows p) (itemRows n A p) (p .probes) (depthOf (roomsIn p))))) in
+      let e₂ = length-append (itemLines 76 (itemRows n A p) 0 locals) (itemLines 83 (itemRows n A p) locals (itemRowCount (itemRows n A p) - locals) ++ (sharedLines (cellRows p) (itemRows n A p) (areaRows n A) locals ++ totalLine (cellRows p) (itemRows n A p) (p .probes) (depthOf (roomsIn p)))) in
+      let e₃ = length-append (itemLines 83 (itemRows n A p) locals (itemRowCount (itemRows n A p) - locals)) (sharedLines (cellRows p) (itemRows n A p) (areaRows n A) locals ++ totalLine (cellRows p) (itemRows n A p) (p .probes) (depthOf (roomsIn p))) in
+      let e₄ = length-append (sharedLines (cellRows p) (itemRows n A p) (areaRows n A) locals) (totalLine (cellRows p) (itemRows n A p) (p .probes) (depthOf (roomsIn p))) in
       omega (arith, P .few, P .locals-in, P .few-locals, P .few-slots)
 
 pub printed-same : {c c′ i i′ a a′ : List ℕ} {l l′ p p′ d d′ : ℕ} → c ≡ c′ → i ≡ i′ → a ≡ a′ → l ≡ l′ → p ≡ p′ → d ≡ d′ → printed c i a l p d ≡ printed c′ i′ a′ l′ p′ d′

@@ -2,11 +2,11 @@
 use Prim.Native.Nat.{ℕ}
 use mathlib.Core.Path.{_≡_, refl, sym, ap, _∙_}
 use mathlib.Core.Option.{Option, some, Option·some-injective}
-use mathlib.Core.List.{List, [], _∷_}
+use mathlib.Core.List.{List, [], _∷_, map}
 use lib.ListN.{getD}
 use Rattle.refusals.specs.declared.Verdict.{Verdict}
 use Rattle.refusals.specs.declared.Verdict.the-variants.{Fine}
-use Rattle.refusals.specs.Verdicts.{first, inOrder}
+use Rattle.refusals.specs.Verdicts.{first, inOrder, scan}
 use Rattle.refusals.specs.Outcomes.{unless}
 use Rattle.refusals.proofs.Laws.{first-fine}
 use Rattle.words.specs.Rows.{tabulate, flat}
@@ -16,7 +16,9 @@ use Rattle.graph.specs.Work.{sumOf}
 use Rattle.carrying.specs.Lists.{gather}
 use Rattle.insts.specs.Counts.{instCounts, codeCounts}
 use Rattle.areas.specs.Job.{Job, checks, itemArea, rangesOf, itemsVerdict}
-use Rattle.fitting.specs.Plan.{Plan}
+use Rattle.fitting.specs.Plan.{Plan, Cell}
+use Rattle.fitting.specs.Queries.{roomIn}
+use Rattle.fitting.specs.Layout.{roomsIn, roundUp, depthBefore, amongPowers, layoutVerdict}
 use Rattle.wants.specs.Entry.{cellRows}
 use Rattle.area_tables.specs.Tables.{areaRows}
 use Rattle.carry_checks.specs.Checks.{carryCounts}
@@ -32,7 +34,7 @@ use Rattle.text_grammar.proofs.Stars.{star, star-1 as star-1-read}
 use Rattle.text_plan.proofs.Stars.{star as starText, star-1 as star-1-printed}
 use Rattle.planning.proofs.PrintLaws.{printed-same}
 use Rattle.planning.specs.Program.{told, jobText, refusal, printedFor, numbersIn, programText}
-use Rattle.planning.specs.Program.{cellNumbers, itemNumbers, areaNumbers, workWords}
+use Rattle.planning.specs.Program.{cellNumbers, itemNumbers, areaNumbers, offsetNumbers, workWords}
 use Rattle.planning.proofs.GroupLaws.{same-printed}
 
 abbrev head : List ℕ
@@ -77,8 +79,8 @@ counted = refl
 placed : placedOf (rowsFor rowsOf) ≡ Fine
 placed = placed-checks (rowsFor rowsOf) ∙ ap (λ (J : Job). inOrder (checks J)) same-job ∙ star-1-checked
 
-lent : lentFor rowsOf cellNumbers itemNumbers areaNumbers workWords ≡ Fine
-lent = sym (by-space (rowsFor rowsOf) (termsFor rowsOf) cellNumbers itemNumbers areaNumbers workWords (sizesOf (rowsFor rowsOf) areaNumbers) refl counted placed refl refl)
+lent : lentFor rowsOf cellNumbers itemNumbers areaNumbers offsetNumbers workWords ≡ Fine
+lent = sym (by-space (rowsFor rowsOf) (termsFor rowsOf) cellNumbers itemNumbers areaNumbers offsetNumbers workWords (sizesOf (rowsFor rowsOf) areaNumbers) refl counted placed refl refl)
 
 -- two items with the areas a and b, both in cell 0
 module _ (A : ℕ → Option (List Range)) (p : Plan) (one : A 0 ≡ some (range 2 3 ∷ [])) (two : A 1 ≡ some (range 6 7 ∷ [])) where
@@ -98,8 +100,15 @@ listed : itemsVerdict star-1-job 64 ≡ Fine
 unfolding tabulate
 listed = rw (ranges (itemArea star-1-job) (jobPlan star-1-job 1048576) (star-1-areas .0) (star-1-areas .1)) refl
 
+-- one cell 8/8: its alignment is a power of two, and it is not too deep
+laid : layoutVerdict (roomsIn (jobPlan star-1-job 1048576)) ≡ Fine
+unfolding layoutVerdict inOrder first scan amongPowers depthBefore roundUp
+laid = ap (λ (cs : List Cell). layoutVerdict (map roomIn cs)) (star-1-plan .cells) ∙ refl
+
 none-refused : refusal rowsOf ≡ Fine
-none-refused = first-fine _ _ lent ∙ ap (λ (J : Job). itemsVerdict J 64) same-job ∙ listed
+none-refused =
+    first-fine _ _ lent ∙ ap (λ (J : Job). first (itemsVerdict J 64) (layoutVerdict (roomsIn (jobPlan J 1048576)))) same-job
+    ∙ first-fine (itemsVerdict star-1-job 64) _ listed ∙ laid
 
 -- ---- its plan
 

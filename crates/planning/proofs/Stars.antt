@@ -1,7 +1,8 @@
--- ★1 to ★9 as one table, of the definitions: ★1 from its text to the text that the program prints; ★2 and ★8 as document 02, (b), has them.
+-- ★1 to ★9 as one table, of the definitions: ★1 from its text to the text that the program prints; ★2 and ★8 as document 02, (b), has them, with document 02's layout, (a).
 use mathlib.Core.Path.{_≡_}
 use mathlib.Core.Bool.{true, false}
 use mathlib.Core.List.{[], _∷_}
+use lib.IntN.{negsuc}
 use lib.ListN.{length}
 use Rattle.ranges.specs.Points.{range}
 use Rattle.ranges.specs.Merged.{merged, clashes}
@@ -10,6 +11,7 @@ use Rattle.areas.specs.Pieces.{plainArea, endingArea}
 use Rattle.areas.proofs.Stars as areas
 use Rattle.fitting.specs.Wants.{orderOf}
 use Rattle.fitting.specs.Plan.{planOf}
+use Rattle.fitting.specs.Layout.{depthOf, offsetsOf}
 use Rattle.fitting.proofs.Stars as fitting
 use Rattle.text_grammar.proofs.Stars as grammar
 use Rattle.text_plan.proofs.Stars as plan_text
@@ -35,6 +37,8 @@ pub record Table : Type 0 where
   -- "three wants with areas that don't clash, budget 1: two cells, one probe; budget 0: three cells"
   pub nine : (length (planOf fitting.three 1 (orderOf fitting.three) .cells) ≡ 2) × (planOf fitting.three 1 (orderOf fitting.three) .probes ≡ 1)
       × (length (planOf fitting.three 0 (orderOf fitting.three) .cells) ≡ 3)
+  -- document 02, (a): "cells 8/8, 4/4, 8/8 lie at −8, −12, −24", depth "24 here"
+  pub laid : (offsetsOf fitting.laid ≡ negsuc 7 ∷ negsuc 11 ∷ negsuc 23 ∷ []) × (depthOf fitting.laid ≡ 24)
 
 pub stars : Table
 stars = record {
@@ -47,4 +51,5 @@ stars = record {
   seven = areas.star-7;
   eight = areas.star-8;
   nine = fitting.star-9;
+  laid = (fitting.layout .0, fitting.layout .1);
 }

@@ -11,7 +11,7 @@ use Rattle.refusals.specs.Verdicts.{numberOf, first}
 use Rattle.refusals.specs.Outcomes.{given, unless}
 use Rattle.refusals.proofs.Laws.{first-left, first-right}
 use Rattle.words.proofs.RowLaws.{length-records}
-use Rattle.areas.specs.Job.{Job, itemCount, itemArea, itemsVerdict}
+use Rattle.areas.specs.Job.{Job, itemCount, itemArea}
 use Rattle.soundness.specs.Demand.{jobPlan}
 use Rattle.text_grammar.specs.Groups.{groupCount, rowNumbers, localGroup, slotGroup}
 use Rattle.text_grammar.specs.Lines.{linesOf}
@@ -23,12 +23,12 @@ use Rattle.text_lines.proofs.WholeLaws.{read-finished}
 use Rattle.text_plan.specs.declared.plan_text.Written.{Written}
 use Rattle.text_plan.specs.Printed.{writtenOf}
 use Rattle.text_plan.proofs.LineLaws.{line-length}
-use Rattle.planning.specs.Groups.{termsFor, job}
-use Rattle.planning.specs.Program.{told, jobText, refusal, printedFor, numbersIn, programText}
+use Rattle.planning.specs.Groups.{termsFor, job, lentFor}
+use Rattle.planning.specs.Program.{told, jobText, refusal, printedFor, numbersIn, programText, cellNumbers, itemNumbers, areaNumbers, offsetNumbers, workWords}
 use Rattle.planning.specs.Inner.{Read, Tells, Answers}
 use Rattle.planning.specs.Answer.{roomFor}
 use Rattle.planning.proofs.PrintLaws.{Printable, text-short}
-use Rattle.planning.proofs.JobLaws.{job-printable}
+use Rattle.planning.proofs.JobLaws.{list-fine, job-printable}
 use Rattle.planning.proofs.AnswerLaws.{makeLocal, room-given, stands-of}
 use Rattle.words.specs.Widths.{localWidth}
 
@@ -54,7 +54,7 @@ module _ (text : List ℕ) (e : first (readVerdict text) (refusal (numbersIn tex
   pub text-printable : Printable (itemCount J) (length (J .locals)) (itemArea J) (jobPlan J (termsFor (numbersIn text) .budget))
   text-printable =
       job-printable J (termsFor (numbersIn text) .budget) local-few slot-few
-      (first-right _ (itemsVerdict J 64)
+      (list-fine J (jobPlan J (termsFor (numbersIn text) .budget)) (lentFor (numbersIn text) cellNumbers itemNumbers areaNumbers offsetNumbers workWords)
       (first-right (readVerdict text) (refusal (numbersIn text)) e))
 
   plan-short : length (jobText J (termsFor (numbersIn text) .budget)) ≤ roomFor

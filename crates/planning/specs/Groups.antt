@@ -1,6 +1,7 @@
 -- The records of each group by the group's name, and the whole job of them.
 use Prim.Native.Nat.{ℕ}
 use mathlib.Core.List.{List}
+use lib.IntN.{ℤ}
 use lib.ListN.{getD}
 use Rattle.refusals.specs.declared.Verdict.{Verdict}
 use Rattle.areas.specs.Job.{Job}
@@ -27,12 +28,12 @@ module _ (group : ℕ → List ℕ) where
   job = jobOf rowsFor
 
   -- what is refused before anything is measured, and all that is refused, where the answer lists and the work space have so many numbers
-  abbrev pub lentFor : ℕ → ℕ → ℕ → ℕ → Verdict
+  abbrev pub lentFor : ℕ → ℕ → ℕ → ℕ → ℕ → Verdict
   lentFor = lentVerdict rowsFor termsFor
 
-  abbrev pub verdictFor : ℕ → ℕ → ℕ → ℕ → Verdict
+  abbrev pub verdictFor : ℕ → ℕ → ℕ → ℕ → ℕ → Verdict
   verdictFor = verdictOf rowsFor termsFor
 
   -- what the whole job answers
-  abbrev pub SharedFor : List ℕ → List ℕ → List ℕ → List ℕ → Shared → List ℕ → List ℕ → List ℕ → List ℕ → Type 0
+  abbrev pub SharedFor : List ℕ → List ℕ → List ℕ → List ℤ → List ℕ → Shared → List ℕ → List ℕ → List ℕ → List ℤ → List ℕ → Type 0
   SharedFor = SharedAs rowsFor termsFor

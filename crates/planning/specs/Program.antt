@@ -9,7 +9,8 @@ use Rattle.refusals.specs.Outcomes.{Outcome, given, refused, unless}
 use Rattle.words.specs.Rows.{flat}
 use Rattle.ranges.specs.declared.Range.{Range}
 use Rattle.areas.specs.Job.{Job, itemCount, itemArea}
-use Rattle.fitting.specs.Plan.{Plan, depthOf}
+use Rattle.fitting.specs.Plan.{Plan}
+use Rattle.fitting.specs.Layout.{roomsIn, depthOf}
 use Rattle.wants.specs.Entry.{cellRows}
 use Rattle.area_tables.specs.Tables.{areaRows}
 use Rattle.soundness.specs.Demand.{jobPlan}
@@ -19,7 +20,7 @@ use Rattle.text_grammar.specs.Text.{rowsIn, readVerdict}
 use Rattle.planning.specs.Groups.{termsFor, job, verdictFor}
 use Rattle.text_plan.specs.Printed.{printed, refusalText}
 
--- "its area list has 64 ranges"; cells and items have room for 64 locals and 64 slots, and the work space is over W of 64 records of each group
+-- "its area list has 64 ranges"; cells, items and offsets have room for 64 locals and 64 slots, and the work space is over W of 64 records of each group
 abbrev pub cellNumbers : ℕ
 cellNumbers = 256
 
@@ -28,6 +29,9 @@ itemNumbers = 512
 
 abbrev pub areaNumbers : ℕ
 areaNumbers = 128
+
+abbrev pub offsetNumbers : ℕ
+offsetNumbers = 128
 
 abbrev pub workWords : ℕ
 workWords = 8192
@@ -39,7 +43,7 @@ told (refused number index) = refusalText number index
 
 -- the text of a plan of n items with the areas A, `locals` of them locals
 abbrev pub textOf : ℕ → (ℕ → Option (List Range)) → ℕ → Plan → List ℕ
-textOf n A locals p = printed (cellRows p) (itemRows n A p) (areaRows n A) locals (p .probes) (depthOf (p .cells))
+textOf n A locals p = printed (cellRows p) (itemRows n A p) (areaRows n A) locals (p .probes) (depthOf (roomsIn p))
 
 -- the text of the plan that a job gets
 unfoldable pub jobText : Job → ℕ → List ℕ
@@ -49,7 +53,7 @@ jobText J budget = textOf (itemCount J) (itemArea J) (length (J .locals)) (jobPl
 module _ (group : ℕ → List ℕ) where
   -- what the job is refused for
   abbrev pub refusal : Verdict
-  refusal = verdictFor group cellNumbers itemNumbers areaNumbers workWords
+  refusal = verdictFor group cellNumbers itemNumbers areaNumbers offsetNumbers workWords
 
   -- the reader's refusals come before the job's
   unfoldable pub printedFor : Verdict → List ℕ

@@ -53,9 +53,18 @@ fn plan(rows: &[u32], counts: &[u32], out: &mut [u8]) -> Written
     let mut cells = [0u32; 256];
     let mut items = [0u32; 512];
     let mut areas = [0u32; 128];
+    let mut offsets = [0i32; 128];
     let mut work = [0u64; 8192];
     let n = held(counts, LOCALS) + held(counts, SLOTS);
-    let r = planned(rows, counts, &mut cells, &mut items, &mut areas, &mut work);
+    let r = planned(
+        rows,
+        counts,
+        &mut cells,
+        &mut items,
+        &mut areas,
+        &mut offsets,
+        &mut work,
+    );
     match r {
         Shared::Plan(c, probes, depth) => print_plan(
             &cells[0..cell::WIDTH * c],

@@ -51,12 +51,13 @@ pub fn planned(
     cells: &mut [u32],
     items: &mut [u32],
     areas: &mut [u32],
+    offsets: &mut [i32],
     work: &mut [u64],
 ) -> Shared
     requires { ⌜ (length (now rows) ≡ rowNumbers) × (length (now counts) ≡ groupCount) × Few (now counts) ⌝ }
     ensures { λ r. ⌜ SharedFor (numbersAt (now (rows .entry)) (now (counts .entry)))
-        (now (cells .entry)) (now (items .entry)) (now (areas .entry)) (now (work .entry)) r
-        (now (cells .exit)) (now (items .exit)) (now (areas .exit)) (now (work .exit)) ⌝ }
+        (now (cells .entry)) (now (items .entry)) (now (areas .entry)) (now (offsets .entry)) (now (work .entry)) r
+        (now (cells .exit)) (now (items .exit)) (now (areas .exit)) (now (offsets .exit)) (now (work .exit)) ⌝ }
 {
     let points = rows[POINTS];
     let v = rows[REGISTERS];
@@ -82,6 +83,7 @@ pub fn planned(
         cells,
         items,
         areas,
+        offsets,
         work,
     )
 }

@@ -4,11 +4,11 @@ use mathlib.Core.Bool.{Bool, true, false, cond, _||_}
 use mathlib.Core.List.{List, [], _∷_}
 use lib.Dec.{ltb}
 use Rattle.refusals.specs.declared.Refusal.{Refusal}
-use Rattle.refusals.specs.declared.Refusal.the-variants.{Count, Line, Edge, Inst, Stray, Piece, Space, List as ListFull, Want, Text}
+use Rattle.refusals.specs.declared.Refusal.the-variants.{Count, Line, Edge, Inst, Stray, Piece, Space, List as ListFull, Want, Text, Align, Depth}
 use Rattle.refusals.specs.declared.Verdict.{Verdict}
 use Rattle.refusals.specs.declared.Verdict.the-variants.{Fine, Bad}
 
--- document 01, the table's first column; 8 is retired: "the number is not given out again"
+-- document 01, the table's first column, and document 02's new numbers; 8 is retired: "the number is not given out again"
 abbrev pub numberOf : Refusal → ℕ
 numberOf Count = 1
 numberOf Line = 2
@@ -20,6 +20,8 @@ numberOf Space = 7
 numberOf ListFull = 9
 numberOf Want = 10
 numberOf Text = 11
+numberOf Align = 12
+numberOf Depth = 13
 
 -- the first of two verdicts that is a refusal
 unfoldable pub first : Verdict → Verdict → Verdict
@@ -66,3 +68,5 @@ rankOf Piece = 6
 rankOf Space = 7
 rankOf ListFull = 9
 rankOf Want = 10
+rankOf Align = 12
+rankOf Depth = 13

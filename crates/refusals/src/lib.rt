@@ -1,8 +1,8 @@
-// The refusals of document 01, and the verdict of a check.
+// The refusals of documents 01 and 02, and the verdict of a check.
 ghost use mathlib.Core.Path.{_≡_};
 ghost use Rattle.refusals.specs.Verdicts.{numberOf, first, roomVerdict};
 
-// What is turned back, by the words of document 01's table.
+// What is turned back, by the words of document 01's table and of document 02's numbers.
 pub enum Refusal {
     Count,
     Line,
@@ -14,6 +14,8 @@ pub enum Refusal {
     List,
     Want,
     Text,
+    Align,
+    Depth,
 }
 
 // Fine, or a refusal with the index of its first offending record.
@@ -28,7 +30,7 @@ pub enum Answer {
     Refused(Refusal, usize),
 }
 
-// The number of a refusal in document 01's table. 8 is retired and not given out again.
+// The number of a refusal. 8 is retired and not given out again.
 pub fn number(r: Refusal) -> u32
     ensures { λ n. ⌜ n ≡ numberOf r ⌝ }
 {
@@ -43,6 +45,8 @@ pub fn number(r: Refusal) -> u32
         Refusal::List => 9,
         Refusal::Want => 10,
         Refusal::Text => 11,
+        Refusal::Align => 12,
+        Refusal::Depth => 13,
     }
 }
 

@@ -8,7 +8,8 @@ ghost use Rattle.queries.specs.Shares.{crowdedOf};
 ghost use Rattle.apart.specs.Apart.{apartVerdict, apartOf};
 ghost use Rattle.job_space.specs.Space.{spaceOf};
 ghost use Rattle.codes.specs.Codes.{countCode, optionCode, truthOf, truthCode};
-ghost use Rattle.want_codes.specs.Plans.{codedOutcome, PlanCoded};
+ghost use Rattle.wants.specs.Entry.{planFor};
+ghost use Rattle.want_codes.specs.Plans.{codedVerdict, PlanCoded};
 ghost use Rattle.query_codes.specs.Codes.{toldOf, PartTold};
 ghost use Rattle.slots.specs.Exports.{FlowCoded, SpreadCoded, fitSpace, ListCoded, CrowdCoded, CapCoded, ApartCoded};
 ghost use Rattle.job_space.specs.Rows.{lentRows};
@@ -74,15 +75,28 @@ pub extern "C" fn slots_fit_wants(
     budget: u32,
     cells: &mut [u32],
     items: &mut [u32],
+    offsets: &mut [i32],
     counts: &mut [u64],
     work: &mut [u64],
 ) -> u64
     ensures { λ r. ⌜ PlanCoded (now (wants .entry)) (now (areas .entry))
-        (codedOutcome (now (wants .entry)) (now (areas .entry)) locals budget (length (now (cells .entry))) (length (now (items .entry))) (length (now (counts .entry))) (length (now (work .entry))))
-        (now (cells .entry)) (now (items .entry)) (now (counts .entry)) (now (work .entry)) r
-        (now (cells .exit)) (now (items .exit)) (now (counts .exit)) (now (work .exit)) ⌝ }
+        (codedVerdict (now (wants .entry)) (now (areas .entry)) locals budget
+        (length (now (cells .entry))) (length (now (items .entry))) (length (now (offsets .entry))) (length (now (counts .entry))) (length (now (work .entry))))
+        (planFor (now (wants .entry)) (now (areas .entry)) budget)
+        (now (cells .entry)) (now (items .entry)) (now (offsets .entry)) (now (counts .entry)) (now (work .entry)) r
+        (now (cells .exit)) (now (items .exit)) (now (offsets .exit)) (now (counts .exit)) (now (work .exit)) ⌝ }
 {
-    want_codes::fit_wants(wants, areas, locals, budget, cells, items, counts, work)
+    want_codes::fit_wants(
+        wants,
+        areas,
+        locals,
+        budget,
+        cells,
+        items,
+        offsets,
+        counts,
+        work,
+    )
 }
 
 // `job::share`, the whole job, with the counts as in `slots_fit_wants`.
@@ -106,12 +120,13 @@ pub extern "C" fn slots_share(
     cells: &mut [u32],
     items: &mut [u32],
     areas: &mut [u32],
+    offsets: &mut [i32],
     counts: &mut [u64],
     work: &mut [u64],
 ) -> u64
     ensures { λ r. ⌜ JobCoded (lentRows points v blocks edges insts operands crossings locals slots addresses ends pieces assigned moves) (record { budget = budget })
-        (now (cells .entry)) (now (items .entry)) (now (areas .entry)) (now (counts .entry)) (now (work .entry)) r
-        (now (cells .exit)) (now (items .exit)) (now (areas .exit)) (now (counts .exit)) (now (work .exit)) ⌝ }
+        (now (cells .entry)) (now (items .entry)) (now (areas .entry)) (now (offsets .entry)) (now (counts .entry)) (now (work .entry)) r
+        (now (cells .exit)) (now (items .exit)) (now (areas .exit)) (now (offsets .exit)) (now (counts .exit)) (now (work .exit)) ⌝ }
 {
     job_codes::share(
         Head {
@@ -134,6 +149,7 @@ pub extern "C" fn slots_share(
         cells,
         items,
         areas,
+        offsets,
         counts,
         work,
     )

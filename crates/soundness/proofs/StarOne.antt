@@ -2,6 +2,7 @@
 use mathlib.Core.Path.{_≡_, refl}
 use mathlib.Core.Option.{some}
 use mathlib.Core.List.{[], _∷_}
+use lib.IntN.{negsuc}
 use Rattle.refusals.specs.Verdicts.{first, inOrder, scan}
 use Rattle.words.specs.Rows.{tabulate}
 use Rattle.ranges.specs.Points.{range}
@@ -17,7 +18,8 @@ use Rattle.areas.specs.Blocks.{holding}
 use Rattle.areas.specs.Pieces.{joinEach, linePieces, plainArea}
 use Rattle.areas.specs.Job.{Job, localsOf, Checked, itemArea}
 use Rattle.fitting.specs.Wants.{insert as insertItem, ordered}
-use Rattle.fitting.specs.Plan.{lowest, fit, depthOf}
+use Rattle.fitting.specs.Plan.{lowest, fit}
+use Rattle.fitting.specs.Layout.{roomsIn, roundUp, depthBefore, depthOf, offsetsOf}
 use Rattle.fitting.specs.Queries.{countIn, local, shared, saved, answered}
 use Rattle.soundness.specs.Demand.{wantsOf, jobPlan}
 
@@ -48,14 +50,15 @@ pub star-1-areas : (itemArea star-1-job 0 ≡ some (range 2 3 ∷ [])) × (itemA
 unfolding insert sort join merged joined fed round any keep gather below dealt eachAddress carried kindOf touchesOf tabulate holding joinEach linePieces plainArea
 star-1-areas = (refl, refl)
 
--- `C,0,8,8`, `L,0,0`, `L,1,0`, `G,0,2,3`, `G,1,6,7`, `T,1,1,1,8`
+-- `C,0,8,8`, `L,0,0`, `L,1,0`, `G,0,2,3`, `G,1,6,7`, `T,1,1,1,8`; the cell lies at −8
 pub record Star1 : Type 0 where
   pub cells : jobPlan star-1-job 1048576 .cells ≡ (record { size = 8; align = 8; area = some (range 2 3 ∷ range 6 7 ∷ []) } ∷ [])
   pub locals : (local (answered (wantsOf star-1-job) 2 (jobPlan star-1-job 1048576)) 0 ≡ some 0) × (local (answered (wantsOf star-1-job) 2 (jobPlan star-1-job 1048576)) 1 ≡ some 0)
   pub areas : (shared (answered (wantsOf star-1-job) 2 (jobPlan star-1-job 1048576)) 0 ≡ some (range 2 3 ∷ []))
       × (shared (answered (wantsOf star-1-job) 2 (jobPlan star-1-job 1048576)) 1 ≡ some (range 6 7 ∷ []))
-  pub counts : (saved (answered (wantsOf star-1-job) 2 (jobPlan star-1-job 1048576)) ≡ 1) × (jobPlan star-1-job 1048576 .probes ≡ 1) × (depthOf (jobPlan star-1-job 1048576 .cells) ≡ 8)
+  pub counts : (saved (answered (wantsOf star-1-job) 2 (jobPlan star-1-job 1048576)) ≡ 1) × (jobPlan star-1-job 1048576 .probes ≡ 1) × (depthOf (roomsIn (jobPlan star-1-job 1048576)) ≡ 8)
+  pub offsets : offsetsOf (roomsIn (jobPlan star-1-job 1048576)) ≡ negsuc 7 ∷ []
 
 pub star-1 : Star1
-unfolding insert sort join merged joined meets clashes fed round any keep gather below dealt eachAddress carried kindOf touchesOf tabulate holding joinEach linePieces plainArea insertItem ordered lowest fit depthOf countIn
-star-1 = record { cells = refl; locals = (refl, refl); areas = (refl, refl); counts = (refl, refl, refl) }
+unfolding insert sort join merged joined meets clashes fed round any keep gather below dealt eachAddress carried kindOf touchesOf tabulate holding joinEach linePieces plainArea insertItem ordered lowest fit roundUp depthBefore countIn
+star-1 = record { cells = refl; locals = (refl, refl); areas = (refl, refl); counts = (refl, refl, refl); offsets = refl }

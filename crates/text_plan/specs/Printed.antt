@@ -10,7 +10,7 @@ use Rattle.refusals.specs.Verdicts.{numberOf, inOrder, check}
 use Rattle.refusals.specs.Outcomes.{Outcome, given, refused, unless, after}
 use Rattle.refusals.specs.declared.Verdict.{Verdict}
 use Rattle.refusals.specs.declared.Refusal.{Refusal}
-use Rattle.refusals.specs.declared.Refusal.the-variants.{Count, Line, Edge, Inst, Stray, Piece, Space, List as ListFull, Want, Text}
+use Rattle.refusals.specs.declared.Refusal.the-variants.{Count, Line, Edge, Inst, Stray, Piece, Space, List as ListFull, Want, Text, Align, Depth}
 use Rattle.words.specs.Rows.{tabulate, flat}
 use Rattle.words.specs.Widths.{cellCount, cellSize, cellAlign, itemRowCount, itemCell, rangeCount}
 use Rattle.ranges.specs.declared.Range.{Range}
@@ -88,6 +88,8 @@ printRank Stray = 4
 printRank Piece = 4
 printRank ListFull = 4
 printRank Text = 4
+printRank Align = 4
+printRank Depth = 4
 
 abbrev pub writtenOf : Written → Outcome ℕ
 writtenOf (Bytes n) = given n

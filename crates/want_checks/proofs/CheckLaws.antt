@@ -43,32 +43,34 @@ three-fine r q false true v e = let f = three-second r q false true v refl refl 
 three-fine r q false false v e = (refl, refl, three-third r q false false v refl refl ∙ e)
 
 -- the three ways out of the checks
-module _ (wants areas : List ℕ) (locals budget cells items work : ℕ) where
-  pub verdict-count : badCount wants areas locals budget cells items ≡ true → Bad Count 0 ≡ verdict wants areas locals budget cells items work
+module _ (wants areas : List ℕ) (locals budget cells items offsets work : ℕ) where
+  pub verdict-count : badCount wants areas locals budget cells items ≡ true → Bad Count 0 ≡ verdict wants areas locals budget cells items offsets work
   unfolding verdict
-  verdict-count e = three-first Count Space (badCount wants areas locals budget cells items) (badSpace wants areas cells items work) (wantsVerdict areas wants) e
+  verdict-count e = three-first Count Space (badCount wants areas locals budget cells items) (badSpace wants areas cells items offsets work) (wantsVerdict areas wants) e
 
-  pub verdict-space : badCount wants areas locals budget cells items ≡ false → badSpace wants areas cells items work ≡ true → Bad Space 0 ≡ verdict wants areas locals budget cells items work
+  pub verdict-space : badCount wants areas locals budget cells items ≡ false → badSpace wants areas cells items offsets work ≡ true → Bad Space 0 ≡ verdict wants areas locals budget cells items offsets work
   unfolding verdict
-  verdict-space e f = three-second Count Space (badCount wants areas locals budget cells items) (badSpace wants areas cells items work) (wantsVerdict areas wants) e f
+  verdict-space e f = three-second Count Space (badCount wants areas locals budget cells items) (badSpace wants areas cells items offsets work) (wantsVerdict areas wants) e f
 
-  pub verdict-wants : badCount wants areas locals budget cells items ≡ false → badSpace wants areas cells items work ≡ false → wantsVerdict areas wants ≡ verdict wants areas locals budget cells items work
+  pub verdict-wants : badCount wants areas locals budget cells items ≡ false → badSpace wants areas cells items offsets work ≡ false → wantsVerdict areas wants ≡ verdict wants areas locals budget cells items offsets work
   unfolding verdict
-  verdict-wants e f = three-third Count Space (badCount wants areas locals budget cells items) (badSpace wants areas cells items work) (wantsVerdict areas wants) e f
+  verdict-wants e f = three-third Count Space (badCount wants areas locals budget cells items) (badSpace wants areas cells items offsets work) (wantsVerdict areas wants) e f
 
-  pub granted : verdict wants areas locals budget cells items work ≡ Fine → Granted wants areas cells items work
+  pub granted : verdict wants areas locals budget cells items offsets work ≡ Fine → Granted wants areas cells items offsets work
   unfolding verdict
   granted e =
-      let (a, b, c) = three-fine Count Space (badCount wants areas locals budget cells items) (badSpace wants areas cells items work) (wantsVerdict areas wants) e in
+      let (a, b, c) = three-fine Count Space (badCount wants areas locals budget cells items) (badSpace wants areas cells items offsets work) (wantsVerdict areas wants) e in
       let (few′, short′) = count-fine wants areas locals budget cells items a in
       let (f, g) = or-neither (ltb work (spaceOf wants areas)) _ b in
       let (h, k) = or-neither (ltb (cells / cellWidth) (wantCount wants)) _ g in
+      let (l, m) = or-neither (ltb (items / itemWidth) (wantCount wants)) _ k in
       record {
         few = few′;
         short = short′;
         space = ltb-false work (spaceOf wants areas) f;
         in-cells = omega (arith, ltb-false (cells / cellWidth) (wantCount wants) h);
-        in-items = omega (arith, ltb-false (items / itemWidth) (wantCount wants) k);
+        in-items = omega (arith, ltb-false (items / itemWidth) (wantCount wants) l);
+        in-offsets = ltb-false offsets (wantCount wants) m;
         fine = scan-fine WantRefused (badWant (areasOf areas) wants) (wantCount wants) c;
       }
 
@@ -79,10 +81,10 @@ module _ (wants areas : List ℕ) (locals budget cells items work : ℕ) where
     pub few-slots : wantCount wants - locals ≤ 2048
     pub whole-areas : length areas % rangeWidth ≡ 0
 
-  pub counts-fine : verdict wants areas locals budget cells items work ≡ Fine → Counts
+  pub counts-fine : verdict wants areas locals budget cells items offsets work ≡ Fine → Counts
   unfolding verdict
   counts-fine e =
-      let (a, _, _) = three-fine Count Space (badCount wants areas locals budget cells items) (badSpace wants areas cells items work) (wantsVerdict areas wants) e in
+      let (a, _, _) = three-fine Count Space (badCount wants areas locals budget cells items) (badSpace wants areas cells items offsets work) (wantsVerdict areas wants) e in
       let (f, b) = or-neither (not (wholeRows wantWidth wants)) _ a in
       let (w, d) = or-neither (not (wholeRows rangeWidth areas)) _ b in
       let (g, h) = or-neither (not (eqb (cells % cellWidth) 0)) _ d in

@@ -26,8 +26,9 @@ pub whole : (badCount (want 1 0 1) areas 1 9 4 8 ≡ false) × (badCount (8 ∷ 
 whole = (refl, refl, refl, refl, refl)
 
 -- W = 8 × (wants + length of the area list); number 7: at what is asked and one short
-pub spaces : (spaceOf (want 1 0 1) areas ≡ 40) × (badSpace (want 1 0 1) areas 4 8 40 ≡ false) × (badSpace (want 1 0 1) areas 4 8 39 ≡ true) × (badSpace (want 1 0 1) areas 2 8 40 ≡ true) × (badSpace (want 1 0 1) areas 4 4 40 ≡ true)
-spaces = (refl, refl, refl, refl, refl)
+pub spaces : (spaceOf (want 1 0 1) areas ≡ 40) × (badSpace (want 1 0 1) areas 4 8 2 40 ≡ false) × (badSpace (want 1 0 1) areas 4 8 2 39 ≡ true) × (badSpace (want 1 0 1) areas 2 8 2 40 ≡ true) × (badSpace (want 1 0 1) areas 4 4 2 40 ≡ true)
+    × (badSpace (want 1 0 1) areas 4 8 1 40 ≡ true)
+spaces = (refl, refl, refl, refl, refl, refl)
 
 -- number 10, by want: "an area outside its list": to the last range, one past; "reversed, unsorted or overlapping itself"; an absent want's part is not read, an empty one is allowed
 pub parts : (wantsVerdict areas (want 1 2 1) ≡ Fine) × (wantsVerdict areas (want 1 2 2) ≡ Bad WantRefused 1) × (wantsVerdict areas (want 1 1 2) ≡ Bad WantRefused 1) × (wantsVerdict areas (want 2 1 2) ≡ Bad WantRefused 1)
@@ -36,6 +37,6 @@ unfolding first scan tabulate listVerdict
 parts = (refl, refl, refl, refl, refl, refl, refl)
 
 -- 1 before 7 before 10
-pub order : (verdict (want 1 1 2) areas 1 1048577 4 8 0 ≡ Bad Count 0) × (verdict (want 1 1 2) areas 1 9 4 8 39 ≡ Bad Space 0) × (verdict (want 1 1 2) areas 1 9 4 8 40 ≡ Bad WantRefused 1)
+pub order : (verdict (want 1 1 2) areas 1 1048577 4 8 2 0 ≡ Bad Count 0) × (verdict (want 1 1 2) areas 1 9 4 8 2 39 ≡ Bad Space 0) × (verdict (want 1 1 2) areas 1 9 4 8 2 40 ≡ Bad WantRefused 1)
 unfolding first inOrder scan tabulate listVerdict verdict
 order = (refl, refl, refl)

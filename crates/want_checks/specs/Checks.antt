@@ -1,4 +1,4 @@
--- Document 01, "Fitting alone, over given wants": what the entry refuses (numbers 1, 7 and 10), and W.
+-- Document 01, "Fitting alone, over given wants": what the entry refuses before it fits (numbers 1, 7 and 10), and W.
 use Prim.Native.Nat.{ℕ, _+_, _-_, _*_, _/_, _%_}
 use mathlib.Core.Bool.{Bool, not, _||_}
 use mathlib.Core.List.{List, [], _∷_}
@@ -35,13 +35,14 @@ abbrev pub spaceOf : List ℕ → List ℕ → ℕ
 spaceOf wants areas = 8 * (wantCount wants + rangeCount areas)
 
 -- number 7: an answer list under the wants, a work space under W
-abbrev pub badSpace : List ℕ → List ℕ → ℕ → ℕ → ℕ → Bool
-badSpace wants areas cells items work = ltb work (spaceOf wants areas) || (ltb (cells / cellWidth) (wantCount wants) || ltb (items / itemWidth) (wantCount wants))
+abbrev pub badSpace : List ℕ → List ℕ → ℕ → ℕ → ℕ → ℕ → Bool
+badSpace wants areas cells items offsets work =
+    ltb work (spaceOf wants areas) || (ltb (cells / cellWidth) (wantCount wants) || (ltb (items / itemWidth) (wantCount wants) || ltb offsets (wantCount wants)))
 
--- "fitting alone checks 1, 7, 10"
-abbrev pub fitChecks : List ℕ → List ℕ → ℕ → ℕ → ℕ → ℕ → ℕ → List Verdict
-fitChecks wants areas locals budget cells items work =
-    check Count (badCount wants areas locals budget cells items) ∷ check Space (badSpace wants areas cells items work) ∷ wantsVerdict areas wants ∷ []
+-- "fitting alone checks 1, 7, 10", before it fits
+abbrev pub fitChecks : List ℕ → List ℕ → ℕ → ℕ → ℕ → ℕ → ℕ → ℕ → List Verdict
+fitChecks wants areas locals budget cells items offsets work =
+    check Count (badCount wants areas locals budget cells items) ∷ check Space (badSpace wants areas cells items offsets work) ∷ wantsVerdict areas wants ∷ []
 
-unfoldable pub verdict : List ℕ → List ℕ → ℕ → ℕ → ℕ → ℕ → ℕ → Verdict
-verdict wants areas locals budget cells items work = inOrder (fitChecks wants areas locals budget cells items work)
+unfoldable pub verdict : List ℕ → List ℕ → ℕ → ℕ → ℕ → ℕ → ℕ → ℕ → Verdict
+verdict wants areas locals budget cells items offsets work = inOrder (fitChecks wants areas locals budget cells items offsets work)

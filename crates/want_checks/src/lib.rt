@@ -1,4 +1,4 @@
-// The refusals of fitting alone: numbers 1, 7 and 10, in this order.
+// The refusals of fitting alone before it fits: numbers 1, 7 and 10, in this order.
 ghost use mathlib.Core.Path.{_≡_};
 ghost use Prim.Native.Nat.{_≤_};
 ghost use Rattle.words.specs.Widths.{rangeCount, wantCount};
@@ -89,9 +89,16 @@ fn over_limit(wants: usize, ranges: usize, locals: usize, budget: u32) -> bool
 }
 
 // Whether the work space or an answer list is too short.
-fn bad_space(wants: &[u32], areas: &[u32], cells: usize, items: usize, work: usize) -> bool
+fn bad_space(
+    wants: &[u32],
+    areas: &[u32],
+    cells: usize,
+    items: usize,
+    offsets: usize,
+    work: usize,
+) -> bool
     requires { ⌜ (wantCount (now wants) ≤ 4096) × (rangeCount (now areas) ≤ 65536) ⌝ }
-    ensures { λ r. ⌜ r ≡ badSpace (now (wants .entry)) (now (areas .entry)) cells items work ⌝ }
+    ensures { λ r. ⌜ r ≡ badSpace (now (wants .entry)) (now (areas .entry)) cells items offsets work ⌝ }
 {
     let n = wants.len() / want::WIDTH;
     if work < 8 * (n + areas.len() / range::WIDTH) {
@@ -100,7 +107,10 @@ fn bad_space(wants: &[u32], areas: &[u32], cells: usize, items: usize, work: usi
     if cells / cell::WIDTH < n {
         return true;
     }
-    items / item::WIDTH < n
+    if items / item::WIDTH < n {
+        return true;
+    }
+    offsets < n
 }
 
 // Of the entry, by the lent lists and the lengths of the answer lists and the work space.
@@ -111,14 +121,15 @@ pub fn refusal(
     budget: u32,
     cells: usize,
     items: usize,
+    offsets: usize,
     work: usize,
 ) -> Verdict
-    ensures { λ r. ⌜ r ≡ verdict (now (wants .entry)) (now (areas .entry)) locals budget cells items work ⌝ }
+    ensures { λ r. ⌜ r ≡ verdict (now (wants .entry)) (now (areas .entry)) locals budget cells items offsets work ⌝ }
 {
     if bad_count(wants, areas, locals, budget, cells, items) {
         return Verdict::Bad(Refusal::Count, 0);
     }
-    if bad_space(wants, areas, cells, items, work) {
+    if bad_space(wants, areas, cells, items, offsets, work) {
         return Verdict::Bad(Refusal::Space, 0);
     }
     bad_wants(wants, areas)

@@ -3,20 +3,24 @@ use Prim.Native.Nat.{ℕ, _≤_, _<_}
 use mathlib.Core.Path.{_≡_, refl, sym, ap, subst, _∙_}
 use mathlib.Core.Bool.{Bool, true, false, _||_}
 use mathlib.Core.List.{List, [], _∷_}
-use lib.ListN.{length, drop}
+use lib.IntN.{ℤ}
+use lib.ListN.{length, drop, replicate}
 use borrow.Author.Tests.{lt-ltb, le-ltb}
 use Rattle.refusals.specs.declared.Verdict.{Verdict}
+use Rattle.refusals.specs.declared.Verdict.the-variants.{Bad}
+use Rattle.refusals.specs.declared.Refusal.{Refusal}
 use Rattle.refusals.specs.declared.Refusal.the-variants.{Count, Space}
-use Rattle.refusals.specs.Verdicts.{inOrder, check}
+use Rattle.refusals.specs.Verdicts.{numberOf, inOrder, check}
 use Rattle.refusals.specs.Outcomes.{Outcome, given, refused, unless, after}
-use Rattle.refusals.proofs.Laws.{three-first, three-second}
+use Rattle.refusals.proofs.Laws.{first-bad, three-first, three-second}
 use Rattle.words.proofs.Bools.{or-right}
 use Rattle.fitting.specs.Plan.{Plan}
-use Rattle.want_checks.specs.Checks.{badCount, badSpace, wantsVerdict, verdict}
+use Rattle.fitting.specs.Layout.{roomsIn, layoutVerdict}
+use Rattle.want_checks.specs.Checks.{badCount, badSpace, wantsVerdict, spaceOf, verdict}
 use Rattle.wants.specs.declared.Fitted.{Fitted}
-use Rattle.wants.specs.Entry.{Tally, answerOf, planFor, outcome, FittedAlone}
+use Rattle.wants.specs.Entry.{Tally, tallyOf, answerOf, planFor, cellRows, itemRows, cellOffsets, FittedAlone}
 use Rattle.codes.specs.Codes.{refusalCode, codeOf}
-use Rattle.want_codes.specs.Plans.{countsOf, fewCounts, codedOutcome, PlanCoded}
+use Rattle.want_codes.specs.Plans.{countsOf, fewCounts, codedVerdict, PlanCoded}
 use Rattle.want_codes.specs.Inner.{PlanTold}
 
 module _ {counts : List ℕ} {o : Outcome Tally} where
@@ -39,42 +43,54 @@ or-none true b e = refl
 or-none false b e = e
 
 -- fitting alone, by how many counts there is room for
-module _ (wants areas : List ℕ) (locals budget : ℕ) (cells items counts work : List ℕ) where
-  abbrev outcomeFor : Outcome Plan
-  outcomeFor = codedOutcome wants areas locals budget (length cells) (length items) (length counts) (length work)
+module _ (wants areas : List ℕ) (locals budget : ℕ) (cells items : List ℕ) (offsets : List ℤ) (counts work : List ℕ) where
+  abbrev verdictFor : Verdict
+  verdictFor = codedVerdict wants areas locals budget (length cells) (length items) (length offsets) (length counts) (length work)
+
+  abbrev planNow : Plan
+  planNow = planFor wants areas budget
 
   -- room for three: the entry's own verdict
-  enough : 3 ≤ length counts → outcome wants areas locals budget (length cells) (length items) (length work) ≡ outcomeFor
+  enough : 3 ≤ length counts → verdict wants areas locals budget (length cells) (length items) (length offsets) (length work) ≡ verdictFor
   unfolding verdict
-  enough h = ap (λ (b : Bool). unless (inOrder (check Count (badCount wants areas locals budget (length cells) (length items)) ∷ check Space b ∷ wantsVerdict areas wants ∷ [])) (planFor wants areas budget))
-      (sym (or-none (badSpace wants areas (length cells) (length items) (length work)) (fewCounts (length counts)) (le-ltb (length counts) 3 h)))
+  enough h = ap (λ (b : Bool). inOrder (check Count (badCount wants areas locals budget (length cells) (length items)) ∷ check Space b ∷ wantsVerdict areas wants ∷ []))
+      (sym (or-none (badSpace wants areas (length cells) (length items) (length offsets) (length work)) (fewCounts (length counts)) (le-ltb (length counts) 3 h)))
 
-  pub plan-coded : {cells′ items′ counts′ work′ : List ℕ} {f : Fitted} {r : ℕ} → 3 ≤ length counts
-      → FittedAlone wants areas (outcome wants areas locals budget (length cells) (length items) (length work)) cells items work f cells′ items′ work′ → PlanTold counts (answerOf f) r counts′
-      → PlanCoded wants areas outcomeFor cells items counts work r cells′ items′ counts′ work′
-  plan-coded {cells′} {items′} {counts′} {work′} {f} {r} h a t =
-      subst (λ (o : Outcome Plan). PlanCoded wants areas o cells items counts work r cells′ items′ counts′ work′) (enough h)
+  pub plan-coded : {cells′ items′ counts′ work′ : List ℕ} {offsets′ : List ℤ} {f : Fitted} {r : ℕ} → 3 ≤ length counts
+      → FittedAlone wants areas (verdict wants areas locals budget (length cells) (length items) (length offsets) (length work)) planNow cells items offsets work f cells′ items′ offsets′ work′
+      → PlanTold counts (answerOf f) r counts′ → PlanCoded wants areas verdictFor planNow cells items offsets counts work r cells′ items′ offsets′ counts′ work′
+  plan-coded {cells′} {items′} {counts′} {work′} {offsets′} {f} {r} h a t =
+      subst (λ (v : Verdict). PlanCoded wants areas v planNow cells items offsets counts work r cells′ items′ offsets′ counts′ work′) (enough h)
       (record {
-        answer = t .answer ∙ ap codeOf (a .answer);
-        in-cells = a .in-cells;
-        in-items = a .in-items;
-        in-counts = t .in-counts ∙ ap (λ (x : Outcome Tally). after x countsOf counts) (a .answer);
+        answer = t .answer ∙ ap codeOf (a .lists .answer);
+        in-cells = a .lists .in-cells;
+        in-items = a .lists .in-items;
+        in-offsets = a .lists .in-offsets;
+        in-counts = t .in-counts ∙ ap (λ (x : Outcome Tally). after x countsOf counts) (a .lists .answer);
         in-work = a .in-work;
       })
 
   -- too little room: number 1, else number 7
-  turned : {k i : ℕ} {r : ℕ} → outcomeFor ≡ refused k i → r ≡ refusalCode k i → PlanCoded wants areas outcomeFor cells items counts work r cells items counts work
-  turned {k} {i} {r} e q =
-      subst (λ (o : Outcome Plan). PlanCoded wants areas o cells items counts work r cells items counts work) (sym e)
-      (record { answer = q; in-cells = refl; in-items = refl; in-counts = refl; in-work = refl })
+  turned : {k : Refusal} {r : ℕ} → verdictFor ≡ Bad k 0 → r ≡ refusalCode (numberOf k) 0 → PlanCoded wants areas verdictFor planNow cells items offsets counts work r cells items offsets counts work
+  turned {k} {r} e q =
+      let f = sym (first-bad verdictFor (layoutVerdict (roomsIn planNow)) k 0 e) in
+      record {
+        answer = q ∙ ap (λ (v : Verdict). codeOf (tallyOf (unless v planNow))) f;
+        in-cells = ap (λ (v : Verdict). after (unless v planNow) cellRows cells) f;
+        in-items = ap (λ (v : Verdict). after (unless v planNow) (itemRows wants) items) f;
+        in-offsets = ap (λ (v : Verdict). after (unless v planNow) cellOffsets offsets) f;
+        in-counts = ap (λ (v : Verdict). after (tallyOf (unless v planNow)) countsOf counts) f;
+        in-work = ap (λ (v : Verdict). after (unless v (spaceOf wants areas)) (λ n. replicate n 0) work) (sym e);
+      }
+
+  abbrev shortNow : Bool
+  shortNow = badSpace wants areas (length cells) (length items) (length offsets) (length work)
 
   module _ {r : ℕ} (few : length counts < 3) where
-    pub few-count : badCount wants areas locals budget (length cells) (length items) ≡ true → r ≡ refusalCode 1 0 → PlanCoded wants areas outcomeFor cells items counts work r cells items counts work
-    few-count b q = turned (ap (λ (v : Verdict). unless v (planFor wants areas budget)) (sym (three-first Count Space (badCount wants areas locals budget (length cells) (length items)) (badSpace wants areas (length cells) (length items) (length work) || fewCounts (length counts)) (wantsVerdict areas wants) b))) q
+    pub few-count : badCount wants areas locals budget (length cells) (length items) ≡ true → r ≡ refusalCode 1 0 → PlanCoded wants areas verdictFor planNow cells items offsets counts work r cells items offsets counts work
+    few-count b q = turned (sym (three-first Count Space (badCount wants areas locals budget (length cells) (length items)) (shortNow || fewCounts (length counts)) (wantsVerdict areas wants) b)) q
 
-    pub few-space : badCount wants areas locals budget (length cells) (length items) ≡ false → r ≡ refusalCode 7 0 → PlanCoded wants areas outcomeFor cells items counts work r cells items counts work
+    pub few-space : badCount wants areas locals budget (length cells) (length items) ≡ false → r ≡ refusalCode 7 0 → PlanCoded wants areas verdictFor planNow cells items offsets counts work r cells items offsets counts work
     few-space b q =
-        turned
-        (ap (λ (v : Verdict). unless v (planFor wants areas budget))
-        (sym (three-second Count Space (badCount wants areas locals budget (length cells) (length items)) (badSpace wants areas (length cells) (length items) (length work) || fewCounts (length counts)) (wantsVerdict areas wants) b (or-right (badSpace wants areas (length cells) (length items) (length work)) (fewCounts (length counts)) (lt-ltb (length counts) 3 few)))))
-        q
+        turned (sym (three-second Count Space (badCount wants areas locals budget (length cells) (length items)) (shortNow || fewCounts (length counts)) (wantsVerdict areas wants) b
+        (or-right shortNow (fewCounts (length counts)) (lt-ltb (length counts) 3 few)))) q

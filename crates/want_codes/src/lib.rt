@@ -1,9 +1,9 @@
 // The answer of fitting alone in one number, and its counts.
 ghost use Prim.Native.Nat.{_≤_};
 ghost use lib.ListN.{length};
-ghost use Rattle.wants.specs.Entry.{answerOf};
+ghost use Rattle.wants.specs.Entry.{answerOf, planFor};
 ghost use Rattle.want_codes.specs.Inner.{PlanTold};
-ghost use Rattle.want_codes.specs.Plans.{codedOutcome, PlanCoded};
+ghost use Rattle.want_codes.specs.Plans.{codedVerdict, PlanCoded};
 use codes::refused;
 use codes::tell;
 use fitting::Terms;
@@ -32,13 +32,16 @@ pub fn fit_wants(
     budget: u32,
     cells: &mut [u32],
     items: &mut [u32],
+    offsets: &mut [i32],
     counts: &mut [u64],
     work: &mut [u64],
 ) -> u64
     ensures { λ r. ⌜ PlanCoded (now (wants .entry)) (now (areas .entry))
-        (codedOutcome (now (wants .entry)) (now (areas .entry)) locals budget (length (now (cells .entry))) (length (now (items .entry))) (length (now (counts .entry))) (length (now (work .entry))))
-        (now (cells .entry)) (now (items .entry)) (now (counts .entry)) (now (work .entry)) r
-        (now (cells .exit)) (now (items .exit)) (now (counts .exit)) (now (work .exit)) ⌝ }
+        (codedVerdict (now (wants .entry)) (now (areas .entry)) locals budget
+        (length (now (cells .entry))) (length (now (items .entry))) (length (now (offsets .entry))) (length (now (counts .entry))) (length (now (work .entry))))
+        (planFor (now (wants .entry)) (now (areas .entry)) budget)
+        (now (cells .entry)) (now (items .entry)) (now (offsets .entry)) (now (counts .entry)) (now (work .entry)) r
+        (now (cells .exit)) (now (items .exit)) (now (offsets .exit)) (now (counts .exit)) (now (work .exit)) ⌝ }
 {
     if counts.len() < 3 {
         if want_checks::bad_count(wants, areas, locals, budget, cells.len(), items.len()) {
@@ -49,6 +52,6 @@ pub fn fit_wants(
     let terms = Terms { budget: budget };
     plan(
         counts,
-        wants::fit_wants(wants, areas, locals, terms, cells, items, work),
+        wants::fit_wants(wants, areas, locals, terms, cells, items, offsets, work),
     )
 }

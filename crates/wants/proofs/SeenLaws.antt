@@ -2,10 +2,11 @@
 use Prim.Native.Nat.{ℕ, _+_, _*_, _≤_, _<_}
 use native.Mathlib.Omega.{arith}
 use native.Mathlib.Decide.{ℕ-discrete}
-use mathlib.Core.Path.{_≡_, refl, ap, sym, _∙_}
+use mathlib.Core.Path.{_≡_, refl, ap, sym, subst, _∙_}
 use mathlib.Core.Bool.{Bool, true, false, cond}
 use mathlib.Core.Option.{some, none}
 use mathlib.Core.List.{List, [], _∷_, _++_}
+use lib.IntN.{ℤ, pos}
 use lib.ListN.{length, getD, take, drop, List·getD-append}
 use lib.Seq.{take-at}
 use lib.Dec.{eqb}
@@ -13,15 +14,18 @@ use borrow.Author.Tests.{eq-eqb, ne-eqb}
 use Rattle.refusals.specs.declared.Verdict.{Verdict}
 use Rattle.refusals.specs.declared.Verdict.the-variants.{Fine}
 use Rattle.refusals.specs.Outcomes.{Outcome, given, refused, unless, after}
+use Rattle.refusals.proofs.Laws.{first-left, first-right}
 use Rattle.words.specs.Rows.{field, flat}
 use Rattle.words.specs.Widths.{cellWidth, cellSize, cellAlign, itemWidth, itemCell, itemPresent, itemFirst, itemRanges, rangeWidth, rangeCount, wantWidth, wantCount, wantPresent, wantFirst, wantRanges}
-use Rattle.words.proofs.RowLaws.{length-records, getD-records}
+use Rattle.words.proofs.RowLaws.{length-records, getD-records, getD-tabulate}
 use Rattle.words.proofs.FlatLaws.{flat-length, flat-at}
 use Rattle.fitting.specs.Wants.{Want, wantAt, orderOf}
 use Rattle.fitting.specs.Plan.{Plan, cellAt}
 use Rattle.fitting.specs.Lowest.{PutLowest}
 use Rattle.ranges.specs.Forms.{areasOf}
-use Rattle.fitting.specs.Queries.{Room, partOf, answered}
+use Rattle.fitting.specs.Queries.{Room, roomIn, partOf, answered}
+use Rattle.fitting.specs.Layout.{roomBy, roomsIn, depthAt, depthOf, offsetOf, layoutVerdict, laidVerdict, LaidOut, RowsLaid}
+use Rattle.fitting.proofs.LayoutLaws.{laid-out, laid-as, layout-positive}
 use Rattle.fitting.proofs.OrderLaws.{order-names, length-ordered}
 use Rattle.fitting.proofs.PlanLaws.{facts}
 use Rattle.fitting.proofs.PutLaws.{plan-few, put-lowest}
@@ -33,15 +37,12 @@ use Rattle.range_walk.proofs.PartLaws.{part-fine, areas-length}
 use Rattle.fit_tables.specs.WantTables.{itemRow}
 use Rattle.fit_tables.proofs.WantLaws.{item-wide, row-absent, row-present}
 use Rattle.wants.specs.declared.Fitted.the-variants.{Plan as Planned}
-use Rattle.wants.specs.Entry.{wantsOf, planFor, outcome, Tally, tallyOf, cellRows, itemRows, FittedAlone}
+use Rattle.wants.specs.Entry.{wantsOf, planFor, Tally, tallied, tallyOf, cellRows, itemRows, cellOffsets, FittedAlone}
 use Rattle.wants.specs.Inner.{cellRow}
-use Rattle.wants.proofs.EntryLaws.{rows-cells}
+use Rattle.wants.proofs.ListLaws.{rows-cells, rooms-cells, rooms-count, cells-long, offsets-long}
 use Rattle.wants.proofs.TallyLaws.{not-refused}
 
 -- ---- a plan's cell rows
-
-pub cells-long : (p : Plan) → length (cellRows p) ≡ cellWidth * length (p .cells)
-cells-long p = ap length (rows-cells (p .cells)) ∙ flat-length 2 (length (p .cells)) (λ i. cellRow (cellAt (p .cells) i)) (λ i h. refl)
 
 pub cells-seen : (p : Plan) (i : ℕ) → i < length (p .cells) → record { size = cellSize (cellRows p) i; align = cellAlign (cellRows p) i } ≡ roomAt p i
 cells-seen p i h =
@@ -63,10 +64,8 @@ pub front-is : (new old : List ℕ) (n : ℕ) → length new ≡ n → take n (n
 front-is new old n e = take-at new (drop (length new) old) n e
 
 -- the counts that a plan's answer tells are the plan's
-pub told-cells : (v : Verdict) (q : Plan) (c p d : ℕ) → given (record { cells = c; probes = p; depth = d }) ≡ tallyOf (unless v q) → c ≡ length (q .cells)
-told-cells v q c p d e =
-    let f = e ∙ ap (λ (x : Verdict). tallyOf (unless x q)) (not-refused v q (record { cells = c; probes = p; depth = d }) e) in
-    ap (λ (t : Tally). t .cells) (ap held-tally f)
+pub told-tally : (v : Verdict) (q : Plan) (t : Tally) → given t ≡ tallyOf (unless v q) → t ≡ tallied q
+told-tally v q t e = ap held-tally (e ∙ ap (λ (x : Verdict). tallyOf (unless x q)) (not-refused v q t e))
 
 -- ---- fitting alone
 
@@ -135,11 +134,11 @@ module _ (wants areas : List ℕ) (locals budget : ℕ) where
 
   -- ---- the rows that are written where nothing is refused
 
-  module _ (cells items work : ℕ) (fine : verdict wants areas locals budget cells items work ≡ Fine) where
+  module _ (cells items offsets work : ℕ) (fine : verdict wants areas locals budget cells items offsets work ≡ Fine) where
     rows-held : RowsHold (cellRows P) (itemRows wants P) areas locals (length (P .cells)) (wantCount wants) (roomAt P) (itemOf ws P)
     rows-held =
-        let G = granted wants areas locals budget cells items work fine in
-        let C = counts-fine wants areas locals budget cells items work fine in
+        let G = granted wants areas locals budget cells items offsets work fine in
+        let C = counts-fine wants areas locals budget cells items offsets work fine in
         let F = facts ws budget (length ws) (orderOf ws) (order-names ws) in
         record {
           cells-long = cells-long P;
@@ -157,29 +156,76 @@ module _ (wants areas : List ℕ) (locals budget : ℕ) where
           inside = λ i h. inside-at i h (G .fine i h);
         }
 
+-- ---- the layout of a plan that is not refused, in its rows and offsets, whatever stands behind them
+
+module _ (p : Plan) (fine : layoutVerdict (roomsIn p) ≡ Fine) (cells : List ℕ) (offsets : List ℤ) where
+  room-is : (n : ℕ) → n < length (p .cells) → roomBy (roomsIn p) n ≡ roomAt p n
+  room-is n h = ap (λ (l : List Room). roomBy l n) (rooms-cells (p .cells)) ∙ getD-tabulate (length (p .cells)) (λ i. roomIn (cellAt (p .cells) i)) n (record { size = 0; align = 0 }) h
+
+  field-is : (f : ℕ) → f < 2 → (n : ℕ) → n < length (p .cells) → field cellWidth (cellRows p ++ cells) n f ≡ field cellWidth (cellRows p) n f
+  field-is f k n h = List·getD-append (cellRows p) cells 0 (cellWidth * n + f) (omega (arith, cells-long p))
+
+  row-is : (n : ℕ) → n < length (p .cells) → record { size = cellSize (cellRows p) n; align = cellAlign (cellRows p) n } ≡ roomBy (roomsIn p) n
+  row-is n h = cells-seen p n h ∙ sym (room-is n h)
+
+  offset-is : (n : ℕ) → n < length (p .cells) → getD (cellOffsets p ++ offsets) n (pos 0) ≡ offsetOf (depthAt (roomsIn p) n)
+  offset-is n h =
+      List·getD-append (cellOffsets p) offsets (pos 0) n (omega (arith, offsets-long p))
+      ∙ getD-tabulate (length (roomsIn p)) (λ i. offsetOf (depthAt (roomsIn p) i)) n (pos 0) (omega (arith, rooms-count p))
+
+  pub rows-laid : RowsLaid (length (p .cells)) (cellRows p ++ cells) (cellOffsets p ++ offsets) (depthOf (roomsIn p))
+  rows-laid =
+      laid-as (subst (λ (k : ℕ). LaidOut k (λ n. roomBy (roomsIn p) n .size) (λ n. roomBy (roomsIn p) n .align) (λ n. offsetOf (depthAt (roomsIn p) n)) (depthOf (roomsIn p))) (rooms-count p)
+      (laid-out (roomsIn p) (layout-positive (roomsIn p) fine)))
+      (λ n h. field-is 0 (omega arith) n h ∙ ap (λ (r : Room). r .size) (row-is n h))
+      (λ n h. field-is 1 (omega arith) n h ∙ ap (λ (r : Room). r .align) (row-is n h))
+      offset-is
+
 -- what a call wrote
-module _ (locals budget : ℕ) {wants areas cells items work cells′ items′ work′ : List ℕ} {c p d : ℕ}
-    (E : FittedAlone wants areas (outcome wants areas locals budget (length cells) (length items) (length work)) cells items work (Planned c p d) cells′ items′ work′) where
-  fine : verdict wants areas locals budget (length cells) (length items) (length work) ≡ Fine
-  fine = not-refused (verdict wants areas locals budget (length cells) (length items) (length work)) (planFor wants areas budget) (record { cells = c; probes = p; depth = d }) (E .answer)
+module _ (locals budget : ℕ) {wants areas cells items work cells′ items′ work′ : List ℕ} {offsets offsets′ : List ℤ} {c p d : ℕ}
+    (E : FittedAlone wants areas (verdict wants areas locals budget (length cells) (length items) (length offsets) (length work)) (planFor wants areas budget) cells items offsets work (Planned c p d) cells′ items′ offsets′ work′) where
+  whole : laidVerdict (verdict wants areas locals budget (length cells) (length items) (length offsets) (length work)) (planFor wants areas budget) ≡ Fine
+  whole =
+      not-refused (laidVerdict (verdict wants areas locals budget (length cells) (length items) (length offsets) (length work)) (planFor wants areas budget)) (planFor wants areas budget)
+      (record { cells = c; probes = p; depth = d }) (E .lists .answer)
+
+  fine : verdict wants areas locals budget (length cells) (length items) (length offsets) (length work) ≡ Fine
+  fine = first-left _ (layoutVerdict (roomsIn (planFor wants areas budget))) whole
+
+  tally-is : record { cells = c; probes = p; depth = d } ≡ tallied (planFor wants areas budget)
+  tally-is =
+      told-tally (laidVerdict (verdict wants areas locals budget (length cells) (length items) (length offsets) (length work)) (planFor wants areas budget)) (planFor wants areas budget)
+      (record { cells = c; probes = p; depth = d }) (E .lists .answer)
 
   count-is : c ≡ length (planFor wants areas budget .cells)
-  count-is = told-cells (verdict wants areas locals budget (length cells) (length items) (length work)) (planFor wants areas budget) c p d (E .answer)
+  count-is = ap (λ (t : Tally). t .cells) tally-is
+
+  cells-whole : cells′ ≡ cellRows (planFor wants areas budget) ++ drop (length (cellRows (planFor wants areas budget))) cells
+  cells-whole = E .lists .in-cells ∙ ap (λ (v : Verdict). after (unless v (planFor wants areas budget)) cellRows cells) whole
+
+  offsets-whole : offsets′ ≡ cellOffsets (planFor wants areas budget) ++ drop (length (cellOffsets (planFor wants areas budget))) offsets
+  offsets-whole = E .lists .in-offsets ∙ ap (λ (v : Verdict). after (unless v (planFor wants areas budget)) cellOffsets offsets) whole
+
+  -- the offsets that fitting alone wrote, by the cells and the depth that it wrote: each a multiple of its cell's alignment, no byte in two cells
+  pub fit-laid : RowsLaid c cells′ offsets′ d
+  fit-laid =
+      rw (cells-whole, offsets-whole, count-is, ap (λ (t : Tally). t .depth) tally-is)
+      (rows-laid (planFor wants areas budget) (first-right _ (layoutVerdict (roomsIn (planFor wants areas budget))) whole) _ _)
 
   cells-are : take (cellWidth * c) cells′ ≡ cellRows (planFor wants areas budget)
   cells-are =
-      ap (take (cellWidth * c)) (E .in-cells ∙ ap (λ (v : Verdict). after (unless v (planFor wants areas budget)) cellRows cells) fine)
+      ap (take (cellWidth * c)) cells-whole
       ∙ front-is (cellRows (planFor wants areas budget)) cells (cellWidth * c) (omega (arith, cells-long (planFor wants areas budget), count-is))
 
   items-whole : items′ ≡ itemRows wants (planFor wants areas budget) ++ drop (length (itemRows wants (planFor wants areas budget))) items
-  items-whole = E .in-items ∙ ap (λ (v : Verdict). after (unless v (planFor wants areas budget)) (itemRows wants) items) fine
+  items-whole = E .lists .in-items ∙ ap (λ (v : Verdict). after (unless v (planFor wants areas budget)) (itemRows wants) items) whole
 
   items-are : take (itemWidth * wantCount wants) items′ ≡ itemRows wants (planFor wants areas budget)
   items-are = ap (take (itemWidth * wantCount wants)) items-whole ∙ front-is (itemRows wants (planFor wants areas budget)) items (itemWidth * wantCount wants) (items-long wants areas locals budget)
 
   -- the rows that stand there hold the plan
   pub held : RowsHold (take (cellWidth * c) cells′) (take (itemWidth * wantCount wants) items′) areas locals (length (planFor wants areas budget .cells)) (wantCount wants) (roomAt (planFor wants areas budget)) (itemOf (wantsOf (areasOf areas) wants) (planFor wants areas budget))
-  held = rw (cells-are, items-are) (rows-held wants areas locals budget (length cells) (length items) (length work) fine)
+  held = rw (cells-are, items-are) (rows-held wants areas locals budget (length cells) (length items) (length offsets) (length work) fine)
 
   -- the plan that fitting alone wrote: each query of it is the definition's of the plan of these wants, and none refuses it
   pub fit-seen : PlanSeen (answered (wantsOf (areasOf areas) wants) locals (planFor wants areas budget)) locals (take (cellWidth * c) cells′) (take (itemWidth * wantCount wants) items′) areas

@@ -2,18 +2,20 @@
 use Prim.Native.Nat.{ℕ}
 use mathlib.Core.Path.{_≡_}
 use mathlib.Core.List.{List, [], _∷_, map}
-use lib.ListN.{length}
+use lib.IntN.{ℤ}
+use lib.ListN.{length, replicate}
+use Rattle.refusals.specs.declared.Verdict.{Verdict}
 use Rattle.refusals.specs.Verdicts.{numberOf}
 use Rattle.refusals.specs.Outcomes.{Outcome, given, refused, unless, after}
 use Rattle.words.specs.Rows.{records, tabulate, flat}
-use Rattle.words.specs.Regions.{cleared}
 use Rattle.words.specs.Widths.{wantWidth, wantCount, wantPresent, wantFirst, wantRanges}
 use Rattle.ranges.specs.declared.Range.{Range}
 use Rattle.ranges.specs.Forms.{areasOf}
 use Rattle.fitting.specs.Wants.{Want, orderOf}
-use Rattle.fitting.specs.Plan.{Cell, Plan, planOf, depthOf}
+use Rattle.fitting.specs.Plan.{Cell, Plan, planOf}
 use Rattle.fitting.specs.Queries.{partOf}
-use Rattle.want_checks.specs.Checks.{spaceOf, verdict}
+use Rattle.fitting.specs.Layout.{roomsIn, depthOf, offsetsOf, laidVerdict}
+use Rattle.want_checks.specs.Checks.{spaceOf}
 use Rattle.fit_tables.specs.WantTables.{itemRow}
 use Rattle.wants.specs.declared.Fitted.{Fitted}
 use Rattle.wants.specs.declared.Fitted.the-variants.{Plan as Planned, Refused}
@@ -26,11 +28,6 @@ wantsOf areas s = records wantWidth (λ f. record { size = f 0; align = f 1; are
 abbrev pub planFor : List ℕ → List ℕ → ℕ → Plan
 planFor wants areas budget = planOf (wantsOf (areasOf areas) wants) budget (orderOf (wantsOf (areasOf areas) wants))
 
--- the same, unless refused; the lengths are those of the answer lists and the work space
-abbrev pub outcome : List ℕ → List ℕ → ℕ → ℕ → ℕ → ℕ → ℕ → Outcome Plan
-outcome wants areas locals budget cells items work =
-    unless (verdict wants areas locals budget cells items work) (planFor wants areas budget)
-
 -- a plan's counts: its cells, the probes spent, the depth
 pub record Tally : Type 0 where
   pub cells : ℕ
@@ -38,7 +35,7 @@ pub record Tally : Type 0 where
   pub depth : ℕ
 
 abbrev pub tallied : Plan → Tally
-tallied p = record { cells = length (p .cells); probes = p .probes; depth = depthOf (p .cells) }
+tallied p = record { cells = length (p .cells); probes = p .probes; depth = depthOf (roomsIn p) }
 
 -- what each case of the answer stands for
 abbrev pub answerOf : Fitted → Outcome Tally
@@ -57,14 +54,19 @@ cellRows p = flat (map (λ (c : Cell). c .size ∷ c .align ∷ []) (p .cells))
 abbrev pub itemRows : List ℕ → Plan → List ℕ
 itemRows wants p = flat (tabulate (wantCount wants) (λ i. itemRow (p .cell i) (wantPresent wants i) (wantFirst wants i) (wantRanges wants i)))
 
--- the work space: unchanged after a refusal, its first W words zero after an answer
-abbrev pub zeroed : Outcome Plan → ℕ → List ℕ → List ℕ
-zeroed (given p) n w = cleared n w
-zeroed (refused k i) n w = w
+-- the offset of each cell
+abbrev pub cellOffsets : Plan → List ℤ
+cellOffsets p = offsetsOf (roomsIn p)
 
--- fitting alone
-pub record FittedAlone (wants areas : List ℕ) (o : Outcome Plan) (cells items work : List ℕ) (r : Fitted) (cells′ items′ work′ : List ℕ) : Type 0 where
-  pub answer : answerOf r ≡ tallyOf o
-  pub in-cells : cells′ ≡ after o cellRows cells
-  pub in-items : items′ ≡ after o (itemRows wants) items
-  pub in-work : work′ ≡ zeroed o (spaceOf wants areas) work
+-- the answer and the answer lists, given a verdict and a plan
+pub record PlanListed (wants : List ℕ) (v : Verdict) (p : Plan) (cells items : List ℕ) (offsets : List ℤ) (r : Fitted) (cells′ items′ : List ℕ) (offsets′ : List ℤ) : Type 0 where
+  pub answer : answerOf r ≡ tallyOf (unless v p)
+  pub in-cells : cells′ ≡ after (unless v p) cellRows cells
+  pub in-items : items′ ≡ after (unless v p) (itemRows wants) items
+  pub in-offsets : offsets′ ≡ after (unless v p) cellOffsets offsets
+
+-- fitting alone: the plan p, unless refused by v before it is made or by its layout; the work space is unchanged after the first, else its first W words are zero
+pub record FittedAlone (wants areas : List ℕ) (v : Verdict) (p : Plan) (cells items : List ℕ) (offsets : List ℤ) (work : List ℕ) (r : Fitted)
+    (cells′ items′ : List ℕ) (offsets′ : List ℤ) (work′ : List ℕ) : Type 0 where
+  pub lists : PlanListed wants (laidVerdict v p) p cells items offsets r cells′ items′ offsets′
+  pub in-work : work′ ≡ after (unless v (spaceOf wants areas)) (λ n. replicate n 0) work

@@ -92,19 +92,24 @@ impl Called {
     }
 }
 
+/// How many of each refusal came, of a tally by their numbers.
+pub fn refused(tally: &[usize]) -> String {
+    let came: Vec<String> = tally.iter().enumerate().skip(1).filter(|(_, &count)| count > 0).map(|(number, count)| format!("{number}: {count}")).collect();
+    if came.is_empty() { "none".to_string() } else { came.join(", ") }
+}
+
 /// How many calls were answered, how many with each refusal, and how many with none.
 #[derive(Default)]
-pub struct Tally(pub [usize; 13]);
+pub struct Tally(pub [usize; 15]);
 
 impl Tally {
-    pub const NONE: usize = 12;
+    pub const NONE: usize = 14;
 
     /// Of a run of some thousands, each refusal that the entry has must have been met.
     pub fn say(&self, what: &str, gives: &[usize]) {
         let all: usize = self.0.iter().sum();
-        let refused: Vec<String> = (1..12).filter(|&n| self.0[n] > 0).map(|n| format!("{n}: {}", self.0[n])).collect();
         let none = if self.0[Self::NONE] > 0 { format!(", {} absent", self.0[Self::NONE]) } else { String::new() };
-        println!("{what}: {all} calls, no difference; {} answers{none}, refusals {}", self.0[0], if refused.is_empty() { "none".to_string() } else { refused.join(", ") });
+        println!("{what}: {all} calls, no difference; {} answers{none}, refusals {}", self.0[0], refused(&self.0[..Self::NONE]));
         let missed: Vec<&usize> = gives.iter().filter(|&&n| self.0[n] == 0).collect();
         assert!(all < 5000 || missed.is_empty(), "{what}: no call was answered with {missed:?}");
     }

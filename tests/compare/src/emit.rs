@@ -12,6 +12,7 @@ fn words(out: &mut impl Write, list: &[u32]) -> io::Result<()> {
 
 fn lists(out: &mut impl Write, l: &Lists) -> io::Result<()> {
     [&l.cells, &l.items, &l.areas].iter().try_for_each(|list| words(out, list))?;
+    l.offsets.iter().try_for_each(|n| out.write_all(&n.to_ne_bytes()))?;
     [&l.counts, &l.work].iter().try_for_each(|list| list.iter().try_for_each(|n| out.write_all(&n.to_ne_bytes())))
 }
 
@@ -19,7 +20,7 @@ fn one(out: &mut impl Write, job: &Job, lent: &Lent, seed: u64) -> io::Result<()
     let before = any_lists(&mut Random::seeded(seed), lent);
     let expected = expected(job, lent, &before, None);
     words(out, &[job.points, job.v, job.budget])?;
-    let lengths = job.groups.iter().map(Vec::len).chain([lent.cells, lent.items, lent.areas, lent.counts, lent.work]);
+    let lengths = job.groups.iter().map(Vec::len).chain([lent.cells, lent.items, lent.areas, lent.offsets, lent.counts, lent.work]);
     words(out, &lengths.map(|n| n as u32).collect::<Vec<_>>())?;
     job.groups.iter().try_for_each(|group| words(out, group))?;
     lists(out, &before)?;

@@ -9,11 +9,11 @@ extern "C" {
         slots: *const u32, slots_len: usize, addresses: *const u32, addresses_len: usize, ends: *const u32, ends_len: usize,
         pieces: *const u32, pieces_len: usize, assigned: *const u32, assigned_len: usize, moves: *const u32, moves_len: usize,
         cells: *mut u32, cells_len: usize, items: *mut u32, items_len: usize, areas: *mut u32, areas_len: usize,
-        counts: *mut u64, counts_len: usize, work: *mut u64, work_len: usize,
+        offsets: *mut i32, offsets_len: usize, counts: *mut u64, counts_len: usize, work: *mut u64, work_len: usize,
     ) -> u64;
     fn slots_fit_wants(
         wants: *const u32, wants_len: usize, areas: *const u32, areas_len: usize, locals: u32, budget: u32, cells: *mut u32, cells_len: usize,
-        items: *mut u32, items_len: usize, counts: *mut u64, counts_len: usize, work: *mut u64, work_len: usize,
+        items: *mut u32, items_len: usize, offsets: *mut i32, offsets_len: usize, counts: *mut u64, counts_len: usize, work: *mut u64, work_len: usize,
     ) -> u64;
 }
 
@@ -23,6 +23,7 @@ pub struct Lists {
     pub cells: Vec<u32>,
     pub items: Vec<u32>,
     pub areas: Vec<u32>,
+    pub offsets: Vec<i32>,
     pub counts: Vec<u64>,
     pub work: Vec<u64>,
 }
@@ -38,7 +39,7 @@ pub fn share(job: &Job, l: &mut Lists) -> u64 {
             g[4].as_ptr(), g[4].len(), g[5].as_ptr(), g[5].len(), g[6].as_ptr(), g[6].len(), g[7].as_ptr(), g[7].len(),
             g[8].as_ptr(), g[8].len(), g[9].as_ptr(), g[9].len(), g[10].as_ptr(), g[10].len(), g[11].as_ptr(), g[11].len(),
             l.cells.as_mut_ptr(), l.cells.len(), l.items.as_mut_ptr(), l.items.len(), l.areas.as_mut_ptr(), l.areas.len(),
-            l.counts.as_mut_ptr(), l.counts.len(), l.work.as_mut_ptr(), l.work.len(),
+            l.offsets.as_mut_ptr(), l.offsets.len(), l.counts.as_mut_ptr(), l.counts.len(), l.work.as_mut_ptr(), l.work.len(),
         )
     }
 }
@@ -49,7 +50,8 @@ pub fn fit_wants(wants: &[u32], areas: &[u32], locals: u32, budget: u32, l: &mut
     unsafe {
         slots_fit_wants(
             wants.as_ptr(), wants.len(), areas.as_ptr(), areas.len(), locals, budget, l.cells.as_mut_ptr(), l.cells.len(),
-            l.items.as_mut_ptr(), l.items.len(), l.counts.as_mut_ptr(), l.counts.len(), l.work.as_mut_ptr(), l.work.len(),
+            l.items.as_mut_ptr(), l.items.len(), l.offsets.as_mut_ptr(), l.offsets.len(), l.counts.as_mut_ptr(), l.counts.len(),
+            l.work.as_mut_ptr(), l.work.len(),
         )
     }
 }

@@ -1,20 +1,22 @@
 //! Fitting alone: all triples of small lists of ranges, the limits, random wants, and damaged ones.
-use crate::calls::cut;
+use crate::calls::{code, cut, refused};
 use crate::cases::Random;
+use crate::depths;
 use crate::entry::{fit_wants, Lists};
 use crate::job::Lent;
 use crate::plans::{fit, Areas};
 use crate::refusals::{BUDGET, LIMITS, RANGES};
+use crate::sizes::Sizes;
 use crate::whole::{any_lists, put};
 use rucc_regalloc::live::Range;
 
 /// Wants as rows of size, alignment, present, first and count; the area list; how many are locals.
 #[derive(Clone, Debug, Default)]
-struct Wants {
-    rows: Vec<u32>,
-    areas: Vec<u32>,
-    locals: u32,
-    budget: u32,
+pub struct Wants {
+    pub rows: Vec<u32>,
+    pub areas: Vec<u32>,
+    pub locals: u32,
+    pub budget: u32,
 }
 
 /// The ranges of a want's part, where the part is in the area list.
@@ -35,7 +37,7 @@ fn refusal(w: &Wants, lent: &Lent) -> Option<(u32, u32)> {
     if odd || locals > wants || locals > LIMITS[5] || wants - locals > LIMITS[6] || w.areas.len() / 2 > RANGES || w.budget > BUDGET {
         return Some((1, 0));
     }
-    if lent.work < space(w) || lent.cells / 2 < wants || lent.items / 4 < wants || lent.counts < 3 {
+    if lent.work < space(w) || lent.cells / 2 < wants || lent.items / 4 < wants || lent.offsets < wants || lent.counts < 3 {
         return Some((7, 0));
     }
     w.rows.chunks(5).position(|row| row[2] != 0 && !part(w, row).is_some_and(|ranges| sorted(&ranges))).map(|i| (10, i as u32))
@@ -45,21 +47,27 @@ fn space(w: &Wants) -> usize {
     8 * (w.rows.len() / 5 + w.areas.len() / 2)
 }
 
+/// Fits wants that are not refused before: what the lists hold then, or number 12 or 13 with the lists as they were. Either way the work space is cleared.
+fn fitted(w: &Wants, lists: &mut Lists) -> Result<(), (u32, u32)> {
+    lists.work[..space(w)].fill(0);
+    let areas: Areas = w.rows.chunks(5).map(|row| if row[2] == 0 { None } else { part(w, row) }).collect();
+    let sizes: Vec<(u32, u32)> = w.rows.chunks(5).map(|row| (row[0], row[1])).collect();
+    let fit = fit(&sizes, &areas, w.locals as usize, w.budget);
+    let layout = fit.laid?;
+    let rows = w.rows.chunks(5).zip(&fit.of);
+    let items: Vec<u32> = rows.flat_map(|(row, &cell)| if row[2] == 0 { [cell as u32, 0, 0, 0] } else { [cell as u32, 1, row[3], row[4]] }).collect();
+    put(&mut lists.cells, &fit.cells);
+    put(&mut lists.items, &items);
+    put(&mut lists.offsets, &layout.offsets);
+    put(&mut lists.counts, &[fit.counts[0], fit.counts[1], layout.depth]);
+    Ok(())
+}
+
 /// Holds one call; the refusal's number, or 0.
-fn hold(w: &Wants, lent: &Lent, before: &Lists) -> usize {
+pub fn hold(w: &Wants, lent: &Lent, before: &Lists) -> usize {
     let mut expected = before.clone();
-    let answer = refusal(w, lent).map_or(0, |(number, index)| (u64::from(number) << 32) + u64::from(index));
-    if answer == 0 {
-        let areas: Areas = w.rows.chunks(5).map(|row| if row[2] == 0 { None } else { part(w, row) }).collect();
-        let sizes: Vec<(u32, u32)> = w.rows.chunks(5).map(|row| (row[0], row[1])).collect();
-        let fit = fit(&sizes, &areas, w.locals as usize, w.budget);
-        let rows = w.rows.chunks(5).zip(&fit.of);
-        let items: Vec<u32> = rows.flat_map(|(row, &cell)| if row[2] == 0 { [cell as u32, 0, 0, 0] } else { [cell as u32, 1, row[3], row[4]] }).collect();
-        put(&mut expected.cells, &fit.cells);
-        put(&mut expected.items, &items);
-        put(&mut expected.counts, &fit.counts);
-        expected.work[..space(w)].fill(0);
-    }
+    let verdict = refusal(w, lent).or_else(|| fitted(w, &mut expected).err());
+    let answer = verdict.map_or(0, |(number, index)| code(number, index));
     let mut lists = before.clone();
     let given = fit_wants(&w.rows, &w.areas, w.locals, w.budget, &mut lists);
     let same = (given, &lists) == (answer, &expected);
@@ -67,9 +75,10 @@ fn hold(w: &Wants, lent: &Lent, before: &Lists) -> usize {
     (answer >> 32) as usize
 }
 
-fn lent(w: &Wants, more: usize) -> Lent {
+/// Lists with room for all wants and so many more.
+pub fn lent(w: &Wants, more: usize) -> Lent {
     let wants = w.rows.len() / 5;
-    Lent { cells: 2 * wants + 2 * more, items: 4 * wants + 4 * more, areas: 0, counts: 3 + more, work: space(w) + more }
+    Lent { cells: 2 * wants + 2 * more, items: 4 * wants + 4 * more, areas: 0, offsets: wants + more, counts: 3 + more, work: space(w) + more }
 }
 
 /// All lists of ranges that lie apart or touch, over points below `points`.
@@ -112,7 +121,7 @@ fn triples(points: u32) {
 
 fn random(r: &mut Random) -> Wants {
     let mut w = Wants { budget: if r.one_in(3) { r.below(20) } else { BUDGET }, ..Wants::default() };
-    let most = if r.one_in(30) { 150 } else { 8 };
+    let (most, sizes) = (if r.one_in(30) { 150 } else { 8 }, Sizes::of(r));
     for _ in 0..r.below(most) {
         let (first, mut at, count) = (w.areas.len() as u32 / 2, r.below(30), r.below(5));
         for _ in 0..count {
@@ -120,7 +129,7 @@ fn random(r: &mut Random) -> Wants {
             w.areas.extend([at, end]);
             at = end + 1 + r.below(5);
         }
-        w.rows.extend([1 << r.below(5), 1 << r.below(4), u32::from(!r.one_in(6)) * (1 + r.below(2)), first, count]);
+        w.rows.extend([sizes.size(r), sizes.align(r), u32::from(!r.one_in(6)) * (1 + r.below(2)), first, count]);
     }
     w.locals = r.below(w.rows.len() as u32 / 5 + 1);
     w
@@ -142,10 +151,11 @@ fn damage(r: &mut Random, w: &mut Wants, lent: &mut Lent) {
         6 => drop(w.rows.pop()),
         7 => w.locals = any(r),
         8 => w.budget = BUDGET + any(r),
-        _ => match r.below(4) {
+        _ => match r.below(5) {
             0 => lent.cells = lent.cells.saturating_sub(short),
             1 => lent.items = lent.items.saturating_sub(short),
             2 => lent.counts = lent.counts.saturating_sub(short),
+            3 => lent.offsets = lent.offsets.saturating_sub(short),
             _ => lent.work = lent.work.saturating_sub(short),
         },
     }
@@ -178,22 +188,28 @@ fn limits() {
     at_last.areas[2 * 4095] = 2 * 4096;
     cases.push(at_last);
     let mut r = Random::seeded(2);
-    let mut tally = [0; 11];
+    let mut tally = [0; 14];
     for w in &cases {
         let full = lent(w, 0);
-        let short = [Lent { cells: full.cells - 2, ..full.clone() }, Lent { items: full.items - 4, ..full.clone() }, Lent { counts: 2, ..full.clone() }, Lent { work: full.work - 1, ..full.clone() }];
-        for lent in [full].iter().chain(&short) {
+        let mut lists = [full; 6];
+        lists[1].cells -= 2;
+        lists[2].items -= 4;
+        lists[3].offsets -= 1;
+        lists[4].counts -= 1;
+        lists[5].work -= 1;
+        for lent in &lists {
             let before = any_lists(&mut r, lent);
             tally[hold(w, lent, &before)] += 1;
         }
     }
-    println!("fitting alone, at the limits: {}, no difference; {} plans, refusals 1: {}, 7: {}, 10: {}", tally.iter().sum::<usize>(), tally[0], tally[1], tally[7], tally[10]);
+    println!("fitting alone, at the limits: {}, no difference; {} plans, refusals {}", tally.iter().sum::<usize>(), tally[0], refused(&tally));
 }
 
 pub fn compare(count: u64, seed: u64) {
     triples(5);
     limits();
-    let mut tally = [0; 11];
+    depths::wants();
+    let mut tally = [0; 14];
     for own in seed..seed + count {
         let mut r = Random::seeded(own);
         let mut w = random(&mut r);
@@ -204,5 +220,6 @@ pub fn compare(count: u64, seed: u64) {
         let before = any_lists(&mut r, &lent);
         tally[hold(&w, &lent, &before)] += 1;
     }
-    println!("fitting alone, seeds {seed} to {}: {count}, no difference; {} plans, refusals 1: {}, 7: {}, 10: {}", seed + count - 1, tally[0], tally[1], tally[7], tally[10]);
+    println!("fitting alone, seeds {seed} to {}: {count}, no difference; {} plans, refusals {}", seed + count - 1, tally[0], refused(&tally));
+    assert!(count < 5000 || (tally[12] > 0 && tally[13] > 0), "such a run lays out too little");
 }

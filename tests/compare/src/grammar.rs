@@ -114,7 +114,8 @@ pub fn write(job: &Job) -> String {
     text
 }
 
-fn planned(job: &Job, plan: &Plan) -> String {
+/// No line has an offset; the depth is the layout's.
+fn planned(job: &Job, plan: &Plan, depth: u64) -> String {
     let locals = job.count(LOCALS);
     let mut text = String::new();
     for (i, cell) in plan.cells.chunks(2).enumerate() {
@@ -131,7 +132,7 @@ fn planned(job: &Job, plan: &Plan) -> String {
             }
         }
     }
-    text + &format!("T,{},{},{},{}\n", plan.counts[0], rows.len() as u64 - plan.counts[0], plan.counts[1], plan.counts[2])
+    text + &format!("T,{},{},{},{}\n", plan.counts[0], rows.len() as u64 - plan.counts[0], plan.counts[1], depth)
 }
 
 /// What the planning program prints, and the refusal's number or 0.
@@ -148,5 +149,9 @@ pub fn printed(text: &[u8]) -> (String, usize) {
     if ranges(&areas) > MOST {
         return refused((9, 0));
     }
-    (planned(&job, &plan(&job, &areas)), 0)
+    let plan = plan(&job, &areas);
+    match &plan.laid {
+        Ok(layout) => (planned(&job, &plan, layout.depth), 0),
+        Err(verdict) => refused(*verdict),
+    }
 }

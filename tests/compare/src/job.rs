@@ -64,6 +64,7 @@ pub struct Lent {
     pub cells: usize,
     pub items: usize,
     pub areas: usize,
+    pub offsets: usize,
     pub counts: usize,
     pub work: usize,
 }
@@ -78,7 +79,7 @@ pub fn space(job: &Job, areas: usize) -> usize {
 /// Lists with exactly the room for all items and that many ranges.
 pub fn exact(job: &Job, ranges: usize) -> Lent {
     let items = job.items();
-    Lent { cells: 2 * items, items: 4 * items, areas: 2 * ranges, counts: 3, work: space(job, 2 * ranges) }
+    Lent { cells: 2 * items, items: 4 * items, areas: 2 * ranges, offsets: items, counts: 3, work: space(job, 2 * ranges) }
 }
 
 /// Lists that a job with that many ranges is planned in, but for one in ten with one range too few: each exactly full, or longer by some rows.
@@ -88,6 +89,7 @@ pub fn lent(r: &mut Random, job: &Job, ranges: usize) -> Lent {
     let mut lent = exact(job, ranges);
     lent.cells += 2 * more(r);
     lent.items += 4 * more(r);
+    lent.offsets += more(r);
     lent.work += more(r);
     lent.counts = if r.one_in(20) { r.below(3) as usize } else { 3 + more(r) };
     lent

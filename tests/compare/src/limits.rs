@@ -1,5 +1,6 @@
-//! Each count at its limit and one past it, lists and work space exactly full and one short.
+//! Each count and depth at its limit and one past it, lists and work space exactly full and one short.
 use crate::cases::Random;
+use crate::depths;
 use crate::job::*;
 use crate::plans::{areas, ranges};
 use crate::refusals::*;
@@ -69,11 +70,12 @@ fn each_list(r: &mut Random, seed: u64, tally: &mut Tally) {
     let whole = exact(&job, ranges(&areas));
     hold(&job, &whole, seed, Some(&areas), tally);
     for short in 1..=4 {
-        let mut lists = [whole; 4];
+        let mut lists = [whole; 5];
         lists[0].cells = whole.cells.saturating_sub(short);
         lists[1].items = whole.items.saturating_sub(short);
         lists[2].areas = whole.areas.saturating_sub(short);
         lists[3].work = whole.work.saturating_sub(short);
+        lists[4].offsets = whole.offsets.saturating_sub(short);
         for lent in lists {
             hold(&job, &lent, seed, Some(&areas), tally);
         }
@@ -90,6 +92,7 @@ pub fn compare(jobs: u64) {
     let (mut tally, mut seed) = (Tally::default(), 0);
     each_count(&mut tally, &mut seed);
     tally.say("each count at its limit and one past it");
+    depths::jobs();
     let mut tally = Tally::default();
     for seed in 1..=jobs {
         each_list(&mut Random::seeded(seed), seed, &mut tally);

@@ -1,7 +1,8 @@
-//! The plan of a whole job that is not refused, by slots.rs; probes and depth, which it does not tell, by a plain model of fitting.
+//! The plan of a whole job that is not refused, by slots.rs; what it does not tell by plain models: probes by one of fitting, depth and offsets by one of the layout.
 use crate::carry::mentions;
 use crate::cases::Records;
 use crate::job::*;
+use crate::layout::{laid, Laid};
 use crate::spills::{assignment, edits};
 use crate::touching::touching_joined;
 use reference::frame::Local;
@@ -14,13 +15,14 @@ use std::cmp::Reverse;
 
 pub type Areas = Vec<Option<Vec<Range>>>;
 
-/// The answer lists, and cells, probes and depth.
-#[derive(Clone, Debug, Default, PartialEq)]
+/// The answer lists of document 01, cells and probes, and the layout, for which a plan that slots.rs has may still be refused.
+#[derive(Clone, Debug, PartialEq)]
 pub struct Plan {
     pub cells: Vec<u32>,
     pub items: Vec<u32>,
     pub areas: Vec<u32>,
-    pub counts: [u64; 3],
+    pub counts: [u64; 2],
+    pub laid: Laid,
 }
 
 fn live(job: &Job) -> Live {
@@ -128,11 +130,12 @@ fn fitted(sizes: &[(u32, u32)], areas: &Areas, budget: u32) -> (Vec<Cell>, Vec<u
     (cells, of, u64::from(budget - left))
 }
 
-/// Cells as rows, the cell of each item, cells, probes and depth; and slots.rs's plan.
+/// Cells as rows, the cell of each item, cells and probes, the layout; and slots.rs's plan.
 pub struct Fit {
     pub cells: Vec<u32>,
     pub of: Vec<usize>,
-    pub counts: [u64; 3],
+    pub counts: [u64; 2],
+    pub laid: Laid,
     pub slots: Slots,
 }
 
@@ -154,8 +157,8 @@ pub fn fit(sizes: &[(u32, u32)], areas: &Areas, locals: usize, budget: u32) -> F
     crowded.sort_unstable();
     assert!((locals..of.len()).filter(|&i| cells[of[i]].members > 1).map(|i| (i - locals) as u32).eq(crowded), "the model's crowded slots are not slots.rs's");
     assert_eq!(plan.saved(), of.len() - cells.len());
-    let counts = [cells.len() as u64, probes, cells.iter().map(|c| u64::from(c.size)).sum()];
-    Fit { cells: cells.iter().flat_map(|c| [c.size, c.align]).collect(), of, counts, slots: plan }
+    let laid = laid(&cells.iter().map(|c| (c.size, c.align)).collect::<Vec<_>>());
+    Fit { cells: cells.iter().flat_map(|c| [c.size, c.align]).collect(), of, counts: [cells.len() as u64, probes], laid, slots: plan }
 }
 
 /// The plan, and slots.rs's, which has its own areas: cells are the same, since clashing is by points.
@@ -163,7 +166,7 @@ pub fn planned(job: &Job, areas: &Areas) -> (Plan, Slots) {
     let fit = fit(&sizes(job), areas, job.count(LOCALS), job.budget);
     let [ranges, parts] = rows(areas);
     let items = fit.of.iter().zip(parts.chunks(3)).flat_map(|(&cell, part)| [cell as u32, part[0], part[1], part[2]]).collect();
-    (Plan { cells: fit.cells, items, areas: ranges, counts: fit.counts }, fit.slots)
+    (Plan { cells: fit.cells, items, areas: ranges, counts: fit.counts, laid: fit.laid }, fit.slots)
 }
 
 pub fn plan(job: &Job, areas: &Areas) -> Plan {

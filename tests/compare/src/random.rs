@@ -3,15 +3,8 @@ use crate::carry::Code;
 use crate::cases::Random;
 use crate::job::*;
 use crate::refusals::BUDGET;
+use crate::sizes::Sizes;
 use crate::spills::moves;
-
-fn size(r: &mut Random) -> u32 {
-    match r.below(12) {
-        0 => r.below(100),
-        1 => r.number(),
-        _ => 1 << r.below(5),
-    }
-}
 
 fn budget(r: &mut Random) -> u32 {
     match r.below(6) {
@@ -45,7 +38,8 @@ pub fn random(r: &mut Random, most: u32) -> Job {
     let count = code.blocks.len() as u32 / 3;
     let most_edges = if code.calm { count } else { 2 * count };
     let edges: Vec<u32> = (0..r.below(most_edges + 1)).flat_map(|_| [r.below(count), r.below(count)]).collect();
-    let slots: Vec<u32> = (0..r.below(4)).map(|_| size(r)).collect();
+    let sizes = Sizes::of(r);
+    let slots: Vec<u32> = (0..r.below(4)).map(|_| sizes.align(r)).collect();
     let (low, high) = (code.blocks[1], code.blocks[code.blocks.len() - 1]);
     let mut pieces: Vec<u32> = (0..r.below(10)).flat_map(|_| {
         let (_, start, end) = r.spot(&code.blocks);
@@ -61,7 +55,7 @@ pub fn random(r: &mut Random, most: u32) -> Job {
         pieces.clear();
         assigned.clear();
     }
-    let locals: Vec<u32> = (0..code.locals).flat_map(|_| [size(r), size(r)]).collect();
+    let locals: Vec<u32> = (0..code.locals).flat_map(|_| [sizes.size(r), sizes.align(r)]).collect();
     let groups = [code.blocks, edges, code.insts, code.operands, code.crossings, locals, slots, code.addresses, code.ends, pieces, assigned, moves];
     let job = Job { points: code.points, v: code.v, budget: budget(r), groups };
     let top = u32::MAX - job.points;
@@ -114,10 +108,11 @@ fn damage(r: &mut Random, job: &mut Job, lent: &mut Lent) {
         }
         16 => job.v = if r.one_in(2) { border(r, job) % 70_000 } else { job.v.saturating_sub(1 + r.below(3)) },
         17 => job.budget = if r.one_in(2) { BUDGET + 1 + r.below(3) } else { r.number() },
-        18 => match r.below(4) {
+        18 => match r.below(5) {
             0 => lent.cells = lent.cells.saturating_sub(1 + r.below(3) as usize),
             1 => lent.items = lent.items.saturating_sub(1 + r.below(5) as usize),
             2 => lent.counts = r.below(3) as usize,
+            3 => lent.offsets = lent.offsets.saturating_sub(1 + r.below(3) as usize),
             _ => lent.areas = lent.areas.saturating_sub(1 + r.below(3) as usize),
         },
         _ => lent.work = lent.work.saturating_sub(1 + if r.one_in(2) { 0 } else { r.below(40) as usize }),
@@ -148,7 +143,7 @@ pub fn damaged(r: &mut Random, mut job: Job, mut lent: Lent) -> (Job, Lent) {
 /// Any lengths of the lists, the work space as large as it must be.
 pub fn any_lent(r: &mut Random, job: &Job) -> Lent {
     let items = job.items();
-    let mut lent = Lent { cells: 2 * items + 2, items: 4 * items, areas: 2 * r.below(40) as usize, counts: 3, work: 0 };
+    let mut lent = Lent { cells: 2 * items + 2, items: 4 * items, areas: 2 * r.below(40) as usize, offsets: items + r.below(3) as usize, counts: 3, work: 0 };
     lent.work = space(job, lent.areas);
     lent
 }

@@ -1,4 +1,4 @@
-//! The refusals of a job's records, as document 01's table has them: a number and the index of the first offending record. slots.rs has none.
+//! The refusals of a job's records and lists, as document 01's table has them: a number and the index of the first offending record. slots.rs has none.
 use crate::job::*;
 
 /// The most records of each group.
@@ -94,9 +94,10 @@ pub fn space(short: &[bool]) -> Option<(u32, u32)> {
     short.contains(&true).then_some((7, 0))
 }
 
-/// Numbers 1 to 7 of a whole job, lowest first.
+/// Numbers 1 to 7 of a whole job, lowest first. A list of offsets has no rows, so none is cut; it is asked to have one for each item.
 pub fn refusal(job: &Job, lent: &Lent) -> Option<(u32, u32)> {
     let cut = lent.cells % 2 != 0 || lent.items % 4 != 0 || area_list(lent.areas);
     let items = job.items();
-    records(job, cut).or_else(|| space(&[lent.work < crate::job::space(job, lent.areas), lent.cells / 2 < items, lent.items / 4 < items, lent.counts < 3]))
+    let short = [lent.work < crate::job::space(job, lent.areas), lent.cells / 2 < items, lent.items / 4 < items, lent.offsets < items, lent.counts < 3];
+    records(job, cut).or_else(|| space(&short))
 }

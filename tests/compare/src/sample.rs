@@ -2,29 +2,32 @@
 use crate::cases::{list, Case};
 use crate::entry::Lists;
 use crate::job::{Job, Lent, LOCALS, MOVES, SLOTS};
-use crate::shows::Shown;
+use crate::shows::{Shown, THINGS};
 use crate::whole::{damaged, expected, random};
 use std::fs;
 
 /// What the program has room for, the bytes of text that it reads, and the longest line that is taken: of a job with at most 64 locals, and of one with more.
-const ROOM: Lent = Lent { cells: 160, items: 320, areas: 128, counts: 3, work: 4096 };
+const ROOM: Lent = Lent { cells: 160, items: 320, areas: 128, offsets: 80, counts: 3, work: 4096 };
 const TEXT: usize = 98_304;
 const LONGEST: [usize; 2] = [340, 760];
 /// How many plans are taken that show each thing, and that show none; and how many jobs with each refusal.
-const SHOWING: [usize; 6] = [50, 24, 24, 16, 24, 24];
+const SHOWING: [usize; THINGS] = [48, 22, 22, 14, 22, 22, 22];
 const PLAIN: usize = 12;
-const REFUSED: usize = 18;
+const REFUSED: usize = 14;
+/// What no whole job is refused with: 8 is retired, 10 is fitting alone's, 11 the text's.
+const OTHERS: [usize; 3] = [8, 10, 11];
 
 /// Points, V, budget and the lengths of the lists and the work space; then the groups.
 fn line(name: &str, job: &Job, lent: &Lent) -> String {
-    let head = vec![job.points, job.v, job.budget, lent.cells as u32, lent.items as u32, lent.areas as u32, lent.work as u32];
+    let head = vec![job.points, job.v, job.budget, lent.cells as u32, lent.items as u32, lent.areas as u32, lent.offsets as u32, lent.work as u32];
     let columns: Vec<Vec<u32>> = std::iter::once(head).chain(job.groups.clone()).collect();
     Case::write(name, &columns)
 }
 
 /// The refusal's number or 0, what a plan shows, what the program counts of it, and its line.
 fn answer(name: &str, job: &Job, lent: &Lent) -> (usize, Shown, [bool; 6], String) {
-    let before = Lists { cells: vec![7; lent.cells], items: vec![7; lent.items], areas: vec![7; lent.areas], counts: vec![7; 3], work: vec![7; lent.work] };
+    let (cells, items, areas, offsets) = (vec![7; lent.cells], vec![7; lent.items], vec![7; lent.areas], vec![7; lent.offsets]);
+    let before = Lists { cells, items, areas, offsets, counts: vec![7; 3], work: vec![7; lent.work] };
     let expected = expected(job, lent, &before, None);
     let (number, l) = ((expected.answer >> 32) as usize, expected.lists);
     let told = match number {
@@ -34,7 +37,9 @@ fn answer(name: &str, job: &Job, lent: &Lent) -> (usize, Shown, [bool; 6], Strin
     let zeros = l.work.iter().take_while(|&&word| word == 0).count();
     let kept = l.work.iter().filter(|&&word| word == 7).count();
     let counted = if number == 0 { counted(job, expected.shown, l.counts[1]) } else { Default::default() };
-    (number, expected.shown, counted, format!("{name} {told}: {kept} |{} |{} |{} | {zeros}\n", list(&l.cells, 0), list(&l.items, 0), list(&l.areas, 0)))
+    let offsets: String = l.offsets.iter().map(|n| format!(" {n}")).collect();
+    let lists = format!("{} |{} |{} |{offsets}", list(&l.cells, 0), list(&l.items, 0), list(&l.areas, 0));
+    (number, expected.shown, counted, format!("{name} {told}: {kept} |{lists} | {zeros}\n"))
 }
 
 /// What the program counts of a plan with so many probes: the plan, a shared cell, the budget spent, an ending local, over 64 locals, a move that names a slot.
@@ -46,8 +51,8 @@ fn counted(job: &Job, shown: Shown, probes: u64) -> [bool; 6] {
 /// How many are still wanted of what a job shows: of a plan that shows nothing, of each thing, of each refusal.
 struct Left {
     plain: usize,
-    showing: [usize; 6],
-    refused: [usize; 10],
+    showing: [usize; THINGS],
+    refused: [usize; 14],
 }
 
 impl Left {
@@ -65,14 +70,14 @@ impl Left {
     }
 
     fn done(&self) -> bool {
-        self.plain == 0 && self.showing == [0; 6] && self.refused == [0; 10]
+        self.plain == 0 && self.showing == [0; THINGS] && self.refused == [0; 14]
     }
 }
 
 fn sample() -> (String, String) {
     let (mut jobs, mut answers, mut counts) = (String::new(), String::new(), [0; 6]);
-    // number 8 is retired
-    let mut left = Left { plain: PLAIN, showing: SHOWING, refused: std::array::from_fn(|number| if number == 0 || number == 8 { 0 } else { REFUSED }) };
+    let refused = std::array::from_fn(|number| if number == 0 || OTHERS.contains(&number) { 0 } else { REFUSED });
+    let mut left = Left { plain: PLAIN, showing: SHOWING, refused };
     for seed in 1.. {
         for (kind, (job, lent)) in [("random", random(seed)), ("damaged", damaged(seed))] {
             // the program's entry has no list of counts
@@ -80,7 +85,8 @@ fn sample() -> (String, String) {
             let name = format!("{kind}_{seed}");
             let own = line(&name, &job, &lent);
             let longest = LONGEST[usize::from(job.count(LOCALS) > 64)];
-            if own.len() > longest || lent.cells > ROOM.cells || lent.items > ROOM.items || lent.areas > ROOM.areas || lent.work > ROOM.work {
+            let over = lent.cells > ROOM.cells || lent.items > ROOM.items || lent.areas > ROOM.areas || lent.offsets > ROOM.offsets || lent.work > ROOM.work;
+            if own.len() > longest || over {
                 continue;
             }
             let (number, shown, counted, said) = answer(&name, &job, &lent);

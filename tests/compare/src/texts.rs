@@ -1,6 +1,7 @@
 //! Texts through the planning program and the entry of the static library: of random and damaged jobs, with damaged bytes, and of any bytes.
-use crate::calls::{about, code};
+use crate::calls::{about, code, refused};
 use crate::cases::Random;
+use crate::depths;
 use crate::grammar::{printed, write};
 use crate::job::*;
 use crate::refusals::BUDGET;
@@ -12,12 +13,11 @@ extern "C" {
     fn slots_print_text(text: *const u8, text_len: usize, out: *mut u8, out_len: usize) -> u64;
 }
 
-/// The program's text by the entry of the static library: the number that it is refused with, or 7 where the list is shorter than the text.
-pub fn print_text(r: &mut Random) -> usize {
-    let text = text(r);
-    let (expected, number) = printed(&text);
-    let before: Vec<u8> = (0..about(r, expected.len())).map(|_| r.below(256) as u8).collect();
-    let (mut out, mut left) = (before.clone(), before);
+/// The program's text by the entry of the static library, in a list made for its length: the number that it is refused with, or 7 where the list is shorter than the text.
+pub fn entry(text: &[u8], list: impl FnOnce(usize) -> Vec<u8>) -> usize {
+    let (expected, number) = printed(text);
+    let mut out = list(expected.len());
+    let mut left = out.clone();
     let fits = expected.len() <= left.len();
     if fits {
         left[..expected.len()].copy_from_slice(expected.as_bytes());
@@ -25,9 +25,13 @@ pub fn print_text(r: &mut Random) -> usize {
     let wanted = if fits { expected.len() as u64 } else { code(7, 0) };
     // SAFETY: each pointer is a slice's, with that slice's length.
     let given = unsafe { slots_print_text(text.as_ptr(), text.len(), out.as_mut_ptr(), out.len()) };
-    let (said, written) = (String::from_utf8_lossy(&text), String::from_utf8_lossy(&out));
+    let (said, written) = (String::from_utf8_lossy(text), String::from_utf8_lossy(&out));
     assert!((given, &out) == (wanted, &left), "the entry answers {given:x}, expected {wanted:x}, and writes\n{written}expected\n{expected}on\n{said}");
     if fits { number } else { 7 }
+}
+
+pub fn print_text(r: &mut Random) -> usize {
+    entry(&text(r), |length| (0..about(r, length)).map(|_| r.below(256) as u8).collect())
 }
 
 fn run(text: &[u8]) -> Vec<u8> {
@@ -75,8 +79,8 @@ fn damage(r: &mut Random, text: &mut Vec<u8>) {
         9 | 10 => {
             // a number by another one
             let end = (at..text.len()).find(|&k| !text[k].is_ascii_digit()).unwrap_or(text.len());
-            let numbers: [&[u8]; 9] = [b"4294967295", b"4294967296", b"00", b"-", b"64", b"65", b"256", b"257", b"99999999999999999999999"];
-            text.splice(at..end, numbers[r.below(9) as usize].iter().copied());
+            let numbers: [&[u8]; 11] = [b"4294967295", b"4294967296", b"2147483647", b"2147483648", b"00", b"-", b"64", b"65", b"256", b"257", b"99999999999999999999999"];
+            text.splice(at..end, numbers[r.below(11) as usize].iter().copied());
         }
         11 => {
             // a line as long as one may be, or longer
@@ -135,15 +139,26 @@ fn text(r: &mut Random) -> Vec<u8> {
     text
 }
 
+/// Holds what the program prints; the refusal's number, or 0.
+fn hold(text: &[u8], what: &str) -> usize {
+    let (expected, number) = printed(text);
+    let said = run(text);
+    assert!(said == expected.as_bytes(), "{what}: the program prints\n{}expected\n{expected}on\n{}", String::from_utf8_lossy(&said), String::from_utf8_lossy(text));
+    number
+}
+
 pub fn compare(count: u64, seed: u64) {
-    let mut tally = [0; 12];
-    for own in seed..seed + count {
-        let text = text(&mut Random::seeded(own));
-        let (expected, number) = printed(&text);
-        let said = run(&text);
-        assert!(said == expected.as_bytes(), "seed {own}: the program prints\n{}expected\n{expected}on\n{}", String::from_utf8_lossy(&said), String::from_utf8_lossy(&text));
+    let mut tally = [0; 14];
+    let deep = depths::texts();
+    for (job, wanted) in &deep {
+        let number = hold(write(job).as_bytes(), "cells at the limits of the layout");
+        assert_eq!(number, *wanted, "on {job:?}");
         tally[number] += 1;
     }
-    let refused: Vec<String> = (1..12).filter(|&n| tally[n] > 0).map(|n| format!("{n}: {}", tally[n])).collect();
-    println!("texts, seeds {seed} to {}: {count}, no difference; {} plans, refusals {}", seed + count - 1, tally[0], refused.join(", "));
+    println!("texts of cells at the limits of the layout: {}, no difference; {} plans, refusals {}", deep.len(), tally[0], refused(&tally));
+    let mut tally = [0; 14];
+    for own in seed..seed + count {
+        tally[hold(&text(&mut Random::seeded(own)), &format!("seed {own}"))] += 1;
+    }
+    println!("texts, seeds {seed} to {}: {count}, no difference; {} plans, refusals {}", seed + count - 1, tally[0], refused(&tally));
 }

@@ -1,11 +1,11 @@
 //! Whole jobs through the entry of the static library, held to slots.rs and the models: the answer, each list and the work space, to the word.
-use crate::calls::code;
+use crate::calls::{code, refused};
 use crate::cases::Random;
 use crate::entry::{share, Lists};
 use crate::job::*;
 use crate::plans::{areas, plan, ranges, Areas};
 use crate::refusals::refusal;
-use crate::shows::{shown, Shown, SHOWN};
+use crate::shows::{shown, Shown, SHOWN, THINGS};
 
 /// What a job must be answered, what the lists and the work space must hold afterwards, and what its plan shows.
 pub struct Expected {
@@ -14,16 +14,22 @@ pub struct Expected {
     pub shown: Shown,
 }
 
+impl Expected {
+    fn refused((number, index): (u32, u32), lists: Lists) -> Self {
+        Self { answer: code(number, index), lists, shown: Shown::default() }
+    }
+}
+
 pub fn put<T: Copy>(list: &mut [T], answer: &[T]) {
     let room = list.len().min(answer.len());
     list[..room].copy_from_slice(&answer[..room]);
 }
 
-/// The lists are as they were but where a plan is written, and where the work space is cleared: after a plan, and after 9.
+/// The lists are as they were but where a plan is written, and where the work space is cleared: after a plan, and after 9, 12 and 13.
 pub fn expected(job: &Job, lent: &Lent, before: &Lists, known: Option<&Areas>) -> Expected {
     let mut lists = before.clone();
-    if let Some((number, index)) = refusal(job, lent) {
-        return Expected { answer: code(number, index), lists, shown: Shown::default() };
+    if let Some(verdict) = refusal(job, lent) {
+        return Expected::refused(verdict, lists);
     }
     lists.work[..space(job, lent.areas)].fill(0);
     let made;
@@ -35,15 +41,21 @@ pub fn expected(job: &Job, lent: &Lent, before: &Lists, known: Option<&Areas>) -
         }
     };
     if ranges(wanted) > lent.areas / 2 {
-        return Expected { answer: code(9, 0), lists, shown: Shown::default() };
+        return Expected::refused((9, 0), lists);
     }
     let plan = plan(job, wanted);
+    let layout = match &plan.laid {
+        Ok(layout) => layout,
+        Err(verdict) => return Expected::refused(*verdict, lists),
+    };
     assert!(plan.cells.len() <= lists.cells.len() && plan.items.len() <= lists.items.len() && plan.areas.len() <= lists.areas.len());
+    assert!(layout.offsets.len() == plan.cells.len() / 2 && layout.offsets.len() <= lists.offsets.len());
     put(&mut lists.cells, &plan.cells);
     put(&mut lists.items, &plan.items);
     put(&mut lists.areas, &plan.areas);
-    put(&mut lists.counts, &plan.counts);
-    Expected { answer: 0, lists, shown: shown(job, wanted, &plan) }
+    put(&mut lists.offsets, &layout.offsets);
+    put(&mut lists.counts, &[plan.counts[0], plan.counts[1], layout.depth]);
+    Expected { answer: 0, lists, shown: shown(job, wanted, &plan, layout) }
 }
 
 /// A random job of a seed, with lists that it is planned in but for one in ten.
@@ -67,13 +79,14 @@ pub fn damaged(seed: u64) -> (Job, Lent) {
 pub fn any_lists(r: &mut Random, lent: &Lent) -> Lists {
     let mut short = |n: usize| -> Vec<u32> { (0..n).map(|_| r.number()).collect() };
     let (cells, items, areas) = (short(lent.cells), short(lent.items), short(lent.areas));
+    let offsets = short(lent.offsets).into_iter().map(|n| n as i32).collect();
     let mut long = |n: usize| -> Vec<u64> { (0..n).map(|_| r.word()).collect() };
-    Lists { cells, items, areas, counts: long(lent.counts), work: long(lent.work) }
+    Lists { cells, items, areas, offsets, counts: long(lent.counts), work: long(lent.work) }
 }
 
 /// How many jobs were answered with a plan and how many with each refusal; how many plans show each thing.
 #[derive(Default)]
-pub struct Tally(pub [usize; 10], pub [usize; 6]);
+pub struct Tally(pub [usize; 14], pub [usize; THINGS]);
 
 impl Tally {
     pub fn all(&self) -> usize {
@@ -90,14 +103,14 @@ impl Tally {
     }
 
     pub fn say(&self, what: &str) {
-        let refused: Vec<String> = (1..10).filter(|&n| self.0[n] > 0).map(|n| format!("{n}: {}", self.0[n])).collect();
-        println!("{what}: {} jobs, no difference; {} plans, refusals {}", self.all(), self.0[0], if refused.is_empty() { "none".to_string() } else { refused.join(", ") });
+        println!("{what}: {} jobs, no difference; {} plans, refusals {}", self.all(), self.0[0], refused(&self.0));
         println!("  of the plans {}", self.told());
     }
 
-    /// Of a run of some hundred plans each thing must be shown by some.
+    /// Of a run of some hundred plans each thing must be shown by some, and the layout must have refused some jobs with each of its numbers.
     pub fn must_show(&self) {
         assert!(self.0[0] < 500 || self.1.iter().all(|&count| count > 0), "of {} plans {}: such a run shows too little", self.0[0], self.told());
+        assert!(self.0[0] < 500 || (self.0[12] > 0 && self.0[13] > 0), "refusals {}: such a run lays out too little", refused(&self.0));
     }
 }
 
@@ -116,6 +129,9 @@ fn held(job: &Job, lent: &Lent, seed: u64, known: Option<&Areas>) -> Result<(usi
         if left != wanted {
             return Err(format!("{} is answered, and {name} left as {left:?}, expected {wanted:?}", told(answer)));
         }
+    }
+    if lists.offsets != e.offsets {
+        return Err(format!("{} is answered, and offsets left as {:?}, expected {:?}", told(answer), lists.offsets, e.offsets));
     }
     for (name, left, wanted) in [("counts", &lists.counts, &e.counts), ("work space", &lists.work, &e.work)] {
         if let Some(at) = (0..left.len()).find(|&at| left[at] != wanted[at]) {

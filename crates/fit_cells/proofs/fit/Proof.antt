@@ -1,5 +1,5 @@
 -- `fit` meets its contract: the items are ordered, then placed.
-use Rattle.fit_cells.proofs.RunLaws.{in-order, zeros, fitted, cells-few}
+use Rattle.fit_cells.proofs.RunLaws.{in-order, zeros, fitted}
 use native.Mathlib.Omega.{arith}
 use Rattle.fit_cells.proofs.fit.Statement.{statement}
 use Rattle.fit_cells.proofs.fit.Tie as tie
@@ -32,33 +32,19 @@ place-requires c κs =
     let the-fill = c .before .before .before .fill in
     (in-order (s .pre .0) (s .pre .1) (s .pre .2) (s .pre .3) (the-order .ensures) (the-fill .ensures), zeros (s .pre .0) (s .pre .1) (s .pre .2) (s .pre .3) (the-order .ensures) (the-fill .ensures))
 
-mul-depth : tie.Need-mul-depth
-mul-depth c = omega arith
-
-add-depth : tie.Need-add-depth
-add-depth c = omega arith
-
-depth-requires : tie.Need-depth-requires
-depth-requires c κs =
-    let s = c .before .before .before .before .before .before .before .before .before .before .before .before .before .before .before .before .before .before .before .before .before in
-    let the-order = c .before .before .before .before .before .before .before .before .before .before .before .before .before .before .before .order in
-    let the-fill = c .before .before .before .before .before .before .before .before .before .fill in
-    let the-place = c .before .before .before .before .before .place in
-    omega (arith, s .pre .0 .few, s .pre .0 .room, cells-few (s .pre .0) (s .pre .1) (s .pre .2) (s .pre .3) (the-order .ensures) (the-fill .ensures) (the-place .ensures))
-
-sub-t18 : tie.Need-sub-t18
-sub-t18 c = omega arith
+sub-t15 : tie.Need-sub-t15
+sub-t15 c = omega arith
 
 same-length : tie.Need-same-length
 same-length c = omega arith
 
 returns : tie.Need-returns
 returns c =
-    let s = c .before .before .before .before .before .before .before .before .before .before .before .before .before .before .before .before .before .before .before .before .before .before .before in
-    let the-order = c .before .before .before .before .before .before .before .before .before .before .before .before .before .before .before .before .before .order in
-    let the-fill = c .before .before .before .before .before .before .before .before .before .before .before .fill in
-    let the-place = c .before .before .before .before .before .before .before .place in
-    fitted (s .pre .0) (s .pre .1) (s .pre .2) (s .pre .3) (the-order .ensures) (the-fill .ensures) _ (the-place .ensures) (c .before .depth .ensures)
+    let c7 = c .before .before .before .before .before .before .before in
+    let c13 = c7 .before .before .before .before .before .before in
+    let c19 = c13 .before .before .before .before .before .before in
+    let s = c19 in
+    fitted (s .pre .0) (s .pre .1) (s .pre .2) (s .pre .3) (c13 .order .ensures) (c7 .fill .ensures) (c .before .before .before .place .ensures)
 
 pub fit-spec : {M : Type 1} → statement M
 fit-spec =
@@ -72,9 +58,6 @@ fit-spec =
     add-fill
     fill-requires
     place-requires
-    mul-depth
-    add-depth
-    depth-requires
-    sub-t18
+    sub-t15
     same-length
     returns)

@@ -22,10 +22,10 @@ rows s = let a = s .args in rowsAt (a .head .points) (a .head .v) (a .blocks) (a
     (a .slots) (a .addresses) (a .ends) (a .pieces) (a .assigned) (a .moves)
 
 abbrev lent : tie.Start → Verdict
-lent s = let a = s .args in lentVerdict (rows s) (a .head .terms) (length (now (a .cells))) (length (now (a .items))) (length (now (a .areas))) (length (now (a .work)))
+lent s = let a = s .args in lentVerdict (rows s) (a .head .terms) (length (now (a .cells))) (length (now (a .items))) (length (now (a .areas))) (length (now (a .offsets))) (length (now (a .work)))
 
-known : (s : tie.Start) → lent s ≡ Fine → let a = s .args in Granted (rows s) (length (now (a .cells))) (length (now (a .items))) (length (now (a .areas))) (now (a .work))
-known s = let a = s .args in granted (rows s) (a .head .terms) (length (now (a .cells))) (length (now (a .items))) (length (now (a .areas))) (now (a .work))
+known : (s : tie.Start) → lent s ≡ Fine → let a = s .args in Granted (rows s) (length (now (a .cells))) (length (now (a .items))) (length (now (a .areas))) (length (now (a .offsets))) (now (a .work))
+known s = let a = s .args in granted (rows s) (a .head .terms) (length (now (a .cells))) (length (now (a .items))) (length (now (a .areas))) (length (now (a .offsets))) (now (a .work))
 
 refusal-requires : tie.Need-refusal-requires
 refusal-requires c κs = search needs
@@ -37,7 +37,7 @@ returns : tie.Need-returns
 returns c =
     let s = (c .before .before .before .before .before .before .before .before .before .before .before .before .before .before .before .before .before .before .before .before) in
     let a = s .args in
-    refused-entry (rows s) (a .head .terms) (now (a .cells)) (now (a .items)) (now (a .areas)) (now (a .work)) _ _ (sym ((c .before .before .before .refusal) .ensures) ∙ (c .before .verdict) .given .1)
+    refused-entry (rows s) (a .head .terms) (now (a .cells)) (now (a .items)) (now (a .areas)) (now (a .offsets)) (now (a .work)) _ _ (sym ((c .before .before .before .refusal) .ensures) ∙ (c .before .verdict) .given .1)
 
 enum-told : tie.Need-enum-told
 enum-told c = search needs
@@ -58,16 +58,29 @@ solve-requires c κs =
 
 answer-requires : tie.Need-answer-requires
 answer-requires c κs =
-    let s = (c .before .before .before .before .before .before .before .before .before .before .before .before .before .before .before .before .before .before .before .before .before .before .before .before .before .before .before .before .before) in
+    let c7 = c .before .before .before .before .before .before .before in
+    let c9 = c7 .before .before in
+    let c10 = c9 .before in
+    let c11 = c10 .before in
+    let c13 = c11 .before .before in
+    let c30 = c13 .before .before .before .before .before .before .before .before .before .before .before .before .before .before .before .before .before in
+    let s = (c30) in
     let a = s .args in
-    asked (rows s) (a .head .terms) (now (a .cells)) (now (a .items)) (now (a .areas)) (now (a .work)) (known s (sym ((c .before .before .before .before .before .before .before .before .before .before .before .before .refusal) .ensures) ∙ (c .before .before .before .before .before .before .before .before .before .before .enum-told) .given .1))
-    ((c .before .before .before .before .before .before .solve) .ensures) ((c .before .before .before .before .before .before .before .before .needed) .ensures ∙ ap spaceOf ((c .before .before .before .before .before .before .before .before .before .sizes) .ensures (s .args .head .points)))
+    asked (rows s) (a .head .terms) (now (a .cells)) (now (a .items)) (now (a .areas)) (now (a .offsets)) (now (a .work)) (known s (sym ((c13 .refusal) .ensures) ∙ (c11 .enum-told) .given .1))
+    ((c7 .solve) .ensures) ((c9 .needed) .ensures ∙ ap spaceOf ((c10 .sizes) .ensures (s .args .head .points)))
 
 clear-requires : tie.Need-clear-requires
 clear-requires c κs =
-    let s = (c .before .before .before .before .before .before .before .before .before .before .before .before .before .before .before .before .before .before .before .before .before .before .before .before .before .before .before .before .before .before .before .before .before .before .before .before .before .before .before) in
-    let g = known s (sym ((c .before .before .before .before .before .before .before .before .before .before .before .before .before .before .before .before .before .before .before .before .before .before .refusal) .ensures) ∙ (c .before .before .before .before .before .before .before .before .before .before .before .before .before .before .before .before .before .before .before .before .enum-told) .given .1) in
-    omega (arith, g .lent .space, (c .before .before .before .before .before .before .before .before .before .before .before .before .before .before .before .before .before .before .needed) .ensures ∙ ap spaceOf ((c .before .before .before .before .before .before .before .before .before .before .before .before .before .before .before .before .before .before .before .sizes) .ensures (s .args .head .points)), (c .before .before .before .before .before .before .before .before .before .before .before .before .before .before .before .before .solve) .ensures .kept .len, (c .before .before .before .before .before .before .before .before .before .answer) .ensures .0 .len)
+    let c10 = c .before .before .before .before .before .before .before .before .before .before in
+    let c18 = c10 .before .before .before .before .before .before .before .before in
+    let c20 = c18 .before .before in
+    let c21 = c20 .before in
+    let c22 = c21 .before in
+    let c24 = c22 .before .before in
+    let c41 = c24 .before .before .before .before .before .before .before .before .before .before .before .before .before .before .before .before .before in
+    let s = (c41) in
+    let g = known s (sym ((c24 .refusal) .ensures) ∙ (c22 .enum-told) .given .1) in
+    omega (arith, g .lent .space, (c20 .needed) .ensures ∙ ap spaceOf ((c21 .sizes) .ensures (s .args .head .points)), (c18 .solve) .ensures .kept .len, (c10 .answer) .ensures .0 .len)
 
 same-length : tie.Need-same-length
 same-length c = search needs
@@ -81,12 +94,22 @@ same-length-3 c = search needs
 same-length-4 : tie.Need-same-length-4
 same-length-4 c = search needs
 
+same-length-5 : tie.Need-same-length-5
+same-length-5 c = search needs
+
 returns-2 : tie.Need-returns-2
 returns-2 c =
-    let s = (c .before .before .before .before .before .before .before .before .before .before .before .before .before .before .before .before .before .before .before .before .before .before .before .before .before .before .before .before .before .before .before .before .before .before .before .before .before .before .before .before .before .before) in
+    let c13 = c .before .before .before .before .before .before .before .before .before .before .before .before .before in
+    let c21 = c13 .before .before .before .before .before .before .before .before in
+    let c23 = c21 .before .before in
+    let c24 = c23 .before in
+    let c25 = c24 .before in
+    let c27 = c25 .before .before in
+    let c44 = c27 .before .before .before .before .before .before .before .before .before .before .before .before .before .before .before .before .before in
+    let s = (c44) in
     let a = s .args in
-    answered-entry (rows s) (a .head .terms) (now (a .cells)) (now (a .items)) (now (a .areas)) (now (a .work)) (sym ((c .before .before .before .before .before .before .before .before .before .before .before .before .before .before .before .before .before .before .before .before .before .before .before .before .before .refusal) .ensures) ∙ (c .before .before .before .before .before .before .before .before .before .before .before .before .before .before .before .before .before .before .before .before .before .before .before .enum-told) .given .1)
-    ((c .before .before .before .before .before .before .before .before .before .before .before .before .before .before .before .before .before .before .before .solve) .ensures) ((c .before .before .before .before .before .before .before .before .before .before .before .before .before .before .before .before .before .before .before .before .before .needed) .ensures ∙ ap spaceOf ((c .before .before .before .before .before .before .before .before .before .before .before .before .before .before .before .before .before .before .before .before .before .before .sizes) .ensures (s .args .head .points))) ((c .before .before .before .before .before .before .before .before .before .before .before .before .answer) .ensures .0) ((c .before .before .before .before .before .before .before .before .before .before .before .before .answer) .ensures .1) ((c .before .before .clear) .ensures)
+    answered-entry (rows s) (a .head .terms) (now (a .cells)) (now (a .items)) (now (a .areas)) (now (a .offsets)) (now (a .work)) (sym ((c27 .refusal) .ensures) ∙ (c25 .enum-told) .given .1)
+    ((c21 .solve) .ensures) ((c23 .needed) .ensures ∙ ap spaceOf ((c24 .sizes) .ensures (s .args .head .points))) ((c13 .answer) .ensures .0) ((c13 .answer) .ensures .1) ((c .before .before .clear) .ensures)
 
 pub share-spec : {M : Type 1} → statement M
 share-spec =
@@ -105,4 +128,5 @@ share-spec =
     same-length-2
     same-length-3
     same-length-4
+    same-length-5
     returns-2)

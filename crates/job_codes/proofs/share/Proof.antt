@@ -20,7 +20,7 @@ returns : tie.Need-returns
 returns c =
     let s = (c .before .before .before .before .before .before .before .before .before .before .before .before .before .before .before .before .before .before .before) in
     let a = s .args in
-    job-short (rows s) (a .head .terms) (now (a .cells)) (now (a .items)) (now (a .areas)) (now (a .counts)) (now (a .work)) (omega arith) ((c .short) .ensures)
+    job-short (rows s) (a .head .terms) (now (a .cells)) (now (a .items)) (now (a .areas)) (now (a .offsets)) (now (a .counts)) (now (a .work)) (omega arith) ((c .short) .ensures)
 
 share-requires : tie.Need-share-requires
 share-requires c κs = search needs
@@ -43,11 +43,17 @@ same-length-4 c = search needs
 same-length-5 : tie.Need-same-length-5
 same-length-5 c = search needs
 
+same-length-6 : tie.Need-same-length-6
+same-length-6 c = search needs
+
 returns-2 : tie.Need-returns-2
 returns-2 c =
-    let s = (c .before .before .before .before .before .before .before .before .before .before .before .before .before .before .before .before .before .before .before .before .before .before .before .before .before .before .before .before .before .before .before .before .before .before .before) in
+    let c12 = c .before .before .before .before .before .before .before .before .before .before .before .before in
+    let c19 = c12 .before .before .before .before .before .before .before in
+    let c37 = c19 .before .before .before .before .before .before .before .before .before .before .before .before .before .before .before .before .before .before in
+    let s = (c37) in
     let a = s .args in
-    job-coded (rows s) (a .head .terms) (now (a .cells)) (now (a .items)) (now (a .areas)) (now (a .counts)) (now (a .work)) (omega (arith, (c .before .before .before .before .before .before .before .before .before .before .before .before .before .before .before .before .before .if1) .left)) ((c .before .before .before .before .before .before .before .before .before .before .before .share) .ensures) ((c .before .before .job) .ensures)
+    job-coded (rows s) (a .head .terms) (now (a .cells)) (now (a .items)) (now (a .areas)) (now (a .offsets)) (now (a .counts)) (now (a .work)) (omega (arith, (c19 .if1) .left)) ((c12 .share) .ensures) ((c .before .before .job) .ensures)
 
 pub share-spec : {M : Type 1} → statement M
 share-spec =
@@ -62,4 +68,5 @@ share-spec =
     same-length-3
     same-length-4
     same-length-5
+    same-length-6
     returns-2)

@@ -25,7 +25,7 @@ returns : tie.Need-returns
 returns c =
     let s = (c .before .before .before .before .before .before .before .before .before .before .before .before .before .before .before .before .before) in
     let a = s .args in
-    short-lent (rows s) (a .head .terms) (a .cells) (a .items) (a .areas) (a .work) _ _ (sym ((c .before .before .before .before .refusal) .ensures) ∙ (c .before .before .lent) .given .1) ((c .refused) .ensures)
+    short-lent (rows s) (a .head .terms) (a .cells) (a .items) (a .areas) (a .offsets) (a .work) _ _ (sym ((c .before .before .before .before .refusal) .ensures) ∙ (c .before .before .lent) .given .1) ((c .refused) .ensures)
 
 enum-told : tie.Need-enum-told
 enum-told c = search needs
@@ -37,7 +37,7 @@ returns-2 : tie.Need-returns-2
 returns-2 c =
     let s = (c .before .before .before .before .before .before .before .before .before .before .before .before .before .before .before .before) in
     let a = s .args in
-    short-space (rows s) (a .head .terms) (a .cells) (a .items) (a .areas) (a .work) (sym ((c .before .before .before .refusal) .ensures) ∙ (c .before .enum-told) .given .1) ((c .refused2) .ensures)
+    short-space (rows s) (a .head .terms) (a .cells) (a .items) (a .areas) (a .offsets) (a .work) (sym ((c .before .before .before .refusal) .ensures) ∙ (c .before .enum-told) .given .1) ((c .refused2) .ensures)
 
 pub short-spec : {M : Type 1} → statement M
 short-spec =

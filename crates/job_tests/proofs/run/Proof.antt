@@ -23,11 +23,17 @@ shared-slice-read-a c = here 5 ((c .before .before .before .before .pre) .0) (li
 cast-a : tie.Need-cast-a
 cast-a c = widens ((c .before .before .before .shared-slice-known) .given 5)
 
+shared-slice-read-o : tie.Need-shared-slice-read-o
+shared-slice-read-o c = here 6 ((c .before .before .before .before .before .pre) .0) (lit≤ tt)
+
+cast-o : tie.Need-cast-o
+cast-o c = widens ((c .before .before .before .before .shared-slice-known) .given 6)
+
 shared-slice-read-w : tie.Need-shared-slice-read-w
-shared-slice-read-w c = here 6 ((c .before .before .before .before .before .pre) .0) (lit≤ tt)
+shared-slice-read-w c = here 7 ((c .before .before .before .before .before .before .pre) .0) (lit≤ tt)
 
 cast-w : tie.Need-cast-w
-cast-w c = widens ((c .before .before .before .before .shared-slice-known) .given 6)
+cast-w c = widens ((c .before .before .before .before .before .shared-slice-known) .given 7)
 
 returns : tie.Need-returns
 returns c = tt
@@ -40,6 +46,9 @@ returns-3 c = tt
 
 returns-4 : tie.Need-returns-4
 returns-4 c = tt
+
+returns-5 : tie.Need-returns-5
+returns-5 c = tt
 
 sub-plan : tie.Need-sub-plan
 sub-plan c = omega arith
@@ -71,6 +80,15 @@ part-areas-end c = omega arith
 sub-plan-4 : tie.Need-sub-plan-4
 sub-plan-4 c = omega arith
 
+part-offsets-start : tie.Need-part-offsets-start
+part-offsets-start c = omega arith
+
+part-offsets-end : tie.Need-part-offsets-end
+part-offsets-end c = omega arith
+
+sub-plan-5 : tie.Need-sub-plan-5
+sub-plan-5 c = omega arith
+
 part-work-start : tie.Need-part-work-start
 part-work-start c = omega arith
 
@@ -78,10 +96,10 @@ part-work-end : tie.Need-part-work-end
 part-work-end c = omega arith
 
 plan-requires : tie.Need-plan-requires
-plan-requires c κs = (c .before .before .before .before .before .before .before .before .before .before .before .before .before .pre)
+plan-requires c κs = c .before .before .before .before .before .before .before .before .before .before .before .before .before .before .before .before .pre
 
-returns-5 : tie.Need-returns-5
-returns-5 c = tt
+returns-6 : tie.Need-returns-6
+returns-6 c = tt
 
 pub run-spec : {M : Type 1} → statement M
 run-spec =
@@ -93,12 +111,15 @@ run-spec =
     cast-i
     shared-slice-read-a
     cast-a
+    shared-slice-read-o
+    cast-o
     shared-slice-read-w
     cast-w
     returns
     returns-2
     returns-3
     returns-4
+    returns-5
     sub-plan
     part-cells-start
     part-cells-end
@@ -109,7 +130,10 @@ run-spec =
     part-areas-start
     part-areas-end
     sub-plan-4
+    part-offsets-start
+    part-offsets-end
+    sub-plan-5
     part-work-start
     part-work-end
     plan-requires
-    returns-5)
+    returns-6)

@@ -33,20 +33,21 @@ slice-aggregate-planned-3 c = search needs
 slice-aggregate-planned-4 : tie.Need-slice-aggregate-planned-4
 slice-aggregate-planned-4 c = search needs
 
+slice-aggregate-planned-5 : tie.Need-slice-aggregate-planned-5
+slice-aggregate-planned-5 c = search needs
+
 planned-requires : tie.Need-planned-requires
-planned-requires c κs = ((c .before .before .before .before .before .before .before .before .before .pre))
+planned-requires c κs = c .before .before .before .before .before .before .before .before .before .before .pre
 
 enum-known-r : tie.Need-enum-known-r
 enum-known-r c = search needs
 
 cast-open : tie.Need-cast-open
 cast-open c =
-    let s1 = c .before in
-    let s2 = s1 .before .before .before .before .before .before in
-    let s3 = s2 .before .before .before .before .before .before .before .before .before .before in
-    let a = s3 .args in
-    let p = s3 .pre in
-    let k = cells-in (now ((a) .rows)) (now ((a) .counts)) ((p) .0) ((p) .2) _ _ _ _ _ _ _ _ _ (((s2 .planned)) .ensures) refl refl refl refl _ _ _ (((s1 .r)) .given .1) in
+    let t = c .before .before .before .before .before .before .before .before .before .before .before .before .before .before .before .before .before .before .before in
+    let a = t .args in
+    let p = t .pre in
+    let k = cells-in (now (a .rows)) (now (a .counts)) (p .0) (p .2) _ _ _ _ _ _ _ _ _ _ _ (c .before .before .before .before .before .before .before .before .planned .ensures) refl refl refl refl refl _ _ _ (c .before .r .given .1) in
     omega arith
 
 cast-open-2 : tie.Need-cast-open-2
@@ -78,12 +79,13 @@ shared-slice-read-show c = search needs
 
 cast-show : tie.Need-cast-show
 cast-show c =
-    let s1 = c .before .before .before .before .before .before .before in
-    let s2 = s1 .before .before .before .before .before .before in
-    let s3 = s2 .before .before .before .before .before .before .before .before .before .before in
-    let a = s3 .args in
-    let p = s3 .pre in
-    let k = cells-in (now ((a) .rows)) (now ((a) .counts)) ((p) .0) ((p) .2) _ _ _ _ _ _ _ _ _ (((s2 .planned)) .ensures) refl refl refl refl _ _ _ (((s1 .r)) .given .1) in
+    let c7 = c .before .before .before .before .before .before .before in
+    let c14 = c7 .before .before .before .before .before .before .before in
+    let c25 = c14 .before .before .before .before .before .before .before .before .before .before .before in
+    let t = c25 in
+    let a = t .args in
+    let p = t .pre in
+    let k = cells-in (now (a .rows)) (now (a .counts)) (p .0) (p .2) _ _ _ _ _ _ _ _ _ _ _ (c14 .planned .ensures) refl refl refl refl refl _ _ _ (c7 .r .given .1) in
     omega arith
 
 cast-show-2 : tie.Need-cast-show-2
@@ -91,16 +93,15 @@ cast-show-2 c = search needs
 
 show-requires : tie.Need-show-requires
 show-requires c κs =
-    let s1 = c .before .before .before .before .before .before .before in
-    let s2 = s1 .before .before .before .before .before .before in
-    let planned = s2 .planned in
-    let s3 = s2 .before .before .before .before .before .before .before .before .before .before in
-    let a = s3 .args in
-    let p = s3 .pre in (
-      let k = cells-in (now ((a) .rows)) (now ((a) .counts)) ((p) .0) ((p) .2) _ _ _ _ _ _ _ _ _ ((planned) .ensures) refl refl refl refl _ _ _ (((s1 .r)) .given .1) in let l =
-          (planned) .kept .1 .1 .0 in omega arith,
-      search needs,
-    )
+    let c7 = c .before .before .before .before .before .before .before in
+    let c14 = c7 .before .before .before .before .before .before .before in
+    let c25 = c14 .before .before .before .before .before .before .before .before .before .before .before in
+    let t = c25 in
+    let a = t .args in
+    let p = t .pre in
+    let k = cells-in (now (a .rows)) (now (a .counts)) (p .0) (p .2) _ _ _ _ _ _ _ _ _ _ _ (c14 .planned .ensures) refl refl refl refl refl _ _ _ (c7 .r .given .1) in
+    let l = c14 .planned .kept .1 .1 .0 in
+    (omega arith, search needs)
 
 enum-known-r-2 : tie.Need-enum-known-r-2
 enum-known-r-2 c = search needs
@@ -126,6 +127,7 @@ plan-spec =
     slice-aggregate-planned-2
     slice-aggregate-planned-3
     slice-aggregate-planned-4
+    slice-aggregate-planned-5
     planned-requires
     enum-known-r
     cast-open

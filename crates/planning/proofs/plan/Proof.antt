@@ -28,10 +28,12 @@ slice-aggregate-planned-3 c = search needs
 slice-aggregate-planned-4 : tie.Need-slice-aggregate-planned-4
 slice-aggregate-planned-4 c = search needs
 
+slice-aggregate-planned-5 : tie.Need-slice-aggregate-planned-5
+slice-aggregate-planned-5 c = search needs
+
 planned-requires : tie.Need-planned-requires
 planned-requires c κs =
-    let s1 = c .before .before .before .before .before .before .before .before .before in
-    let p = s1 .pre in
+    let p = c .before .before .before .before .before .before .before .before .before .before .pre in
     (p .0, p .1, p .2)
 
 enum-known-r : tie.Need-enum-known-r
@@ -39,12 +41,10 @@ enum-known-r c = search needs
 
 mul-print-plan : tie.Need-mul-print-plan
 mul-print-plan c =
-    let s1 = c .before in
-    let s2 = s1 .before .before .before .before .before .before in
-    let s3 = s2 .before .before .before .before .before .before .before .before .before .before in
-    let a = s3 .args in
-    let p = s3 .pre in
-    let k = cells-in (now (a .rows)) (now (a .counts)) (p .0) (p .2) _ _ _ _ _ _ _ _ _ ((s2 .planned) .ensures) refl refl refl refl _ _ _ ((s1 .r) .given .1) in
+    let t = c .before .before .before .before .before .before .before .before .before .before .before .before .before .before .before .before .before .before .before in
+    let a = t .args in
+    let p = t .pre in
+    let k = cells-in (now (a .rows)) (now (a .counts)) (p .0) (p .2) _ _ _ _ _ _ _ _ _ _ _ (c .before .before .before .before .before .before .before .before .planned .ensures) refl refl refl refl refl _ _ _ (c .before .r .given .1) in
     omega arith
 
 sub-print-plan : tie.Need-sub-print-plan
@@ -55,21 +55,19 @@ part-print-plan-start c = search needs
 
 part-print-plan-end : tie.Need-part-print-plan-end
 part-print-plan-end c =
-    let s1 = c .before .before in
-    let s2 = s1 .before .before .before .before .before .before in
-    let planned = s2 .planned in
-    let s3 = s2 .before .before .before .before .before .before .before .before .before .before in
-    let a = s3 .args in
-    let p = s3 .pre in
-    let k = cells-in (now (a .rows)) (now (a .counts)) (p .0) (p .2) _ _ _ _ _ _ _ _ _ (planned .ensures) refl refl refl refl _ _ _ ((s1 .r) .given .1) in
+    let planned = c .before .before .before .before .before .before .before .before .before .planned in
+    let t = c .before .before .before .before .before .before .before .before .before .before .before .before .before .before .before .before .before .before .before .before in
+    let a = t .args in
+    let p = t .pre in
+    let k = cells-in (now (a .rows)) (now (a .counts)) (p .0) (p .2) _ _ _ _ _ _ _ _ _ _ _ (planned .ensures) refl refl refl refl refl _ _ _ (c .before .before .r .given .1) in
     let l = planned .kept .1 .1 .0 in
     omega arith
 
 mul-print-plan-2 : tie.Need-mul-print-plan-2
 mul-print-plan-2 c =
-    let s1 = c .before .before .before .before .before .before .before .before .before .before .before .before .before .before in
-    let s2 = s1 .before in
-    omega (arith, (s2 .held) .ensures .1, (s1 .held2) .ensures .1)
+    let c16 = c .before .before .before .before .before .before .before .before .before .before .before .before .before .before .before .before in
+    let c17 = c16 .before in
+    omega (arith, c17 .held .ensures .1, c16 .held2 .ensures .1)
 
 sub-print-plan-2 : tie.Need-sub-print-plan-2
 sub-print-plan-2 c = search needs
@@ -79,20 +77,17 @@ part-print-plan-start-2 c = search needs
 
 part-print-plan-end-2 : tie.Need-part-print-plan-end-2
 part-print-plan-end-2 c =
-    let s1 = c .before .before .before .before .before .before .before .before .before .before in
-    let s2 = s1 .before .before .before .before .before in
-    let s3 = s2 .before in
-    let l = (s1 .planned) .kept .1 .1 .1 .0 in
-    omega (arith, (s3 .held) .ensures .1, (s2 .held2) .ensures .1)
+    let c11 = c .before .before .before .before .before .before .before .before .before .before .before in
+    let c17 = c11 .before .before .before .before .before .before in
+    let c18 = c17 .before in
+    let l = c11 .planned .kept .1 .1 .1 .0 in
+    omega (arith, c18 .held .ensures .1, c17 .held2 .ensures .1)
 
 slice-aggregate-print-plan : tie.Need-slice-aggregate-print-plan
 slice-aggregate-print-plan c = search needs
 
 shared-slice-read-print-plan : tie.Need-shared-slice-read-print-plan
-shared-slice-read-print-plan c =
-    let s1 = c .before .before .before .before .before .before .before .before .before .before .before .before .before .before .before .before .before .before .before .before .before .before .before in
-    let p = s1 .pre in
-    omega (arith, p .1)
+shared-slice-read-print-plan c = omega (arith, c .before .before .before .before .before .before .before .before .before .before .before .before .before .before .before .before .before .before .before .before .before .before .before .before .before .pre .1)
 
 print-plan-requires : tie.Need-print-plan-requires
 print-plan-requires c κs = search needs
@@ -108,38 +103,33 @@ same-length c = search needs
 
 returns : tie.Need-returns
 returns c =
-    let s1 = c .before .before in
-    let s2 = s1 .before .before .before .before .before .before .before .before .before in
-    let r = s2 .r in
-    let s3 = s2 .before .before .before .before .before .before in
-    let planned = s3 .planned in
-    let s4 = s3 .before .before .before .before .before in
-    let held2 = s4 .held2 in
-    let s5 = s4 .before in
-    let held = s5 .held in
-    let s6 = s5 .before .before .before .before in
-    let a = s6 .args in
-    let p = s6 .pre in
+    let r = c .before .before .before .before .before .before .before .before .before .before .before .r in
+    let planned = c .before .before .before .before .before .before .before .before .before .before .before .before .before .before .before .before .before .before .planned in
+    let held2 = c .before .before .before .before .before .before .before .before .before .before .before .before .before .before .before .before .before .before .before .before .before .before .before .before .held2 in
+    let held = c .before .before .before .before .before .before .before .before .before .before .before .before .before .before .before .before .before .before .before .before .before .before .before .before .before .held in
+    let t = c .before .before .before .before .before .before .before .before .before .before .before .before .before .before .before .before .before .before .before .before .before .before .before .before .before .before .before .before .before in
+    let a = t .args in
+    let p = t .pre in
     printed-as
-    (plan-printed (now (a .rows)) (now (a .counts)) (p .0) (p .2) _ _ _ _ _ _ _ _ _ (planned .ensures) refl refl refl refl _ _ _ (r .given .1) _
+    (plan-printed (now (a .rows)) (now (a .counts)) (p .0) (p .2) _ _ _ _ _ _ _ _ _ _ _ (planned .ensures) refl refl refl refl refl _ _ _ (r .given .1) _
     (sum-is (held .ensures .0) (held2 .ensures .0)) (planned .kept .1 .1 .1 .1 .0))
     (plan-told _ _ _ _ _ _
-    (print-ready (now (a .rows)) (now (a .counts)) (p .0) (p .2) _ _ _ _ _ _ _ _ _ (planned .ensures) refl refl refl refl _ _ _ (r .given .1) _
-    (sum-is (held .ensures .0) (held2 .ensures .0)) (planned .kept .1 .1 .1 .1 .0)) ((s1 .print-plan) .ensures))
+    (print-ready (now (a .rows)) (now (a .counts)) (p .0) (p .2) _ _ _ _ _ _ _ _ _ _ _ (planned .ensures) refl refl refl refl refl _ _ _ (r .given .1) _
+    (sum-is (held .ensures .0) (held2 .ensures .0)) (planned .kept .1 .1 .1 .1 .0)) (c .before .before .print-plan .ensures))
 
 same-length-2 : tie.Need-same-length-2
 same-length-2 c = search needs
 
 returns-2 : tie.Need-returns-2
 returns-2 c =
-    let s1 = c .before .before in
-    let s2 = s1 .before .before .before in
-    let s3 = s2 .before .before .before .before .before .before in
-    let s4 = s3 .before .before .before .before .before .before .before .before .before .before in
-    let a = s4 .args in
-    let p = s4 .pre in
-    printed-as (plan-refused (now (a .rows)) (now (a .counts)) (p .0) (p .2) _ _ _ _ _ _ _ _ _ ((s3 .planned) .ensures) refl refl refl refl _ _ ((s2 .r2) .given .1))
-    ((s1 .refuse) .ensures)
+    let c5 = c .before .before .before .before .before in
+    let c12 = c5 .before .before .before .before .before .before .before in
+    let c23 = c12 .before .before .before .before .before .before .before .before .before .before .before in
+    let t = c23 in
+    let a = t .args in
+    let p = t .pre in
+    printed-as (plan-refused (now (a .rows)) (now (a .counts)) (p .0) (p .2) _ _ _ _ _ _ _ _ _ _ _ (c12 .planned .ensures) refl refl refl refl refl _ _ (c5 .r2 .given .1))
+    (c .before .before .refuse .ensures)
 
 pub plan-spec : {M : Type 1} → statement M
 plan-spec =
@@ -152,6 +142,7 @@ plan-spec =
     slice-aggregate-planned-2
     slice-aggregate-planned-3
     slice-aggregate-planned-4
+    slice-aggregate-planned-5
     planned-requires
     enum-known-r
     mul-print-plan

@@ -18,8 +18,11 @@ same-length-3 c = search needs
 same-length-4 : tie.Need-same-length-4
 same-length-4 c = search needs
 
+same-length-5 : tie.Need-same-length-5
+same-length-5 c = search needs
+
 returns : tie.Need-returns
-returns c = (c .before .before .before .before .before .before .before .before .fit-wants) .ensures
+returns c = (c .before .before .before .before .before .before .before .before .before .fit-wants) .ensures
 
 pub slots-fit-wants-spec : {M : Type 1} → statement M
-slots-fit-wants-spec = tie.close (tie.spec fit-wants-requires same-length same-length-2 same-length-3 same-length-4 returns)
+slots-fit-wants-spec = tie.close (tie.spec fit-wants-requires same-length same-length-2 same-length-3 same-length-4 same-length-5 returns)

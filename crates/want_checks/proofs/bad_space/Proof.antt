@@ -17,7 +17,10 @@ returns-2 : tie.Need-returns-2
 returns-2 c = simp (le-ltb _ _ ((c .before .if1) .left), lt-ltb _ _ ((c .if2) .taken))
 
 returns-3 : tie.Need-returns-3
-returns-3 c = simp (le-ltb _ _ ((c .before .if1) .left), le-ltb _ _ ((c .if2) .left))
+returns-3 c = simp (le-ltb _ _ ((c .before .before .if1) .left), le-ltb _ _ ((c .before .if2) .left), lt-ltb _ _ ((c .if3) .taken))
+
+returns-4 : tie.Need-returns-4
+returns-4 c = simp (le-ltb _ _ ((c .before .before .if1) .left), le-ltb _ _ ((c .before .if2) .left), le-ltb _ _ ((c .if3) .left))
 
 pub bad-space-spec : {M : Type 1} → statement M
-bad-space-spec = tie.close (tie.spec add-if1 mul-if1 returns returns-2 returns-3)
+bad-space-spec = tie.close (tie.spec add-if1 mul-if1 returns returns-2 returns-3 returns-4)

@@ -10,7 +10,7 @@ bad-count-requires : tie.Need-bad-count-requires
 bad-count-requires c κs = search needs
 
 returns : tie.Need-returns
-returns c = let a = (c .before .before .before .before .args) in verdict-count (now (a .wants)) (now (a .areas)) (a .locals) (a .budget) (a .cells) (a .items) (a .work) (sym ((c .before .bad-count) .ensures) ∙ (c .if1) .taken)
+returns c = let a = (c .before .before .before .before .args) in verdict-count (now (a .wants)) (now (a .areas)) (a .locals) (a .budget) (a .cells) (a .items) (a .offsets) (a .work) (sym ((c .before .bad-count) .ensures) ∙ (c .if1) .taken)
 
 bad-space-requires : tie.Need-bad-space-requires
 bad-space-requires c κs = let a = (c .before .before .before .before .args) in count-fine (now (a .wants)) (now (a .areas)) (a .locals) (a .budget) (a .cells) (a .items) (sym ((c .before .bad-count) .ensures) ∙ (c .if1) .left)
@@ -18,7 +18,7 @@ bad-space-requires c κs = let a = (c .before .before .before .before .args) in 
 returns-2 : tie.Need-returns-2
 returns-2 c =
     let a = (c .before .before .before .before .before .before .args) in
-    verdict-space (now (a .wants)) (now (a .areas)) (a .locals) (a .budget) (a .cells) (a .items) (a .work)
+    verdict-space (now (a .wants)) (now (a .areas)) (a .locals) (a .budget) (a .cells) (a .items) (a .offsets) (a .work)
     (sym ((c .before .before .before .bad-count) .ensures) ∙ (c .before .before .if1) .left) (sym ((c .before .bad-space) .ensures) ∙ (c .if2) .taken)
 
 bad-wants-requires : tie.Need-bad-wants-requires
@@ -27,7 +27,7 @@ bad-wants-requires c κs = search needs
 returns-3 : tie.Need-returns-3
 returns-3 c =
     let a = (c .before .before .before .before .before .before .before .args) in
-    (c .bad-wants) .ensures ∙ verdict-wants (now (a .wants)) (now (a .areas)) (a .locals) (a .budget) (a .cells) (a .items) (a .work)
+    (c .bad-wants) .ensures ∙ verdict-wants (now (a .wants)) (now (a .areas)) (a .locals) (a .budget) (a .cells) (a .items) (a .offsets) (a .work)
     (sym ((c .before .before .before .before .bad-count) .ensures) ∙ (c .before .before .before .if1) .left) (sym ((c .before .before .bad-space) .ensures) ∙ (c .before .if2) .left)
 
 pub refusal-spec : {M : Type 1} → statement M

@@ -15,16 +15,20 @@ refused-requires c κs = search needs
 
 returns : tie.Need-returns
 returns c =
-    let s = c .before .before .before .before .before .before .before .before .before .before in
-    few-count (now (s .args .wants)) (now (s .args .areas)) (s .args .locals) (s .args .budget) (s .args .cells .now) (s .args .items .now) (s .args .counts .now) (s .args .work .now) (omega arith) (sym (c .before .before .bad-count .ensures) ∙ (c .before .if2) .taken) (c .refused .ensures)
+    let c10 = c .before .before .before .before .before .before .before .before .before .before in
+    let s = c10 in
+    few-count (now (s .args .wants)) (now (s .args .areas)) (s .args .locals) (s .args .budget) (s .args .cells .now) (s .args .items .now) (s .args .offsets .now) (s .args .counts .now) (s .args .work .now) (omega arith)
+    (sym (c .before .before .bad-count .ensures) ∙ (c .before .if2) .taken) (c .refused .ensures)
 
 refused-requires-2 : tie.Need-refused-requires-2
 refused-requires-2 c κs = search needs
 
 returns-2 : tie.Need-returns-2
 returns-2 c =
-    let s = c .before .before .before .before .before .before .before .before .before .before in
-    few-space (now (s .args .wants)) (now (s .args .areas)) (s .args .locals) (s .args .budget) (s .args .cells .now) (s .args .items .now) (s .args .counts .now) (s .args .work .now) (omega arith) (sym (c .before .before .bad-count .ensures) ∙ (c .before .if2) .left) (c .refused2 .ensures)
+    let c10 = c .before .before .before .before .before .before .before .before .before .before in
+    let s = c10 in
+    few-space (now (s .args .wants)) (now (s .args .areas)) (s .args .locals) (s .args .budget) (s .args .cells .now) (s .args .items .now) (s .args .offsets .now) (s .args .counts .now) (s .args .work .now) (omega arith)
+    (sym (c .before .before .bad-count .ensures) ∙ (c .before .if2) .left) (c .refused2 .ensures)
 
 fit-wants-requires : tie.Need-fit-wants-requires
 fit-wants-requires c κs = search needs
@@ -44,11 +48,18 @@ same-length-3 c = search needs
 same-length-4 : tie.Need-same-length-4
 same-length-4 c = search needs
 
+same-length-5 : tie.Need-same-length-5
+same-length-5 c = search needs
+
 returns-3 : tie.Need-returns-3
 returns-3 c =
-    let s = c .before .before .before .before .before .before .before .before .before .before .before .before .before .before .before .before .before .before .before .before .before in
-    let the-fit-wants = c .before .before .before .before .before .before .before .before .before .fit-wants in
-    plan-coded (now (s .args .wants)) (now (s .args .areas)) (s .args .locals) (s .args .budget) (s .args .cells .now) (s .args .items .now) (s .args .counts .now) (s .args .work .now) (omega arith) (the-fit-wants .ensures) (c .before .before .plan .ensures)
+    let c10 = c .before .before .before .before .before .before .before .before .before .before in
+    let c16 = c10 .before .before .before .before .before .before in
+    let c23 = c16 .before .before .before .before .before .before .before in
+    let s = c23 in
+    let the-fit-wants = c10 .fit-wants in
+    plan-coded (now (s .args .wants)) (now (s .args .areas)) (s .args .locals) (s .args .budget) (s .args .cells .now) (s .args .items .now) (s .args .offsets .now) (s .args .counts .now) (s .args .work .now) (c16 .if1 .left) (the-fit-wants .ensures)
+    (c .before .before .plan .ensures)
 
 pub fit-wants-spec : {M : Type 1} → statement M
 fit-wants-spec =
@@ -65,4 +76,5 @@ fit-wants-spec =
     same-length-2
     same-length-3
     same-length-4
+    same-length-5
     returns-3)

@@ -1,7 +1,8 @@
--- `answer` meets its contract: the tables hold the wants, fitting leaves their plan there, and it is written out.
-use Rattle.wants.proofs.LoadLaws.{first-small, lent, wants-are, regions, in-cells, in-tables}
-use Rattle.wants.proofs.EntryLaws.{cell-small, answered}
+-- `answer` meets its contract: the tables hold the wants, fitting leaves their plan there, and it is listed.
+use Rattle.wants.proofs.LoadLaws.{first-small, lent, wants-are}
+use Rattle.wants.proofs.EntryLaws.{listable, made, answered}
 use denote.Ref.{now}
+use lib.ListN.{length}
 use native.Mathlib.Omega.{arith}
 use borrow.Author.Needs.{needs}
 use Rattle.wants.proofs.answer.Statement.{statement}
@@ -10,103 +11,80 @@ use Rattle.wants.proofs.answer.Tie as tie
 load-requires : tie.Need-load-requires
 load-requires c κs =
     let s = c .before .before .before .before .before .before in
-    let a = (s .args) in
+    let a = s .args in
     (omega (arith, s .pre .space), omega arith, omega arith, s .pre .few, first-small (now (a .wants)) (now (a .areas)) (s .pre .short) (s .pre .fine))
 
 add-end : tie.Need-add-end
-add-end c =
-    let s = c .before .before .before .before .before .before .before .before .before in
-    regions _ _ (s .pre .few) (s .pre .short) .all
+add-end c = search needs
 
 mul-end : tie.Need-mul-end
-mul-end c =
-    let s = c .before .before .before .before .before .before .before .before .before in
-    regions _ _ (s .pre .few) (s .pre .short) .end
+mul-end c = search needs
 
 cast-fit : tie.Need-cast-fit
 cast-fit c = search needs
 
 fit-requires : tie.Need-fit-requires
 fit-requires c κs =
-    let s = c .before .before .before .before .before .before .before .before .before .before .before in
-    let the-shared-slice-known = c .before .before .before .before .before .before .before .before .before .before .shared-slice-known in
-    let the-shared-slice-known2 = c .before .before .before .before .before .before .before .before .before .shared-slice-known2 in
-    let the-load = c .before .before .before .before .load in
-    let the-load = the-load in (
-      lent (the-load .ensures) (λ x. the-shared-slice-known2 .given x .fits) (λ x. the-shared-slice-known .given x .fits) (s .pre .few) (s .pre .short) (omega (arith, s .pre .space)) (s .pre .fine),
+    let c4 = c .before .before .before .before in
+    let c9 = c4 .before .before .before .before .before in
+    let c10 = c9 .before in
+    let c11 = c10 .before in
+    let s = c11 in
+    let the-load = c4 .load in (
+      lent (the-load .ensures) (λ x. c9 .shared-slice-known2 .given x .fits) (λ x. c10 .shared-slice-known .given x .fits) (s .pre .few) (s .pre .short) (omega (arith, s .pre .space)) (s .pre .fine),
       omega arith,
       omega (arith, s .pre .space, the-load .ensures .len),
       omega (arith, s .pre .few, s .pre .short),
     )
 
-mul-write-cells : tie.Need-mul-write-cells
-mul-write-cells c =
-    let s = c .before .before .before .before .before .before .before .before .before .before .before .before .before .before .before .before in
-    regions _ _ (s .pre .few) (s .pre .short) .five
-
-add-write-cells : tie.Need-add-write-cells
-add-write-cells c =
-    let s = c .before .before .before .before .before .before .before .before .before .before .before .before .before .before .before .before in
-    regions _ _ (s .pre .few) (s .pre .short) .cells
-
-write-cells-requires : tie.Need-write-cells-requires
-write-cells-requires c κs =
-    let s = c .before .before .before .before .before .before .before .before .before .before .before .before .before .before .before .before in
-    let the-load = c .before .before .before .before .before .before .before .before .before .load in
-    let the-fit = c .before .before .before .before .fit in
-    (in-cells _ _ _ (the-fit .ensures .few) (s .pre .in-cells), in-tables _ _ _ _ _ _ (the-fit .ensures .few) (s .pre .space) (the-load .ensures .len) (the-fit .ensures .len))
-
-mul-write-items : tie.Need-mul-write-items
-mul-write-items c =
-    let s = c .before .before .before .before .before .before .before .before .before .before .before .before .before .before .before .before .before .before .before .before .before in
-    regions _ _ (s .pre .few) (s .pre .short) .six
-
-add-write-items : tie.Need-add-write-items
-add-write-items c =
-    let s = c .before .before .before .before .before .before .before .before .before .before .before .before .before .before .before .before .before .before .before .before .before in
-    regions _ _ (s .pre .few) (s .pre .short) .items
-
-write-items-requires : tie.Need-write-items-requires
-write-items-requires c κs =
-    let s = c .before .before .before .before .before .before .before .before .before .before .before .before .before .before .before .before .before .before .before .before .before in
-    let the-load = c .before .before .before .before .before .before .before .before .before .before .before .before .before .before .load in
-    let the-fit = c .before .before .before .before .before .before .before .before .before .fit in
-    (omega (arith, s .pre .in-items), omega (arith, s .pre .space, the-load .ensures .len, the-fit .ensures .len), omega arith, cell-small (the-fit .ensures) (s .pre .few))
+list-requires : tie.Need-list-requires
+list-requires c κs =
+    let c6 = c .before .before .before .before .before .before in
+    let c11 = c6 .before .before .before .before .before in
+    let c18 = c11 .before .before .before .before .before .before .before in
+    let s = c18 in
+    let a = s .args in
+    listable (now (a .wants)) (now (a .areas)) (length (now (a .cells))) (length (now (a .items))) (length (now (a .offsets))) (now (a .work)) _ _ _ _ (s .pre) (c11 .load .ensures) (c6 .fit .ensures)
 
 clear-requires : tie.Need-clear-requires
 clear-requires c κs =
-    let s = c .before .before .before .before .before .before .before .before .before .before .before .before .before .before .before .before .before .before .before .before .before .before .before .before .before in
-    let the-load = c .before .before .before .before .before .before .before .before .before .before .before .before .before .before .before .before .before .before .load in
-    let the-fit = c .before .before .before .before .before .before .before .before .before .before .before .before .before .fit in
-    omega (arith, s .pre .space, the-load .ensures .len, the-fit .ensures .len)
+    let c13 = c .before .before .before .before .before .before .before .before .before .before .before .before .before in
+    let c18 = c13 .before .before .before .before .before in
+    let c25 = c18 .before .before .before .before .before .before .before in
+    let s = c25 in
+    omega (arith, s .pre .space, c18 .load .ensures .len, c13 .fit .ensures .len)
 
 same-length : tie.Need-same-length
-same-length c =
-    let the-write-cells = c .before .before .before .before .before .before .before .before .before .before .before .write-cells in
-    omega (arith, the-write-cells .kept)
+same-length c = search needs
 
 same-length-2 : tie.Need-same-length-2
-same-length-2 c =
-    let the-write-items = c .before .before .before .before .before .before .write-items in
-    omega (arith, the-write-items .kept)
+same-length-2 c = search needs
 
 same-length-3 : tie.Need-same-length-3
-same-length-3 c =
-    let the-load = c .before .before .before .before .before .before .before .before .before .before .before .before .before .before .before .before .before .before .before .before .before .load in
-    let the-fit = c .before .before .before .before .before .before .before .before .before .before .before .before .before .before .before .before .fit in
-    omega (arith, (c .before .before .clear) .kept, the-load .ensures .len, the-fit .ensures .len)
+same-length-3 c = search needs
+
+same-length-4 : tie.Need-same-length-4
+same-length-4 c =
+    let c16 = c .before .before .before .before .before .before .before .before .before .before .before .before .before .before .before .before in
+    let c21 = c16 .before .before .before .before .before in
+    omega (arith, c .before .before .clear .kept, c21 .load .ensures .len, c16 .fit .ensures .len)
 
 returns : tie.Need-returns
 returns c =
-    let s = c .before .before .before .before .before .before .before .before .before .before .before .before .before .before .before .before .before .before .before .before .before .before .before .before .before .before .before .before in
-    let the-shared-slice-known = c .before .before .before .before .before .before .before .before .before .before .before .before .before .before .before .before .before .before .before .before .before .before .before .before .before .before .before .shared-slice-known in
-    let the-shared-slice-known2 = c .before .before .before .before .before .before .before .before .before .before .before .before .before .before .before .before .before .before .before .before .before .before .before .before .before .before .shared-slice-known2 in
-    let the-load = c .before .before .before .before .before .before .before .before .before .before .before .before .before .before .before .before .before .before .before .before .before .load in
-    let the-fit = c .before .before .before .before .before .before .before .before .before .before .before .before .before .before .before .before .fit in
-    let the-write-cells = c .before .before .before .before .before .before .before .before .before .before .before .write-cells in
-    let the-write-items = c .before .before .before .before .before .before .write-items in
-    answered _ _ _ _ _ _ _ _ _ _ _ _ (the-load .ensures) (wants-are (the-load .ensures)
-    (λ x. the-shared-slice-known2 .given x .fits) (λ x. the-shared-slice-known .given x .fits) (s .pre .few) (s .pre .short) (omega (arith, s .pre .space)) (s .pre .fine)) (the-fit .ensures) (the-write-cells .ensures) (the-write-items .ensures) (c .before .before .clear .ensures)
+    let c9 = c .before .before .before .before .before .before .before .before .before in
+    let c16 = c9 .before .before .before .before .before .before .before in
+    let c21 = c16 .before .before .before .before .before in
+    let c26 = c21 .before .before .before .before .before in
+    let c27 = c26 .before in
+    let c28 = c27 .before in
+    let s = c28 in
+    let a = s .args in
+    let the-load = c21 .load in
+    let the-fit = c16 .fit in
+    answered (now (a .wants)) (now (a .areas)) (length (now (a .cells))) (length (now (a .items))) (length (now (a .offsets))) (now (a .work)) _ _ _ _ (s .pre) (the-load .ensures) (the-fit .ensures)
+    (c9 .list .ensures _ (made (now (a .wants)) (now (a .areas)) (length (now (a .cells))) (length (now (a .items))) (length (now (a .offsets))) (now (a .work)) _ _ _ _ (s .pre) (the-load .ensures) (the-fit .ensures)
+    (wants-are (the-load .ensures) (λ x. c26 .shared-slice-known2 .given x .fits) (λ x. c27 .shared-slice-known .given x .fits) (s .pre .few) (s .pre .short) (omega (arith, s .pre .space)) (s .pre .fine))))
+    (c .before .before .clear .ensures)
 
 pub answer-spec : {M : Type 1} → statement M
 answer-spec =
@@ -117,14 +95,10 @@ answer-spec =
     mul-end
     cast-fit
     fit-requires
-    mul-write-cells
-    add-write-cells
-    write-cells-requires
-    mul-write-items
-    add-write-items
-    write-items-requires
+    list-requires
     clear-requires
     same-length
     same-length-2
     same-length-3
+    same-length-4
     returns)

@@ -25,7 +25,7 @@ bad-shape-requires c κs = search needs
 returns : tie.Need-returns
 returns c =
     let s = (c .before .before .before .before .before .before .before .before .before .before .before .before .before .before) in
-    by-shape (rows s) (s .args .head .terms) (s .args .cells) (s .args .items) (s .args .areas) (s .args .work) (sym ((c .before .bad-shape) .ensures) ∙ (c .if1) .taken)
+    by-shape (rows s) (s .args .head .terms) (s .args .cells) (s .args .items) (s .args .areas) (s .args .offsets) (s .args .work) (sym ((c .before .bad-shape) .ensures) ∙ (c .if1) .taken)
 
 counts-requires : tie.Need-counts-requires
 counts-requires c κs = search needs
@@ -36,7 +36,7 @@ enum-known-count c = search needs
 returns-2 : tie.Need-returns-2
 returns-2 c =
     let s = (c .before .before .before .before .before .before .before .before .before .before .before .before .before .before .before .before .before .before) in
-    by-counts (rows s) (s .args .head .terms) (s .args .cells) (s .args .items) (s .args .areas) (s .args .work) _ _
+    by-counts (rows s) (s .args .head .terms) (s .args .cells) (s .args .items) (s .args .areas) (s .args .offsets) (s .args .work) _ _
     (sym ((c .before .before .before .before .before .bad-shape) .ensures) ∙ (c .before .before .before .before .if1) .left) (sym ((c .before .before .before .counts) .ensures (s .args .head .points)) ∙ (c .before .count) .given .1)
 
 enum-told : tie.Need-enum-told
@@ -54,7 +54,7 @@ enum-known-place c = search needs
 returns-3 : tie.Need-returns-3
 returns-3 c =
     let s = (c .before .before .before .before .before .before .before .before .before .before .before .before .before .before .before .before .before .before .before .before .before) in
-    by-placed (rows s) (s .args .head .terms) (s .args .cells) (s .args .items) (s .args .areas) (s .args .work) _ _
+    by-placed (rows s) (s .args .head .terms) (s .args .cells) (s .args .items) (s .args .areas) (s .args .offsets) (s .args .work) _ _
     (sym ((c .before .before .before .before .before .before .before .before .bad-shape) .ensures) ∙ (c .before .before .before .before .before .before .before .if1) .left) (sym ((c .before .before .before .before .before .before .counts) .ensures (s .args .head .points)) ∙ (c .before .before .before .before .enum-told) .given .1) (sym ((c .before .before .before .placed) .ensures) ∙ (c .before .place) .given .1)
 
 enum-told-2 : tie.Need-enum-told-2
@@ -71,7 +71,7 @@ short-requires c κs =
 returns-4 : tie.Need-returns-4
 returns-4 c =
     let s = (c .before .before .before .before .before .before .before .before .before .before .before .before .before .before .before .before .before .before .before .before .before .before) in
-    by-space (rows s) (s .args .head .terms) (s .args .cells) (s .args .items) (s .args .areas) (s .args .work) _
+    by-space (rows s) (s .args .head .terms) (s .args .cells) (s .args .items) (s .args .areas) (s .args .offsets) (s .args .work) _
     (sym ((c .before .before .before .before .before .before .before .before .before .bad-shape) .ensures) ∙ (c .before .before .before .before .before .before .before .before .if1) .left) (sym ((c .before .before .before .before .before .before .before .counts) .ensures (s .args .head .points)) ∙ (c .before .before .before .before .before .enum-told) .given .1) (sym ((c .before .before .before .before .placed) .ensures) ∙ (c .before .before .enum-told2) .given .1) ((c .before .sizes) .ensures (s .args .head .points)) ((c .short) .ensures)
 
 pub refusal-spec : {M : Type 1} → statement M

@@ -109,28 +109,32 @@ same-length-3 c = search needs
 same-length-4 : tie.Need-same-length-4
 same-length-4 c = search needs
 
+same-length-5 : tie.Need-same-length-5
+same-length-5 c = search needs
+
 returns : tie.Need-returns
 returns c =
-    let s1 = c .before .before .before .before .before .before .before .before in
-    let s2 = s1 .before .before .before .before .before in
-    let s3 = s2 .before in
-    let s4 = s3 .before in
-    let s5 = s4 .before in
-    let s6 = s5 .before in
-    let s7 = s6 .before in
-    let s8 = s7 .before in
-    let s9 = s8 .before in
-    let s10 = s9 .before in
-    let s11 = s10 .before in
-    let s12 = s11 .before in
-    let s13 = s12 .before in
-    let s14 = (c .before .before .before .before .before .before .before .before .before .before .before .before .before .before .before .before .before .before .before .before .before .before .before .before .before .before .before .before .before .before .before .before .before .before) in
-    let a = s14 .args in
-    let p = s14 .pre in
+    let c9 = c .before .before .before .before .before .before .before .before .before in
+    let c15 = c9 .before .before .before .before .before .before in
+    let c16 = c15 .before in
+    let c17 = c16 .before in
+    let c18 = c17 .before in
+    let c19 = c18 .before in
+    let c20 = c19 .before in
+    let c21 = c20 .before in
+    let c22 = c21 .before in
+    let c23 = c22 .before in
+    let c24 = c23 .before in
+    let c25 = c24 .before in
+    let c26 = c25 .before in
+    let c36 = c26 .before .before .before .before .before .before .before .before .before .before in
+    let t = c36 in
+    let a = t .args in
+    let p = t .pre in
     shared-for (numbersAt (now (a .rows)) (now (a .counts))) (head-at (now (a .rows)) (now (a .counts)) (p .2) 0 (lit< tt))
-    (head-at (now (a .rows)) (now (a .counts)) (p .2) 1 (lit< tt)) (head-at (now (a .rows)) (now (a .counts)) (p .2) 2 (lit< tt)) ((s13 .records) .ensures)
-    ((s12 .records2) .ensures) ((s11 .records3) .ensures) ((s10 .records4) .ensures) ((s9 .records5) .ensures) ((s8 .records6) .ensures) ((s7 .records7) .ensures)
-    ((s6 .records8) .ensures) ((s5 .records9) .ensures) ((s4 .records10) .ensures) ((s3 .records11) .ensures) ((s2 .records12) .ensures) ((s1 .share) .ensures)
+    (head-at (now (a .rows)) (now (a .counts)) (p .2) 1 (lit< tt)) (head-at (now (a .rows)) (now (a .counts)) (p .2) 2 (lit< tt)) (c26 .records .ensures)
+    (c25 .records2 .ensures) (c24 .records3 .ensures) (c23 .records4 .ensures) (c22 .records5 .ensures) (c21 .records6 .ensures) (c20 .records7 .ensures)
+    (c19 .records8 .ensures) (c18 .records9 .ensures) (c17 .records10 .ensures) (c16 .records11 .ensures) (c15 .records12 .ensures) (c9 .share .ensures)
 
 pub planned-spec : {M : Type 1} → statement M
 planned-spec =
@@ -156,4 +160,5 @@ planned-spec =
     same-length-2
     same-length-3
     same-length-4
+    same-length-5
     returns)
