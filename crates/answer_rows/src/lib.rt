@@ -1,4 +1,6 @@
 // From the words of the work space into the rows of an answer list.
+#![tactic(auto)]
+
 ghost use Rattle.std.specs.Prelude.{◌≡◌, ◌++◌, ℕ, ◌+◌, ◌*◌, ◌≤◌, ◌<◌, length, get_or, drop};
 ghost use Rattle.answer_rows.specs.Inner.{rows_in, item_of, rows_of};
 ghost use Rattle.words.specs.Widths.{part_width, range_width};
@@ -21,7 +23,7 @@ pub fn write_rows(out: &mut [u32], w: &[u64], from: usize, n: usize, less: u64)
 }
 
 // Whether an item has an area, the first of its ranges and how many they are.
-#[derive(Drop)]
+#[derive(Clone, Copy)]
 pub struct Item {
     pub present: u32,
     pub first: u32,

@@ -1,4 +1,6 @@
 // `apart`: the plan in which nothing is shared, as the rows of a lent plan: cells of size and alignment, items of cell, present, first and count.
+#![tactic(auto)]
+
 ghost use Rattle.std.specs.Prelude.{◌≡◌, ◌+◌, ◌*◌, ◌≤◌, ◌++◌, length, drop};
 ghost use Rattle.words.specs.Widths.{local_count, cell_width, item_width, slot_count};
 ghost use Rattle.apart.specs.Apart.{apart_verdict, apart_of, ApartBy};

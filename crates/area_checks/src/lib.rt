@@ -1,4 +1,6 @@
 // The refusals that come before the areas are measured: numbers 1, 2, 3, 4, 6 and 7, in linear time and without work space.
+#![tactic(auto)]
+
 ghost use Rattle.std.specs.Prelude.{◌≡◌, ◌+◌, ◌*◌, ◌/◌, ◌≤◌, ◌<◌};
 ghost use Rattle.words.specs.Rows.{row_count, field};
 ghost use Rattle.words.specs.Widths.{block_count, touch_width};

@@ -1,4 +1,6 @@
 // The area of an ending local: its touches run to their first ends, and so do the blocks that it arrives at.
+#![tactic(auto)]
+
 ghost use Rattle.std.specs.Prelude.{◌≡◌, List, [], ◌+◌, ◌*◌, ◌/◌, ◌≤◌, ◌<◌, length};
 ghost use Rattle.ranges.specs.Inner.{unpack};
 ghost use Rattle.graph.specs.Paths.{Edge};

@@ -1,4 +1,6 @@
 // The areas of locals whose touches and ends are lent by themselves.
+#![tactic(auto)]
+
 ghost use Rattle.area_entries.specs.Entry.{LocalAreas};
 
 use refusals::{Answer, Verdict};

@@ -215,7 +215,8 @@ module _ (G : Graph) (g : Grid) {w₀ w : List ℕ} (A : AreaRows G.edges g (len
         → block_bit g w l k ≡ (before_row G ts k && after_row G ts k || arrives_row G ts ends k)
     both_blocks lv ps =
         A.blocks l k local h
-        ∙ ap (λ (x : Bool). (reached_row (length G.blocks) G.edges (λ j. row_bit g g.touched w₀ j l) k && reaching_row (length G.blocks) G.edges (λ j. row_bit g g.touched w₀ j l) k) || x) (arriving_same A.between (λ j. row_bit g g.leaves w₀ j l) (leaves G ts ends) (λ j. row_bit g g.passes w₀ j l) (passes G ends) lv ps k)
+        ∙ ap (λ (x : Bool). (reached_row (length G.blocks) G.edges (λ j. row_bit g g.touched w₀ j l) k && reaching_row (length G.blocks) G.edges (λ j. row_bit g g.touched w₀ j l)
+        k) || x) (arriving_same A.between (λ j. row_bit g g.leaves w₀ j l) (leaves G ts ends) (λ j. row_bit g g.passes w₀ j l) (passes G ends) lv ps k)
         ∙ ap (λ (x : Bool). x && reaching_row (length G.blocks) G.edges (λ j. row_bit g g.touched w₀ j l) k || arrives_row G ts ends k) (reached_same A.between (λ j. row_bit g g.touched w₀ j l) (touched G ts) marks k)
         ∙ ap (λ (x : Bool). before_row G ts k && x || arrives_row G ts ends k) (reaching_same A.between (λ j. row_bit g g.touched w₀ j l) (touched G ts) marks k)
 

@@ -1,4 +1,6 @@
 // From the marks of the locals to the rows of their areas: what flows over predecessors and successors, what arrives, and the blocks of each local.
+#![tactic(auto)]
+
 ghost use Rattle.std.specs.Prelude.{◌≡◌, ◌+◌, ◌*◌, ◌/◌, ◌≤◌, length};
 ghost use Rattle.refusals.specs.declared.Verdict.TheVariants.{Fine};
 ghost use Rattle.graph.specs.Line.{blocks_of, jumps_of, edge_verdict, Sound};
@@ -16,7 +18,7 @@ use words::widths::{block, edge};
 
 // Where the rows of n places stand in the work space: edge columns and edge rows from `base` on, Tarjan's arrays from `tarjan` on; rows of `words` words, a bit a local,
 // that are touched, left and passed, what is written and read, what waits and arrives; rows of `width` words, a bit a place, of `locals` locals from `to` on.
-#[derive(Drop)]
+#[derive(Clone, Copy)]
 pub struct Grid {
     pub words: usize,
     pub locals: usize,

@@ -1,4 +1,6 @@
 // Where the regions stand in the work space, one behind another.
+#![tactic(auto)]
+
 ghost use Rattle.std.specs.Prelude.{◌≤◌};
 ghost use Rattle.area_layout.specs.Inner.{Small, Placed, Gridded};
 
@@ -6,7 +8,7 @@ use area_flow::Grid;
 use local_spots::Places;
 
 // How many records of each group are lent, and how many ranges the area list holds.
-#[derive(Drop)]
+#[derive(Clone, Copy)]
 pub struct Sizes {
     pub blocks: usize,
     pub edges: usize,

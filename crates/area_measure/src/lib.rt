@@ -1,4 +1,6 @@
 // The areas of locals whose rows stand in the work space, one behind another in item order, and the table of their items.
+#![tactic(auto)]
+
 ghost use Rattle.std.specs.Prelude.{◌+◌, ◌*◌};
 ghost use Rattle.graph.specs.Line.{blocks_of, Sound};
 ghost use Rattle.area_measure.specs.Inner.Measure.{Measurable, AreaIn, Listable, Measured};
@@ -11,7 +13,7 @@ pub mod locals; // locals.rt: all locals of touches lent by themselves
 
 // Where the areas stand in the work space, with room for `room` ranges, and from `items` on a word a local: the first of its ranges and one more than
 // how many they are, or 0 without an area.
-#[derive(Drop)]
+#[derive(Clone, Copy)]
 pub struct Listing {
     pub areas: usize,
     pub room: usize,

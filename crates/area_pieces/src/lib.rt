@@ -1,4 +1,6 @@
 // From the touches, the ends and the row bits of one local to its area, in the words of one work space.
+#![tactic(auto)]
+
 ghost use Rattle.std.specs.Prelude.{◌≡◌, true, List, [], ◌+◌, ◌-◌, ◌*◌, ◌/◌, ◌≤◌, ◌<◌, ◌^◌, length};
 ghost use Rattle.packed.specs.Inner.{Clear};
 ghost use Rattle.ranges.specs.Points.{range};
@@ -21,7 +23,7 @@ const FULL: u64 = 0xffff_ffff_ffff_ffff;
 // Where the rows of one local stand: its own row over the blocks from `row` on, of `wide` words; rows of `words` words, one a block, from
 // `written` and from `read` on, in which its bit is `local`. And the words that its pieces are made in: from `mark` on a row over the
 // blocks, zero before and after; from `span` on a word a block; from `to` on the pieces, and then the area.
-#[derive(Drop)]
+#[derive(Clone, Copy)]
 pub struct Local {
     pub row: usize,
     pub wide: usize,

@@ -1,1 +1,2 @@
 // The area list as rows, and number 9: definitions and laws.
+#![tactic(auto)]

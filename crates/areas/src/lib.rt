@@ -1,1 +1,2 @@
 // The points that an item is wanted at.
+#![tactic(auto)]

@@ -1,4 +1,6 @@
 // Bits of words, and rows of bits: a row of `n` words at `base` has `n * 64` bits.
+#![tactic(auto)]
+
 ghost use Rattle.std.specs.Prelude.{◌≡◌, true, false, ◌||◌, ◌&&◌, ◌+◌, ◌*◌, ◌/◌, ◌^◌, ◌≤◌, ◌<◌, length};
 ghost use Rattle.bits.specs.Bits.{bit};
 ghost use Rattle.bits.specs.Inner.{PutBit, Row, Grown, Aligned, Lowest, Without, FirstSet};

@@ -1,4 +1,6 @@
 // `cap`: the alignments of a plan's cells lowered to a maximum, in cells as rows of size and alignment.
+#![tactic(auto)]
+
 ghost use Rattle.std.specs.Prelude.{◌≡◌, ◌*◌, ◌≤◌, min, ◌++◌, length, drop};
 ghost use Rattle.fitting.specs.Queries.{cap};
 ghost use Rattle.capping.specs.Cap.{room_by, CappedBy, cap_rows};
@@ -8,7 +10,7 @@ use refusals::{Refusal, Verdict};
 use words::widths::cell;
 
 // A cell of a plan, by value.
-#[derive(Drop)]
+#[derive(Clone, Copy)]
 pub struct Cell {
     pub size: u32,
     pub align: u32,
@@ -27,7 +29,7 @@ pub fn lowered(c: Cell, most: u32) -> Cell
     c
 }
 
-// `cap` of one cell that is lent: its alignment is lowered to a maximum. Proved by a walk of its code.
+// `cap` of one cell that is lent: its alignment is lowered to a maximum.
 pub fn cap_cell(cell: &mut Cell, most: u32)
     ensures { room_by cell.new ≡ cap most (room_by cell.old) }
 {

@@ -1,4 +1,6 @@
 // The entry `carried`: the registers that carry one local's address.
+#![tactic(auto)]
+
 ghost use Rattle.std.specs.Prelude.{◌≡◌, ◌/◌, ◌≤◌, ◌<◌, min, length};
 ghost use Rattle.reach.specs.Prepared.{code_of};
 ghost use Rattle.carry_checks.specs.Inner.{used_of, Checked};
@@ -13,7 +15,7 @@ use refusals::{Refusal, Verdict};
 use words::widths::{inst, local, mention, operand};
 
 // How many registers carry the local's address, that there is no such local, or the refusal.
-#[derive(Drop)]
+#[derive(Clone, Copy)]
 pub enum Carrying {
     Listed(usize),
     Absent,

@@ -1,4 +1,6 @@
 // The answer of `carried` in one number.
+#![tactic(auto)]
+
 ghost use Rattle.std.specs.Prelude.{◌≡◌};
 ghost use Rattle.carried_registers.specs.Carried.{told as carriedOutcome};
 ghost use Rattle.codes.specs.Codes.{option_code};

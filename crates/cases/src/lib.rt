@@ -1,76 +1,99 @@
 // What the test programs share. A case is a line: its name, a blank, and columns of numbers, a comma after each number and a bar after each column.
-ghost use Rattle.std.specs.Prelude.{◌≤◌, ◌<◌, length, ◌≡◌};
+#![tactic(auto)]
+
+ghost use Rattle.std.specs.Prelude.{◌≤◌, ◌<◌, length, ◌≡◌, IfOk};
 ghost use Rattle.cases.specs.Inner.{RisingTo, Rising, Ordered};
 
 use refusals::{Refusal, number};
+use std::io;
+use std::io::{Print, Read, Stdin, Stdout};
 
-pub fn text(s: &[u8]) {
-    io::write_all(1, s);
+// The program's bytes on standard input, as many as fit; how many there are.
+pub fn input(stdin: Stdin, bytes: &mut [u8]) -> io::Result<usize>
+    ensures in_bounds { IfOk result (λ n. n ≤ length bytes.new) }
+    ensures kept { length bytes.new ≡ length bytes.old }
+{
+    let mut from = stdin;
+    let mut len = 0;
+    while len < bytes.len() {
+        let n = from.read(&mut bytes[len..])?;
+        if n == 0 {
+            return Ok(len);
+        }
+        len += n;
+    }
+    Ok(len)
+}
+
+pub fn text(out: Stdout, s: &[u8]) -> io::Result<()> {
+    out.write_all(s)
 }
 
 // A number, with what stands before it.
-pub fn put(before: &[u8], n: u64) {
-    text(before);
-    io::print_decimal(1, n);
+pub fn put(out: Stdout, before: &[u8], n: u64) -> io::Result<()> {
+    text(out, before)?;
+    out.print(n)
 }
 
 // An entry's name with the index of what it is asked about.
-pub fn asked(name: &[u8], i: usize) {
-    text(name);
-    put(b"(", i as u64);
-    text(b")");
+pub fn asked(out: Stdout, name: &[u8], i: usize) -> io::Result<()> {
+    text(out, name)?;
+    put(out, b"(", i as u64)?;
+    text(out, b")")
 }
 
 // What was answered: a count, or a refusal.
-pub fn counted(n: usize) {
-    put(b" ", n as u64);
-    text(b":");
+pub fn counted(out: Stdout, n: usize) -> io::Result<()> {
+    put(out, b" ", n as u64)?;
+    text(out, b":")
 }
 
-pub fn bad(r: Refusal, i: usize) {
-    put(b" refused ", number(r) as u64);
-    put(b" at ", i as u64);
+pub fn bad(out: Stdout, r: Refusal, i: usize) -> io::Result<()> {
+    put(out, b" refused ", number(r) as u64)?;
+    put(out, b" at ", i as u64)
 }
 
-pub fn refused(r: Refusal, i: usize) {
-    bad(r, i);
-    text(b":");
+pub fn refused(out: Stdout, r: Refusal, i: usize) -> io::Result<()> {
+    bad(out, r, i)?;
+    text(out, b":")
 }
 
 // A plan: cells, probes and depth.
-pub fn plan(cells: usize, probes: u64, depth: u64) {
-    put(b" ", cells as u64);
-    put(b" ", probes);
-    put(b" ", depth);
-    text(b":");
+pub fn plan(out: Stdout, cells: usize, probes: u64, depth: u64) -> io::Result<()> {
+    put(out, b" ", cells as u64)?;
+    put(out, b" ", probes)?;
+    put(out, b" ", depth)?;
+    text(out, b":")
 }
 
-pub fn show(list: &[u32]) {
+pub fn show(out: Stdout, list: &[u32]) -> io::Result<()> {
     let mut i = 0;
     while i < list.len() {
-        put(b" ", list[i] as u64);
+        put(out, b" ", list[i] as u64)?;
         i += 1;
     }
+    Ok(())
 }
 
 // Numbers with a sign.
-pub fn show_signed(list: &[i32]) {
+pub fn show_signed(out: Stdout, list: &[i32]) -> io::Result<()> {
     let mut i = 0;
     while i < list.len() {
         let z = list[i] as i64;
         if z < 0 {
-            put(b" -", (-z) as u64);
+            put(out, b" -", (-z) as u64)?;
         } else {
-            put(b" ", z as u64);
+            put(out, b" ", z as u64)?;
         }
         i += 1;
     }
+    Ok(())
 }
 
 // An answer list that others follow.
-pub fn listed(list: &[u32]) {
-    show(list);
-    text(b" |");
+pub fn listed(out: Stdout, list: &[u32]) -> io::Result<()> {
+    show(out, list)?;
+    text(out, b" |")
 }
 
 // How many words stand before the first that is not zero.
@@ -86,20 +109,20 @@ fn zeros(work: &[u64]) -> usize {
 }
 
 // What was left: an answer list, and how many words at the front of the work space are zero.
-pub fn left(answer: &[u32], work: &[u64]) {
-    show(answer);
-    left_words(work);
+pub fn left(out: Stdout, answer: &[u32], work: &[u64]) -> io::Result<()> {
+    show(out, answer)?;
+    left_words(out, work)
 }
 
 // The same of offsets.
-pub fn left_offsets(offsets: &[i32], work: &[u64]) {
-    show_signed(offsets);
-    left_words(work);
+pub fn left_offsets(out: Stdout, offsets: &[i32], work: &[u64]) -> io::Result<()> {
+    show_signed(out, offsets)?;
+    left_words(out, work)
 }
 
-fn left_words(work: &[u64]) {
-    put(b" | ", zeros(work) as u64);
-    text(b"\n");
+fn left_words(out: Stdout, work: &[u64]) -> io::Result<()> {
+    put(out, b" | ", zeros(work) as u64)?;
+    text(out, b"\n")
 }
 
 // Where the next such byte stands, or the end.
@@ -161,7 +184,7 @@ fn read(case: &[u8], numbers: &mut [u32], ends: &mut [usize])
 }
 
 // Where thirteen columns end, and where the next case begins.
-#[derive(Drop)]
+#[derive(Clone, Copy)]
 pub struct Cuts {
     pub c0: usize,
     pub c1: usize,
@@ -201,7 +224,15 @@ fn cut(ends: &[usize], most: usize, next: usize) -> Cuts
     }
 }
 
-// The case of the line that begins there: prints its name, and reads its numbers, of which there is room for 1,024.
+// Prints the name of the case of the line that begins there.
+pub fn name(out: Stdout, text: &[u8], from: usize) -> io::Result<()>
+    requires { from ≤ length text.now }
+{
+    let blank = find(text, from, b' ');
+    out.write_all(&text[from..blank])
+}
+
+// The case of the line that begins there: its numbers, of which there is room for 1,024.
 pub fn case(text: &[u8], from: usize, numbers: &mut [u32]) -> Cuts
     requires { (from ≤ length text.now) × (length numbers.old ≡ 1024) }
     ensures { Ordered result 1024 × (from < result.next) }
@@ -209,7 +240,6 @@ pub fn case(text: &[u8], from: usize, numbers: &mut [u32]) -> Cuts
     let mut ends = [0usize; 13];
     let blank = find(text, from, b' ');
     let end = find(text, blank, b'\n');
-    io::write_all(1, &text[from..blank]);
     read(&text[blank..end], numbers, &mut ends);
     cut(&ends, 1024, end + 1)
 }

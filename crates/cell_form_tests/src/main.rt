@@ -1,18 +1,22 @@
-// Runs `cap_cell` over a lent cell: held to the file `stdout`. `cap` lends its local, and is proved by a walk of its code.
-use capping::Cell;
+// Runs `cap_cell` over a lent cell: held to the file `stdout`. `cap` lends its local.
+#![tactic(auto)]
 
-fn show(c: Cell) {
-    io::write_all(1, b"cap ");
-    io::print_decimal(1, c.size as u64);
-    io::write_all(1, b" ");
-    io::print_decimal(1, c.align as u64);
-    io::write_all(1, b"\n");
+use capping::Cell;
+use std::io;
+use std::io::{Print, Stdout};
+
+fn show(out: Stdout, c: Cell) -> io::Result<()> {
+    out.write_all(b"cap ")?;
+    out.print(c.size as u64)?;
+    out.write_all(b" ")?;
+    out.print(c.align as u64)?;
+    out.write_all(b"\n")
 }
 
-fn cap(c: Cell, most: u32) {
+fn cap(out: Stdout, c: Cell, most: u32) -> io::Result<()> {
     let mut cell = c;
     capping::cap_cell(&mut cell, most);
-    show(cell);
+    show(out, cell)
 }
 
 fn cell(size: u32, align: u32) -> Cell {
@@ -23,9 +27,10 @@ fn cell(size: u32, align: u32) -> Cell {
 }
 
 // Above the maximum, at it, below it, and a maximum of 0.
-fn main() {
-    cap(cell(24, 16), 8);
-    cap(cell(24, 8), 8);
-    cap(cell(24, 4), 8);
-    cap(cell(4294967295, 4294967295), 0);
+fn main(rt: HostRuntime) -> io::Result<()> {
+    let out = rt.stdout();
+    cap(out, cell(24, 16), 8)?;
+    cap(out, cell(24, 8), 8)?;
+    cap(out, cell(24, 4), 8)?;
+    cap(out, cell(4294967295, 4294967295), 0)
 }

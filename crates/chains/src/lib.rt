@@ -1,4 +1,6 @@
 // Rows by a number that each names: the rows of one number as a chain, the last first.
+#![tactic(auto)]
+
 ghost use Rattle.std.specs.Prelude.{◌≡◌, ℕ, ◌+◌, ◌/◌, ◌≤◌, ◌<◌, length, get_or};
 ghost use Rattle.words.specs.Rows.{field};
 ghost use Rattle.chains.specs.Inner.{Linked};

@@ -1,4 +1,6 @@
 // Whether two lists over columns of numbers, that were checked, have a point in common: `range_entries` checks them.
+#![tactic(auto)]
+
 ghost use Rattle.std.specs.Prelude.{◌≡◌, ◌+◌, ◌-◌, ◌≤◌, length, get_or, ltb};
 ghost use Rattle.words.specs.Inner.{Rising, Splits};
 ghost use Rattle.ranges.specs.Points.{Apart};

@@ -1,4 +1,6 @@
 // Answers in one number, for C and Rust: below 2 to the 32 an answer, or a refusal's number times 2 to the 32 plus its index, or that there is none.
+#![tactic(auto)]
+
 ghost use Rattle.std.specs.Prelude.{◌≡◌, ◌∷◌, ◌≤◌, length, drop};
 ghost use Rattle.refusals.specs.Verdicts.{number_of};
 ghost use Rattle.refusals.specs.Outcomes.{answered};

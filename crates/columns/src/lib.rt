@@ -1,4 +1,6 @@
 // The range functions over columns of numbers, of lists that were checked: `range_entries` checks them.
+#![tactic(auto)]
+
 ghost use Rattle.std.specs.Prelude.{◌≡◌, ◌+◌, ◌<◌, ◌≤◌, length, eqb};
 ghost use Rattle.ranges.specs.Points.{range, Apart};
 ghost use Rattle.ranges.specs.Merged.{union, joined};

@@ -1,5 +1,7 @@
 // Numbers to coordinates: where a picture of a plan has its points, cells, names and colours. Coordinates are tenths of a pixel; the axis of points goes from 1,700 to
 // 9,700.
+#![tactic(auto)]
+
 ghost use Rattle.std.specs.Prelude.{◌≡◌, ◌+◌, ◌-◌, ◌<◌, min, max};
 ghost use Rattle.words.specs.Rows.{row_count};
 ghost use Rattle.words.specs.Widths.{item_row_count};
@@ -10,27 +12,27 @@ ghost use Rattle.drawing.specs.Rows.{top_of, row_height, height_of, hue_of};
 use words::widths::{block, item, range};
 
 // The points of the axis: the first, and how many more there are.
-#[derive(Drop)]
+#[derive(Clone, Copy)]
 pub struct Axis {
     pub first: u32,
     pub more: u32,
 }
 
 // A bar along the axis.
-#[derive(Drop)]
+#[derive(Clone, Copy)]
 pub struct Bar {
     pub x: u32,
     pub width: u32,
 }
 
 // A cell's row.
-#[derive(Drop)]
+#[derive(Clone, Copy)]
 pub struct Row {
     pub y: u64,
     pub height: u64,
 }
 
-#[derive(Drop)]
+#[derive(Clone, Copy)]
 struct Ends {
     low: u32,
     high: u32,

@@ -16,7 +16,7 @@ use Rattle.wants.specs.Entry.{tally_of, cell_rows, cell_offsets}
 use Rattle.soundness.specs.Walks.{Step, Legal}
 use Rattle.soundness.specs.Demand.{frame_of, job_plan, AsPrivate}
 use Rattle.job_answers.specs.declared.Shared.TheVariants.{Plan as Planned}
-use Rattle.job_answers.specs.Answers.{answered, answerVerdict}
+use Rattle.job_answers.specs.Answers.{answered, answer_verdict}
 use Rattle.job_space.specs.Space.{space_of, sizes_of}
 use Rattle.job.specs.Entry.{lent_verdict, SharedAs}
 use Rattle.job.specs.Reads.{cell_in, size_in}
@@ -50,7 +50,7 @@ module _ {R : Rows} {t : Terms} {cells items areas counts work cells' items' are
   fine = no_refusal verdict plan (omega (arith, E.answer))
 
   measured : measured_verdict R t (length cells) (length items) (length areas) (length offsets) (length counts) (length work) ≡ Fine
-  measured = first_left _ (answerVerdict (item_count (job_of R)) (item_area (job_of R)) (range_count areas) plan) fine
+  measured = first_left _ (answer_verdict (item_count (job_of R)) (item_area (job_of R)) (range_count areas) plan) fine
 
   -- neither verdict refuses
   same_lent : measured_verdict R t (length cells) (length items) (length areas) (length offsets) (length counts) (length work) ≡ lent
@@ -60,7 +60,7 @@ module _ {R : Rows} {t : Terms} {cells items areas counts work cells' items' are
   pub shared : (c p d : ℕ) → answered (Planned c p d) ≡ tally_of (unless Fine plan)
       → SharedAs R t cells items areas offsets work (Planned c p d) cells' items' areas' offsets' work'
   shared c p d e =
-      let q = ap (λ (x : Verdict). first x (answerVerdict (item_count (job_of R)) (item_area (job_of R)) (range_count areas) plan)) same_lent in
+      let q = ap (λ (x : Verdict). first x (answer_verdict (item_count (job_of R)) (item_area (job_of R)) (range_count areas) plan)) same_lent in
       record {
         lists = record {
           answer = e ∙ ap (λ (x : Verdict). tally_of (unless x plan)) (sym fine ∙ q);

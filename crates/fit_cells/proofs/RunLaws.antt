@@ -3,7 +3,7 @@ use Prim.Native.Nat.{ℕ, ◌+◌, ◌-◌, ◌*◌, ◌^◌, ◌≤◌, ◌<◌
 use native.Mathlib.Omega.{arith}
 use native.Mathlib.Numerals.{add-one}
 use mathlib.Core.Path.{◌≡◌, refl, ap, sym, ◌∙◌, subst}
-use mathlib.Core.Logic.{◌⊎◌, inl, inr, ⊎_elim}
+use mathlib.Core.Logic.{inl, inr, ⊎_elim}
 use mathlib.Core.Option.{some, none, none-ne-some}
 use mathlib.Core.List.{List, [], ◌∷◌, ◌++◌}
 use lib.ListN.{length, get_or, take}
@@ -14,7 +14,8 @@ use Rattle.words.proofs.RowLaws.{length_tabulate, get_d_tabulate, tabulate_eq, t
 use Rattle.fitting.specs.Wants.{Want, want_at, Names, order_of}
 use Rattle.fitting.specs.Plan.{Plan, nothing, put, fit, plan_of}
 use Rattle.fitting.proofs.OrderLaws.{order_names, length_ordered}
-use Rattle.fit_tables.specs.Inner.{size_of, align_of, OrderedIn, want_table, order_table, cell_table, home_table, behind, ranges_at, area_in, want_in, wants_in, Lent, plan_in, Fitted, up_to, order_in, placed_in, order_at, head_at, Probed, entered_in, Holds, InOrder, Ready, Stepped, Placed, Each, Folded}
+use Rattle.fit_tables.specs.Inner.{size_of, align_of, OrderedIn, want_table, order_table, cell_table, home_table, behind, ranges_at, area_in, want_in, wants_in, Lent}
+use Rattle.fit_tables.specs.Inner.{plan_in, Fitted, up_to, order_in, placed_in, order_at, head_at, Probed, entered_in, Holds, InOrder, Ready, Stepped, Placed, Each, Folded}
 use Rattle.sorting.proofs.RankLaws.{mem_at}
 use Rattle.fit_tables.specs.declared.Progress.{Progress}
 use Rattle.fit_tables.proofs.TableLaws.{area_none, area_some, want_at_lem, sized, area_kept, lent_kept, wants_kept}

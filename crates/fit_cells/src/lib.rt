@@ -1,4 +1,6 @@
 // The lowest fitting cell for each item, over tables of one work space: fitting alone and the whole job both call `fit`.
+#![tactic(auto)]
+
 ghost use Rattle.std.specs.Prelude.{◌≡◌, ℕ, ◌+◌, ◌-◌, ◌*◌, ◌/◌, ◌^◌, ◌<◌, ◌≤◌, length, get_or};
 ghost use Rattle.fit_tables.specs.Inner.{home_table, behind, Lent, Fitted, InOrder, Gridded, Placed, Each};
 

@@ -7,7 +7,7 @@ use fit_tables::{
 };
 
 // What an item brings into a cell: the cell, the link to its other lists, its size and alignment with the item, and the item's list.
-#[derive(Drop)]
+#[derive(Clone, Copy)]
 struct Entry {
     cell: usize,
     link: u64,

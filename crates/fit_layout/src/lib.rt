@@ -1,4 +1,6 @@
 // Where the cells of a plan lie in the frame, from their words in the work space: refusals 12 and 13, then the offsets and the depth.
+#![tactic(auto)]
+
 ghost use Rattle.std.specs.Prelude.{◌≡◌, ◌++◌, ℕ, ◌+◌, ◌<◌, ◌≤◌, length, drop};
 ghost use Rattle.refusals.specs.declared.Verdict.TheVariants.{Fine};
 ghost use Rattle.fit_tables.specs.Inner.{size_of, align_of};

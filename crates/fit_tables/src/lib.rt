@@ -1,4 +1,6 @@
 // Tables of one work space that hold wants, cells and their areas while items are fitted: where they stand, what stands in them, and what a step tells of them.
+#![tactic(auto)]
+
 ghost use Rattle.std.specs.Prelude.{◌≡◌, max};
 
 pub mod order; // order.rt: the items in order
@@ -7,7 +9,7 @@ pub mod samples; // samples.rt: sample points that rule cells out
 pub mod want_tables; // want_tables.rt: from the lent rows into the tables, and from there into the answer lists
 
 // Where they stand: the areas' ranges from `at` on, up to `items`; from there on eight tables of `n` words; behind them, up to `end`, the cells' lists.
-#[derive(Drop)]
+#[derive(Clone, Copy)]
 pub struct Tables {
     pub at: usize,
     pub items: usize,
@@ -40,14 +42,14 @@ pub const TABLES: usize = 8;
 pub const HALF: u64 = 0x1_0000_0000;
 
 // A plan's counts: its cells and the probes spent.
-#[derive(Drop)]
+#[derive(Clone, Copy)]
 pub struct Counts {
     pub cells: usize,
     pub probes: u64,
 }
 
 // The cells opened so far, what is left of the budget, and where the stored lists end.
-#[derive(Drop)]
+#[derive(Clone, Copy)]
 pub struct Progress {
     pub cells: usize,
     pub left: u64,
@@ -55,14 +57,14 @@ pub struct Progress {
 }
 
 // A list of ranges: where it begins, and how many there are.
-#[derive(Drop)]
+#[derive(Clone, Copy)]
 pub struct Part {
     pub from: usize,
     pub count: usize,
 }
 
 // A row of sample points: where it stands, its words, and how far two points are apart.
-#[derive(Drop)]
+#[derive(Clone, Copy)]
 pub struct SampleRow {
     pub at: usize,
     pub width: usize,
@@ -70,14 +72,14 @@ pub struct SampleRow {
 }
 
 // A word of the sample points that an item's area has, and which word of its row it is.
-#[derive(Drop)]
+#[derive(Clone, Copy)]
 pub struct Own {
     pub at: usize,
     pub word: u64,
 }
 
 // An item's word of sample points, and where the cells' words for the same points stand: that of cell c at base + c * width.
-#[derive(Drop)]
+#[derive(Clone, Copy)]
 pub struct Sample {
     pub base: usize,
     pub width: usize,

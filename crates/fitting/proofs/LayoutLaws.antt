@@ -4,7 +4,7 @@ use native.Mathlib.Omega.{arith}
 use native.Mathlib.Nat.{div-add-mod', zero-mul}
 use native.Mathlib.Numerals.{add-one}
 use mathlib.Core.Path.{◌≡◌, refl, sym, ap, ◌∙◌}
-use mathlib.Core.Bool.{Bool, true, false, not, cond}
+use mathlib.Core.Bool.{Bool, true, false, cond}
 use mathlib.Core.List.{List, [], ◌∷◌}
 use lib.IntN.{ℤ, pos, negsuc, neg_ℤ, ◌+ℤ◌, ◌*ℤ◌}
 use lib.Signed.{◌≤ℤ◌, ◌<ℤ◌, le_z, <ℤ-≤ℤ_trans, <ℤ_irrefl}
@@ -13,7 +13,7 @@ use lib.Dec.{T, ltb, le→leb}
 use borrow.Author.Tests.{lt-ltb, ltb-false, not-false}
 use Rattle.refusals.specs.declared.Verdict.TheVariants.{Fine}
 use Rattle.refusals.specs.declared.Refusal.TheVariants.{Align, Depth}
-use Rattle.refusals.specs.Verdicts.{in_order, scan}
+use Rattle.refusals.specs.Verdicts.{in_order}
 use Rattle.refusals.specs.Orders.{Giving}
 use Rattle.refusals.proofs.Laws.{first_left, first_right, check_last, scan_fine}
 use Rattle.refusals.proofs.Orders.{scan_gives}

@@ -10,6 +10,8 @@
 // Then two locals and two slots in two cells, where local 1 is alone: its places, shares and crowded slots, and those of a plan
 // without locals. Places refused: a row cut short, more locals than items, an item that names no cell, more cells than items. Shares refused: an area list cut short, a part outside it before an
 // item that names no cell, more cells than items. Crowded slots refused: a row cut short; a list under the slots comes before an item that names no cell; such an item. Then `apart` and `cap`.
+#![tactic(auto)]
+
 ghost use Rattle.std.specs.Prelude.{◌≡◌, length};
 ghost use Rattle.cases.specs.Inner.{Ordered};
 
@@ -17,163 +19,172 @@ use cases::Cuts;
 use fitting::Terms;
 use queries::{Crowd, Place, Saving, Share};
 use refusals::Verdict;
+use std::io;
+use std::io::Stdout;
 use wants::Fitted;
 
-fn fitted(f: Fitted) {
+fn fitted(out: Stdout, f: Fitted) -> io::Result<()> {
     match f {
-        Fitted::Plan(cells, probes, depth) => cases::plan(cells, probes, depth),
-        Fitted::Refused(r, i) => cases::refused(r, i),
+        Fitted::Plan(cells, probes, depth) => cases::plan(out, cells, probes, depth),
+        Fitted::Refused(r, i) => cases::refused(out, r, i),
     }
 }
 
-fn fit(wants: &[u32], areas: &[u32], locals: u32, budget: u32) {
+fn fit(out: Stdout, wants: &[u32], areas: &[u32], locals: u32, budget: u32) -> io::Result<()> {
     let mut cells = [7u32; 8];
     let mut items = [7u32; 16];
     let mut offsets = [7i32; 4];
     let mut work = [7u64; 60];
     let terms = Terms { budget: budget };
-    fitted(wants::fit_wants(
-        wants,
-        areas,
-        locals,
-        terms,
-        &mut cells,
-        &mut items,
-        &mut offsets,
-        &mut work,
-    ));
-    cases::listed(&cells);
-    cases::listed(&items);
-    cases::left_offsets(&offsets, &work);
+    fitted(
+        out,
+        wants::fit_wants(
+            wants,
+            areas,
+            locals,
+            terms,
+            &mut cells,
+            &mut items,
+            &mut offsets,
+            &mut work,
+        ),
+    )?;
+    cases::listed(out, &cells)?;
+    cases::listed(out, &items)?;
+    cases::left_offsets(out, &offsets, &work)
 }
 
-fn number(x: usize) {
-    cases::put(b" ", x as u64);
+fn number(out: Stdout, x: usize) -> io::Result<()> {
+    cases::put(out, b" ", x as u64)
 }
 
-fn none() {
-    cases::text(b" -");
+fn none(out: Stdout) -> io::Result<()> {
+    cases::text(out, b" -")
 }
 
-fn placed(p: Place) {
+fn placed(out: Stdout, p: Place) -> io::Result<()> {
     match p {
-        Place::At(c) => number(c),
-        Place::Absent => none(),
-        Place::Refused(r, i) => cases::bad(r, i),
+        Place::At(c) => number(out, c),
+        Place::Absent => none(out),
+        Place::Refused(r, i) => cases::bad(out, r, i),
     }
 }
 
-fn saved(s: Saving) {
+fn saved(out: Stdout, s: Saving) -> io::Result<()> {
     match s {
-        Saving::Cells(n) => number(n),
-        Saving::Refused(r, i) => cases::bad(r, i),
+        Saving::Cells(n) => number(out, n),
+        Saving::Refused(r, i) => cases::bad(out, r, i),
     }
 }
 
-fn places(cells: &[u32], items: &[u32], locals: u32) {
-    placed(queries::local(cells, items, locals, 0));
-    placed(queries::local(cells, items, locals, 2));
-    cases::text(b" slot");
-    placed(queries::slot(cells, items, locals, 0));
-    placed(queries::slot(cells, items, locals, 2));
-    cases::text(b" saved");
-    saved(queries::saved(cells, items, locals));
+fn places(out: Stdout, cells: &[u32], items: &[u32], locals: u32) -> io::Result<()> {
+    placed(out, queries::local(cells, items, locals, 0))?;
+    placed(out, queries::local(cells, items, locals, 2))?;
+    cases::text(out, b" slot")?;
+    placed(out, queries::slot(cells, items, locals, 0))?;
+    placed(out, queries::slot(cells, items, locals, 2))?;
+    cases::text(out, b" saved")?;
+    saved(out, queries::saved(cells, items, locals))
 }
 
-fn shared(s: Share) {
+fn shared(out: Stdout, s: Share) -> io::Result<()> {
     match s {
         Share::Part(first, n) => {
-            number(first);
-            number(n);
+            number(out, first)?;
+            number(out, n)?;
         }
-        Share::Absent => none(),
-        Share::Refused(r, i) => cases::bad(r, i),
+        Share::Absent => none(out)?,
+        Share::Refused(r, i) => cases::bad(out, r, i)?,
     }
-    cases::text(b";");
+    cases::text(out, b";")
 }
 
-fn shares(cells: &[u32], items: &[u32], areas: &[u32], locals: u32) {
-    shared(queries::shared(cells, items, areas, locals, 0));
-    shared(queries::shared(cells, items, areas, locals, 1));
-    shared(queries::shared(cells, items, areas, locals, 2));
+fn shares(out: Stdout, cells: &[u32], items: &[u32], areas: &[u32], locals: u32) -> io::Result<()> {
+    shared(out, queries::shared(cells, items, areas, locals, 0))?;
+    shared(out, queries::shared(cells, items, areas, locals, 1))?;
+    shared(out, queries::shared(cells, items, areas, locals, 2))
 }
 
-fn crowd(c: Crowd) {
+fn crowd(out: Stdout, c: Crowd) -> io::Result<()> {
     match c {
-        Crowd::Slots(n) => cases::counted(n),
-        Crowd::Refused(r, i) => cases::refused(r, i),
+        Crowd::Slots(n) => cases::counted(out, n),
+        Crowd::Refused(r, i) => cases::refused(out, r, i),
     }
 }
 
-fn crowded(cells: &[u32], items: &[u32], locals: u32) {
-    let mut out = [7u32; 3];
-    crowd(queries::crowded(cells, items, locals, &mut out));
-    cases::show(&out);
+fn crowded(out: Stdout, cells: &[u32], items: &[u32], locals: u32) -> io::Result<()> {
+    let mut slots = [7u32; 3];
+    crowd(out, queries::crowded(cells, items, locals, &mut slots))?;
+    cases::show(out, &slots)
 }
 
-fn verdict(v: Verdict) {
+fn verdict(out: Stdout, v: Verdict) -> io::Result<()> {
     match v {
-        Verdict::Fine => cases::text(b" fine:"),
-        Verdict::Bad(r, i) => cases::refused(r, i),
+        Verdict::Fine => cases::text(out, b" fine:"),
+        Verdict::Bad(r, i) => cases::refused(out, r, i),
     }
 }
 
-fn apart(locals: &[u32], slots: &[u32]) {
+fn apart(out: Stdout, locals: &[u32], slots: &[u32]) -> io::Result<()> {
     let mut cells = [7u32; 6];
     let mut items = [7u32; 12];
-    verdict(apart::apart(locals, slots, &mut cells, &mut items));
-    cases::listed(&cells);
-    cases::show(&items);
+    verdict(out, apart::apart(locals, slots, &mut cells, &mut items))?;
+    cases::listed(out, &cells)?;
+    cases::show(out, &items)
 }
 
-fn cap(count: u32, most: u32) {
+fn cap(out: Stdout, count: u32, most: u32) -> io::Result<()> {
     let mut cells = [4u32, 16, 8, 8, 32, 32];
-    verdict(capping::cap(&mut cells, count, most));
-    cases::show(&cells);
+    verdict(out, capping::cap(&mut cells, count, most))?;
+    cases::show(out, &cells)
 }
 
 // `crowded` and `cap` begin with the same letter: `cap` is lent no list.
-fn crowded_or_cap(a: &[u32], b: &[u32], x: u32, y: u32) {
+fn crowded_or_cap(out: Stdout, a: &[u32], b: &[u32], x: u32, y: u32) -> io::Result<()> {
     if a.len() == 0 {
-        cap(x, y);
+        cap(out, x, y)?;
     } else {
-        crowded(a, b, x);
+        crowded(out, a, b, x)?;
     }
+    Ok(())
 }
 
 // Runs what a case asks, by the first letter of its name.
-fn ask(name: u8, a: &[u32], b: &[u32], c: &[u32], x: u32, y: u32) {
+fn ask(out: Stdout, name: u8, a: &[u32], b: &[u32], c: &[u32], x: u32, y: u32) -> io::Result<()> {
     match name {
         b'f' => {
-            fit(a, b, x, y);
-            return;
+            fit(out, a, b, x, y)?;
+            return Ok(());
         }
-        b'l' => places(a, b, x),
-        b's' => shares(a, b, c, x),
-        b'a' => apart(a, b),
-        _ => crowded_or_cap(a, b, x, y),
+        b'l' => places(out, a, b, x)?,
+        b's' => shares(out, a, b, c, x)?,
+        b'a' => apart(out, a, b)?,
+        _ => crowded_or_cap(out, a, b, x, y)?,
     }
-    cases::text(b"\n");
+    cases::text(out, b"\n")
 }
 
-fn run(name: u8, n: &[u32], e: Cuts)
+fn run(out: Stdout, name: u8, n: &[u32], e: Cuts) -> io::Result<()>
     requires { (length n.now ≡ 1024) × Ordered e 1024 }
 {
     let c0 = e.c0;
     let c1 = e.c1;
     let c2 = e.c2;
     let c3 = e.c3;
-    ask(name, &n[c0..c1], &n[c1..c2], &n[c2..c3], n[0], n[1]);
+    ask(out, name, &n[c0..c1], &n[c1..c2], &n[c2..c3], n[0], n[1])
 }
 
-fn main() {
+fn main(rt: HostRuntime) -> io::Result<()> {
+    let out = rt.stdout();
     let mut text = [0u8; 4096];
     let mut n = [0u32; 1024];
-    let len = io::read_full(0, &mut text);
+    let len = cases::input(rt.stdin(), &mut text)?;
     let mut i = 0;
     while i < len {
+        cases::name(out, &text, i)?;
         let e = cases::case(&text, i, &mut n);
-        run(text[i], &n, e);
+        run(out, text[i], &n, e)?;
         i = e.next;
     }
+    Ok(())
 }

@@ -1,4 +1,6 @@
 // What flows along the edges: rows of bits over the places.
+#![tactic(auto)]
+
 ghost use Rattle.std.specs.Prelude.{◌≡◌, ◌+◌, ◌*◌, ◌/◌, ◌≤◌, length};
 ghost use Rattle.refusals.specs.declared.Verdict.TheVariants.{Fine};
 ghost use Rattle.graph.specs.Line.{blocks_of, jumps_of, edge_verdict, Sound};
@@ -13,7 +15,7 @@ use refusals::{Refusal, Verdict};
 use words::widths::{block, edge};
 
 // Which edges are followed.
-#[derive(Drop)]
+#[derive(Clone, Copy)]
 pub enum Over {
     Predecessors,
     Successors,

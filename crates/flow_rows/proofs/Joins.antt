@@ -9,7 +9,7 @@ use Rattle.bits.specs.Bits.{bit}
 use Rattle.bits.specs.Inner.{Row, Aligned, apart}
 use Rattle.bits.proofs.BitLaws.{bit_kept}
 use Rattle.words.specs.Inner.{below, above}
-use Rattle.words.proofs.Points.{cut, same}
+use Rattle.words.proofs.Points.{cut}
 use Rattle.words.proofs.RegionLaws.{row_before}
 use Rattle.words.proofs.Bools.{or_right, or_left, or_cases}
 use Rattle.graph.specs.Inner.Work.{Within}

@@ -1,11 +1,13 @@
 // `flowed` in the work space: one visit of each component in order, each row worked out once from rows that are final.
+#![tactic(auto)]
+
 ghost use Rattle.std.specs.Prelude.{◌≡◌, true, ◌+◌, ◌*◌, ◌≤◌, ◌<◌};
 ghost use Rattle.tarjan.specs.Inner.Components.{InOrder};
 ghost use Rattle.flow_rows.specs.Inner.{Laid, which, order_from, order, touched_bit, Across, Stays, Member, Joins, Tells, Run, Shared, Visited, Flowed};
 
 // Where `flowed` finds and puts things in the work space, of n places: the edge rows from `at` on, the components' numbers from
 // `base` on and their order from `base + 5 * n` on; rows of `words` words, the touched ones from `touched` on, the answer's from `out` on.
-#[derive(Drop)]
+#[derive(Clone, Copy)]
 pub struct Flow {
     pub n: usize,
     pub at: usize,

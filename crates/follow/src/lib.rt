@@ -1,10 +1,12 @@
 // Following a local's address from register to register: what becomes of each local, and which registers carry its address.
+#![tactic(auto)]
+
 use carrying::Kind;
 
 pub mod walks; // walks.rt: one local's walk
 
 // How many registers, instructions, locals and edges there are.
-#[derive(Drop)]
+#[derive(Clone, Copy)]
 pub struct Sizes {
     pub v: u32,
     pub insts: usize,
@@ -13,14 +15,14 @@ pub struct Sizes {
 }
 
 // Whether an address entry has no def, and how many instructions stand in the queue.
-#[derive(Drop)]
+#[derive(Clone, Copy)]
 pub struct Begun {
     pub lost: bool,
     pub count: usize,
 }
 
 // Whether the local is lost or a register of it dead, whether one escapes, and how many instructions stand in the queue.
-#[derive(Drop)]
+#[derive(Clone, Copy)]
 pub struct Walk {
     pub bad: bool,
     pub escapes: bool,
@@ -28,7 +30,7 @@ pub struct Walk {
 }
 
 // What becomes of a local, and how many registers carry its address.
-#[derive(Drop)]
+#[derive(Clone, Copy)]
 pub struct Followed {
     pub kind: Kind,
     pub count: usize,

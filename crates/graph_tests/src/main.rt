@@ -5,54 +5,65 @@
 // The shapes: a, no edge; b, a chain; c, a self loop; d, a loop of two blocks, and on; e, a loop with two entries; f, blocks that the first does not reach; g, duplicate edges; h, a chain laid out
 // against its edges; i, block numbers out of line order; j, refusal 2 at block 2; k, refusal 2 at the last block; l, refusal 3 at edge 1; m, refusal 1: a row cut short; n, refusal 7: one
 // word under W.
+#![tactic(auto)]
+
 ghost use Rattle.std.specs.Prelude.{◌≡◌, length};
 ghost use Rattle.cases.specs.Inner.{Ordered};
 
 use cases::Cuts;
 use flow::Over;
 use refusals::Refusal;
+use std::io;
+use std::io::{Print, Stdout};
 use words::widths::block;
 
-fn begin(shape: u8, part: u8) {
+fn begin(stdout: Stdout, shape: u8, part: u8) -> io::Result<()> {
     let head = [shape, part];
-    io::write_all(1, &head);
+    stdout.write_all(&head)
 }
 
-fn number(x: u64) {
-    cases::put(b" ", x);
+fn number(stdout: Stdout, x: u64) -> io::Result<()> {
+    cases::put(stdout, b" ", x)
 }
 
-fn numbers(s: &[u32]) {
-    cases::show(s);
-    cases::text(b"\n");
+fn numbers(stdout: Stdout, s: &[u32]) -> io::Result<()> {
+    cases::show(stdout, s)?;
+    cases::text(stdout, b"\n")
 }
 
-fn rows(s: &[u64]) {
+fn rows(stdout: Stdout, s: &[u64]) -> io::Result<()> {
     let mut i = 0;
     while i < s.len() {
-        number(s[i]);
+        number(stdout, s[i])?;
         i += 1;
     }
-    cases::text(b"\n");
+    cases::text(stdout, b"\n")
 }
 
-fn refused(r: Refusal, i: usize) {
-    number(refusals::number(r) as u64);
-    number(i as u64);
+fn refused(stdout: Stdout, r: Refusal, i: usize) -> io::Result<()> {
+    number(stdout, refusals::number(r) as u64)?;
+    number(stdout, i as u64)
 }
 
-fn show_components(blocks: &[u32], edges: &[u32], points: u32, work: &mut [u64]) {
+fn show_components(
+    stdout: Stdout,
+    blocks: &[u32],
+    edges: &[u32],
+    points: u32,
+    work: &mut [u64],
+) -> io::Result<()> {
     let mut which: [u32; 6] = [9; 6];
-    cases::text(b"c");
+    cases::text(stdout, b"c")?;
     let answer = components::components(blocks, edges, points, &mut which, work);
     match answer {
-        refusals::Answer::Given(count) => number(count as u64),
-        refusals::Answer::Refused(r, i) => refused(r, i),
+        refusals::Answer::Given(count) => number(stdout, count as u64)?,
+        refusals::Answer::Refused(r, i) => refused(stdout, r, i)?,
     }
-    numbers(&which);
+    numbers(stdout, &which)
 }
 
 fn show_flowed(
+    stdout: Stdout,
     shape: u8,
     part: u8,
     over: Over,
@@ -61,29 +72,37 @@ fn show_flowed(
     points: u32,
     touched: &[u64],
     work: &mut [u64],
-) {
+) -> io::Result<()> {
     let mut out: [u64; 6] = [9; 6];
-    begin(shape, part);
+    begin(stdout, shape, part)?;
     let answer = flow::flowed(over, blocks, edges, points, touched, 1, &mut out, work);
     match answer {
         refusals::Verdict::Fine => {}
-        refusals::Verdict::Bad(r, i) => refused(r, i),
+        refusals::Verdict::Bad(r, i) => refused(stdout, r, i)?,
     }
-    rows(&out);
+    rows(stdout, &out)
 }
 
-fn show_settling(shape: u8, blocks: &[u32], edges: &[u32], points: u32, work: &mut [u64]) {
+fn show_settling(
+    stdout: Stdout,
+    shape: u8,
+    blocks: &[u32],
+    edges: &[u32],
+    points: u32,
+    work: &mut [u64],
+) -> io::Result<()> {
     let mut order: [u32; 6] = [9; 6];
-    begin(shape, b'o');
+    begin(stdout, shape, b'o')?;
     let answer = spread::settling(blocks, edges, points, &mut order, work);
     match answer {
         refusals::Verdict::Fine => {}
-        refusals::Verdict::Bad(r, i) => refused(r, i),
+        refusals::Verdict::Bad(r, i) => refused(stdout, r, i)?,
     }
-    numbers(&order);
+    numbers(stdout, &order)
 }
 
 fn show_spread(
+    stdout: Stdout,
     shape: u8,
     blocks: &[u32],
     edges: &[u32],
@@ -91,18 +110,19 @@ fn show_spread(
     leaves: &[u64],
     passes: &[u64],
     work: &mut [u64],
-) {
+) -> io::Result<()> {
     let mut out: [u64; 6] = [9; 6];
-    begin(shape, b'a');
+    begin(stdout, shape, b'a')?;
     let answer = spread::spread(blocks, edges, points, leaves, passes, 1, &mut out, work);
     match answer {
         refusals::Verdict::Fine => {}
-        refusals::Verdict::Bad(r, i) => refused(r, i),
+        refusals::Verdict::Bad(r, i) => refused(stdout, r, i)?,
     }
-    rows(&out);
+    rows(stdout, &out)
 }
 
 fn show_rows(
+    stdout: Stdout,
     shape: u8,
     blocks: &[u32],
     edges: &[u32],
@@ -110,10 +130,11 @@ fn show_rows(
     bits: &[u64],
     passes: &[u64],
     work: &mut [u64],
-) {
+) -> io::Result<()> {
     let n = blocks.len() / block::WIDTH;
     if n <= bits.len() {
         show_flowed(
+            stdout,
             shape,
             b'p',
             Over::Predecessors,
@@ -122,8 +143,9 @@ fn show_rows(
             points,
             &bits[..n],
             work,
-        );
+        )?;
         show_flowed(
+            stdout,
             shape,
             b's',
             Over::Successors,
@@ -132,44 +154,66 @@ fn show_rows(
             points,
             &bits[..n],
             work,
-        );
+        )?;
         if n <= passes.len() {
-            show_spread(shape, blocks, edges, points, &bits[..n], &passes[..n], work);
+            show_spread(
+                stdout,
+                shape,
+                blocks,
+                edges,
+                points,
+                &bits[..n],
+                &passes[..n],
+                work,
+            )?;
         }
     }
+    Ok(())
 }
 
 // All of them for one graph; place 1 lets nothing pass.
-fn show(shape: u8, blocks: &[u32], edges: &[u32], points: u32, words: usize) {
+fn show(
+    stdout: Stdout,
+    shape: u8,
+    blocks: &[u32],
+    edges: &[u32],
+    points: u32,
+    words: usize,
+) -> io::Result<()> {
     let bits: [u64; 6] = [1, 2, 4, 8, 16, 32];
     let passes: [u64; 6] = [63, 0, 63, 63, 63, 63];
     let mut work: [u64; 256] = [0; 256];
     if words < 256 {
-        show_components(blocks, edges, points, &mut work[0..words]);
-        return;
+        show_components(stdout, blocks, edges, points, &mut work[0..words])?;
+        return Ok(());
     }
-    show_components(blocks, edges, points, &mut work);
-    show_settling(shape, blocks, edges, points, &mut work);
-    show_rows(shape, blocks, edges, points, &bits, &passes, &mut work);
+    show_components(stdout, blocks, edges, points, &mut work)?;
+    show_settling(stdout, shape, blocks, edges, points, &mut work)?;
+    show_rows(
+        stdout, shape, blocks, edges, points, &bits, &passes, &mut work,
+    )
 }
 
-fn run(shape: u8, n: &[u32], e: Cuts)
+fn run(stdout: Stdout, shape: u8, n: &[u32], e: Cuts) -> io::Result<()>
     requires { (length n.now ≡ 1024) × Ordered e 1024 }
 {
     let c0 = e.c0;
     let c1 = e.c1;
     let c2 = e.c2;
-    show(shape, &n[c0..c1], &n[c1..c2], n[0], n[1] as usize);
+    show(stdout, shape, &n[c0..c1], &n[c1..c2], n[0], n[1] as usize)
 }
 
-fn main() {
+fn main(rt: HostRuntime) -> io::Result<()> {
+    let stdout = rt.stdout();
     let mut text = [0u8; 4096];
     let mut n = [0u32; 1024];
-    let len = io::read_full(0, &mut text);
+    let len = cases::input(rt.stdin(), &mut text)?;
     let mut i = 0;
     while i < len {
+        cases::name(stdout, &text, i)?;
         let e = cases::case(&text, i, &mut n);
-        run(text[i], &n, e);
+        run(stdout, text[i], &n, e)?;
         i = e.next;
     }
+    Ok(())
 }

@@ -1,4 +1,6 @@
 // What the flags of an instruction say, by its row: whether it reads, and whether it hands an address on.
+#![tactic(auto)]
+
 ghost use Rattle.std.specs.Prelude.{◌≡◌, not, ◌&&◌, ◌<◌};
 ghost use Rattle.words.specs.Widths.{inst_count};
 ghost use Rattle.words.specs.Inner.{inst_placed, inst_lea, inst_mem};

@@ -1,4 +1,6 @@
 // Parts of the check of one instruction: the block of its early point, and one operand.
+#![tactic(auto)]
+
 ghost use Rattle.std.specs.Prelude.{◌≡◌, ◌||◌, ◌/◌, ◌≤◌, ◌<◌, leb, ltb};
 ghost use Rattle.words.specs.Inner.{Splits, operand_def, operand_register};
 ghost use Rattle.words.specs.Widths.{block_count, block_start, operand_count};

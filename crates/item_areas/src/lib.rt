@@ -1,4 +1,6 @@
 // The areas of all items of a job's records.
+#![tactic(auto)]
+
 ghost use Rattle.job_space.specs.Rows.{lent_rows};
 ghost use Rattle.item_areas.specs.Entry.{ItemAreas};
 

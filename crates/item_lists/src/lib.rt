@@ -1,4 +1,6 @@
 // The answer lists of areas, of a job's items and of locals lent by themselves, from the work space.
+#![tactic(auto)]
+
 ghost use Rattle.std.proofs.Math.Option.{Option};
 ghost use Rattle.std.specs.Prelude.{List, ℕ, ◌+◌, ◌*◌, ◌/◌, ◌≤◌, length};
 ghost use Rattle.ranges.specs.declared.Range.{Range};

@@ -1,16 +1,20 @@
 // Runs `item_areas` on each case of standard input and prints what it answers and leaves: held to the file `stdout`.
 // Answer lists and work space have 7s at first, so that what is written past an answer, or by a refusal, shows.
 // The columns of a case: points, V, the lengths of the area list, of the item list and of the work space; then the records of a job, in the job text's group order.
+#![tactic(auto)]
+
 ghost use Rattle.std.specs.Prelude.{◌≡◌, length};
 ghost use Rattle.cases.specs.Inner.{Ordered};
 
 use cases::Cuts;
 use refusals::Answer;
+use std::io;
+use std::io::Stdout;
 
-fn given(a: Answer) {
+fn given(out: Stdout, a: Answer) -> io::Result<()> {
     match a {
-        Answer::Given(n) => cases::counted(n),
-        Answer::Refused(r, i) => cases::refused(r, i),
+        Answer::Given(n) => cases::counted(out, n),
+        Answer::Refused(r, i) => cases::refused(out, r, i),
     }
 }
 
@@ -52,16 +56,23 @@ fn measured(n: &[u32], e: Cuts, areas: &mut [u32], items: &mut [u32], work: &mut
     )
 }
 
-fn answer(n: &[u32], e: Cuts, areas: &mut [u32], items: &mut [u32], work: &mut [u64])
+fn answer(
+    out: Stdout,
+    n: &[u32],
+    e: Cuts,
+    areas: &mut [u32],
+    items: &mut [u32],
+    work: &mut [u64],
+) -> io::Result<()>
     requires { (length n.now ≡ 1024) × Ordered e 1024 }
 {
-    given(measured(n, e, areas, items, work));
-    cases::listed(areas);
-    cases::left(items, work);
+    given(out, measured(n, e, areas, items, work))?;
+    cases::listed(out, areas)?;
+    cases::left(out, items, work)
 }
 
 // In lists of these lengths.
-fn run(n: &[u32], e: Cuts)
+fn run(out: Stdout, n: &[u32], e: Cuts) -> io::Result<()>
     requires { (length n.now ≡ 1024) × Ordered e 1024 }
 {
     let mut areas = [7u32; 128];
@@ -71,25 +82,35 @@ fn run(n: &[u32], e: Cuts)
     let i = n[3] as usize;
     let w = n[4] as usize;
     if a > 128 {
-        return;
+        return Ok(());
     }
     if i > 256 {
-        return;
+        return Ok(());
     }
     if w > 4096 {
-        return;
+        return Ok(());
     }
-    answer(n, e, &mut areas[0..a], &mut items[0..i], &mut work[0..w]);
+    answer(
+        out,
+        n,
+        e,
+        &mut areas[0..a],
+        &mut items[0..i],
+        &mut work[0..w],
+    )
 }
 
-fn main() {
+fn main(rt: HostRuntime) -> io::Result<()> {
+    let out = rt.stdout();
     let mut text = [0u8; 32768];
     let mut n = [0u32; 1024];
-    let len = io::read_full(0, &mut text);
+    let len = cases::input(rt.stdin(), &mut text)?;
     let mut i = 0;
     while i < len {
+        cases::name(out, &text, i)?;
         let e = cases::case(&text, i, &mut n);
-        run(&n, e);
+        run(out, &n, e)?;
         i = e.next;
     }
+    Ok(())
 }

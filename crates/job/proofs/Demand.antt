@@ -23,7 +23,7 @@ use Rattle.soundness.specs.Inner.{Separate}
 use Rattle.soundness.specs.Demand.{wants_of, frame_of, job_plan, AsPrivate}
 use Rattle.soundness.proofs.Demand.{job_order, separate, uses, any_cells, demand_3}
 use Rattle.job_answers.specs.declared.Shared.TheVariants.{Plan as Planned}
-use Rattle.job_answers.specs.Answers.{item_rows, answerVerdict}
+use Rattle.job_answers.specs.Answers.{item_rows, answer_verdict}
 use Rattle.job_answers.proofs.SeenLaws.{cell_listed}
 use Rattle.wants.proofs.TallyLaws.{not_refused}
 use Rattle.job.specs.Entry.{lent_verdict, verdict_of, SharedAs}
@@ -51,7 +51,7 @@ module _ {R : Rows} {t : Terms} {cells items areas work cells' items' areas' wor
   none_refused = not_refused _ (job_plan J t.budget) _ E.lists.answer
 
   pub lent_fine : lent_verdict R t (length cells) (length items) (length areas) (length offsets) (length work) ≡ Fine
-  lent_fine = first_left _ (answerVerdict (item_count J) (item_area J) (range_count areas) (job_plan J t.budget)) none_refused
+  lent_fine = first_left _ (answer_verdict (item_count J) (item_area J) (range_count areas) (job_plan J t.budget)) none_refused
 
   pub passed : Passed R (length areas)
   passed = (granted R t (length cells) (length items) (length areas) (length offsets) work lent_fine).lent.passed

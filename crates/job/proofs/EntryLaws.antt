@@ -36,7 +36,7 @@ use Rattle.soundness.specs.Demand.{want_of, job_plan}
 use Rattle.job_answers.specs.declared.Shared.{Shared}
 use Rattle.job_answers.specs.declared.Shared.TheVariants.{Refused}
 use Rattle.job.specs.Entry.{lent_verdict, SharedAs}
-use Rattle.job_answers.specs.Answers.{answerVerdict, AnsweredBy}
+use Rattle.job_answers.specs.Answers.{answer_verdict, AnsweredBy}
 use Rattle.job_answers.specs.Inner.{Measured}
 use Rattle.job.proofs.CheckLaws.{Granted}
 use Rattle.job_space.specs.Rows.{Rows}
@@ -57,16 +57,24 @@ module _ (R : Rows) where
       let l = length_records local_width make_local R.locals in
       let a = le-ltb i (local_count R.locals) h in
       let b = le-ltb i (length (locals_of R.locals)) (omega arith) in
-      let s : size_at R.locals R.slots i ≡ (want_of (job_of R) i).size = ap (λ (t : Bool). cond t (local_size R.locals i) (slot_size R.slots (i - local_count R.locals))) a ∙ ap (λ (k : ℕ). slot_size R.slots (i - k)) (sym l) ∙ sym (ap (λ (t : Bool). cond t (get_or (locals_of R.locals) i (record { size = 0; align = 0 })).size (slot_size R.slots (i - length (locals_of R.locals)))) b) in
-      let t : align_at R.locals R.slots i ≡ (want_of (job_of R) i).align = ap (λ (t : Bool). cond t (local_align R.locals i) (slot_size R.slots (i - local_count R.locals))) a ∙ ap (λ (k : ℕ). slot_size R.slots (i - k)) (sym l) ∙ sym (ap (λ (t : Bool). cond t (get_or (locals_of R.locals) i (record { size = 0; align = 0 })).align (slot_size R.slots (i - length (locals_of R.locals)))) b) in
+      let s : size_at R.locals R.slots i ≡ (want_of (job_of R) i).size = ap (λ (t : Bool). cond t (local_size R.locals i) (slot_size R.slots (i - local_count R.locals))) a ∙
+      ap (λ (k : ℕ). slot_size R.slots (i - k)) (sym l) ∙ sym (ap (λ (t : Bool). cond t (get_or (locals_of R.locals) i (record { size = 0; align = 0 })).size (slot_size R.slots
+      (i - length (locals_of R.locals)))) b) in
+      let t : align_at R.locals R.slots i ≡ (want_of (job_of R) i).align = ap (λ (t : Bool). cond t (local_align R.locals i) (slot_size R.slots (i - local_count R.locals))) a ∙
+      ap (λ (k : ℕ). slot_size R.slots (i - k)) (sym l) ∙ sym (ap (λ (t : Bool). cond t (get_or (locals_of R.locals) i (record { size = 0; align = 0 })).align (slot_size
+      R.slots (i - length (locals_of R.locals)))) b) in
       both s t)
       (λ h.
       let l = length_records local_width make_local R.locals in
       let a = lt-ltb i (local_count R.locals) h in
       let b = lt-ltb i (length (locals_of R.locals)) (omega arith) in
       let g = get_d_records local_width make_local R.locals i (record { size = 0; align = 0 }) h in
-      let s : size_at R.locals R.slots i ≡ (want_of (job_of R) i).size = ap (λ (t : Bool). cond t (local_size R.locals i) (slot_size R.slots (i - local_count R.locals))) a ∙ ap (λ (k : Local). k.size) (sym g) ∙ sym (ap (λ (t : Bool). cond t (get_or (locals_of R.locals) i (record { size = 0; align = 0 })).size (slot_size R.slots (i - length (locals_of R.locals)))) b) in
-      let t : align_at R.locals R.slots i ≡ (want_of (job_of R) i).align = ap (λ (t : Bool). cond t (local_align R.locals i) (slot_size R.slots (i - local_count R.locals))) a ∙ ap (λ (k : Local). k.align) (sym g) ∙ sym (ap (λ (t : Bool). cond t (get_or (locals_of R.locals) i (record { size = 0; align = 0 })).align (slot_size R.slots (i - length (locals_of R.locals)))) b) in
+      let s : size_at R.locals R.slots i ≡ (want_of (job_of R) i).size = ap (λ (t : Bool). cond t (local_size R.locals i) (slot_size R.slots (i - local_count R.locals))) a ∙
+      ap (λ (k : Local). k.size) (sym g) ∙ sym (ap (λ (t : Bool). cond t (get_or (locals_of R.locals) i (record { size = 0; align = 0 })).size (slot_size R.slots (i - length
+      (locals_of R.locals)))) b) in
+      let t : align_at R.locals R.slots i ≡ (want_of (job_of R) i).align = ap (λ (t : Bool). cond t (local_align R.locals i) (slot_size R.slots (i - local_count R.locals))) a ∙
+      ap (λ (k : Local). k.align) (sym g) ∙ sym (ap (λ (t : Bool). cond t (get_or (locals_of R.locals) i (record { size = 0; align = 0 })).align (slot_size R.slots (i - length
+      (locals_of R.locals)))) b) in
       both s t)
     where
       both : {x y z u : ℕ} {o : Option (List Range)} → x ≡ y → z ≡ u → ◌≡◌ {A = Want} (record { size = x; align = z; area = o }) (record { size = y; align = u; area = o })
@@ -98,7 +106,8 @@ module _ (R : Rows) (t : Terms) (cells items areas : List ℕ) (offsets : List �
   pub refused_entry : (r : Refusal) (i : ℕ) → lent_verdict R t (length cells) (length items) (length areas) (length offsets) (length work) ≡ Bad r i
       → SharedAs R t cells items areas offsets work (Refused r i) cells items areas offsets work
   refused_entry r i e = record {
-    lists = rw (first_bad (lent_verdict R t (length cells) (length items) (length areas) (length offsets) (length work)) (answerVerdict (item_count (job_of R)) (item_area (job_of R)) (range_count areas) (job_plan (job_of R) t.budget)) r i e) (record { answer = refl; in_cells = refl; in_items = refl; in_areas = refl; in_offsets = refl });
+    lists = rw (first_bad (lent_verdict R t (length cells) (length items) (length areas) (length offsets) (length work)) (answer_verdict (item_count (job_of R)) (item_area (job_of
+        R)) (range_count areas) (job_plan (job_of R) t.budget)) r i e) (record { answer = refl; in_cells = refl; in_items = refl; in_areas = refl; in_offsets = refl });
     in_work = rw e refl;
   }
 
@@ -129,17 +138,17 @@ module _ (R : Rows) (t : Terms) (cells items areas : List ℕ) (offsets : List �
       → Solved R (length areas) work w n
       → end ≡ space → Within 0 end w w'
       → ((A : ℕ → Option (List Range)) → ListedBy word_of (listing (range_count areas) (range_count areas)) A (count_of R.locals R.slots) n w
-      → AnsweredBy (answerVerdict (count_of R.locals R.slots) A (range_count areas) (plan_for R.locals R.slots A t.budget)) (count_of R.locals R.slots) A (plan_for R.locals R.slots A t.budget)
+      → AnsweredBy (answer_verdict (count_of R.locals R.slots) A (range_count areas) (plan_for R.locals R.slots A t.budget)) (count_of R.locals R.slots) A (plan_for R.locals R.slots A t.budget)
       cells items areas offsets r cells' items' areas' offsets')
       → work' ≡ cleared end w' → SharedAs R t cells items areas offsets work r cells' items' areas' offsets' work'
   answered_entry e {r} {cells'} {items'} {areas'} {w} {w'} {work'} {offsets'} {n} {end} T en K B Z = record {
-    lists = rw (first_fine (lent_verdict R t (length cells) (length items) (length areas) (length offsets) (length work)) (answerVerdict (item_count (job_of R)) (item_area (job_of R)) (range_count areas) (job_plan (job_of R) t.budget)) e) listed_all;
+    lists = rw (first_fine (lent_verdict R t (length cells) (length items) (length areas) (length offsets) (length work)) (answer_verdict (item_count (job_of R)) (item_area (job_of R)) (range_count areas) (job_plan (job_of R) t.budget)) e) listed_all;
     in_work = rw e (Z ∙ ap (λ (k : ℕ). cleared k w') en ∙ cleared_same space w w' (subst (λ (k : ℕ). Within 0 k w w') en K) ∙ cleared_same space work w T.kept ∙ ap (λ (k : ℕ). replicate space 0 ++ drop k work) (sym (length-replicate space 0)));
   }
     where
-      listed_all : AnsweredBy (answerVerdict (item_count (job_of R)) (item_area (job_of R)) (range_count areas) (job_plan (job_of R) t.budget)) (item_count (job_of R)) (item_area (job_of R)) (job_plan (job_of R) t.budget)
+      listed_all : AnsweredBy (answer_verdict (item_count (job_of R)) (item_area (job_of R)) (range_count areas) (job_plan (job_of R) t.budget)) (item_count (job_of R)) (item_area (job_of R)) (job_plan (job_of R) t.budget)
           cells items areas offsets r cells' items' areas' offsets'
       listed_all =
-          subst (λ (k : ℕ). AnsweredBy (answerVerdict k (item_area (job_of R)) (range_count areas) (job_plan (job_of R) t.budget)) k (item_area (job_of R)) (job_plan (job_of R) t.budget) cells items areas offsets r cells' items' areas' offsets') (sym (many R))
-          (subst (λ (p : Plan). AnsweredBy (answerVerdict (count_of R.locals R.slots) (item_area (job_of R)) (range_count areas) p) (count_of R.locals R.slots) (item_area (job_of R)) p cells items areas offsets r cells' items' areas' offsets') (plan_is R t.budget)
+          subst (λ (k : ℕ). AnsweredBy (answer_verdict k (item_area (job_of R)) (range_count areas) (job_plan (job_of R) t.budget)) k (item_area (job_of R)) (job_plan (job_of R) t.budget) cells items areas offsets r cells' items' areas' offsets') (sym (many R))
+          (subst (λ (p : Plan). AnsweredBy (answer_verdict (count_of R.locals R.slots) (item_area (job_of R)) (range_count areas) p) (count_of R.locals R.slots) (item_area (job_of R)) p cells items areas offsets r cells' items' areas' offsets') (plan_is R t.budget)
           (B (item_area (job_of R)) (subst (λ (k : ℕ). ListedBy word_of (listing (range_count areas) (range_count areas)) (item_area (job_of R)) k n w) (many R) T.listed)))

@@ -35,7 +35,7 @@ use Rattle.wants.proofs.SeenLaws.{front_is, told_tally, rows_laid}
 use Rattle.soundness.specs.Demand.{want_of, wants_of, job_plan}
 use Rattle.soundness.proofs.Demand.{job_order}
 use Rattle.job_answers.specs.declared.Shared.TheVariants.{Plan as Planned}
-use Rattle.job_answers.specs.Answers.{item_rows, answerVerdict}
+use Rattle.job_answers.specs.Answers.{item_rows, answer_verdict}
 use Rattle.job_answers.proofs.SeenLaws.{items_long, cell_listed, area_listed, rows_held}
 use Rattle.job_checks.specs.Job.{job_of}
 use Rattle.job_space.specs.Space.{sizes_of, Small}
@@ -60,8 +60,8 @@ module _ {R : Rows} {t : Terms} {cells items areas work cells' items' areas' wor
   verdict_fine : verdict_of R t (length cells) (length items) (length areas) (length offsets) (length work) ≡ Fine
   verdict_fine = none_refused E
 
-  answer_fine : answerVerdict (item_count J) (item_area J) (range_count areas) P ≡ Fine
-  answer_fine = first_right (lent_verdict R t (length cells) (length items) (length areas) (length offsets) (length work)) (answerVerdict (item_count J) (item_area J) (range_count areas) P) verdict_fine
+  answer_fine : answer_verdict (item_count J) (item_area J) (range_count areas) P ≡ Fine
+  answer_fine = first_right (lent_verdict R t (length cells) (length items) (length areas) (length offsets) (length work)) (answer_verdict (item_count J) (item_area J) (range_count areas) P) verdict_fine
 
   small : Small (sizes_of R (length areas))
   small = (granted R t (length cells) (length items) (length areas) (length offsets) work (lent_fine E)).lent.passed.small

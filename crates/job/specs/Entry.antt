@@ -12,7 +12,7 @@ use Rattle.job_space.specs.Space.{job_words, bad_shape}
 use Rattle.job_checks.specs.Job.{job_of, count_verdict}
 use Rattle.soundness.specs.Demand.{job_plan}
 use Rattle.job_answers.specs.declared.Shared.{Shared}
-use Rattle.job_answers.specs.Answers.{answerVerdict, AnsweredBy}
+use Rattle.job_answers.specs.Answers.{answer_verdict, AnsweredBy}
 use Rattle.words.specs.Rows.{row_count}
 use Rattle.words.specs.Widths.{local_width, cell_width, item_width, range_width}
 
@@ -34,7 +34,7 @@ module _ (R : Rows) (t : Terms) (cells items areas offsets work : ℕ) where
 
   -- all refusals, lowest number first: 9 once the areas are measured, 12 and 13 once the plan is made
   abbrev pub verdict_of : Verdict
-  verdict_of = first lent_verdict (answerVerdict (item_count (job_of R)) (item_area (job_of R)) (areas / range_width) (job_plan (job_of R) t.budget))
+  verdict_of = first lent_verdict (answer_verdict (item_count (job_of R)) (item_area (job_of R)) (areas / range_width) (job_plan (job_of R) t.budget))
 
   -- the same as one list of checks
   abbrev pub job_checks : List Verdict

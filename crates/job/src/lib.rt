@@ -1,4 +1,6 @@
 // The whole job: from its records to the cells of its items.
+#![tactic(auto)]
+
 ghost use Rattle.job_space.specs.Rows.{lent_rows};
 ghost use Rattle.job.specs.Entry.{SharedAs};
 

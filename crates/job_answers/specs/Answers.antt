@@ -25,8 +25,8 @@ abbrev pub item_rows : ℕ → (ℕ → Option (List Range)) → Plan → List �
 item_rows n A p = flat (tabulate n (λ i. p.cell i ∷ item_row (ranges_of (tabulate i A)) (A i)))
 
 -- what is refused once the areas are measured: 9, then 12 and 13 of the plan's cells
-abbrev pub answerVerdict : ℕ → (ℕ → Option (List Range)) → ℕ → Plan → Verdict
-answerVerdict n A room p = laid_verdict (areas_verdict n A room) p
+abbrev pub answer_verdict : ℕ → (ℕ → Option (List Range)) → ℕ → Plan → Verdict
+answer_verdict n A room p = laid_verdict (areas_verdict n A room) p
 
 -- the answer and the answer lists, given a verdict and a plan
 pub record AnsweredBy (v : Verdict) (n : ℕ) (A : ℕ → Option (List Range)) (p : Plan) (cells items areas : List ℕ) (offsets : List ℤ) (r : Shared)

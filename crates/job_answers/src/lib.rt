@@ -1,4 +1,6 @@
 // The answer of a whole job from the areas in the work space: the plan of its items, then the answer lists.
+#![tactic(auto)]
+
 ghost use Rattle.std.proofs.Math.Option.{Option};
 ghost use Rattle.std.specs.Prelude.{List, ℕ, ◌/◌, length};
 ghost use Rattle.graph.specs.Inner.Work.{Within};
@@ -6,7 +8,7 @@ ghost use Rattle.ranges.specs.declared.Range.{Range};
 ghost use Rattle.area_measure.specs.Inner.Locals.{word_of, ListedBy};
 ghost use Rattle.area_tables.specs.Inner.{listing};
 ghost use Rattle.job_fit.specs.Inner.{count_of, plan_for};
-ghost use Rattle.job_answers.specs.Answers.{answerVerdict, AnsweredBy};
+ghost use Rattle.job_answers.specs.Answers.{answer_verdict, AnsweredBy};
 ghost use Rattle.job_answers.specs.Inner.{Measured};
 ghost use Rattle.words.specs.Widths.{range_count};
 
@@ -16,7 +18,7 @@ use refusals::{Refusal, Verdict};
 use words::widths::{local, range};
 
 // A plan's cells, the probes spent and its depth, or a refusal with the index of the first offending record.
-#[derive(Drop)]
+#[derive(Clone, Copy)]
 pub enum Shared {
     Plan(usize, u64, u64),
     Refused(Refusal, usize),
@@ -40,7 +42,7 @@ pub fn answer(
     ensures { Within 0 end work.old work.new
         × ((A : ℕ → Option (List Range)) → ListedBy word_of (listing (range_count areas.old) (range_count areas.old)) A
         (count_of locals.now slots.now) total work.old
-        → AnsweredBy (answerVerdict (count_of locals.now slots.now) A (range_count areas.old) (plan_for locals.now slots.now A terms.budget))
+        → AnsweredBy (answer_verdict (count_of locals.now slots.now) A (range_count areas.old) (plan_for locals.now slots.now A terms.budget))
         (count_of locals.now slots.now) A (plan_for locals.now slots.now A terms.budget)
         cells.old items.old areas.old offsets.old result
         cells.new items.new areas.new offsets.new) }

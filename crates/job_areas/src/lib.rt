@@ -1,4 +1,6 @@
 // The areas of all items of a job in the work space, from records that no check refuses: the locals', then the slots'.
+#![tactic(auto)]
+
 ghost use Rattle.job_space.specs.Inner.{rows_at};
 ghost use Rattle.job_space.specs.Rows.{lent_rows};
 ghost use Rattle.job_areas.specs.Inner.{Lent, LocalsDue, LocalsDone, SlotsDue, SlotsDone, Solved};

@@ -19,7 +19,7 @@ use Rattle.wants.specs.Entry.{Tally, tally_of, cell_rows, cell_offsets}
 use Rattle.job_space.specs.Space.{space_of, sizes_of}
 use Rattle.soundness.specs.Demand.{job_plan}
 use Rattle.job_answers.specs.declared.Shared.{Shared}
-use Rattle.job_answers.specs.Answers.{answered, answerVerdict}
+use Rattle.job_answers.specs.Answers.{answered, answer_verdict}
 use Rattle.job.specs.Entry.{lent_verdict, SharedAs}
 use Rattle.codes.specs.Codes.{refusal_code, code_of, verdict_code}
 use Rattle.want_codes.specs.Plans.{counts_of}
@@ -56,7 +56,7 @@ module _ (R : Rows) (t : Terms) where
     plan_now = job_plan (job_of R) t.budget
 
     abbrev list_now : Verdict
-    list_now = answerVerdict (item_count (job_of R)) (item_area (job_of R)) (range_count areas) plan_now
+    list_now = answer_verdict (item_count (job_of R)) (item_area (job_of R)) (range_count areas) plan_now
 
     abbrev items_now : Plan → List ℕ
     items_now = items_told R

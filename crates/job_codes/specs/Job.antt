@@ -10,7 +10,7 @@ use Rattle.wants.specs.Entry.{tally_of, cell_rows, cell_offsets}
 use Rattle.area_tables.specs.Tables.{area_rows}
 use Rattle.job_space.specs.Space.{space_of, sizes_of}
 use Rattle.soundness.specs.Demand.{job_plan}
-use Rattle.job_answers.specs.Answers.{item_rows, answerVerdict}
+use Rattle.job_answers.specs.Answers.{item_rows, answer_verdict}
 use Rattle.job.specs.Entry.{lent_verdict}
 use Rattle.codes.specs.Codes.{code_of}
 use Rattle.want_codes.specs.Plans.{counts_of, few_counts}
@@ -36,7 +36,7 @@ module _ (R : Rows) (t : Terms) where
 
     -- all refusals, lowest number first: 9, 12 and 13 come after every cause of 7
     abbrev pub coded_verdict : Verdict
-    coded_verdict = first measured_verdict (answerVerdict (item_count (job_of R)) (item_area (job_of R)) (areas / range_width) (job_plan (job_of R) t.budget))
+    coded_verdict = first measured_verdict (answer_verdict (item_count (job_of R)) (item_area (job_of R)) (areas / range_width) (job_plan (job_of R) t.budget))
 
     -- the job's plan, unless refused
     abbrev pub job_outcome : Outcome Plan

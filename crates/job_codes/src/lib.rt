@@ -1,4 +1,6 @@
 // The answer of the whole job in one number, and its counts.
+#![tactic(auto)]
+
 ghost use Rattle.std.specs.Prelude.{◌≡◌, ◌≤◌, length};
 ghost use Rattle.refusals.specs.declared.Refusal.TheVariants.{Space};
 ghost use Rattle.refusals.specs.declared.Verdict.TheVariants.{Bad};

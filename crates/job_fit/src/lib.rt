@@ -1,4 +1,6 @@
 // Fitting of a job's items, from their areas in the work space: the wants' table, and the lowest fitting cell for each.
+#![tactic(auto)]
+
 ghost use Rattle.std.specs.Prelude.{◌+◌, ◌≤◌, length};
 ghost use Rattle.words.specs.Inner.{Region};
 ghost use Rattle.words.specs.Widths.{local_count, slot_count};

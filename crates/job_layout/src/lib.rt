@@ -1,5 +1,7 @@
 // Where the regions of a job stand in its work space. The areas stand from 0 on, then the items' words and the live pieces in order. Behind them the locals' regions stand while
 // the locals are measured, and then, over the same words again, the slots'.
+#![tactic(auto)]
+
 ghost use Rattle.std.specs.Prelude.{◌≡◌, ◌*◌, ◌≤◌};
 ghost use Rattle.job_space.specs.Space.{Small};
 ghost use Rattle.area_layout.specs.Inner.{Gridded, mark_of};
@@ -12,7 +14,7 @@ use slot_spots::Places;
 
 // Each region behind the one before: from `items` on a word an item; from `keys` on the live pieces in order; from `free` on what carrying keeps, or what slots have; from `heads` on each
 // local's last end and from `nexts` on for each end the one before it of the same local; from `at` on the touches and from `ends` on the ends of one local; from `base` on the graph's rows.
-#[derive(Drop)]
+#[derive(Clone, Copy)]
 pub struct Regions {
     pub items: usize,
     pub keys: usize,

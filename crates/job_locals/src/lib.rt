@@ -1,4 +1,6 @@
 // The locals of a job, from its records to their areas in the work space.
+#![tactic(auto)]
+
 ghost use Rattle.std.specs.Prelude.{◌/◌};
 ghost use Rattle.job_locals.specs.Inner.{TablesAsked, TablesIn, RowsAsked, RowsIn, Asked, LocalsIn};
 

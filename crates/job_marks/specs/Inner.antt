@@ -19,7 +19,8 @@ use Rattle.job_spots.specs.Inner as fetching
 -- local l's marks by its kind, its touches and its ends
 abbrev pub MarkingOf : Graph → List ℕ → Code → Grid → ℕ → ℕ → List ℕ → List ℕ → Type 0
 MarkingOf G pieces C g n l w₀ w =
-    Marking g n l (is_plain (kind_of C l)) (is_ending (kind_of C l)) (touched G (touches_of C (pieces_of pieces) l)) (leaves G (touches_of C (pieces_of pieces) l) (ends_of C l)) (passes G (ends_of C l)) w₀ w
+    Marking g n l (is_plain (kind_of C l)) (is_ending (kind_of C l)) (touched G (touches_of C (pieces_of pieces) l))
+    (leaves G (touches_of C (pieces_of pieces) l) (ends_of C l)) (passes G (ends_of C l)) w₀ w
 
 -- local l is marked
 pub record MarkedOne (blocks insts addresses ends pieces : List ℕ) (lay : Lay) (p : Places) (z : Sizes) (g : Grid) (l : ℕ) (w₀ w : List ℕ) : Type 0 where

@@ -1,4 +1,6 @@
 // The first pass over the locals of a job: the marks of every followed one in the rows of the places.
+#![tactic(auto)]
+
 ghost use Rattle.std.specs.Prelude.{◌<◌};
 ghost use Rattle.job_marks.specs.Inner.{Ready, MarkedAll, MarkedOne};
 

@@ -1,4 +1,6 @@
 // The areas of all locals of a job, one behind another in item order, and the table of their items.
+#![tactic(auto)]
+
 ghost use Rattle.std.specs.Prelude.{◌+◌, ◌*◌, ◌≤◌, ◌<◌};
 ghost use Rattle.job_measure.specs.Inner.{most_in, Ready, Next, MeasuredLocals};
 

@@ -1,4 +1,6 @@
 // The counts of a job's records as they are lent, W, and what only fitting takes.
+#![tactic(auto)]
+
 ghost use Rattle.std.specs.Prelude.{◌≡◌};
 ghost use Rattle.job_space.specs.Space.{space_of, bad_shape};
 ghost use Rattle.job_space.specs.Inner.{Counted};
@@ -11,7 +13,7 @@ pub mod records; // records.rt: how many are lent
 const BUDGET: u32 = 1048576;
 
 // The numbers of a job's `H` line: the points, V, and what fitting has to keep to.
-#[derive(Drop)]
+#[derive(Clone, Copy)]
 pub struct Head {
     pub points: u32,
     pub v: u32,
@@ -19,7 +21,7 @@ pub struct Head {
 }
 
 // How many records of each group are lent, how many ranges the area list holds, and how many registers are numbered.
-#[derive(Drop)]
+#[derive(Clone, Copy)]
 pub struct Sizes {
     pub v: usize,
     pub blocks: usize,

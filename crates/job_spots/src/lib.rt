@@ -1,4 +1,6 @@
 // The touches and the ends of one local of a job, each list in one piece of the work space.
+#![tactic(auto)]
+
 ghost use Rattle.std.specs.Prelude.{ℕ, ◌+◌, ◌^◌, ◌≤◌, ◌<◌, length, get_or};
 ghost use Rattle.words.specs.Sort.{Distinct};
 ghost use Rattle.words.specs.Inner.{part};
@@ -15,7 +17,7 @@ pub mod fetch; // fetch.rt: a local followed, and then both lists
 
 // Where one local's touches and ends go, and what they are found by: the pieces stand in order from `keys` on; each local's ends as a chain,
 // from `heads` and `nexts` on; its touches go from `at` on, its ends from `ends` on.
-#[derive(Drop)]
+#[derive(Clone, Copy)]
 pub struct Places {
     pub keys: usize,
     pub heads: usize,
@@ -25,7 +27,7 @@ pub struct Places {
 }
 
 // A local's kind, and where its touches and ends stand.
-#[derive(Drop)]
+#[derive(Clone, Copy)]
 pub struct JobLocal {
     pub kind: Kind,
     pub spots: Spots,

@@ -1,4 +1,6 @@
 // From the tables of the work space into the answer lists.
+#![tactic(auto)]
+
 ghost use Rattle.std.specs.Prelude.{◌≡◌, ◌++◌, ℕ, ◌+◌, ◌*◌, ◌^◌, ◌≤◌, ◌<◌, length, get_or, drop};
 ghost use Rattle.words.specs.Inner.{row_put};
 ghost use Rattle.words.specs.Widths.{item_width};

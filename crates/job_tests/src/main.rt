@@ -2,6 +2,8 @@
 // and a model of the refusals. Answer lists and work space have 7s at first, so that what is written past an answer, or by a refusal, shows. The last line counts what
 // the plans show.
 // The columns of a case: points, V, budget, the lengths of the cell, the item, the area and the offset list and of the work space; then the records of a job, in the job text's group order.
+#![tactic(auto)]
+
 ghost use Rattle.std.specs.Prelude.{◌≡◌, length};
 ghost use Rattle.cases.specs.Inner.{Ordered};
 
@@ -9,11 +11,13 @@ use cases::Cuts;
 use fitting::Terms;
 use job::Shared;
 use job_space::Head;
+use std::io;
+use std::io::Stdout;
 use words::widths::moving;
 
 // How many plans there are, and how many of them have fewer cells than items, spent as many probes as the budget has, have an ending local, over 64 locals, and a move that
 // names a slot. There are fewer cases than bytes of text, so that no count wraps.
-#[derive(Drop)]
+#[derive(Clone, Copy)]
 struct Counts {
     plans: u32,
     sharing: u32,
@@ -24,7 +28,7 @@ struct Counts {
 }
 
 // What one plan shows of these.
-#[derive(Drop)]
+#[derive(Clone, Copy)]
 struct Shown {
     sharing: bool,
     spent: bool,
@@ -33,14 +37,15 @@ struct Shown {
     moving: bool,
 }
 
-fn told(s: Shared) {
+fn told(out: Stdout, s: Shared) -> io::Result<()> {
     match s {
         Shared::Plan(cells, probes, depth) => {
-            cases::text(b" plan");
-            cases::plan(cells, probes, depth);
+            cases::text(out, b" plan")?;
+            cases::plan(out, cells, probes, depth)?;
         }
-        Shared::Refused(r, i) => cases::refused(r, i),
+        Shared::Refused(r, i) => cases::refused(out, r, i)?,
     }
+    Ok(())
 }
 
 // How many words are as they were.
@@ -58,13 +63,20 @@ fn kept(work: &[u64]) -> usize {
     n
 }
 
-fn show(cells: &[u32], items: &[u32], areas: &[u32], offsets: &[i32], work: &[u64]) {
-    cases::put(b" ", kept(work) as u64);
-    cases::text(b" |");
-    cases::listed(cells);
-    cases::listed(items);
-    cases::listed(areas);
-    cases::left_offsets(offsets, work);
+fn show(
+    out: Stdout,
+    cells: &[u32],
+    items: &[u32],
+    areas: &[u32],
+    offsets: &[i32],
+    work: &[u64],
+) -> io::Result<()> {
+    cases::put(out, b" ", kept(work) as u64)?;
+    cases::text(out, b" |")?;
+    cases::listed(out, cells)?;
+    cases::listed(out, items)?;
+    cases::listed(out, areas)?;
+    cases::left_offsets(out, offsets, work)
 }
 
 // What `share` answers for the records that stand in `n`, a group from where one column ends to where the next one does.
@@ -232,6 +244,7 @@ fn counted(t: Counts, s: Shared, n: &[u32], e: Cuts) -> Counts
 }
 
 fn plan(
+    out: Stdout,
     n: &[u32],
     e: Cuts,
     t: Counts,
@@ -240,17 +253,17 @@ fn plan(
     areas: &mut [u32],
     offsets: &mut [i32],
     work: &mut [u64],
-) -> Counts
+) -> io::Result<Counts>
     requires { (length n.now ≡ 1024) × Ordered e 1024 }
 {
     let s = shared(n, e, cells, items, areas, offsets, work);
-    told(s);
-    show(cells, items, areas, offsets, work);
-    counted(t, s, n, e)
+    told(out, s)?;
+    show(out, cells, items, areas, offsets, work)?;
+    Ok(counted(t, s, n, e))
 }
 
 // In lists of these lengths; the counts with its answer.
-fn run(n: &[u32], e: Cuts, t: Counts) -> Counts
+fn run(out: Stdout, n: &[u32], e: Cuts, t: Counts) -> io::Result<Counts>
     requires { (length n.now ≡ 1024) × Ordered e 1024 }
 {
     let mut cells = [7u32; 160];
@@ -264,21 +277,22 @@ fn run(n: &[u32], e: Cuts, t: Counts) -> Counts
     let o = n[6] as usize;
     let w = n[7] as usize;
     if c > 160 {
-        return t;
+        return Ok(t);
     }
     if i > 320 {
-        return t;
+        return Ok(t);
     }
     if a > 128 {
-        return t;
+        return Ok(t);
     }
     if o > 80 {
-        return t;
+        return Ok(t);
     }
     if w > 4096 {
-        return t;
+        return Ok(t);
     }
     plan(
+        out,
         n,
         e,
         t,
@@ -290,20 +304,21 @@ fn run(n: &[u32], e: Cuts, t: Counts) -> Counts
     )
 }
 
-fn summed(t: Counts) {
-    cases::put(b"plans ", t.plans as u64);
-    cases::put(b": a shared cell ", t.sharing as u64);
-    cases::put(b", the budget spent ", t.spent as u64);
-    cases::put(b", an ending local ", t.ending as u64);
-    cases::put(b", over 64 locals ", t.wide as u64);
-    cases::put(b", a move of a slot ", t.moving as u64);
-    cases::text(b"\n");
+fn summed(out: Stdout, t: Counts) -> io::Result<()> {
+    cases::put(out, b"plans ", t.plans as u64)?;
+    cases::put(out, b": a shared cell ", t.sharing as u64)?;
+    cases::put(out, b", the budget spent ", t.spent as u64)?;
+    cases::put(out, b", an ending local ", t.ending as u64)?;
+    cases::put(out, b", over 64 locals ", t.wide as u64)?;
+    cases::put(out, b", a move of a slot ", t.moving as u64)?;
+    cases::text(out, b"\n")
 }
 
-fn main() {
+fn main(rt: HostRuntime) -> io::Result<()> {
+    let out = rt.stdout();
     let mut text = [0u8; 98304];
     let mut n = [0u32; 1024];
-    let len = io::read_full(0, &mut text);
+    let len = cases::input(rt.stdin(), &mut text)?;
     let mut t = Counts {
         plans: 0,
         sharing: 0,
@@ -314,9 +329,10 @@ fn main() {
     };
     let mut i = 0;
     while i < len {
+        cases::name(out, &text, i)?;
         let e = cases::case(&text, i, &mut n);
-        t = run(&n, e, t);
+        t = run(out, &n, e, t)?;
         i = e.next;
     }
-    summed(t);
+    summed(out, t)
 }

@@ -1,4 +1,6 @@
 // One piece: its ends by the two bits of its block, and put on to the pieces before it.
+#![tactic(auto)]
+
 ghost use Rattle.std.specs.Prelude.{◌≡◌, cond, ◌+◌, ◌<◌, length};
 ghost use Rattle.ranges.specs.Points.{range};
 ghost use Rattle.ranges.specs.Inner.{unpack};

@@ -1,4 +1,6 @@
 // The kinds of locals as an answer list has them.
+#![tactic(auto)]
+
 ghost use Rattle.std.specs.Prelude.{◌≡◌};
 ghost use Rattle.kind_numbers.specs.Numbers.{kind_number};
 

@@ -1,4 +1,6 @@
 // Where a local leaves: its marks in the rows of the places, from its touches and its ends.
+#![tactic(auto)]
+
 ghost use Rattle.std.specs.Prelude.{◌≡◌, true, ◌||◌, List, [], ℕ, ◌+◌, ◌*◌, ◌<◌, get_or, leb};
 ghost use Rattle.words.specs.Inner.{Rising};
 ghost use Rattle.words.specs.Widths.{block_count};

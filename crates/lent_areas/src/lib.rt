@@ -1,4 +1,6 @@
 // The areas in the work space: chains and marks of the locals, the rows of the graph, and the areas one behind another.
+#![tactic(auto)]
+
 ghost use Rattle.std.specs.Prelude.{◌≡◌, ◌+◌, ◌/◌, ◌≤◌, length};
 ghost use Rattle.refusals.specs.declared.Verdict.TheVariants.{Fine};
 ghost use Rattle.graph.specs.Line.{blocks_of, jumps_of, edge_verdict, Sound};

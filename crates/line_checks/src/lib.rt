@@ -1,4 +1,6 @@
 // The checks of the blocks and the edges that an entry is lent: refusals 1, 2 and 3, in linear time and without work space.
+#![tactic(auto)]
+
 ghost use Rattle.std.specs.Prelude.{◌≡◌, ◌+◌, ◌*◌, ◌/◌, ◌≤◌, ◌<◌, length, eqb};
 ghost use Rattle.refusals.specs.declared.Refusal.TheVariants.{Edge as EdgeWord};
 ghost use Rattle.refusals.specs.Verdicts.{scan, room_verdict};

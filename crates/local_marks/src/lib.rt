@@ -1,4 +1,6 @@
 // The first pass over the locals: the marks of every local in the rows of the places.
+#![tactic(auto)]
+
 ghost use Rattle.std.specs.Prelude.{not, List, ◌+◌, ◌*◌, ◌/◌, ◌≤◌, ◌<◌, length};
 ghost use Rattle.graph.specs.Paths.{Edge};
 ghost use Rattle.graph.specs.Inner.Work.{Within};

@@ -1,4 +1,6 @@
 // Touches and ends lent by themselves, by local: the rows of each local as a chain, and one local's touches and ends fetched into the work space.
+#![tactic(auto)]
+
 ghost use Rattle.std.specs.Prelude.{◌≡◌, ◌≢◌, ◌⊎◌, ◌+◌, ◌*◌, ◌/◌, ◌<◌, length};
 ghost use Rattle.words.specs.Rows.{row_count, field};
 ghost use Rattle.words.specs.Widths.{touch_width, stop_width};
@@ -11,7 +13,7 @@ use words::widths::{stop, touch};
 
 // Where the rows of `locals` locals are kept, each region past the one before: from `heads` on each local's last touch, then each local's last end; from `nexts` on
 // for each touch, then for each end, the one before it; from `at` on room for the touches of one local, and from `ends` on for its ends.
-#[derive(Drop)]
+#[derive(Clone, Copy)]
 pub struct Places {
     pub locals: usize,
     pub heads: usize,

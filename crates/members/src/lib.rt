@@ -1,4 +1,6 @@
 // Members of cells, in items as rows of cell, present, first and count: counted, and the slots that are not alone.
+#![tactic(auto)]
+
 ghost use Rattle.std.specs.Prelude.{◌≡◌, ℕ, ◌+◌, ◌-◌, ◌≤◌, ◌<◌, length, get_or};
 ghost use Rattle.words.specs.Widths.{item_row_count, item_cell};
 ghost use Rattle.members.specs.Inner.{members_in, Counted, crowded_slots, Picked};

@@ -1,4 +1,6 @@
 // `merged` over columns, by way of words: a range in each. `range_entries` checks the lists first.
+#![tactic(auto)]
+
 ghost use Rattle.std.specs.Prelude.{◌≡◌, ◌/◌, ◌%◌, ◌^◌, ◌≤◌, length, get_or};
 ghost use Rattle.words.specs.Inner.{Region};
 ghost use Rattle.ranges.specs.Points.{range};
@@ -88,8 +90,9 @@ fn merge_few(start: &[u32], end: &[u32], out_start: &mut [u32], out_end: &mut [u
     merge_by(start, end, out_start, out_end, &mut keys)
 }
 
-// In the built library the large array stands in this function's own frame, so that a short list and a refusal take little stack: a function that calls itself
-// after its array is declared is not put into its caller. It calls itself once where the first range is reversed, which `range_entries` refuses.
+// In the built library the large array stands in this function's own frame, so that a short list and a refusal take little stack: it is not put into its caller.
+// It calls itself once where the first range is reversed, which `range_entries` refuses.
+#[inline(never)]
 fn merge_many(
     start: &[u32],
     end: &[u32],

@@ -1,4 +1,6 @@
 // Where a move stands, and the points either side of it.
+#![tactic(auto)]
+
 ghost use Rattle.std.specs.Prelude.{◌≡◌, [], ◌+◌, ◌-◌, ◌*◌, ◌≤◌, ◌<◌, min, length};
 ghost use Rattle.graph.specs.Line.{blocks_of, Sound};
 ghost use Rattle.graph.specs.Inner.Work.{Table};
@@ -10,7 +12,7 @@ use spill_checks::Position;
 use words::widths::{block, inst};
 
 // The point of a move, or that it stands nowhere.
-#[derive(Drop)]
+#[derive(Clone, Copy)]
 pub enum Spot {
     At(u32),
     Nowhere,

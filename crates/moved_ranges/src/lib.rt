@@ -1,4 +1,6 @@
 // What the moves of a slot cover: the point of each, and the points either side of it.
+#![tactic(auto)]
+
 ghost use Rattle.std.specs.Prelude.{◌≡◌, not, [], ◌+◌, ◌-◌, ◌*◌, ◌/◌, ◌%◌, ◌≤◌, ◌<◌, length, eqb};
 ghost use Rattle.refusals.specs.declared.Refusal.TheVariants.{Count};
 ghost use Rattle.refusals.specs.Verdicts.{check};

@@ -1,4 +1,6 @@
 // What an instruction does with a register, by the rows of its operands.
+#![tactic(auto)]
+
 ghost use Rattle.std.specs.Prelude.{◌≡◌, not, ◌&&◌, ◌+◌, ◌≤◌, ◌<◌};
 ghost use Rattle.carrying.specs.Lists.{keep};
 ghost use Rattle.carrying.specs.Insts.{is_set, only_one, is_use, address_position, each_address};

@@ -1,4 +1,6 @@
 // The range functions over words that hold a range each: the form in which areas stand in a work space.
+#![tactic(auto)]
+
 ghost use Rattle.std.specs.Prelude.{◌≡◌, ◌+◌, ◌/◌, ◌%◌, ◌^◌, ◌<◌, ◌≤◌, length};
 ghost use Rattle.ranges.specs.Points.{range};
 ghost use Rattle.ranges.specs.Inner.{pack};

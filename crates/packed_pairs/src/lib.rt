@@ -1,4 +1,6 @@
 // The range functions over two lists of words that hold a range each.
+#![tactic(auto)]
+
 ghost use Rattle.std.specs.Prelude.{◌≡◌, ◌+◌, ◌-◌, ◌%◌, ◌^◌, ◌<◌, ◌≤◌, length, get_or, ltb};
 ghost use Rattle.words.specs.Inner.{Rising, Splits, part};
 ghost use Rattle.ranges.specs.Points.{Apart};

@@ -1,4 +1,6 @@
 // The answers of the parts in one number: rows over a graph, and ranges.
+#![tactic(auto)]
+
 ghost use Rattle.std.specs.Prelude.{◌≡◌};
 ghost use Rattle.range_entries.specs.Entries.{counted, clashing};
 ghost use Rattle.codes.specs.Codes.{count_code, truth_code};

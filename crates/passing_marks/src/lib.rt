@@ -1,4 +1,6 @@
 // Where a local passes: its marks in the rows of the places, from its ends.
+#![tactic(auto)]
+
 ghost use Rattle.std.specs.Prelude.{◌≡◌, false, ◌&&◌, List, ◌+◌, ◌*◌, ◌/◌, ◌<◌};
 ghost use Rattle.graph.specs.Paths.{Edge};
 ghost use Rattle.graph.specs.Line.{blocks_of, Sound};

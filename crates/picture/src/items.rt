@@ -4,10 +4,12 @@ ghost use Rattle.words.specs.Widths.{item_width};
 
 use crate::svg::{fill, say};
 use drawing::{Axis, Bar, bar_of, digits, font, hue, row_of};
+use std::io;
+use std::io::Stdout;
 use words::widths::{item, range};
 
 // An item's name, as a job's text counts: a letter, and the place among the locals or the slots.
-#[derive(Drop)]
+#[derive(Clone, Copy)]
 struct Name {
     letter: u8,
     index: u32,
@@ -27,7 +29,7 @@ fn name_of(item: u32, locals: u32) -> Name {
 }
 
 // A bar's name: along it, or upright and no larger than the bar is wide where it is too narrow; `y` is the bar's middle.
-fn label(b: Bar, y: u64, n: Name)
+fn label(out: Stdout, b: Bar, y: u64, n: Name) -> io::Result<()>
     requires { y < 1152921504606846976 }
 {
     let x = b.x as u64 + b.width as u64 / 2;
@@ -36,9 +38,10 @@ fn label(b: Bar, y: u64, n: Name)
         let s = font(b.width / 9 * 5, 1, 110) as u64;
         let ns = [x + 35 * s / 100, y, s, n.letter as u64, n.index as u64];
         fill(
+            out,
             b"<text class=\"mid\" transform=\"translate(@ @)rotate(-90)\" font-size=\"@\">^@</text>\n",
             &ns,
-        );
+        )?;
     } else {
         let ns = [
             x,
@@ -48,14 +51,16 @@ fn label(b: Bar, y: u64, n: Name)
             n.index as u64,
         ];
         fill(
+            out,
             b"<text class=\"mid\" x=\"@\" y=\"@\" font-size=\"@\">^@</text>\n",
             &ns,
-        );
+        )?;
     }
+    Ok(())
 }
 
 // One range of an item's area.
-fn range(a: Axis, cell: u32, n: Name, start: u32, end: u32) {
+fn range(out: Stdout, a: Axis, cell: u32, n: Name, start: u32, end: u32) -> io::Result<()> {
     let b = bar_of(a, start, end);
     let row = row_of(cell);
     let w = b.width as u64;
@@ -71,14 +76,15 @@ fn range(a: Axis, cell: u32, n: Name, start: u32, end: u32) {
         end as u64,
     ];
     fill(
+        out,
         b"<path class=\"bar\" d=\"M@ @h@v@h-@z\"><title>^@: @&#8211;@</title></path>",
         &ns,
-    );
-    label(b, row.y + row.height / 2, n);
+    )?;
+    label(out, b, row.y + row.height / 2, n)
 }
 
 // An item without area: it keeps its cell for itself, over the whole width.
-fn whole(cell: u32, n: Name) {
+fn whole(out: Stdout, cell: u32, n: Name) -> io::Result<()> {
     let row = row_of(cell);
     let ns = [
         row.y,
@@ -88,49 +94,77 @@ fn whole(cell: u32, n: Name) {
         n.index as u64,
     ];
     fill(
+        out,
         b"<path class=\"whole\" d=\"M1700 @h8000v@h-8000z\"/><text class=\"mid\" x=\"5700\" y=\"@\" font-size=\"120\">^@, no area</text>\n",
         &ns,
-    );
+    )
 }
 
 // The ranges of an area.
-fn area(a: Axis, cell: u32, n: Name, part: &[u32]) {
+fn area(out: Stdout, a: Axis, cell: u32, n: Name, part: &[u32]) -> io::Result<()> {
     let m = part.len() / range::WIDTH;
     let mut k = 0;
     while k < m {
         range(
+            out,
             a,
             cell,
             n,
             part[range::WIDTH * k],
             part[range::WIDTH * k + range::END],
-        );
+        )?;
         k += 1;
     }
+    Ok(())
 }
 
 // An item whose area is `count` ranges of the area list, from `first` on; or it has none. A part that the list does not have is not drawn.
-fn item(a: Axis, cell: u32, present: u32, first: u32, count: u32, areas: &[u32], n: Name) {
+fn item(
+    out: Stdout,
+    a: Axis,
+    cell: u32,
+    present: u32,
+    first: u32,
+    count: u32,
+    areas: &[u32],
+    n: Name,
+) -> io::Result<()> {
     let from = first as usize;
     let to = from + count as usize;
     if present == 0 {
-        whole(cell, n);
+        whole(out, cell, n)?;
     } else if to <= areas.len() / range::WIDTH {
-        area(a, cell, n, &areas[range::WIDTH * from..range::WIDTH * to]);
+        area(
+            out,
+            a,
+            cell,
+            n,
+            &areas[range::WIDTH * from..range::WIDTH * to],
+        )?;
     }
+    Ok(())
 }
 
 // The group of an item's bars, in its colour.
-fn group(item: u32, n: Name) {
+fn group(out: Stdout, item: u32, n: Name) -> io::Result<()> {
     let ns = [n.letter as u64, n.index as u64, hue(item)];
     fill(
+        out,
         b"<g class=\"item\" id=\"^@\" fill=\"hsl(@,70%,75%)\">\n",
         &ns,
-    );
+    )
 }
 
 // The items of a cell, among `n` in rows of cell, present, first and count.
-pub fn of_cell(a: Axis, items: &[u32], areas: &[u32], cell: u32, locals: u32, n: u32)
+pub fn of_cell(
+    out: Stdout,
+    a: Axis,
+    items: &[u32],
+    areas: &[u32],
+    cell: u32,
+    locals: u32,
+    n: u32,
+) -> io::Result<()>
     requires { item_width * n ≤ length items.now }
 {
     let mut i: u32 = 0;
@@ -138,8 +172,9 @@ pub fn of_cell(a: Axis, items: &[u32], areas: &[u32], cell: u32, locals: u32, n:
         let k = item::WIDTH * i as usize;
         if items[k] == cell {
             let name = name_of(i, locals);
-            group(i, name);
+            group(out, i, name)?;
             item(
+                out,
                 a,
                 cell,
                 items[k + item::PRESENT],
@@ -147,11 +182,12 @@ pub fn of_cell(a: Axis, items: &[u32], areas: &[u32], cell: u32, locals: u32, n:
                 items[k + item::RANGES],
                 areas,
                 name,
-            );
-            say(b"</g>\n");
+            )?;
+            say(out, b"</g>\n")?;
             i += 1;
         } else {
             i += 1;
         }
     }
+    Ok(())
 }

@@ -1,5 +1,7 @@
 // Draws the plan of a job: its text on standard input, an SVG on standard output. Blocks lie along one axis, and each cell has a row with the areas of its items. A
 // refusal is drawn as a line that says it.
+#![tactic(auto)]
+
 ghost use Rattle.std.specs.Prelude.{◌≡◌, ◌*◌, ◌≤◌, length};
 ghost use Rattle.text_grammar.specs.Groups.{group_count, row_numbers};
 ghost use Rattle.planning.specs.Inner.{Few};
@@ -10,6 +12,8 @@ use job::Shared;
 use planning::row_plans::{held, planned, records};
 use reading::input;
 use refusals::Verdict;
+use std::io;
+use std::io::Stdout;
 use text_grammar::{BLOCKS, GROUP_COUNT, LOCALS, ROW_NUMBERS, SLOTS};
 use words::widths::{item, range};
 
@@ -21,6 +25,7 @@ mod svg; // svg.rt: pieces of text
 
 // A plan of `n` items in `m` cells, along an axis.
 fn draw(
+    out: Stdout,
     a: Axis,
     blocks: &[u32],
     cells: &[u32],
@@ -29,13 +34,13 @@ fn draw(
     locals: u32,
     m: u32,
     n: u32,
-)
+) -> io::Result<()>
     requires { (cell_width * m ≤ length cells.now) × (item_width * n ≤ length items.now) }
 {
     let h = height(m);
-    line::blocks(a, blocks, h - 460);
-    rows::cells(a, cells, items, areas, locals, m, n);
-    frame::close(h);
+    line::blocks(out, a, blocks, h - 460)?;
+    rows::cells(out, a, cells, items, areas, locals, m, n)?;
+    frame::close(out, h)
 }
 
 // The axis of the blocks and of the ranges that the items have.
@@ -44,15 +49,24 @@ fn axis(blocks: &[u32], items: &[u32], areas: &[u32]) -> Axis {
     axis_of(blocks, &areas[0..range::WIDTH * n])
 }
 
-fn show(blocks: &[u32], cells: &[u32], items: &[u32], areas: &[u32], locals: u32, m: u32, n: u32)
+fn show(
+    out: Stdout,
+    blocks: &[u32],
+    cells: &[u32],
+    items: &[u32],
+    areas: &[u32],
+    locals: u32,
+    m: u32,
+    n: u32,
+) -> io::Result<()>
     requires { (cell_width * m ≤ length cells.now) × (item_width * n ≤ length items.now) }
 {
     let a = axis(blocks, items, areas);
-    draw(a, blocks, cells, items, areas, locals, m, n);
+    draw(out, a, blocks, cells, items, areas, locals, m, n)
 }
 
 // The plan of the records that were read, or its refusal.
-fn plan(rows: &[u32], counts: &[u32])
+fn plan(out: Stdout, rows: &[u32], counts: &[u32]) -> io::Result<()>
     requires { (length rows.now ≡ row_numbers) × (length counts.now ≡ group_count) × Few counts.now }
 {
     let mut cells = [0u32; 256];
@@ -73,8 +87,9 @@ fn plan(rows: &[u32], counts: &[u32])
     );
     match r {
         Shared::Plan(c, probes, depth) => {
-            frame::open(c as u32, n as u32, probes, depth);
+            frame::open(out, c as u32, n as u32, probes, depth)?;
             show(
+                out,
                 blocks,
                 &cells,
                 &items[0..item::WIDTH * n],
@@ -82,18 +97,20 @@ fn plan(rows: &[u32], counts: &[u32])
                 counts[LOCALS],
                 c as u32,
                 n as u32,
-            );
+            )?;
         }
-        Shared::Refused(r, i) => frame::refuse(r, i),
+        Shared::Refused(r, i) => frame::refuse(out, r, i)?,
     }
+    Ok(())
 }
 
-fn main() {
+fn main(rt: HostRuntime) -> io::Result<()> {
+    let out = rt.stdout();
     let mut rows = [0; ROW_NUMBERS];
     let mut counts = [0; GROUP_COUNT];
-    let v = input(&mut rows, &mut counts);
+    let v = input(rt.stdin(), &mut rows, &mut counts)?;
     match v {
-        Verdict::Fine => plan(&rows, &counts),
-        Verdict::Bad(r, i) => frame::refuse(r, i),
+        Verdict::Fine => plan(out, &rows, &counts),
+        Verdict::Bad(r, i) => frame::refuse(out, r, i),
     }
 }

@@ -1,36 +1,40 @@
 // SVG text on standard output, from templates.
 
-pub fn say(s: &[u8]) {
-    io::write_all(1, s);
+use std::io;
+use std::io::{Print, Stdout};
+
+pub fn say(out: Stdout, s: &[u8]) -> io::Result<()> {
+    out.write_all(s)
 }
 
-fn byte(b: u8) {
+fn byte(out: Stdout, b: u8) -> io::Result<()> {
     let s = [b; 1];
-    io::write_all(1, &s);
+    out.write_all(&s)
 }
 
 // One byte of a template, or the number that it stands for; answers how many numbers are used then.
-fn piece(b: u8, numbers: &[u64], used: usize) -> usize {
+fn piece(out: Stdout, b: u8, numbers: &[u64], used: usize) -> io::Result<usize> {
     if used < numbers.len() {
         if b == b'@' {
-            io::print_decimal(1, numbers[used]);
-            return used + 1;
+            out.print(numbers[used])?;
+            return Ok(used + 1);
         }
         if b == b'^' {
-            byte((numbers[used] % 256) as u8);
-            return used + 1;
+            byte(out, (numbers[used] % 256) as u8)?;
+            return Ok(used + 1);
         }
     }
-    byte(b);
-    used
+    byte(out, b)?;
+    Ok(used)
 }
 
 // Writes a template with numbers in it: each `@` is the next number in decimal, each `^` the letter that the next number is.
-pub fn fill(template: &[u8], numbers: &[u64]) {
+pub fn fill(out: Stdout, template: &[u8], numbers: &[u64]) -> io::Result<()> {
     let mut used = 0;
     let mut i = 0;
     while i < template.len() {
-        used = piece(template[i], numbers, used);
+        used = piece(out, template[i], numbers, used)?;
         i += 1;
     }
+    Ok(())
 }

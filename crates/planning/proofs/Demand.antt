@@ -30,7 +30,7 @@ use Rattle.soundness.specs.Walks.{Step, Legal}
 use Rattle.soundness.specs.Inner.{Separate}
 use Rattle.soundness.specs.Demand.{wants_of, frame_of, job_plan, AsPrivate}
 use Rattle.soundness.proofs.Demand.{job_order, separate, uses, any_cells, demand_3}
-use Rattle.job_answers.specs.Answers.{item_rows, answerVerdict}
+use Rattle.job_answers.specs.Answers.{item_rows, answer_verdict}
 use Rattle.text_grammar.specs.Text.{read_verdict}
 use Rattle.text_plan.specs.Lines.{line_text}
 use Rattle.planning.specs.Groups.{terms_for, job, lent_for}
@@ -146,7 +146,7 @@ module _ (text : List ℕ) (fine : first (read_verdict text) (refusal (numbers_i
   checked : Checked J
   checked =
       checked_for group cell_numbers item_numbers area_numbers offset_numbers work_words
-      (first_left (lent_for group cell_numbers item_numbers area_numbers offset_numbers work_words) (answerVerdict (item_count J) (item_area J) 64 plan) (first_right (read_verdict text) (refusal group) fine))
+      (first_left (lent_for group cell_numbers item_numbers area_numbers offset_numbers work_words) (answer_verdict (item_count J) (item_area J) 64 plan) (first_right (read_verdict text) (refusal group) fine))
 
   printable : Printable (item_count J) (length J.locals) (item_area J) plan
   printable = text_printable text fine

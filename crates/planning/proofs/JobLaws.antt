@@ -20,14 +20,14 @@ use Rattle.fitting.proofs.OrderLaws.{length_ordered}
 use Rattle.fitting.proofs.PutLaws.{plan_few}
 use Rattle.soundness.specs.Demand.{want_of, wants_of, job_plan}
 use Rattle.soundness.proofs.Demand.{job_order}
-use Rattle.job_answers.specs.Answers.{answerVerdict}
+use Rattle.job_answers.specs.Answers.{answer_verdict}
 use Rattle.planning.proofs.PrintLaws.{Printable}
 
 -- ---- the plan of a job within the program's limits is printed
 
 -- where nothing is refused, 9 is not
-pub list_fine : (J : Job) (p : Plan) (v : Verdict) → first v (answerVerdict (item_count J) (item_area J) 64 p) ≡ Fine → items_verdict J 64 ≡ Fine
-list_fine J p v e = first_left (items_verdict J 64) (layout_verdict (rooms_in p)) (first_right v (answerVerdict (item_count J) (item_area J) 64 p) e)
+pub list_fine : (J : Job) (p : Plan) (v : Verdict) → first v (answer_verdict (item_count J) (item_area J) 64 p) ≡ Fine → items_verdict J 64 ≡ Fine
+list_fine J p v e = first_left (items_verdict J 64) (layout_verdict (rooms_in p)) (first_right v (answer_verdict (item_count J) (item_area J) 64 p) e)
 
 pub job_printable : (J : Job) (budget : ℕ) → length J.locals ≤ 64 → length J.slots ≤ 64 → items_verdict J 64 ≡ Fine
     → Printable (item_count J) (length J.locals) (item_area J) (job_plan J budget)

@@ -136,7 +136,8 @@ module _ {n locals : ℕ} {A : ℕ → Option (List Range)} {p : Plan} (P : Prin
       let e₁ = length-append (cell_lines (cell_rows p))
       (item_lines 76 (item_rows n A p) 0 locals ++ (item_lines 83 (item_rows n A p) locals (item_row_count (item_rows n A p) - locals)
       ++ (shared_lines (cell_rows p) (item_rows n A p) (area_rows n A) locals ++ total_line (cell_rows p) (item_rows n A p) p.probes (depth_of (rooms_in p))))) in
-      let e₂ = length-append (item_lines 76 (item_rows n A p) 0 locals) (item_lines 83 (item_rows n A p) locals (item_row_count (item_rows n A p) - locals) ++ (shared_lines (cell_rows p) (item_rows n A p) (area_rows n A) locals ++ total_line (cell_rows p) (item_rows n A p) p.probes (depth_of (rooms_in p)))) in
+      let e₂ = length-append (item_lines 76 (item_rows n A p) 0 locals) (item_lines 83 (item_rows n A p) locals (item_row_count (item_rows n A p) - locals) ++ (shared_lines
+      (cell_rows p) (item_rows n A p) (area_rows n A) locals ++ total_line (cell_rows p) (item_rows n A p) p.probes (depth_of (rooms_in p)))) in
       let e₃ = length-append (item_lines 83 (item_rows n A p) locals (item_row_count (item_rows n A p) - locals)) (shared_lines (cell_rows p) (item_rows n A p) (area_rows n A) locals ++ total_line (cell_rows p) (item_rows n A p) p.probes (depth_of (rooms_in p))) in
       let e₄ = length-append (shared_lines (cell_rows p) (item_rows n A p) (area_rows n A) locals) (total_line (cell_rows p) (item_rows n A p) p.probes (depth_of (rooms_in p))) in
       omega (arith, P.few, P.locals_in, P.few_locals, P.few_slots)

@@ -90,7 +90,7 @@ module _ (A : ℕ → Option (List Range)) (p : Plan) (one : A 0 ≡ some (range
 
   rows : p.cell 0 ≡ 0 → p.cell 1 ≡ 0 → item_rows 2 A p ≡ 0 ∷ 1 ∷ 0 ∷ 1 ∷ 0 ∷ 1 ∷ 1 ∷ 1 ∷ []
   unfolding ranges_of tabulate flat
-  rows e f = rw (e, f, one, two) refl
+  rows e f = simp (e, f, one, two)
 
   area_rows_lem : area_rows 2 A ≡ 2 ∷ 3 ∷ 6 ∷ 7 ∷ []
   unfolding gather tabulate flat

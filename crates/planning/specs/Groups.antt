@@ -7,7 +7,8 @@ use Rattle.job_space.specs.Rows.{Rows, rows_of}
 use Rattle.job_checks.specs.Job.{job_of}
 use Rattle.job_answers.specs.declared.Shared.{Shared}
 use Rattle.job.specs.Entry.{lent_verdict, verdict_of, SharedAs}
-use Rattle.text_grammar.specs.Groups.{head_group, block_group, edge_group, inst_group, operand_group, crossing_group, local_group, slot_group, address_group, end_group, piece_group, assigned_group, move_group}
+use Rattle.text_grammar.specs.Groups.{head_group, block_group, edge_group, inst_group, operand_group, crossing_group, local_group, slot_group}
+use Rattle.text_grammar.specs.Groups.{address_group, end_group, piece_group, assigned_group, move_group}
 
 -- the numbers of the records of each group
 module _ (group : ℕ → List ℕ) where

@@ -1,4 +1,6 @@
 // The planning program between its reader and its writer: from a job's rows to the bytes that it prints.
+#![tactic(auto)]
+
 ghost use Rattle.std.specs.Prelude.{◌≡◌, ℕ, ◌≤◌, length};
 ghost use Rattle.refusals.specs.declared.Verdict.TheVariants.{Fine};
 ghost use Rattle.refusals.specs.Verdicts.{number_of};

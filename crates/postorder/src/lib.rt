@@ -1,10 +1,12 @@
 // The places in the reverse postorder of a walk: loops aside, each after those that have an edge to it.
 // In the work space, of n places: the edge rows from `at` on, and from `base` on four regions of n numbers (specs/Walk.antt): order, rank, stack, next.
+#![tactic(auto)]
+
 ghost use Rattle.std.specs.Prelude.{◌≡◌, ◌+◌, ◌≤◌, ◌<◌, length, get_or};
 ghost use Rattle.postorder.specs.Inner.{Walkable, Ordered, Ready, push_list, Turned, Walked};
 
 // How many places the walk is in, and how many numbers of the order are still to be filled.
-#[derive(Drop)]
+#[derive(Clone, Copy)]
 pub struct Counts {
     depth: usize,
     left: usize,

@@ -162,7 +162,8 @@ module _ {ended : ℕ} {insts s : List ℕ} {l : ℕ} {w₀ w : List ℕ} {k : �
   pub end_unplaced : (i : ℕ) → k < mention_count s → i ≡ get_or s (mention_width * k) 0 → get_or insts (inst_width * i) 0 ≢ 1 → Ending ended insts s l w₀ w (k + 1)
   end_unplaced i h z e =
       end_none h
-      (λ m g. ap (λ (t : Bool). eqb (row_local s k) m && t) (ne_eqb (inst_placed insts (get_or s (mention_width * k) 0)) 1 (λ q. e (ap (λ (c : ℕ). get_or insts c 0) (ap (λ (c : ℕ). inst_width * c) z ∙ sym (add-zero (inst_width * get_or s (mention_width * k) 0))) ∙ q))) ∙ and-false (eqb (row_local s k) m))
+      (λ m g. ap (λ (t : Bool). eqb (row_local s k) m && t) (ne_eqb (inst_placed insts (get_or s (mention_width * k) 0)) 1 (λ q. e (ap (λ (c : ℕ). get_or insts c 0) (ap (λ (c : ℕ).
+      inst_width * c) z ∙ sym (add-zero (inst_width * get_or s (mention_width * k) 0))) ∙ q))) ∙ and-false (eqb (row_local s k) m))
 
   pub end_past : k < mention_count s → l ≤ row_local s k → Ending ended insts s l w₀ w (k + 1)
   end_past h p = end_none h (λ m g. ap (λ (t : Bool). t && is_set (inst_placed insts (get_or s (mention_width * k) 0))) (ne_eqb (row_local s k) m (λ z. absurd (omega arith))))

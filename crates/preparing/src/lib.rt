@@ -1,4 +1,6 @@
 // The preparation: the pass over the code, and what each local's walk reads, in the work space.
+#![tactic(auto)]
+
 ghost use Rattle.std.specs.Prelude.{◌≡◌, ℕ, ◌+◌, ◌*◌, ◌/◌, ◌≤◌, ◌<◌, [], eqb, length, get_or};
 ghost use Rattle.words.specs.Inner.{Rising};
 ghost use Rattle.words.specs.Widths.{inst_count, operand_count, mention_width, address_count, end_count};

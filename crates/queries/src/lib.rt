@@ -1,4 +1,6 @@
 // The queries of a plan that is lent: cells as rows of size and alignment, items as rows of cell, present, first and count, the locals first.
+#![tactic(auto)]
+
 ghost use Rattle.std.specs.Prelude.{◌≡◌, ◌+◌, ◌*◌, length};
 ghost use Rattle.queries.specs.Entry.{place_of, saved_of, local_of, slot_of, saved_by};
 ghost use Rattle.queries.specs.Shares.{share_of, shared_of, crowded_of, CrowdedBy};
@@ -7,7 +9,7 @@ use refusals::{Refusal, Verdict};
 use words::widths::{cell, item};
 
 // An item's cell; or there is no such item; or a refusal.
-#[derive(Drop)]
+#[derive(Clone, Copy)]
 pub enum Place {
     At(usize),
     Absent,
@@ -15,14 +17,14 @@ pub enum Place {
 }
 
 // How many cells sharing saved, or a refusal.
-#[derive(Drop)]
+#[derive(Clone, Copy)]
 pub enum Saving {
     Cells(usize),
     Refused(Refusal, usize),
 }
 
 // A local's shared area, as a part of the lent area list: its first range and how many; or there is none; or a refusal.
-#[derive(Drop)]
+#[derive(Clone, Copy)]
 pub enum Share {
     Part(usize, usize),
     Absent,
@@ -30,7 +32,7 @@ pub enum Share {
 }
 
 // How many slots are listed, or a refusal.
-#[derive(Drop)]
+#[derive(Clone, Copy)]
 pub enum Crowd {
     Slots(usize),
     Refused(Refusal, usize),

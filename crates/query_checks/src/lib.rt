@@ -1,4 +1,6 @@
 // The refusals of the queries: numbers 1, 7 and 10, in this order.
+#![tactic(auto)]
+
 ghost use Rattle.std.specs.Prelude.{◌≡◌, ◌||◌, ◌+◌};
 ghost use Rattle.query_checks.specs.Checks.{bad_count, items_verdict, plan_verdict, bad_areas, outside, parts_verdict, shared_verdict, crowded_verdict};
 

@@ -1,4 +1,6 @@
 // The queries' answers in one number.
+#![tactic(auto)]
+
 ghost use Rattle.std.specs.Prelude.{◌≡◌, ◌≤◌, length};
 ghost use Rattle.queries.specs.Entry.{place_of, saved_of, local_of, slot_of};
 ghost use Rattle.queries.specs.Shares.{crowd_of, share_of};

@@ -1,4 +1,6 @@
 // The queue of a walk: instructions whose defs are carried, each def once.
+#![tactic(auto)]
+
 ghost use Rattle.std.specs.Prelude.{◌+◌, ◌<◌};
 ghost use Rattle.queue.specs.Inner.{def_at, Held, Joined};
 

@@ -1,4 +1,6 @@
 // The refusals of the range entries: numbers 1, 7 and 10, in this order.
+#![tactic(auto)]
+
 ghost use Rattle.std.specs.Prelude.{◌≡◌, true, ◌+◌, ◌<◌, ◌^◌, length};
 ghost use Rattle.refusals.specs.Verdicts.{counted_on};
 ghost use Rattle.ranges.specs.Points.{range};

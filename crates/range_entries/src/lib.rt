@@ -1,4 +1,6 @@
 // The range entries: document 01, "Ranges". Each takes its lists as two columns of numbers, starts and ends.
+#![tactic(auto)]
+
 ghost use Rattle.std.specs.Prelude.{◌≡◌, length};
 ghost use Rattle.ranges.specs.Points.{range};
 ghost use Rattle.range_entries.specs.Entries.{merged_of, joined_of, union_of, clashes_of, clashing, Listed};
@@ -6,14 +8,14 @@ ghost use Rattle.range_entries.specs.Entries.{merged_of, joined_of, union_of, cl
 use refusals::{Refusal, Verdict};
 
 // The answer of an entry that writes ranges: how many it wrote, or its refusal.
-#[derive(Drop)]
+#[derive(Clone, Copy)]
 pub enum Counted {
     Ranges(usize),
     Refused(Refusal, usize),
 }
 
 // The answer of the clash test, or its refusal.
-#[derive(Drop)]
+#[derive(Clone, Copy)]
 pub enum Clash {
     Is(bool),
     Refused(Refusal, usize),

@@ -1,3 +1,2 @@
 pub mod LastLaws
 pub mod ColumnLaws
-pub mod Arrays

@@ -1,5 +1,7 @@
-// The range functions in the forms that document 01 names, where ranges are lent as structs. A function over a reference to a `Range` is thin and
-// proved by a walk of its code: it takes the ranges apart and calls a covered function.
+// The range functions in the forms that document 01 names, where ranges are lent as structs. A function over a reference to a `Range` is thin:
+// it takes the ranges apart and calls a covered function.
+#![tactic(auto)]
+
 ghost use Rattle.std.specs.Prelude.{◌≡◌, min};
 ghost use Rattle.range_entries.specs.Entries.{clashing};
 ghost use Rattle.range_forms.specs.Lent.{joined_of, taken_up, last_after, taking, Joins, clashes_of};
@@ -10,7 +12,7 @@ use ranges::Range;
 use refusals::Refusal;
 
 // Whether a range was taken up into the last one, or a refusal.
-#[derive(Drop)]
+#[derive(Clone, Copy)]
 pub enum TakenUp {
     Is(bool),
     Refused(Refusal, usize),

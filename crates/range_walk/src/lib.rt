@@ -1,4 +1,6 @@
 // One walk over a given area, a part of the area list: whether it is in order, and how many of its ranges were looked at.
+#![tactic(auto)]
+
 ghost use Rattle.std.specs.Prelude.{◌≡◌, true, not, ◌+◌, ◌≤◌, ◌<◌, take, drop};
 ghost use Rattle.words.specs.Widths.{range_count};
 ghost use Rattle.ranges.specs.Lent.{wrong_at, faulty};
@@ -8,7 +10,7 @@ ghost use Rattle.range_walk.specs.Walk.{bad_part, looked_in, looked_at};
 use words::widths::range;
 
 // What a walk tells: whether number 10 does not apply, and how many ranges it looked at.
-#[derive(Drop)]
+#[derive(Clone, Copy)]
 pub struct Look {
     pub fine: bool,
     pub looked: usize,

@@ -4,7 +4,7 @@ use mathlib.Core.Logic.{◌⊎◌, inl, inr}
 use mathlib.Core.Bool.{Bool, true, false, cond, ◌&&◌, ◌||◌, true≢false, false≢true}
 use mathlib.Core.List.Memᴰ
 use mathlib.Core.List.{List, [], ◌∷◌, ◌++◌, Memᴰ}
-use Prim.Native.Nat.{ℕ, ◌+◌, ◌≤◌, ◌<◌}
+use Prim.Native.Nat.{ℕ, ◌≤◌, ◌<◌}
 use native.Mathlib.Omega.{arith}
 use lib.Dec.{leb, ltb, eqb}
 use borrow.Author.Tests.{leb-true, leb-false, le-leb, ltb-true, ltb-false, lt-ltb, le-ltb, eqb-true, eqb-false, eq-eqb}
@@ -75,6 +75,10 @@ pub insert_none : (r : Range) → insert r [] ≡ r ∷ []
 unfolding insert
 insert_none r = refl
 
+-- of equal ranges
+insert_same : (x y z : Range) (l : List Range) → x ≡ y → insert x (y ∷ z ∷ l) ≡ insert y (x ∷ z ∷ l)
+insert_same x y z l e = cc
+
 -- two insertions may change places
 pub insert_swap : (x y : Range) (l : List Range) → insert x (insert y l) ≡ insert y (insert x l)
 unfolding insert
@@ -88,7 +92,7 @@ insert_swap x y [] = go (not_after x y) refl (not_after y x) refl
 insert_swap x y (z ∷ l) = go (not_after x z) refl (not_after y z) refl (insert_swap x y l)
   where
     front : not_after x z ≡ true → not_after y z ≡ true → (a : Bool) → not_after x y ≡ a → (b : Bool) → not_after y x ≡ b → insert x (y ∷ z ∷ l) ≡ insert y (x ∷ z ∷ l)
-    front p q true a true b = let e = le_same x y (not_after_lem x y a) (not_after_lem y x b) in rw e
+    front p q true a true b = insert_same x y z l (le_same x y (not_after_lem x y a) (not_after_lem y x b))
     front p q true a false b = simp (a, b, q)
     front p q false a true b = simp (a, b, p)
     front p q false a false b = absurd (true≢false (sym (is_not_after y x (total x y a)) ∙ b))

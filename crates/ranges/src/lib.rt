@@ -1,9 +1,11 @@
 // Ranges of points: document 01, "Ranges". The definitions and laws of lists of ranges stand here; `columns` and `packed` compute with them.
+#![tactic(auto)]
+
 ghost use Rattle.std.specs.Prelude.{◌≡◌};
 ghost use Rattle.ranges.specs.Points.{range, overlaps};
 
 // A range of points, both ends included.
-#[derive(Drop)]
+#[derive(Clone, Copy)]
 pub struct Range {
     pub start: u32,
     pub end: u32,

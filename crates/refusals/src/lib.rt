@@ -1,9 +1,11 @@
 // The refusals of documents 01 and 02, and the verdict of a check.
+#![tactic(auto)]
+
 ghost use Rattle.std.specs.Prelude.{◌≡◌};
 ghost use Rattle.refusals.specs.Verdicts.{number_of, first, room_verdict};
 
 // What is turned back, by the words of document 01's table and of document 02's numbers.
-#[derive(Drop)]
+#[derive(Clone, Copy)]
 pub enum Refusal {
     Count,
     Line,
@@ -20,14 +22,14 @@ pub enum Refusal {
 }
 
 // Fine, or a refusal with the index of its first offending record.
-#[derive(Drop)]
+#[derive(Clone, Copy)]
 pub enum Verdict {
     Fine,
     Bad(Refusal, usize),
 }
 
 // How many an entry gives of what it lists, or a refusal with the index of its first offending record.
-#[derive(Drop)]
+#[derive(Clone, Copy)]
 pub enum Answer {
     Given(usize),
     Refused(Refusal, usize),

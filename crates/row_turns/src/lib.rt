@@ -1,4 +1,6 @@
 // Rows of locals, a row a place, turned into rows of places, a row a local.
+#![tactic(auto)]
+
 ghost use Rattle.std.specs.Prelude.{◌≡◌, true, ℕ, ◌+◌, ◌*◌, ◌<◌};
 ghost use Rattle.bits.specs.Bits.{bit_of};
 ghost use Rattle.area_rows.specs.Inner.{Fits, Put};
@@ -7,7 +9,7 @@ ghost use Rattle.row_turns.specs.Inner.{column_of, both, Turnable, Turned};
 use area_rows::{Column, marks};
 
 // Two sets of rows of n places, `words` words each, from `one` and from `two` on, and the rows of `locals` locals, `width` words each, from `to` on.
-#[derive(Drop)]
+#[derive(Clone, Copy)]
 pub struct Turn {
     pub n: usize,
     pub words: usize,

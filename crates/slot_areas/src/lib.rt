@@ -1,4 +1,6 @@
 // The area of a slot, made in the work space from the live pieces of its register and from its moves.
+#![tactic(auto)]
+
 ghost use Rattle.std.specs.Prelude.{◌≡◌, [], ◌+◌, ◌/◌, ◌≤◌, ◌<◌, length};
 ghost use Rattle.refusals.specs.declared.Verdict.TheVariants.{Fine};
 ghost use Rattle.graph.specs.Line.{blocks_of, Sound};
@@ -14,7 +16,7 @@ use slot_spots::Places;
 use words::widths::moving;
 
 // Where an area stands, and one more than how many ranges it has, or 0 for none.
-#[derive(Drop)]
+#[derive(Clone, Copy)]
 pub struct Found {
     pub at: usize,
     pub plus: usize,

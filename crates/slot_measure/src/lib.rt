@@ -1,4 +1,6 @@
 // The area of a slot by the register that it holds, and an area put behind those so far with its item's word.
+#![tactic(auto)]
+
 ghost use Rattle.std.specs.Prelude.{◌≡◌, [], ◌+◌, ◌*◌, ◌≤◌, ◌<◌, length, get_or};
 ghost use Rattle.refusals.specs.declared.Verdict.TheVariants.{Fine};
 ghost use Rattle.words.specs.Widths.{block_count, piece_count, move_count};

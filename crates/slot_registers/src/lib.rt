@@ -1,4 +1,6 @@
 // The register of each slot, a word a slot.
+#![tactic(auto)]
+
 ghost use Rattle.std.specs.Prelude.{◌≡◌, ℕ, ◌+◌, ◌≤◌, ◌<◌, length, get_or};
 ghost use Rattle.words.specs.Inner.{Region};
 ghost use Rattle.areas.specs.Slots.{assigned_of, spilled};

@@ -160,13 +160,15 @@ module _ (blocks : List ℕ) {p : Places} {moves w₀ : List ℕ} {slot : ℕ} (
               let a = A.few in let c = L.fits in let k = kept₁.len in
               let K : Kept w₁ w₂ (top - count) count = record { same = λ i x y. B.kept.past i (omega arith) } in
               ap unpacked (kept_part_list K (omega arith) B.kept.len ∙ A.words ∙ ap (λ (u : ℕ → ℕ). words_of (λ i. move_to moves i) u slot (move_count moves)) v-is
-              ∙ words_are slot (λ (m : Move). cond (eqb m.to slot) (pack (cover_of points (blocks_of blocks) (insts_of insts []) m) ∷ []) []) (move_row moves) (λ i. move_to moves i) (λ i. pack (cover_of points (blocks_of blocks) (insts_of insts []) (move_row moves i))) (move_count moves) (λ i. refl))
+              ∙ words_are slot (λ (m : Move). cond (eqb m.to slot) (pack (cover_of points (blocks_of blocks) (insts_of insts []) m) ∷ []) []) (move_row moves) (λ i. move_to moves
+              i) (λ i. pack (cover_of points (blocks_of blocks) (insts_of insts []) (move_row moves i))) (move_count moves) (λ i. refl))
               ∙ unpacked_words points (blocks_of blocks) (insts_of insts []) (λ m. m.to) slot (move_count moves) (move_row moves) small
 
           from-words : unpacked (part (last - more) more w₂) ≡ moved_from points (blocks_of blocks) (insts_of insts []) (moves_of moves) slot
           from-words =
               ap unpacked (B.words ∙ ap (λ (u : ℕ → ℕ). words_of (λ i. move_from moves i) u slot (move_count moves)) v-is
-              ∙ words_are slot (λ (m : Move). cond (eqb m.from slot) (pack (cover_of points (blocks_of blocks) (insts_of insts []) m) ∷ []) []) (move_row moves) (λ i. move_from moves i) (λ i. pack (cover_of points (blocks_of blocks) (insts_of insts []) (move_row moves i))) (move_count moves) (λ i. refl))
+              ∙ words_are slot (λ (m : Move). cond (eqb m.from slot) (pack (cover_of points (blocks_of blocks) (insts_of insts []) m) ∷ []) []) (move_row moves) (λ i. move_from
+              moves i) (λ i. pack (cover_of points (blocks_of blocks) (insts_of insts []) (move_row moves i))) (move_count moves) (λ i. refl))
               ∙ unpacked_words points (blocks_of blocks) (insts_of insts []) (λ m. m.from) slot (move_count moves) (move_row moves) small
 
           whole : unpacked (part (p.to + move_count moves + move_count moves - r) r w₂) ≡ moved_from points (blocks_of blocks) (insts_of insts []) (moves_of moves) slot ++ moved_to points (blocks_of blocks) (insts_of insts []) (moves_of moves) slot

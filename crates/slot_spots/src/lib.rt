@@ -1,4 +1,6 @@
 // What slots have of their own, in the work space: the register of each, and the moves of each as chains.
+#![tactic(auto)]
+
 ghost use Rattle.std.specs.Prelude.{◌≡◌, [], ◌+◌, ◌*◌, ◌/◌, ◌≤◌, ◌<◌, length};
 ghost use Rattle.refusals.specs.declared.Verdict.TheVariants.{Fine};
 ghost use Rattle.words.specs.Rows.{field};
@@ -19,7 +21,7 @@ use words::widths::moving;
 // Where the moves of `slots` slots are kept, each region past the one before: from `table` on the place of each block, by its number; from `heads` on each
 // slot's last move to it, then each slot's last move from it; from `nexts` on for each move the one before it to the same slot, then the one before it from the
 // same slot; and from `to` on room for what the moves of one slot cover, two words a move.
-#[derive(Drop)]
+#[derive(Clone, Copy)]
 pub struct Places {
     pub slots: usize,
     pub table: usize,
@@ -29,7 +31,7 @@ pub struct Places {
 }
 
 // Where the moves stand chained by the slot in one column: 2 for the slot that a move goes to, 3 for the one that it comes from.
-#[derive(Drop)]
+#[derive(Clone, Copy)]
 struct Links {
     column: usize,
     heads: usize,

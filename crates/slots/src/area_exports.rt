@@ -5,8 +5,7 @@ ghost use Rattle.area_layout.specs.Layout.{space_for};
 ghost use Rattle.slots.specs.Exports.{ItemAreasCoded, LocalAreasCoded};
 
 // `item_areas::item_areas`.
-#[unsafe(no_mangle)]
-pub extern "C" fn slots_item_areas(
+pub fn slots_item_areas(
     points: u32,
     v: u32,
     blocks: &[u32],
@@ -35,8 +34,7 @@ pub extern "C" fn slots_item_areas(
 }
 
 // `area_entries::local_areas`.
-#[unsafe(no_mangle)]
-pub extern "C" fn slots_local_areas(
+pub fn slots_local_areas(
     blocks: &[u32],
     edges: &[u32],
     points: u32,
@@ -56,8 +54,7 @@ pub extern "C" fn slots_local_areas(
 }
 
 // W of `local_areas`, by the numbers of records and of ranges of the area list. That of `item_areas` is the whole job's.
-#[unsafe(no_mangle)]
-pub extern "C" fn slots_area_words(
+pub fn slots_area_words(
     blocks: u32,
     edges: u32,
     locals: u32,

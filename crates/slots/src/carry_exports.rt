@@ -6,8 +6,7 @@ ghost use Rattle.spilled_registers.specs.Spilled.{spilled_words};
 ghost use Rattle.slots.specs.Exports.{ReachCoded, CarriedCoded, MovedCoded, SpilledCoded};
 
 // `local_kinds::reach`.
-#[unsafe(no_mangle)]
-pub extern "C" fn slots_reach(
+pub fn slots_reach(
     points: u32,
     v: u32,
     blocks: &[u32],
@@ -29,8 +28,7 @@ pub extern "C" fn slots_reach(
 }
 
 // `carried_registers::carried`.
-#[unsafe(no_mangle)]
-pub extern "C" fn slots_carried(
+pub fn slots_carried(
     points: u32,
     v: u32,
     blocks: &[u32],
@@ -65,8 +63,7 @@ pub extern "C" fn slots_carried(
 }
 
 // `moved_ranges::moved`.
-#[unsafe(no_mangle)]
-pub extern "C" fn slots_moved(
+pub fn slots_moved(
     points: u32,
     v: u32,
     blocks: &[u32],
@@ -84,8 +81,7 @@ pub extern "C" fn slots_moved(
 }
 
 // `spilled_registers::spilled`.
-#[unsafe(no_mangle)]
-pub extern "C" fn slots_spilled(
+pub fn slots_spilled(
     v: u32,
     slots: u32,
     assigned: &[u32],
@@ -100,8 +96,7 @@ pub extern "C" fn slots_spilled(
 // ---- W by the numbers of records
 
 // Of `reach` and `carried`.
-#[unsafe(no_mangle)]
-pub extern "C" fn slots_reach_words(
+pub fn slots_reach_words(
     v: u32,
     blocks: u32,
     insts: u32,
@@ -119,22 +114,14 @@ pub extern "C" fn slots_reach_words(
 }
 
 // Of `moved`.
-#[unsafe(no_mangle)]
-pub extern "C" fn slots_moved_words(
-    v: u32,
-    blocks: u32,
-    insts: u32,
-    operands: u32,
-    moves: u32,
-) -> u64
+pub fn slots_moved_words(v: u32, blocks: u32, insts: u32, operands: u32, moves: u32) -> u64
     ensures { result ≡ moved_words v blocks insts operands moves }
 {
     moved_ranges::words(v, blocks, insts, operands, moves)
 }
 
 // Of `spilled`.
-#[unsafe(no_mangle)]
-pub extern "C" fn slots_spilled_words(v: u32, assigned: u32) -> u64
+pub fn slots_spilled_words(v: u32, assigned: u32) -> u64
     ensures { result ≡ spilled_words v assigned }
 {
     spilled_registers::words(v, assigned)

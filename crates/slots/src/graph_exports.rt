@@ -4,8 +4,7 @@ ghost use Rattle.part_codes.specs.Codes.{graph_words};
 ghost use Rattle.slots.specs.Exports.{ComponentsCoded, SettlingCoded};
 
 // `components::components`.
-#[unsafe(no_mangle)]
-pub extern "C" fn slots_components(
+pub fn slots_components(
     blocks: &[u32],
     edges: &[u32],
     points: u32,
@@ -18,8 +17,7 @@ pub extern "C" fn slots_components(
 }
 
 // `spread::settling`.
-#[unsafe(no_mangle)]
-pub extern "C" fn slots_settling(
+pub fn slots_settling(
     blocks: &[u32],
     edges: &[u32],
     points: u32,
@@ -32,8 +30,7 @@ pub extern "C" fn slots_settling(
 }
 
 // W of the entries over a graph, by the numbers of blocks, of edges and of words to a row (none for components and settling).
-#[unsafe(no_mangle)]
-pub extern "C" fn slots_graph_words(blocks: u32, edges: u32, words: u32) -> u64
+pub fn slots_graph_words(blocks: u32, edges: u32, words: u32) -> u64
     ensures { result ≡ graph_words blocks edges words }
 {
     part_codes::graph_words(blocks, edges, words)

@@ -1,4 +1,6 @@
-// The entries for C and Rust: numbers and slices, a slice as a pointer and then its length. Each answers in one number (`codes`).
+// The entries for C and Rust: numbers and slices. Each answers in one number (`codes`); `slots_c` exports them.
+#![tactic(auto)]
+
 ghost use Rattle.std.specs.Prelude.{◌≡◌, length};
 ghost use Rattle.ranges.specs.Points.{range, overlaps};
 ghost use Rattle.range_entries.specs.Entries.{merged_of, joined_of, union_of, clashes_of};
@@ -17,14 +19,13 @@ ghost use Rattle.job_codes.specs.Job.{JobCoded};
 use fitting::Terms;
 use job_space::Head;
 
-mod area_exports; // area_exports.rt: areas of items
-mod carry_exports; // carry_exports.rt: carried addresses, moves and slots
-mod graph_exports; // graph_exports.rt: components and an order
-mod text_exports; // text_exports.rt: a text in, a text out
+pub mod area_exports; // area_exports.rt: areas of items
+pub mod carry_exports; // carry_exports.rt: carried addresses, moves and slots
+pub mod graph_exports; // graph_exports.rt: components and an order
+pub mod text_exports; // text_exports.rt: a text in, a text out
 
 // `flow::flowed`: over predecessors for 0, else over successors.
-#[unsafe(no_mangle)]
-pub extern "C" fn slots_flowed(
+pub fn slots_flowed(
     over: u32,
     blocks: &[u32],
     edges: &[u32],
@@ -49,8 +50,7 @@ pub extern "C" fn slots_flowed(
 }
 
 // `spread::spread`.
-#[unsafe(no_mangle)]
-pub extern "C" fn slots_spread(
+pub fn slots_spread(
     blocks: &[u32],
     edges: &[u32],
     points: u32,
@@ -67,8 +67,7 @@ pub extern "C" fn slots_spread(
 }
 
 // `wants::fit_wants`: the plan's counts are cells, probes and depth.
-#[unsafe(no_mangle)]
-pub extern "C" fn slots_fit_wants(
+pub fn slots_fit_wants(
     wants: &[u32],
     areas: &[u32],
     locals: u32,
@@ -92,8 +91,7 @@ pub extern "C" fn slots_fit_wants(
 }
 
 // `job::share`, the whole job, with the counts as in `slots_fit_wants`.
-#[unsafe(no_mangle)]
-pub extern "C" fn slots_share(
+pub fn slots_share(
     points: u32,
     v: u32,
     budget: u32,
@@ -148,8 +146,7 @@ pub extern "C" fn slots_share(
 }
 
 // W of a job, by the numbers of its records.
-#[unsafe(no_mangle)]
-pub extern "C" fn slots_work_words(
+pub fn slots_work_words(
     v: u32,
     blocks: u32,
     edges: u32,
@@ -189,8 +186,7 @@ pub extern "C" fn slots_work_words(
 }
 
 // W of fitting alone, by the numbers of wants and of ranges.
-#[unsafe(no_mangle)]
-pub extern "C" fn slots_fit_words(wants: u32, ranges: u32) -> u64
+pub fn slots_fit_words(wants: u32, ranges: u32) -> u64
     ensures { result ≡ fit_space wants ranges }
 {
     8 * (wants as u64 + ranges as u64)
@@ -199,32 +195,28 @@ pub extern "C" fn slots_fit_words(wants: u32, ranges: u32) -> u64
 // ---- queries of a lent plan
 
 // `queries::local`: the cell of a local.
-#[unsafe(no_mangle)]
-pub extern "C" fn slots_local(cells: &[u32], items: &[u32], locals: u32, i: u32) -> u64
+pub fn slots_local(cells: &[u32], items: &[u32], locals: u32, i: u32) -> u64
     ensures { result ≡ option_code (local_of cells.now items.now locals i) }
 {
     query_codes::local(cells, items, locals, i)
 }
 
 // `queries::slot`: the cell of a slot.
-#[unsafe(no_mangle)]
-pub extern "C" fn slots_slot(cells: &[u32], items: &[u32], locals: u32, i: u32) -> u64
+pub fn slots_slot(cells: &[u32], items: &[u32], locals: u32, i: u32) -> u64
     ensures { result ≡ option_code (slot_of cells.now items.now locals i) }
 {
     query_codes::slot(cells, items, locals, i)
 }
 
 // `queries::saved`.
-#[unsafe(no_mangle)]
-pub extern "C" fn slots_saved(cells: &[u32], items: &[u32], locals: u32) -> u64
+pub fn slots_saved(cells: &[u32], items: &[u32], locals: u32) -> u64
     ensures { result ≡ count_code (saved_by cells.now items.now locals) }
 {
     query_codes::saving(queries::saved(cells, items, locals))
 }
 
 // `queries::shared`: of the part's first range and how many there are, as many as `part` has room for.
-#[unsafe(no_mangle)]
-pub extern "C" fn slots_shared(
+pub fn slots_shared(
     cells: &[u32],
     items: &[u32],
     areas: &[u32],
@@ -238,29 +230,21 @@ pub extern "C" fn slots_shared(
 }
 
 // `queries::crowded`.
-#[unsafe(no_mangle)]
-pub extern "C" fn slots_crowded(cells: &[u32], items: &[u32], locals: u32, out: &mut [u32]) -> u64
+pub fn slots_crowded(cells: &[u32], items: &[u32], locals: u32, out: &mut [u32]) -> u64
     ensures { CrowdCoded (crowded_of cells.now items.now locals (length out.old)) out.old result out.new }
 {
     query_codes::crowd(queries::crowded(cells, items, locals, out))
 }
 
 // `capping::cap`.
-#[unsafe(no_mangle)]
-pub extern "C" fn slots_cap(cells: &mut [u32], count: u32, most: u32) -> u64
+pub fn slots_cap(cells: &mut [u32], count: u32, most: u32) -> u64
     ensures { CapCoded cells.old count most result cells.new }
 {
     codes::verdict(capping::cap(cells, count, most))
 }
 
 // `apart::apart`.
-#[unsafe(no_mangle)]
-pub extern "C" fn slots_apart(
-    locals: &[u32],
-    slots: &[u32],
-    cells: &mut [u32],
-    items: &mut [u32],
-) -> u64
+pub fn slots_apart(locals: &[u32], slots: &[u32], cells: &mut [u32], items: &mut [u32]) -> u64
     ensures { ApartCoded (apart_verdict locals.now slots.now (length cells.old) (length items.old))
         (apart_of locals.now slots.now (length cells.old) (length items.old))
         cells.old items.old result cells.new items.new }
@@ -271,21 +255,14 @@ pub extern "C" fn slots_apart(
 // ---- ranges in two columns
 
 // `ranges::overlaps`: 1 or 0.
-#[unsafe(no_mangle)]
-pub extern "C" fn slots_overlaps(start: u32, end: u32, other_start: u32, other_end: u32) -> u64
+pub fn slots_overlaps(start: u32, end: u32, other_start: u32, other_end: u32) -> u64
     ensures { result ≡ truth_of (overlaps (range start end) (range other_start other_end)) }
 {
     codes::truth(ranges::overlaps(start, end, other_start, other_end))
 }
 
 // `range_entries::merged`.
-#[unsafe(no_mangle)]
-pub extern "C" fn slots_merged(
-    start: &[u32],
-    end: &[u32],
-    out_start: &mut [u32],
-    out_end: &mut [u32],
-) -> u64
+pub fn slots_merged(start: &[u32], end: &[u32], out_start: &mut [u32], out_end: &mut [u32]) -> u64
     ensures { ListCoded (merged_of start.now end.now (length out_start.old) (length out_end.old))
         out_start.old out_end.old result out_start.new out_end.new }
 {
@@ -293,8 +270,7 @@ pub extern "C" fn slots_merged(
 }
 
 // `range_entries::joined`.
-#[unsafe(no_mangle)]
-pub extern "C" fn slots_joined(
+pub fn slots_joined(
     start: &[u32],
     end: &[u32],
     new_start: u32,
@@ -309,8 +285,7 @@ pub extern "C" fn slots_joined(
 }
 
 // `range_entries::union`.
-#[unsafe(no_mangle)]
-pub extern "C" fn slots_union(
+pub fn slots_union(
     start: &[u32],
     end: &[u32],
     other_start: &[u32],
@@ -333,13 +308,7 @@ pub extern "C" fn slots_union(
 }
 
 // `range_entries::clashes`: 1 or 0.
-#[unsafe(no_mangle)]
-pub extern "C" fn slots_clashes(
-    start: &[u32],
-    end: &[u32],
-    other_start: &[u32],
-    other_end: &[u32],
-) -> u64
+pub fn slots_clashes(start: &[u32], end: &[u32], other_start: &[u32], other_end: &[u32]) -> u64
     ensures { result ≡ truth_code (clashes_of start.now end.now other_start.now other_end.now) }
 {
     part_codes::clash(range_entries::clashes(start, end, other_start, other_end))

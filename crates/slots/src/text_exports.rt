@@ -2,8 +2,7 @@
 ghost use Rattle.slots.specs.Exports.{TextCoded};
 
 // `planning::print_text`.
-#[unsafe(no_mangle)]
-pub extern "C" fn slots_print_text(text: &[u8], out: &mut [u8]) -> u64
+pub fn slots_print_text(text: &[u8], out: &mut [u8]) -> u64
     ensures { TextCoded text.now out.old result out.new }
 {
     text_codes::text_code(planning::print_text(text, out))

@@ -1,1 +1,2 @@
 // Demand 3: reads through an accepted plan are as with private bytes.
+#![tactic(auto)]

@@ -1,4 +1,6 @@
 // Refusal 5 about moves and refusal 6 about live pieces and assignments, in linear time and without work space.
+#![tactic(auto)]
+
 ghost use Rattle.std.specs.Prelude.{◌≡◌, cond, not, ◌||◌, [], ◌+◌, ◌*◌, ◌/◌, ◌≤◌, ◌<◌, leb};
 ghost use Rattle.words.specs.Widths.{block_count, inst_count, piece_count};
 ghost use Rattle.words.specs.Inner.{inst_placed};
@@ -15,7 +17,7 @@ use words::wide;
 use words::widths::{assigned, block, moving, piece};
 
 // Where a move stands: at the early or the late point of an instruction, at the start or the end of a block; stray for a move that is refused.
-#[derive(Drop)]
+#[derive(Clone, Copy)]
 pub enum Position {
     Early(u32),
     Late(u32),

@@ -1,4 +1,6 @@
 // The register of each slot: the last assigned to it.
+#![tactic(auto)]
+
 ghost use Rattle.std.specs.Prelude.{◌≡◌, ◌/◌, ◌≤◌, length, get_or};
 ghost use Rattle.words.specs.Inner.{Region};
 ghost use Rattle.words.specs.Widths.{assigned_count};

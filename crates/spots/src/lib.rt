@@ -1,4 +1,6 @@
 // Where the touches and the ends of one local stand in a work space, and what is looked up for them in the line.
+#![tactic(auto)]
+
 ghost use Rattle.std.specs.Prelude.{◌≡◌, ◌+◌, ◌/◌, ◌≤◌, ◌<◌, min, max, length, get_or};
 ghost use Rattle.words.specs.Inner.{Rising, part};
 ghost use Rattle.graph.specs.Line.{blocks_of, Sound};
@@ -9,7 +11,7 @@ use graph::Place;
 use words::widths::block;
 
 // The touches are the packed ranges `work[at .. at + count]`, the ends the points `work[ends .. ends + stops]`, rising.
-#[derive(Drop)]
+#[derive(Clone, Copy)]
 pub struct Spots {
     pub at: usize,
     pub count: usize,

@@ -1,11 +1,13 @@
 // `spread` in the work space: a place is looked at again only when its row grew, the lowest rank first.
+#![tactic(auto)]
+
 ghost use Rattle.std.specs.Prelude.{◌+◌, ◌*◌, ◌/◌, ◌<◌};
 ghost use Rattle.spread_rows.specs.Inner.{Laid, Pushed, Begun, Arrived};
 
 // Where `spread` finds and puts things in the work space, of n places: the edge rows from `at` on, the order in which places are looked at
 // from `order` on and each place's rank in it from `rank` on; rows of `words` words, the leaving bits from `leaves` on and the passing ones
 // from `passes` on; from `wait` on a row of bits over the ranks, of n / 64 + 1 words, and behind it the rows of what arrives.
-#[derive(Drop)]
+#[derive(Clone, Copy)]
 pub struct Layout {
     pub n: usize,
     pub at: usize,

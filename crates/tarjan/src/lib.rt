@@ -1,12 +1,14 @@
 // Tarjan's walk in the work space, with stacks of its own.
 // w[at..at + n + 1] is where each row starts, w[to + k] the target of edge k, and from base on six regions of n numbers:
 // num, stk, fr, lw, nxt and ord (specs/Walk.antt).
+#![tactic(auto)]
+
 ghost use Rattle.std.specs.Prelude.{◌≡◌, ℕ, ◌+◌, ◌-◌, ◌≤◌, ◌<◌, min, length, get_or, set};
 ghost use Rattle.tarjan.specs.Inner.Space.{Ready, Turned, Walked, Begun, Numbered, Closes, Closed, push_list, Looking, Looked, Leaving, Left};
 ghost use Rattle.tarjan.specs.Inner.Components.{Walkable, Found};
 
 // The counts of a walk: held nodes, frames, pieces, closed nodes.
-#[derive(Drop)]
+#[derive(Clone, Copy)]
 pub struct Counts {
     s: usize,
     d: usize,

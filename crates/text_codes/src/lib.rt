@@ -1,4 +1,6 @@
 // The answer of the text entry in one number.
+#![tactic(auto)]
+
 ghost use Rattle.std.specs.Prelude.{◌≡◌};
 ghost use Rattle.text_plan.specs.Printed.{written_of};
 ghost use Rattle.codes.specs.Codes.{count_code};

@@ -1,11 +1,13 @@
 // The grammar of job texts: its table of groups.
+#![tactic(auto)]
+
 ghost use Rattle.std.specs.Prelude.{◌≡◌, ◌<◌, length, get_or};
 ghost use Rattle.text_grammar.specs.Groups.{group_count, group_at, letters, index_of};
 ghost use Rattle.text_grammar.specs.Inner.{Tabled};
 
 // A group's numbers: how many fields its lines have, its place in the order and the places that the line before may have, the width and the
 // number of its rows, and where the first one stands.
-#[derive(Drop)]
+#[derive(Clone, Copy)]
 pub struct Entry {
     pub fields: usize,
     pub place: usize,

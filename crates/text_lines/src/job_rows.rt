@@ -18,7 +18,7 @@ const COUNT_PLACE: usize = INST_FIELDS + 1;
 
 // What is known of the lines so far: how many there are, the place of the last one in the order of groups, whether one was malformed and
 // which was the first, and whether a group has more lines than rows.
-#[derive(Drop)]
+#[derive(Clone, Copy)]
 pub struct Reader {
     pub lines: usize,
     pub place: usize,

@@ -14,7 +14,7 @@ use refusals::{Refusal, Verdict, earlier};
 use text_grammar::{ALLOWED, GROUP_COUNT, LONGEST, MOST_FIELDS, REGISTERS, ROW_NUMBERS, entry_of};
 
 // What is known of the lines so far, and how many bytes of the next one stand in the line buffer.
-#[derive(Drop)]
+#[derive(Clone, Copy)]
 pub struct State {
     pub reader: Reader,
     pub len: usize,

@@ -13,7 +13,7 @@ use refusals::{Refusal, Verdict};
 use words::widths::{cell, item, range};
 
 // How many bytes the text has, or a refusal.
-#[derive(Drop)]
+#[derive(Clone, Copy)]
 pub enum Written {
     Bytes(usize),
     Refused(Refusal, usize),

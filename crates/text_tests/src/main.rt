@@ -1,72 +1,79 @@
 // Reads job texts and prints what is answered: the verdict, and how many records each group has; the texts of a plan and of a refusal; lists that are too short and
 // texts in lent lists. Then the text on standard input, in pieces of seven bytes, and its rows. Held to the file `stdout`.
+#![tactic(auto)]
+
 ghost use Rattle.std.specs.Prelude.{◌≤◌, ◌<◌, ◌≡◌, length};
 ghost use Rattle.text_grammar.specs.Groups.{group_count, row_numbers};
 
 use planning::print_text;
 use refusals::{Refusal, Verdict, number};
+use std::io;
+use std::io::{Print, Stdout};
 use text_grammar::{GROUP_COUNT, INSTS, MOST_FIELDS, ROW_NUMBERS, entry_of};
 use text_lines::text::{feed, finish, read_text, start};
 use text_plan::plan_text::Written;
 
-fn say(s: &[u8]) {
-    io::write_all(1, s);
+fn say(stdout: Stdout, s: &[u8]) -> io::Result<()> {
+    stdout.write_all(s)
 }
 
-fn refused(r: Refusal, i: usize) {
-    say(b"N,");
-    io::print_decimal(1, number(r) as u64);
-    say(b",");
-    io::print_decimal(1, i as u64);
-    say(b"\n");
+fn refused(stdout: Stdout, r: Refusal, i: usize) -> io::Result<()> {
+    say(stdout, b"N,")?;
+    stdout.print(number(r) as u64)?;
+    say(stdout, b",")?;
+    stdout.print(i as u64)?;
+    say(stdout, b"\n")
 }
 
-fn counted(counts: &[u32]) {
+fn counted(stdout: Stdout, counts: &[u32]) -> io::Result<()> {
     let mut k = 0;
     while k < counts.len() {
-        say(b" ");
-        io::print_decimal(1, counts[k] as u64);
+        say(stdout, b" ")?;
+        stdout.print(counts[k] as u64)?;
         k += 1;
     }
-    say(b"\n");
+    say(stdout, b"\n")
 }
 
 // What a reading answers: a word and the counts, or the refusal.
-fn told(v: Verdict, word: &[u8], counts: &[u32]) {
+fn told(stdout: Stdout, v: Verdict, word: &[u8], counts: &[u32]) -> io::Result<()> {
     match v {
         Verdict::Fine => {
-            say(word);
-            counted(counts);
+            say(stdout, word)?;
+            counted(stdout, counts)?;
         }
-        Verdict::Bad(r, i) => refused(r, i),
+        Verdict::Bad(r, i) => refused(stdout, r, i)?,
     }
+    Ok(())
 }
 
-fn case(text: &[u8]) {
+fn case(stdout: Stdout, text: &[u8]) -> io::Result<()> {
     let mut rows = [0; ROW_NUMBERS];
     let mut counts = [0; GROUP_COUNT];
     let v = read_text(text, &mut rows, &mut counts);
-    told(v, b"fine", &counts);
+    told(stdout, v, b"fine", &counts)
 }
 
 // Each of some texts: a bar stands after each.
-fn cases(texts: &[u8]) {
+fn cases(stdout: Stdout, texts: &[u8]) -> io::Result<()> {
     let mut from = 0;
     let mut to = 0;
     while to < texts.len() {
         if texts[to] == b'|' {
-            case(&texts[from..to]);
+            case(stdout, &texts[from..to])?;
             to += 1;
             from = to;
         } else {
             to += 1;
         }
     }
+    Ok(())
 }
 
 // The order of the lines, and then their fields.
-fn texts() {
+fn texts(stdout: Stdout) -> io::Result<()> {
     cases(
+        stdout,
         b"|\
         H,20,0,1048576|\
         H,20,0,1048576\n|\
@@ -77,8 +84,9 @@ fn texts() {
         H,20,0,0\nI,-,2,3,0,0,-,-\nO,0,0\nO,1,1\nI,0,2,3,0,0,-,-\nX,5\n|\
         H,20,0,0\nX,5\nI,0,2,3,0,0,-,-\n|\
         H,20,0,0\n\nX,5\n|",
-    );
+    )?;
     cases(
+        stdout,
         b"H,20,0,0\r\n|\
         H,020,0,0\n|\
         H,4294967295,0,0\n|\
@@ -90,40 +98,41 @@ fn texts() {
         H,20,0,0\nP,-,0\n|\
         H,20,0,0\nQ,0\n|\
         H,20,0,0\nX,1111111111111111111111111111111111111111111111111111111111111111111111111111111111111111111111111111111111111111111111111111111111\nX,1\n|",
-    );
+    )
 }
 
-fn written(w: Written, out: &[u8]) {
+fn written(stdout: Stdout, w: Written, out: &[u8]) -> io::Result<()> {
     match w {
         Written::Bytes(n) => {
             if n <= out.len() {
-                say(&out[0..n]);
+                say(stdout, &out[0..n])?;
             }
         }
-        Written::Refused(r, i) => refused(r, i),
+        Written::Refused(r, i) => refused(stdout, r, i)?,
     }
+    Ok(())
 }
 
-fn plan(out: &mut [u8]) {
+fn plan(stdout: Stdout, out: &mut [u8]) -> io::Result<()> {
     let cells = [8, 8];
     let items = [0, 1, 0, 1, 0, 1, 1, 1];
     let areas = [2, 3, 6, 7];
     let w = text_plan::plan_text::print_plan(&cells, &items, &areas, 2, 1, 8, out);
-    written(w, out);
+    written(stdout, w, out)
 }
 
-fn refusal(out: &mut [u8]) {
+fn refusal(stdout: Stdout, out: &mut [u8]) -> io::Result<()> {
     let w = text_plan::plan_text::print_refusal(11, 4, out);
-    written(w, out);
+    written(stdout, w, out)
 }
 
 // In room enough, and in too little.
-fn plans() {
+fn plans(stdout: Stdout) -> io::Result<()> {
     let mut out = [0; 64];
     let mut short = [0; 40];
-    plan(&mut out);
-    plan(&mut short);
-    refusal(&mut out);
+    plan(stdout, &mut out)?;
+    plan(stdout, &mut short)?;
+    refusal(stdout, &mut out)
 }
 
 // How many numbers are no longer 7.
@@ -144,66 +153,67 @@ fn changed(s: &[u32]) -> u64
 }
 
 // What is answered, and how many numbers of each list are written.
-fn lent(text: &[u8], rows: &mut [u32], counts: &mut [u32]) {
+fn lent(stdout: Stdout, text: &[u8], rows: &mut [u32], counts: &mut [u32]) -> io::Result<()> {
     let v = read_text(text, rows, counts);
     match v {
-        Verdict::Fine => say(b"fine\n"),
-        Verdict::Bad(r, i) => refused(r, i),
+        Verdict::Fine => say(stdout, b"fine\n")?,
+        Verdict::Bad(r, i) => refused(stdout, r, i)?,
     }
-    io::print_decimal(1, changed(rows));
-    say(b" ");
-    io::print_decimal(1, changed(counts));
-    say(b"\n");
+    stdout.print(changed(rows))?;
+    say(stdout, b" ")?;
+    stdout.print(changed(counts))?;
+    say(stdout, b"\n")
 }
 
 // 11 before 1 before 7: a refusal leaves both lists as they were, and so do numbers past the answer.
-fn lists() {
+fn lists(stdout: Stdout) -> io::Result<()> {
     let mut rows = [7; 2116];
     let mut counts = [7; 14];
     let mut short = [7; 2114];
     let mut few = [7; 12];
-    lent(b"H,20,65,0\nQ,0\n", &mut short, &mut few);
-    lent(b"H,20,65,0\n", &mut short, &mut few);
-    lent(b"H,20,64,0\n", &mut short, &mut counts);
-    lent(b"H,20,64,0\n", &mut rows, &mut few);
-    lent(b"H,20,65,0\n", &mut rows, &mut counts);
-    lent(b"H,20,64,0\n", &mut rows, &mut counts);
+    lent(stdout, b"H,20,65,0\nQ,0\n", &mut short, &mut few)?;
+    lent(stdout, b"H,20,65,0\n", &mut short, &mut few)?;
+    lent(stdout, b"H,20,64,0\n", &mut short, &mut counts)?;
+    lent(stdout, b"H,20,64,0\n", &mut rows, &mut few)?;
+    lent(stdout, b"H,20,65,0\n", &mut rows, &mut counts)?;
+    lent(stdout, b"H,20,64,0\n", &mut rows, &mut counts)
 }
 
 // What `print_text` answers, and the whole list.
-fn printed(text: &[u8], out: &mut [u8]) {
+fn printed(stdout: Stdout, text: &[u8], out: &mut [u8]) -> io::Result<()> {
     let w = print_text(text, out);
     match w {
         Written::Bytes(n) => {
-            io::print_decimal(1, n as u64);
-            say(b"\n");
+            stdout.print(n as u64)?;
+            say(stdout, b"\n")?;
         }
-        Written::Refused(r, i) => refused(r, i),
+        Written::Refused(r, i) => refused(stdout, r, i)?,
     }
-    say(out);
-    say(b"|\n");
+    say(stdout, out)?;
+    say(stdout, b"|\n")
 }
 
-fn star(out: &mut [u8]) {
+fn star(stdout: Stdout, out: &mut [u8]) -> io::Result<()> {
     printed(
+        stdout,
         b"H,20,0,1048576\nB,0,0,19\nI,0,2,3,0,0,-,-\nI,0,6,7,0,0,-,-\nL,8,8\nL,4,4\nA,0,0\nA,1,1\n",
         out,
-    );
+    )
 }
 
 // In a list as long as the text, in one that is a byte shorter, and in a longer one; a refused job, and a malformed line.
-fn programs() {
+fn programs(stdout: Stdout) -> io::Result<()> {
     let mut exact = [b'.'; 46];
     let mut short = [b'.'; 45];
     let mut more = [b'.'; 50];
-    star(&mut exact);
-    star(&mut short);
-    star(&mut more);
+    star(stdout, &mut exact)?;
+    star(stdout, &mut short)?;
+    star(stdout, &mut more)?;
     let mut line = [b'.'; 7];
     let mut less = [b'.'; 6];
-    printed(b"H,20,0,0\n\n", &mut line);
-    printed(b"H,20,0,0\n\n", &mut less);
-    printed(b"H,20,0,0\nB,1,0,19\n", &mut less);
+    printed(stdout, b"H,20,0,0\n\n", &mut line)?;
+    printed(stdout, b"H,20,0,0\n\n", &mut less)?;
+    printed(stdout, b"H,20,0,0\nB,1,0,19\n", &mut less)
 }
 
 // Where the piece ends that begins there: seven bytes on, or with the text.
@@ -233,21 +243,22 @@ fn pieces(text: &[u8], rows: &mut [u32], counts: &mut [u32]) -> Verdict
     finish(s, rows)
 }
 
-fn input(text: &[u8]) {
+fn input(stdout: Stdout, text: &[u8]) -> io::Result<()> {
     let mut rows = [0; ROW_NUMBERS];
     let mut counts = [0; GROUP_COUNT];
     let v = pieces(text, &mut rows, &mut counts);
-    told(v, b"", &counts);
+    told(stdout, v, b"", &counts)?;
     let insts = entry_of(INSTS).base;
-    counted(&rows[insts..insts + 18]);
+    counted(stdout, &rows[insts..insts + 18])
 }
 
-fn main() {
-    texts();
-    plans();
-    lists();
-    programs();
+fn main(rt: HostRuntime) -> io::Result<()> {
+    let stdout = rt.stdout();
+    texts(stdout)?;
+    plans(stdout)?;
+    lists(stdout)?;
+    programs(stdout)?;
     let mut text = [0; 256];
-    let n = io::read_full(0, &mut text);
-    input(&text[0..n]);
+    let n = cases::input(rt.stdin(), &mut text)?;
+    input(stdout, &text[0..n])
 }

@@ -1,4 +1,6 @@
 // What a touch of an ending local covers in one block.
+#![tactic(auto)]
+
 ghost use Rattle.std.specs.Prelude.{◌≡◌, [], ◌<◌};
 ghost use Rattle.ranges.specs.Inner.{unpack};
 ghost use Rattle.areas.specs.Blocks.{cover};

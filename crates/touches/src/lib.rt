@@ -1,4 +1,6 @@
 // The touches and ends of one local of a job, in the work space: live pieces of the registers that carry its address, the points of its listed instructions, and its ends.
+#![tactic(auto)]
+
 ghost use Rattle.std.specs.Prelude.{ℕ, ◌+◌, ◌^◌, ◌≤◌, ◌<◌, length, get_or};
 ghost use Rattle.words.specs.Sort.{Distinct};
 ghost use Rattle.words.specs.Inner.{part};

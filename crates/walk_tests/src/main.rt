@@ -4,36 +4,41 @@
 // digits 0 to 3. A list is a character: how many ranges were looked at, a digit where the list is fine, else a letter (a is one); 64 to a line.
 // The cases: every part of the area list 1–2, 5–6, 6–9, 3–2, up to one range too far on either side, then absent ones; touching, reversed and equal ranges, also at the highest points;
 // an odd number left over; firsts and counts whose sum is over 32 bits; every list of up to three ranges, and of two at the highest points.
+#![tactic(auto)]
+
 ghost use Rattle.std.specs.Prelude.{◌≡◌, ◌≤◌, length};
 ghost use Rattle.cases.specs.Inner.{Ordered};
 
 use cases::Cuts;
 use range_walk::Look;
+use std::io;
+use std::io::Stdout;
 
-fn told(look: Look) {
+fn told(out: Stdout, look: Look) -> io::Result<()> {
     if look.fine {
-        cases::put(b" fine ", look.looked as u64);
+        cases::put(out, b" fine ", look.looked as u64)?;
     } else {
-        cases::put(b" bad ", look.looked as u64);
+        cases::put(out, b" bad ", look.looked as u64)?;
     }
-    cases::text(b"\n");
+    cases::text(out, b"\n")
 }
 
-fn letter(looked: usize) {
+fn letter(out: Stdout, looked: usize) -> io::Result<()> {
     match looked {
-        1 => cases::text(b"a"),
-        2 => cases::text(b"b"),
-        3 => cases::text(b"c"),
-        _ => cases::text(b"?"),
+        1 => cases::text(out, b"a"),
+        2 => cases::text(out, b"b"),
+        3 => cases::text(out, b"c"),
+        _ => cases::text(out, b"?"),
     }
 }
 
-fn mark(look: Look) {
+fn mark(out: Stdout, look: Look) -> io::Result<()> {
     if look.fine {
-        cases::put(b"", look.looked as u64);
+        cases::put(out, b"", look.looked as u64)?;
     } else {
-        letter(look.looked);
+        letter(out, look.looked)?;
     }
+    Ok(())
 }
 
 // List k of those over four points: its digits to the base of four.
@@ -50,59 +55,63 @@ fn fill(list: &mut [u32], k: usize, low: u32)
 }
 
 // The first `count` lists of so many ranges.
-fn lists(list: &mut [u32], ranges: u32, count: usize, low: u32)
+fn lists(out: Stdout, list: &mut [u32], ranges: u32, count: usize, low: u32) -> io::Result<()>
     requires { low ≤ 4294967292 }
 {
     let mut k = 0;
     while k < count {
         if k % 64 == 0 {
-            cases::text(b"\n");
+            cases::text(out, b"\n")?;
         }
         fill(list, k, low);
-        mark(range_walk::walk(list, 1, 0, ranges));
+        mark(out, range_walk::walk(list, 1, 0, ranges))?;
         k += 1;
     }
-    cases::text(b"\n");
+    cases::text(out, b"\n")
 }
 
-fn every(ranges: u32, low: u32) {
+fn every(out: Stdout, ranges: u32, low: u32) -> io::Result<()> {
     if low > 4294967292 {
-        return;
+        return Ok(());
     }
     let mut list = [0u32; 6];
     match ranges {
-        0 => lists(&mut list[0..0], 0, 1, low),
-        1 => lists(&mut list[0..2], 1, 16, low),
-        2 => lists(&mut list[0..4], 2, 256, low),
-        _ => lists(&mut list, 3, 4096, low),
+        0 => lists(out, &mut list[0..0], 0, 1, low),
+        1 => lists(out, &mut list[0..2], 1, 16, low),
+        2 => lists(out, &mut list[0..4], 2, 256, low),
+        _ => lists(out, &mut list, 3, 4096, low),
     }
 }
 
 // Runs what a case asks, by the first letter of its name.
-fn ask(name: u8, areas: &[u32], x: u32, y: u32, z: u32) {
+fn ask(out: Stdout, name: u8, areas: &[u32], x: u32, y: u32, z: u32) -> io::Result<()> {
     if name == b'w' {
-        told(range_walk::walk(areas, x, y, z));
+        told(out, range_walk::walk(areas, x, y, z))?;
     } else {
-        every(x, y);
+        every(out, x, y)?;
     }
+    Ok(())
 }
 
-fn run(name: u8, n: &[u32], e: Cuts)
+fn run(out: Stdout, name: u8, n: &[u32], e: Cuts) -> io::Result<()>
     requires { (length n.now ≡ 1024) × Ordered e 1024 }
 {
     let c0 = e.c0;
     let c1 = e.c1;
-    ask(name, &n[c0..c1], n[0], n[1], n[2]);
+    ask(out, name, &n[c0..c1], n[0], n[1], n[2])
 }
 
-fn main() {
+fn main(rt: HostRuntime) -> io::Result<()> {
+    let out = rt.stdout();
     let mut text = [0u8; 8192];
     let mut n = [0u32; 1024];
-    let len = io::read_full(0, &mut text);
+    let len = cases::input(rt.stdin(), &mut text)?;
     let mut i = 0;
     while i < len {
+        cases::name(out, &text, i)?;
         let e = cases::case(&text, i, &mut n);
-        run(text[i], &n, e);
+        run(out, text[i], &n, e)?;
         i = e.next;
     }
+    Ok(())
 }

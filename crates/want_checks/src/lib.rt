@@ -1,4 +1,6 @@
 // The refusals of fitting alone before it fits: numbers 1, 7 and 10, in this order.
+#![tactic(auto)]
+
 ghost use Rattle.std.specs.Prelude.{◌≡◌, ◌≤◌};
 ghost use Rattle.words.specs.Widths.{range_count, want_count};
 ghost use Rattle.want_checks.specs.Checks.{wants_verdict, over_limit, bad_count, bad_space, verdict};

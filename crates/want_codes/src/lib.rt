@@ -1,4 +1,6 @@
 // The answer of fitting alone in one number, and its counts.
+#![tactic(auto)]
+
 ghost use Rattle.std.specs.Prelude.{◌≤◌, length};
 ghost use Rattle.wants.specs.Entry.{answer_of, plan_for};
 ghost use Rattle.want_codes.specs.Inner.{PlanTold};

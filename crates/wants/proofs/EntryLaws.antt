@@ -10,7 +10,7 @@ use Rattle.refusals.specs.declared.Verdict.{Verdict}
 use Rattle.refusals.specs.declared.Verdict.TheVariants.{Fine, Bad}
 use Rattle.refusals.specs.declared.Refusal.{Refusal}
 use Rattle.refusals.proofs.Laws.{first_fine, first_bad}
-use Rattle.words.specs.Rows.{tabulate, flat}
+use Rattle.words.specs.Rows.{flat}
 use Rattle.words.specs.Regions.{cleared}
 use Rattle.words.specs.Widths.{cell_width, item_width, range_count, want_count, want_present, want_first, want_ranges}
 use Rattle.words.proofs.RowLaws.{length_tabulate, tabulate_eq}

@@ -15,7 +15,7 @@ use Rattle.refusals.specs.declared.Verdict.{Verdict}
 use Rattle.refusals.specs.declared.Verdict.TheVariants.{Fine}
 use Rattle.refusals.specs.Outcomes.{Outcome, given, refused, unless, after}
 use Rattle.refusals.proofs.Laws.{first_left, first_right}
-use Rattle.words.specs.Rows.{field, flat}
+use Rattle.words.specs.Rows.{field}
 use Rattle.words.specs.Widths.{cell_width, cell_size, cell_align, item_width, item_cell, item_present, item_first, item_ranges, range_width, range_count, want_width, want_count, want_present, want_first, want_ranges}
 use Rattle.words.proofs.RowLaws.{length_records, get_d_records, get_d_tabulate}
 use Rattle.words.proofs.FlatLaws.{flat_length, flat_at}

@@ -1,4 +1,6 @@
 // Fitting alone: the lowest fitting cell for each of the wants that are lent.
+#![tactic(auto)]
+
 ghost use Rattle.std.specs.Prelude.{length};
 ghost use Rattle.refusals.specs.declared.Verdict.TheVariants.{Fine};
 ghost use Rattle.words.specs.Widths.{range_count, want_count};
@@ -16,7 +18,7 @@ use refusals::{Refusal, Verdict};
 use words::widths::{range, want};
 
 // A plan's cells, the probes spent and its depth, or a refusal.
-#[derive(Drop)]
+#[derive(Clone, Copy)]
 pub enum Fitted {
     Plan(usize, u64, u64),
     Refused(Refusal, usize),

@@ -1,4 +1,6 @@
 // Lent numbers: regions of one list, searching.
+#![tactic(auto)]
+
 mod numbers; // numbers.rt: numbers of 32 bits
 mod regions; // regions.rt: fill, clear and copy
 mod search; // search.rt: binary search

@@ -1,0 +1,18 @@
+-- `apart_count` meets its contract: the first test that holds, else the last.
+use borrow.Author.Tests.{lt-ltb, le-ltb, eq-eqb, ne_eqb}
+use Rattle.apart.proofs.checks.apart_count.Goals as goal
+
+pub returns-then-locals-ne0 : goal.returns-then-locals-ne0
+returns-then-locals-ne0 c = simp (ne_eqb _ _ c.if-locals-ne0.true)
+
+pub returns-then-cells-ne0 : goal.returns-then-cells-ne0
+returns-then-cells-ne0 c = simp (eq-eqb _ _ c.if-locals-ne0.false, ne_eqb _ _ c.if-cells-ne0.true)
+
+pub returns-then-items-ne0 : goal.returns-then-items-ne0
+returns-then-items-ne0 c = simp (eq-eqb _ _ c.if-locals-ne0.false, eq-eqb _ _ c.if-cells-ne0.false, ne_eqb _ _ c.if-items-ne0.true)
+
+pub returns-then-locals-gt-MOST : goal.returns-then-locals-gt-MOST
+returns-then-locals-gt-MOST c = simp (eq-eqb _ _ c.if-locals-ne0.false, eq-eqb _ _ c.if-cells-ne0.false, eq-eqb _ _ c.if-items-ne0.false, lt-ltb _ _ c.if-locals-gt-MOST.true)
+
+pub returns : goal.returns
+returns c = simp (eq-eqb _ _ c.if-locals-ne0.false, eq-eqb _ _ c.if-cells-ne0.false, eq-eqb _ _ c.if-items-ne0.false, le-ltb _ _ c.if-locals-gt-MOST.false)

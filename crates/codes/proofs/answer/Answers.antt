@@ -1,0 +1,5 @@
+-- `codes::answer` meets its contract.
+use Rattle.codes.proofs.answer.Goals as goal
+
+pub returns-in-Refused : goal.returns-in-Refused
+returns-in-Refused c = rw c.in-Refused.is c.refused.ensures

@@ -1,0 +1,8 @@
+-- `flow::neighbours` meets its contract.
+use Rattle.flow.proofs.neighbours.Goals as goal
+
+pub returns-in-Predecessors : goal.returns-in-Predecessors
+returns-in-Predecessors c = rw c.in-Predecessors.is c.predecessors.ensures
+
+pub returns-in-Successors : goal.returns-in-Successors
+returns-in-Successors c = rw c.in-Successors.is c.successors.ensures

@@ -1,0 +1,7 @@
+-- `slot` meets its contract.
+use mathlib.Core.Path.{ap, ◌∙◌}
+use Rattle.codes.specs.Codes.{option_code}
+use Rattle.query_codes.proofs.slot.Goals as goal
+
+pub returns : goal.returns
+returns c = c.place.ensures ∙ ap option_code c.slot.ensures

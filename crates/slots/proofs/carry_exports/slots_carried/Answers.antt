@@ -1,0 +1,6 @@
+-- `slots::slots_carried` meets its contract.
+use Rattle.slots.proofs.carry_exports.slots_carried.Goals as goal
+
+pub returns : goal.returns
+returns c =
+    record { told = c.carried.result; answer = c.carried_code.ensures; holds = c.carried.ensures }

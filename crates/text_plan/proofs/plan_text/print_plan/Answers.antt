@@ -1,0 +1,34 @@
+-- `print_plan` meets its contract: refused, too long, or written.
+use native.Mathlib.Omega.{arith}
+use Rattle.text_plan.proofs.PlanLaws.{alike_fine, plan_refused, plan_long, plan_written}
+use Rattle.text_plan.proofs.PutLaws.{puts_length}
+use Rattle.text_plan.proofs.plan_text.print_plan.Goals as goal
+
+pub plan_verdict-v-requires : goal.plan_verdict-v-requires
+plan_verdict-v-requires c = tt
+
+pub returns-in-Bad : goal.returns-in-Bad
+returns-in-Bad c =
+    let a = c.args in
+    plan_refused a.cells.now a.items.now a.areas.now a.locals a.probes a.depth a.out.now _ _ _ c.plan_verdict-v.ensures c.in-Bad.is
+
+pub put_plan-n-requires : goal.put_plan-n-requires
+put_plan-n-requires c = (alike_fine _ _ c.plan_verdict-v.ensures c.in_default.is)
+
+pub returns-then-out-n : goal.returns-then-out-n
+returns-then-out-n c =
+    let a = c.args in
+    plan_long a.cells.now a.items.now a.areas.now a.locals a.probes a.depth a.out.now
+    (alike_fine _ _ c.plan_verdict-v.ensures c.in_default.is) c.put_plan-n.ensures c.if-out-n.true
+
+pub put_plan-requires : goal.put_plan-requires
+put_plan-requires c = (alike_fine _ _ c.plan_verdict-v.ensures c.in_default.is)
+
+pub shape_of-out : goal.shape_of-out
+shape_of-out c = puts_length c.put_plan.ensures
+
+pub returns : goal.returns
+returns c =
+    let a = c.args in
+    plan_written a.cells.now a.items.now a.areas.now a.locals a.probes a.depth a.out.now
+    (alike_fine _ _ c.plan_verdict-v.ensures c.in_default.is) c.put_plan-n.ensures (omega arith) c.put_plan.ensures

@@ -1,0 +1,32 @@
+-- `words::regions::fill` meets its contract: a turn keeps `Done`.
+use Rattle.words.proofs.RegionLaws.{done_start, done_more, done_all}
+use native.Mathlib.Omega.{arith}
+use mathlib.Core.Path.{refl}
+use Rattle.words.proofs.regions.fill.Goals as goal
+
+pub loop-i-init : goal.loop-i-init
+loop-i-init c = done_start _ _ _ _ (omega arith)
+
+pub overflow_add-w : goal.overflow_add-w
+overflow_add-w c = omega arith
+
+pub offset_bounds-w-at : goal.offset_bounds-w-at
+offset_bounds-w-at c = omega arith
+
+pub bounds-w-at : goal.bounds-w-at
+bounds-w-at c = omega arith
+
+pub overflow_add-i : goal.overflow_add-i
+overflow_add-i c = omega arith
+
+pub loop-i-smaller : goal.loop-i-smaller
+loop-i-smaller c = omega arith
+
+pub loop-i-preserved : goal.loop-i-preserved
+loop-i-preserved c = done_more c.loop-i.invariant _ _ (omega arith) refl refl
+
+pub shape_of-w : goal.shape_of-w
+shape_of-w c = omega arith
+
+pub returns : goal.returns
+returns c = done_all c.loop-i.invariant c.loop-i-test.false
