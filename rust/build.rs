@@ -1,4 +1,4 @@
-//! Links libslots.a: from the folder in SLOTS_LIB, else from the repository's target/staticlib, where `rt staticlib slots` writes it.
+//! Links libslots.a: from the folder in SLOTS_LIB, else from the repository's target/staticlib, where `tools/library` writes it.
 use std::path::PathBuf;
 
 fn main() {
@@ -9,7 +9,7 @@ fn main() {
     };
     let library = folder.join("libslots.a");
     if !library.is_file() {
-        panic!("no {}: run `rt staticlib slots`, or set SLOTS_LIB to the folder of libslots.a", library.display());
+        panic!("no {}: run `tools/library`, or set SLOTS_LIB to the folder of libslots.a", library.display());
     }
     println!("cargo:rustc-link-search=native={}", folder.display());
     println!("cargo:rustc-link-lib=static=slots");

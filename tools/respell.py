@@ -46,7 +46,7 @@ def declared():
     """Every name that is declared, with the files that declare it."""
     names = collections.defaultdict(set)
     for file in antt():
-        if os.path.basename(file) in WORKED:
+        if "/proofs/" in file and os.path.basename(file) in WORKED:
             continue
         for line in text_of(file).splitlines():
             if line.lstrip().startswith(("--", "use ")):

@@ -1,7 +1,7 @@
 """What the scripts here read of a crate: the definitions of specs/*.antt and proofs/*.antt with their comments and sections, the types and functions of src/*.rt, and
 which definitions a text names. By text alone, nothing is run.
 
-A name is followed where it stands free: not as a bound variable (`(x : T)`, `λ x.`, a pattern), not as a field (`r .x`, `record { x = .. }`). A field's record and a
+A name is followed where it stands free: not as a bound variable (`(x : T)`, `λ x.`, a pattern), not as a field (`r.x`, `record { x = .. }`). A field's record and a
 pattern's data type need not be followed by their own names: some type that is read anyway names them."""
 
 import collections
@@ -53,8 +53,8 @@ class File:
 
 
 def module_key(path):
-    """`Rattle·CRATE.specs.A.B` or `Rattle·CRATE·specs.specs.A.B`: the crate and the file; `declared` names a type of the code."""
-    m = re.match(r"Rattle·(\w+)(?:·(?:specs|proofs))?\.(specs|proofs)\.(.+)$", path)
+    """`Rattle.CRATE.specs.A.B` or `Rattle.CRATE.proofs.A.B`: the crate and the file; `declared` names a type of the code."""
+    m = re.match(r"Rattle\.(\w+)\.(specs|proofs)\.(.+)$", path)
     if not m:
         return None
     parts = m[3].split(".")
@@ -144,6 +144,21 @@ def with_comment(lines, at):
     return at
 
 
+CLAUSE = r"\s*(?:requires|ensures|ghost)\b"
+
+
+def contract_end(lines, i):
+    """The last line of the head and the contract of the function that begins in line i: behind clauses the body begins with a line `{`."""
+    asks = False
+    for j in range(i, len(lines)):
+        asks = asks or bool(re.match(CLAUSE, lines[j]))
+        if lines[j].startswith("{"):
+            return j - 1
+        if not asks and lines[j].rstrip().endswith(("{", "}")):
+            return j
+    return i
+
+
 def code_of(crate):
     """The types and the public functions of a crate's code."""
     types, functions = {}, []
@@ -159,11 +174,9 @@ def code_of(crate):
                 types[m[2]] = Type(Key(crate, "src", m[2]), path, i + 1, body, parts)
             m = re.match(r'pub (?:extern "C" )?fn (\w+)', line)
             if m:
-                end = next((j for j in range(i, len(lines)) if lines[j].startswith("{") or lines[j].endswith(") {") or lines[j].endswith("}")), i)
-                while end > i and lines[end].startswith("{"):
-                    end -= 1
+                end = contract_end(lines, i)
                 body = lines[with_comment(lines, i) : end + 1]
-                body[-1] = re.sub(r" \{.*$", "", body[-1]) if body[-1].endswith("{") else body[-1]
+                body[-1] = re.sub(r" \{.*$", "", body[-1]) if not any(re.match(CLAUSE, line) for line in body) else body[-1]
                 functions.append(Function(crate, path, i + 1, m[1], body, text))
     return types, functions
 
@@ -209,18 +222,27 @@ def free_names(text, patterns=False):
         elif left:
             bound_left.add(t)
         else:
-            for name in [t] + t.split("."):
+            for name in (t, t.split(".")[0]):  # of `r.x` the record alone
                 if name and not any(name in frame for frame in frames):
                     free.add(name)
         i += 1
     return free, bound_left
 
 
+def uses(text):
+    """The crate that each name comes from which a file of code brings in: `use graph::Line;`, `use graph::{Block, Line as Row};`."""
+    found = {}
+    for crate, braced, name in re.findall(r"^(?:pub )?use (\w+)::(?:\w+::)*(?:\{([^}]*)\}|(\w+(?: as \w+)?));", text, re.M):
+        for item in re.split(r",\s*", braced or name):
+            found[item.split(" as ")[-1].strip()] = crate
+    return found
+
+
 class Repository:
     """All crates of crates.txt, read once."""
 
     def __init__(self):
-        self.listed = re.findall(r"^(\w+):", (ROOT / "crates.txt").read_text(), re.M)
+        self.listed = re.findall(r"^(\w+)[^:\n]*:", (ROOT / "crates.txt").read_text(), re.M)
         self.files, self.types, self.functions, self.definitions, self.parts = {}, {}, {}, {}, {}
         for crate in self.listed:
             types, self.functions[crate] = code_of(crate)
@@ -228,7 +250,8 @@ class Repository:
                 self.types[crate, name] = kind
             for folder in ("specs", "proofs"):
                 for path in sorted((CRATES / crate / folder).rglob("*.antt")):
-                    if path.name not in ("Lib.antt", "Proof.antt"):
+                    worked = path.name in ("Proof.antt", "Invariants.antt", "Answers.antt") and path.parent.parent != CRATES / crate
+                    if path.name != "Lib.antt" and not worked:
                         self.add(File(crate, path))
 
     def add(self, file):
@@ -284,7 +307,7 @@ class Repository:
     def cited_by_type(self, kind):
         """The types that a struct's fields or an enum's cases name: those of its crate and those that its file uses."""
         text = kind.path.read_text()
-        used = dict((name, crate) for crate, name in re.findall(r"^(?:pub )?use (\w+)::(?:\w+::)*(\w+);", text, re.M))
+        used = uses(text)
         found = {}
         for name in re.findall(r"\b[A-Z]\w*", "\n".join(line for line in kind.lines if not line.lstrip().startswith("//"))):
             other = self.types.get((kind.key.crate, name)) or self.types.get((used.get(name), name))
@@ -296,13 +319,14 @@ class Repository:
         """What the contract of a function names, and the types of what it takes and answers."""
         known = imports(function.text)
         text = "\n".join(line for line in function.lines if not re.match(r"\s*//", line))
-        contract = text[min([text.find(word) for word in ("requires", "ensures") if word in text] or [len(text)]) :]
+        contract = text[min([m.start() for m in re.finditer(rf"(?m)^{CLAUSE}", text)] or [len(text)]) :]
+        contract = re.sub(r"(?m)^\s*(requires|ensures)\*? (\w+ )?\{", "{", contract)
         found = {}
         for name in sorted(free_names(contract)[0]):
             other = self.find(known.get(name))
             if other is not None:
                 found[other.key] = other
-        used = dict((name, crate) for crate, name in re.findall(r"^(?:pub )?use (\w+)::(?:\w+::)*(\w+);", function.text, re.M))
+        used = uses(function.text)
         for crate, name in re.findall(r"(?:\b(\w+)::)?\b([A-Z]\w*)", text[: len(text) - len(contract)]):
             other = self.types.get((crate or used.get(name) or function.crate, name)) or self.types.get((function.crate, name))
             if other is not None:

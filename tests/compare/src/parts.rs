@@ -59,7 +59,7 @@ fn hold_all(program: &Program, input: &str, printed: &str, tally: &mut Tally) {
 
 /// What a test program prints on that input.
 pub fn run(program: &str, input: &str) -> String {
-    let mut child = Command::new(format!("target/bin/{program}")).stdin(Stdio::piped()).stdout(Stdio::piped()).spawn().expect("the program is built");
+    let mut child = Command::new(format!("crates/{program}/out/{program}")).stdin(Stdio::piped()).stdout(Stdio::piped()).spawn().expect("the program is built");
     let mut stdin = child.stdin.take().unwrap();
     stdin.write_all(input.as_bytes()).unwrap();
     drop(stdin);

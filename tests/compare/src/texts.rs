@@ -35,7 +35,7 @@ pub fn print_text(r: &mut Random) -> usize {
 }
 
 fn run(text: &[u8]) -> Vec<u8> {
-    let mut child = Command::new("target/bin/plan").stdin(Stdio::piped()).stdout(Stdio::piped()).spawn().expect("the planning program is built");
+    let mut child = Command::new("crates/plan/out/plan").stdin(Stdio::piped()).stdout(Stdio::piped()).spawn().expect("the planning program is built");
     let mut stdin = child.stdin.take().unwrap();
     stdin.write_all(text).unwrap();
     drop(stdin);
