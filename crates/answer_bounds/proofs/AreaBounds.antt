@@ -7,7 +7,6 @@ use mathlib.Core.List.{List}
 use lib.ListN.{length}
 use lib.Dec.{ltb}
 use borrow.Author.Tests.{ltb-false}
-use Rattle.refusals.specs.declared.Verdict.TheVariants.{Fine}
 use Rattle.refusals.specs.declared.Refusal.TheVariants.{Count, Inst, Piece, Space, List as ListWord}
 use Rattle.refusals.proofs.Laws.{first_left, first_right, check_told}
 use Rattle.words.specs.Rows.{tabulate}
@@ -25,6 +24,7 @@ use Rattle.codes.specs.Inner.{Fits}
 use Rattle.codes.proofs.IndexLaws.{check_fits}
 use Rattle.answer_bounds.proofs.Steps.{no_more, order_fit, next_fits, few_fits, rows_fits, most_fits}
 use Rattle.answer_bounds.proofs.GraphBounds.{graph_fit}
+use Rattle.refusals.specs.Verdicts.{Fine}
 
 module _ (blocks edges : List ℕ) (points : ℕ) (kinds touches ends : List ℕ) (areas items work : ℕ) where
   abbrev ranges : ℕ

@@ -7,9 +7,8 @@ use mathlib.Core.Option.{some, none, none-ne-some, some-injective}
 use mathlib.Core.List.{List, [], ◌∷◌, ◌++◌}
 use lib.ListN.{length, length-append}
 use lib.Dec.{eqb, ltb}
-use Rattle.refusals.specs.declared.Verdict.TheVariants.{Fine}
 use Rattle.refusals.specs.declared.Refusal.TheVariants.{Count, Space}
-use Rattle.refusals.specs.Verdicts.{in_order}
+use Rattle.refusals.specs.Verdicts.{in_order, Fine}
 use Rattle.refusals.proofs.Laws.{first_left, first_right}
 use Rattle.words.specs.Widths.{local_count, mention_width, address_count, end_count, assigned_width, assigned_count, move_width, move_count}
 use Rattle.words.proofs.RowLaws.{length_records}

@@ -7,9 +7,7 @@ use mathlib.Core.List.{List, ◌++◌}
 use lib.ListN.{length}
 use lib.Dec.{eqb, ltb}
 use Rattle.refusals.specs.declared.Refusal.TheVariants.{Count, Space}
-use Rattle.refusals.specs.declared.Verdict.{Verdict}
-use Rattle.refusals.specs.declared.Verdict.TheVariants.{Fine}
-use Rattle.refusals.specs.Verdicts.{in_order, check}
+use Rattle.refusals.specs.Verdicts.{in_order, check, Fine, Verdict}
 use Rattle.refusals.proofs.Laws.{first_left}
 use Rattle.words.specs.Widths.{block_count, edge_count}
 use Rattle.graph.specs.Line.{blocks_of, jumps_of}

@@ -7,10 +7,8 @@ use mathlib.Core.List.{List, ◌++◌}
 use lib.ListN.{length}
 use lib.Dec.{ltb}
 use borrow.Author.Tests.{ltb-false}
-use Rattle.refusals.specs.declared.Verdict.{Verdict}
-use Rattle.refusals.specs.declared.Verdict.TheVariants.{Fine}
 use Rattle.refusals.specs.declared.Refusal.TheVariants.{Count, Space, List as ListWord}
-use Rattle.refusals.specs.Verdicts.{in_order, check}
+use Rattle.refusals.specs.Verdicts.{in_order, check, Fine, Verdict}
 use Rattle.refusals.proofs.Laws.{first_left, first_right, check_told}
 use Rattle.words.specs.Rows.{tabulate}
 use Rattle.words.specs.Widths.{edge_width, mention_width, local_width, local_count, address_count, end_count, piece_width, piece_count, assigned_width, assigned_count, move_width, move_count, cell_width, item_width, part_width, range_width}

@@ -7,9 +7,8 @@ use mathlib.Core.List.{List, [], ◌∷◌}
 use lib.ListN.{length, length-drop}
 use lib.Dec.{ltb}
 use borrow.Author.Tests.{ltb-false}
-use Rattle.refusals.specs.declared.Verdict.TheVariants.{Fine}
 use Rattle.refusals.specs.declared.Refusal.TheVariants.{Count, Space, Want as WantWord, Align, Depth}
-use Rattle.refusals.specs.Verdicts.{in_order, check}
+use Rattle.refusals.specs.Verdicts.{in_order, check, Fine}
 use Rattle.refusals.proofs.Laws.{check_told, first_left}
 use Rattle.words.specs.Rows.{whole_rows}
 use Rattle.words.specs.Widths.{local_count, cell_width, cell_count, item_width, item_row_count, range_count, want_count, slot_count}

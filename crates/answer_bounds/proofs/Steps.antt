@@ -8,9 +8,7 @@ use lib.ListN.{length}
 use lib.Dec.{eqb, ltb}
 use Rattle.refusals.specs.declared.Refusal.{Refusal}
 use Rattle.refusals.specs.declared.Refusal.TheVariants.{Count}
-use Rattle.refusals.specs.declared.Verdict.{Verdict}
-use Rattle.refusals.specs.declared.Verdict.TheVariants.{Fine}
-use Rattle.refusals.specs.Verdicts.{first, in_order, scan}
+use Rattle.refusals.specs.Verdicts.{first, in_order, scan, Fine, Verdict}
 use Rattle.words.specs.Widths.{block_width, block_count, inst_width, inst_count, operand_width, operand_count, local_width, mention_width}
 use Rattle.graph.specs.Line.{Stretch, Jump, line_verdict, edge_verdict}
 use Rattle.carrying.specs.Insts.{Inst}

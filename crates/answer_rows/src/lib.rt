@@ -13,12 +13,10 @@ pub fn write_rows(out: &mut [u32], w: &[u64], from: usize, n: usize, less: u64)
     requires { (range_width * n ≤ length out.old) × (from + n ≤ length w.now) × ((i : ℕ) → i < n → less ≤ get_or w.now (from + i) 0) }
     ensures { out.new ≡ rows_in w.now from n less ++ drop (range_width * n) out.old }
 {
-    let mut i = 0;
-    while i < n {
+    for i in 0..n {
         let x = w[from + i] - less;
         out[range::WIDTH * i] = (x / HALF) as u32;
         out[range::WIDTH * i + range::END] = (x % HALF) as u32;
-        i += 1;
     }
 }
 
@@ -53,12 +51,10 @@ pub fn write_items(out: &mut [u32], w: &[u64], from: usize, n: usize)
     requires { (part_width * n ≤ length out.old) × (from + n ≤ length w.now) }
     ensures { out.new ≡ rows_of w.now from n ++ drop (part_width * n) out.old }
 {
-    let mut i = 0;
-    while i < n {
+    for i in 0..n {
         let t = part(w[from + i]);
         out[part::WIDTH * i] = t.present;
         out[part::WIDTH * i + part::FIRST] = t.first;
         out[part::WIDTH * i + part::RANGES] = t.count;
-        i += 1;
     }
 }

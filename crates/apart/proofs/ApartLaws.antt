@@ -8,10 +8,9 @@ use mathlib.Core.List.{List, [], ◌∷◌, ◌++◌, map}
 use lib.ListN.{length, drop}
 use lib.Dec.{ltb, eqb}
 use borrow.Author.Tests.{ltb-false, lt-ltb, le-ltb}
-use Rattle.refusals.specs.declared.Verdict.TheVariants.{Fine, Bad}
 use Rattle.refusals.specs.declared.Refusal.{Refusal}
 use Rattle.refusals.specs.declared.Refusal.TheVariants.{Count, Space}
-use Rattle.refusals.specs.Verdicts.{check}
+use Rattle.refusals.specs.Verdicts.{check, Bad, Fine}
 use Rattle.refusals.specs.Outcomes.{numbered}
 use Rattle.refusals.proofs.Laws.{check_bad, check_fine, check_last}
 use Rattle.words.specs.Rows.{whole_rows, tabulate, flat}

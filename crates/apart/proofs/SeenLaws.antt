@@ -8,8 +8,6 @@ use mathlib.Core.List.{List, ◌++◌}
 use lib.ListN.{length, get_or, take, drop}
 use lib.Seq.{take_at}
 use borrow.Author.Tests.{eq-eqb}
-use Rattle.refusals.specs.declared.Verdict.{Verdict}
-use Rattle.refusals.specs.declared.Verdict.TheVariants.{Fine}
 use Rattle.refusals.specs.Outcomes.{unless, after}
 use Rattle.refusals.proofs.Laws.{numbered_fine}
 use Rattle.words.specs.Rows.{field, tabulate}
@@ -23,6 +21,7 @@ use Rattle.queries.proofs.SeenLaws.{RowsHold, plan_by, plan_seen}
 use Rattle.apart.specs.Apart.{locals_of, widths_of, apart_verdict, room_rows, lone_rows, apart_of, ApartBy}
 use Rattle.apart.specs.Inner.{own_cell, own_cells, own_items}
 use Rattle.apart.proofs.ApartLaws.{apart_passed, local_at, slot_at, widths_are, room_at, rooms_are, row_is, cells_are, items_are, lone, cell_wide}
+use Rattle.refusals.specs.Verdicts.{Fine, Verdict}
 
 module _ (locals slots : List ℕ) where
   abbrev count : ℕ

@@ -1,9 +1,8 @@
 -- What `apart` answers and refuses: document 01, numbers 1 and 7.
 use Rattle.std.specs.Prelude.{ℕ, ◌+◌, ◌/◌, ◌%◌, ◌≡◌, Bool, not, ◌||◌, List, [], ◌∷◌, ◌++◌, map, ltb, eqb}
 use Rattle.std.proofs.Math.Option.{none}
-use Rattle.refusals.specs.declared.Verdict.{Verdict}
 use Rattle.refusals.specs.declared.Refusal.TheVariants.{Count, Space}
-use Rattle.refusals.specs.Verdicts.{in_order, check}
+use Rattle.refusals.specs.Verdicts.{in_order, check, Verdict}
 use Rattle.refusals.specs.Outcomes.{Outcome, unless, numbered, after}
 use Rattle.words.specs.Rows.{whole_rows, records, flat}
 use Rattle.words.specs.Widths.{local_width, local_count, cell_width, item_width, slot_count}

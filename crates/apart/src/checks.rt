@@ -2,7 +2,7 @@
 ghost use Rattle.std.specs.Prelude.{◌≡◌};
 ghost use Rattle.apart.specs.Apart.{apart_count, apart_space, apart_verdict};
 
-use refusals::{Refusal, Verdict};
+use refusals::{Refusal, Refused, Verdict};
 use words::widths::{cell, item, local};
 
 // The most locals and slots.
@@ -40,10 +40,10 @@ pub fn apart(locals: &[u32], slots: &[u32], cells: usize, items: usize) -> Verdi
     ensures { result ≡ apart_verdict locals.now slots.now cells items }
 {
     if apart_count(locals, slots, cells, items) {
-        return Verdict::Bad(Refusal::Count, 0);
+        return Err(Refused(Refusal::Count, 0));
     }
     if apart_space(locals.len() / local::WIDTH + slots.len(), cells, items) {
-        return Verdict::Bad(Refusal::Space, 0);
+        return Err(Refused(Refusal::Space, 0));
     }
-    Verdict::Fine
+    Ok(())
 }

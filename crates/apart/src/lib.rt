@@ -18,13 +18,10 @@ pub fn apart(locals: &[u32], slots: &[u32], cells: &mut [u32], items: &mut [u32]
         (apart_of locals.now slots.now (length cells.old) (length items.old))
         cells.old items.old result cells.new items.new }
 {
-    let v = checks::apart(locals, slots, cells.len(), items.len());
-    if let Verdict::Bad(r, k) = v {
-        return Verdict::Bad(r, k);
-    }
+    checks::apart(locals, slots, cells.len(), items.len())?;
     own_cells(cells, locals, slots);
     own_items(items, locals.len() / local::WIDTH + slots.len());
-    Verdict::Fine
+    Ok(())
 }
 
 fn own_cells(cells: &mut [u32], locals: &[u32], slots: &[u32])
@@ -33,19 +30,14 @@ fn own_cells(cells: &mut [u32], locals: &[u32], slots: &[u32])
         ++ drop (cell_width * (local_count locals.now + slot_count slots.now)) cells.old }
 {
     let l = locals.len() / local::WIDTH;
-    let n = l + slots.len();
-    let mut i = 0;
-    while i < n {
-        if i < l {
-            cells[cell::WIDTH * i] = locals[local::WIDTH * i];
-            cells[cell::WIDTH * i + cell::ALIGN] = locals[local::WIDTH * i + local::ALIGN];
-            i += 1;
-        } else {
-            let width = slots[i - l];
-            cells[cell::WIDTH * i] = width;
-            cells[cell::WIDTH * i + cell::ALIGN] = width;
-            i += 1;
-        }
+    for i in 0..l {
+        cells[cell::WIDTH * i] = locals[local::WIDTH * i];
+        cells[cell::WIDTH * i + cell::ALIGN] = locals[local::WIDTH * i + local::ALIGN];
+    }
+    for (s, width) in slots.iter().enumerate() {
+        let at = cell::WIDTH * (l + s);
+        cells[at] = *width;
+        cells[at + cell::ALIGN] = *width;
     }
 }
 
@@ -53,12 +45,10 @@ fn own_items(items: &mut [u32], n: usize)
     requires { (item_width * n ≤ length items.old) × (n ≤ 4096) }
     ensures { items.new ≡ own_items n ++ drop (item_width * n) items.old }
 {
-    let mut i = 0;
-    while i < n {
+    for i in 0..n {
         items[item::WIDTH * i] = i as u32;
         items[item::WIDTH * i + item::PRESENT] = 0;
         items[item::WIDTH * i + item::FIRST] = 0;
         items[item::WIDTH * i + item::RANGES] = 0;
-        i += 1;
     }
 }

@@ -8,11 +8,9 @@ use lib.ListN.{length, get_or}
 use lib.Dec.{eqb, leb, ltb}
 use borrow.Author.Tests.{lt-ltb, le-ltb, ltb-false}
 use Rattle.words.proofs.Bools.{or_neither}
-use Rattle.refusals.specs.declared.Verdict.{Verdict}
-use Rattle.refusals.specs.declared.Verdict.TheVariants.{Fine, Bad}
 use Rattle.refusals.specs.declared.Refusal.{Refusal}
 use Rattle.refusals.specs.declared.Refusal.TheVariants.{Count, Inst, Space}
-use Rattle.refusals.specs.Verdicts.{first, scan}
+use Rattle.refusals.specs.Verdicts.{first, scan, Bad, Fine, Verdict}
 use Rattle.refusals.proofs.Laws.{first_fine, first_bad, first_left, first_right, check_told}
 use Rattle.words.specs.Rows.{row_count, field}
 use Rattle.words.specs.Widths.{touch_width, stop_width, part_width, range_width}

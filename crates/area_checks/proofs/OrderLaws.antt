@@ -5,9 +5,8 @@ use mathlib.Core.Bool.{◌||◌}
 use mathlib.Core.List.{List, [], ◌∷◌, ◌++◌}
 use lib.ListN.{length}
 use lib.Dec.{ltb}
-use Rattle.refusals.specs.declared.Verdict.{Verdict}
 use Rattle.refusals.specs.declared.Refusal.TheVariants.{Count, Line, Edge, Inst, Piece, Space}
-use Rattle.refusals.specs.Verdicts.{number_of, first, in_order}
+use Rattle.refusals.specs.Verdicts.{number_of, first, in_order, Verdict}
 use Rattle.refusals.specs.Orders.{Giving, Ordered}
 use Rattle.refusals.proofs.Orders.{check_gives, scan_gives, order_two, order_more, order_append}
 use Rattle.graph.specs.Checks.{bad_count, graph_checks, graph_verdict}

@@ -1,9 +1,8 @@
 -- Areas of touches and ends lent by themselves: what is refused before anything is measured (numbers 1, 2, 3, 4, 6 and 7), and W.
 use Rattle.std.specs.Prelude.{ℕ, ◌/◌, ◌||◌, List, [], ◌∷◌, length, get_or, ltb}
-use Rattle.refusals.specs.declared.Verdict.{Verdict}
 use Rattle.refusals.specs.declared.Refusal.{Refusal}
 use Rattle.refusals.specs.declared.Refusal.TheVariants.{Count, Line, Edge, Inst, Piece, Space}
-use Rattle.refusals.specs.Verdicts.{first, check, scan}
+use Rattle.refusals.specs.Verdicts.{first, check, scan, Verdict}
 use Rattle.words.specs.Rows.{row_count, field}
 use Rattle.words.specs.Widths.{block_count, edge_count, touch_width, stop_width, part_width, range_width}
 use Rattle.graph.specs.Checks.{count_verdict, graph_verdict}

@@ -2,9 +2,9 @@
 use Rattle.std.specs.Prelude.{ℕ, ◌≤◌, ◌≡◌, List, length}
 use Rattle.area_layout.specs.Layout.{space_for}
 use Rattle.area_layout.specs.Inner.{Small}
-use Rattle.refusals.specs.declared.Verdict.TheVariants.{Fine}
 use Rattle.graph.specs.Line.{blocks_of, jumps_of, edge_verdict, Sound}
 use Rattle.area_checks.specs.Checks.{sizes_of, touch_verdict}
+use Rattle.refusals.specs.Verdicts.{Fine}
 
 -- what no refusal before measuring says of the lists, the area list by its length
 pub record Lent (blocks edges kinds touches ends : List ℕ) (areas : ℕ) (w : List ℕ) : Type 0 where

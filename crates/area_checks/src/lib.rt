@@ -11,7 +11,7 @@ ghost use Rattle.area_layout.specs.Inner.{Numbers, Small};
 ghost use Rattle.area_checks.specs.Checks.{row_counts, kinds_verdict, touch_verdict, space_verdict, lent_verdict};
 
 use area_layout::Sizes;
-use refusals::{Refusal, Verdict};
+use refusals::{Refusal, Refused, Verdict};
 use words::widths::{block, edge, part, range, stop, touch};
 
 // Refusal 1 of the locals, the touches, the ends, the area list and the list of items, by their lengths.
@@ -59,14 +59,12 @@ fn first_off_line(blocks: &[u32], touches: &[u32]) -> Verdict
     ensures { result ≡ touch_verdict blocks.now touches.now }
 {
     let n = touches.len() / touch::WIDTH;
-    let mut i = 0;
-    while i < n {
+    for i in 0..n {
         if off_line(blocks, touches, i) {
-            return Verdict::Bad(Refusal::Piece, i);
+            return Err(Refused(Refusal::Piece, i));
         }
-        i += 1;
     }
-    Verdict::Fine
+    Ok(())
 }
 
 // W, the words of work space that are needed. No sum is too large for numbers of 32 bits.
@@ -98,12 +96,12 @@ fn short(z: Sizes, items: usize, work: usize) -> Verdict
     ensures { result ≡ space_verdict z items work }
 {
     if work < needed(z) {
-        return Verdict::Bad(Refusal::Space, 0);
+        return Err(Refused(Refusal::Space, 0));
     }
     if items / part::WIDTH < z.locals {
-        return Verdict::Bad(Refusal::Space, 0);
+        return Err(Refused(Refusal::Space, 0));
     }
-    Verdict::Fine
+    Ok(())
 }
 
 // Of the entry, by the lent blocks, edges, kinds and touches and the lengths of the other lists.
@@ -120,14 +118,8 @@ pub fn refusal(
 ) -> Verdict
     ensures { result ≡ lent_verdict blocks.now edges.now points kinds.now touches.now ends areas items work }
 {
-    let v = counts(kinds.len(), touches.len(), ends, areas, items);
-    if let Verdict::Bad(r, i) = v {
-        return Verdict::Bad(r, i);
-    }
-    let v = line_checks::check(blocks, edges, points);
-    if let Verdict::Bad(r, i) = v {
-        return Verdict::Bad(r, i);
-    }
+    counts(kinds.len(), touches.len(), ends, areas, items)?;
+    line_checks::check(blocks, edges, points)?;
     let z = Sizes {
         blocks: blocks.len() / block::WIDTH,
         edges: edges.len() / edge::WIDTH,

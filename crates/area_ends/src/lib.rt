@@ -46,11 +46,9 @@ fn covers(blocks: &[u32], work: &mut [u64], t: Spots, s: Local) -> usize
     ensures { (es : List Edge) → Covers (line_of blocks.now es) (ends_at t work.old) s (touches_at t work.old) result work.old work.new }
 {
     let mut m = 0;
-    let mut i = 0;
-    while i < t.count {
+    for i in 0..t.count {
         let x = work[t.at + i];
         m = cover_touch(blocks, work, t, s, x, m);
-        i += 1;
     }
     m
 }

@@ -4,10 +4,8 @@ use mathlib.Core.Path.{◌≡◌, refl, sym, ap, ◌∙◌}
 use mathlib.Core.Option.{Option}
 use mathlib.Core.List.{List, ◌++◌}
 use lib.ListN.{length, drop, replicate, length-replicate}
-use Rattle.refusals.specs.declared.Verdict.{Verdict}
-use Rattle.refusals.specs.declared.Verdict.TheVariants.{Fine, Bad}
 use Rattle.refusals.specs.declared.Refusal.{Refusal}
-use Rattle.refusals.specs.Verdicts.{first}
+use Rattle.refusals.specs.Verdicts.{first, Bad, Fine, Verdict, Answer}
 use Rattle.refusals.proofs.Laws.{first_fine, first_bad}
 use Rattle.words.specs.Regions.{cleared}
 use Rattle.words.specs.Widths.{range_count}
@@ -15,8 +13,6 @@ use Rattle.ranges.specs.declared.Range.{Range}
 use Rattle.graph.specs.Inner.Work.{Within}
 use Rattle.components.proofs.Entries.{cleared_same}
 use Rattle.area_measure.specs.Locals.{area_for}
-use Rattle.refusals.specs.declared.Answer.{Answer}
-use Rattle.refusals.specs.declared.Answer.TheVariants.{Refused}
 use Rattle.area_layout.specs.Layout.{space_for}
 use Rattle.item_lists.specs.Lists.{AnsweredBy}
 use Rattle.area_entries.specs.Entry.{verdict_of, LocalAreas}
@@ -29,6 +25,7 @@ use Rattle.areas.proofs.UprightLaws.{local_upright}
 use Rattle.local_spots.specs.Locals.{touches_for, ends_for}
 use Rattle.lent_areas.proofs.SolveLaws.{lent_in_line}
 use Rattle.area_checks.proofs.CheckLaws.{lent}
+use Rattle.std.specs.Prelude.{Err}
 
 module _ (blocks edges : List ℕ) (points : ℕ) (kinds touches ends areas items work : List ℕ) where
   abbrev lent_v : Verdict
@@ -46,7 +43,7 @@ module _ (blocks edges : List ℕ) (points : ℕ) (kinds touches ends areas item
   by_parts : verdict_of blocks edges points kinds touches ends (length areas) (length items) (length work) ≡ first lent_v list_v
   by_parts = local_verdict blocks edges points kinds touches ends (length areas) (length items) (length work)
 
-  pub refused_entry : (r : Refusal) (i : ℕ) → lent_v ≡ Bad r i → LocalAreas blocks edges points kinds touches ends areas items work (Refused r i) areas items work
+  pub refused_entry : (r : Refusal) (i : ℕ) → lent_v ≡ Bad r i → LocalAreas blocks edges points kinds touches ends areas items work (Err (r, i)) areas items work
   refused_entry r i e = record {
     lists = rw (by_parts ∙ first_bad lent_v list_v r i e) (record { answer = refl; in_areas = refl; in_items = refl });
     in_work = rw e refl;

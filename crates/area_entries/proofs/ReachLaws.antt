@@ -15,11 +15,11 @@ use Rattle.areas.specs.Job.{Job, graph_of, touches_in, area_by, local_area}
 use Rattle.local_kinds.specs.Entry.{kinds_of}
 use Rattle.local_spots.specs.Locals.{kind_for, touches_for, ends_for}
 use Rattle.area_measure.specs.Locals.{area_for}
-use Rattle.refusals.specs.declared.Answer.{Answer}
 use Rattle.item_lists.specs.Lists.{AnsweredBy}
 use Rattle.item_lists.proofs.TableLaws.{answered_same}
 use Rattle.lent_areas.specs.Areas.{graph_for}
 use Rattle.area_entries.specs.Entry.{verdict_of, LocalAreas}
+use Rattle.refusals.specs.Verdicts.{Answer}
 
 -- the kinds that `reach` answers of n locals, the touches and the ends of the definition
 pub record Handed (J : Job) (n : ℕ) (blocks edges touches ends : List ℕ) : Type 0 where

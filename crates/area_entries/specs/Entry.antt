@@ -1,12 +1,10 @@
 -- Document 01, "Areas of items", of touches and ends lent by themselves: what the entry answers and refuses.
 use Rattle.std.specs.Prelude.{ℕ, ◌/◌, ◌≡◌, List, [], ◌∷◌, ◌++◌, length, replicate}
-use Rattle.refusals.specs.declared.Verdict.{Verdict}
 use Rattle.refusals.specs.declared.Refusal.{Refusal}
 use Rattle.refusals.specs.declared.Refusal.TheVariants.{List as ListWord}
-use Rattle.refusals.specs.Verdicts.{in_order}
+use Rattle.refusals.specs.Verdicts.{in_order, Verdict, Answer}
 use Rattle.refusals.specs.Outcomes.{unless, after}
 use Rattle.area_measure.specs.Locals.{area_for}
-use Rattle.refusals.specs.declared.Answer.{Answer}
 use Rattle.item_lists.specs.Lists.{AnsweredBy}
 use Rattle.area_layout.specs.Layout.{space_for}
 use Rattle.area_checks.specs.Checks.{sizes_of, lent_verdict, lent_checks, lent_give}

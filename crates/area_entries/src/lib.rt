@@ -3,7 +3,7 @@
 
 ghost use Rattle.area_entries.specs.Entry.{LocalAreas};
 
-use refusals::{Answer, Verdict};
+use refusals::Answer;
 use words::widths::{block, edge, range, stop, touch};
 
 // The area of each local by its kind (0 unfollowed, 1 plain, 2 ending, as `reach` answers them): from its touches (rows local, start, end) and, of an ending one,
@@ -26,7 +26,7 @@ pub fn local_areas(
     ensures { LocalAreas blocks.now edges.now points kinds.now touches.now ends.now
         areas.old items.old work.old result areas.new items.new work.new }
 {
-    let v = area_checks::refusal(
+    area_checks::refusal(
         blocks,
         edges,
         points,
@@ -36,10 +36,7 @@ pub fn local_areas(
         areas.len(),
         items.len(),
         work.len(),
-    );
-    if let Verdict::Bad(r, i) = v {
-        return Answer::Refused(r, i);
-    }
+    )?;
     let w = area_checks::needed(area_layout::Sizes {
         blocks: blocks.len() / block::WIDTH,
         edges: edges.len() / edge::WIDTH,

@@ -2,13 +2,13 @@
 #![tactic(auto)]
 
 ghost use Rattle.std.specs.Prelude.{◌≡◌, ◌+◌, ◌*◌, ◌/◌, ◌≤◌, length};
-ghost use Rattle.refusals.specs.declared.Verdict.TheVariants.{Fine};
 ghost use Rattle.graph.specs.Line.{blocks_of, jumps_of, edge_verdict, Sound};
 ghost use Rattle.graph.specs.Inner.Work.{Neighbours};
 ghost use Rattle.components.specs.Entry.{edges_in};
 ghost use Rattle.flow.specs.Inner.{way_of};
 ghost use Rattle.area_flow.specs.Inner.{Laid, Unmarked, Quiet, AreaRows, Linked, FlowedOver, ArrivedAt, Flowing, Still, Blocked};
 ghost use Rattle.words.specs.Widths.{block_count, edge_count};
+ghost use Rattle.refusals.specs.Verdicts.{Fine};
 
 use flow::Over;
 use flow_rows::Flow;

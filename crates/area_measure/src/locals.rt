@@ -73,10 +73,8 @@ pub fn measure_all(
     ensures { MeasuredAll blocks.now kinds.now touches.now ends.now p g mark o work.old work.new result }
 {
     let mut total = 0;
-    let mut l = 0;
-    while l < kinds.len() {
+    for l in 0..kinds.len() {
         total = measure_next(blocks, kinds, touches, ends, work, p, g, mark, o, l, total);
-        l += 1;
     }
     total
 }

@@ -119,11 +119,9 @@ fn spans(blocks: &[u32], work: &mut [u64], t: Spots, s: Local) -> usize
     ensures { (es : List Edge) → Spanned (line_of blocks.now es) s (block_count blocks.now) (touches_at t work.old) result work.old work.new }
 {
     let mut m = 0;
-    let mut i = 0;
-    while i < t.count {
+    for i in 0..t.count {
         let x = work[t.at + i];
         m = touch(blocks, work, s, x, m);
-        i += 1;
     }
     m
 }
@@ -152,15 +150,12 @@ fn reach(work: &[u64], s: Local, k: usize) -> usize
     ensures { Run s k result work.now }
 {
     let end = k / 64 * 64 + 64;
-    let mut e = k + 1;
-    while e < end {
-        if bits::test(work, s.row, e) {
-            e += 1;
-        } else {
+    for e in k + 1..end {
+        if !bits::test(work, s.row, e) {
             return e;
         }
     }
-    e
+    end
 }
 
 // Where the blocks end that are visited at once with block k: those of its word of the local's own row that have the bit, else block k alone.
@@ -201,10 +196,8 @@ fn unmark(work: &mut [u64], s: Local, k: usize, e: usize)
         work[s.mark + k / 64] = 0;
         return;
     }
-    let mut c = k;
-    while c < e {
+    for c in k..e {
         bits::unset(work, s.mark, c);
-        c += 1;
     }
 }
 

@@ -26,10 +26,8 @@ pub fn mark_places(work: &mut [u64], c: Column, from: usize, to: usize)
     requires { Fits c work.old × (to ≤ c.n) }
     ensures { Put c true (λ j. (from ≤ j) × (j < to)) work.old work.new }
 {
-    let mut k = from;
-    while k < to {
+    for k in from..to {
         mark(work, c, k);
-        k += 1;
     }
 }
 
@@ -50,10 +48,8 @@ pub fn mark_touched(blocks: &[u32], work: &mut [u64], s: Spots, c: Column)
         work.old work.new }
 {
     let at = s.at;
-    let mut i = 0;
-    while i < s.count {
+    for i in 0..s.count {
         let x = work[at + i];
         mark_touch(blocks, work, c, packed::start_of(x), packed::end_of(x));
-        i += 1;
     }
 }

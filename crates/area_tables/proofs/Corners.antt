@@ -3,7 +3,6 @@ use Prim.Native.Nat.{ℕ, zero, suc}
 use mathlib.Core.Path.{◌≡◌, refl}
 use mathlib.Core.Option.{Option, some, none}
 use mathlib.Core.List.{List, [], ◌∷◌}
-use Rattle.refusals.specs.declared.Verdict.TheVariants.{Fine, Bad}
 use Rattle.refusals.specs.declared.Refusal.TheVariants.{List as ListWord}
 use Rattle.words.specs.Rows.{tabulate, flat}
 use Rattle.ranges.specs.declared.Range.{Range}
@@ -12,6 +11,7 @@ use Rattle.carrying.specs.Lists.{gather}
 use Rattle.areas.specs.Job.{ranges_of, areas_verdict}
 use Rattle.area_tables.specs.Tables.{area_rows}
 use Rattle.area_tables.specs.Inner.{listing}
+use Rattle.refusals.specs.Verdicts.{Bad, Fine}
 
 -- an item with two ranges, one without area, one with a range
 abbrev three : ℕ → Option (List Range)

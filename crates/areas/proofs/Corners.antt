@@ -4,9 +4,8 @@ use mathlib.Core.Path.{◌≡◌, refl}
 use mathlib.Core.Bool.{true, false}
 use mathlib.Core.Option.{some, none}
 use mathlib.Core.List.{List, [], ◌∷◌}
-use Rattle.refusals.specs.declared.Verdict.TheVariants.{Fine, Bad}
 use Rattle.refusals.specs.declared.Refusal.TheVariants.{Stray, Piece as PieceWord, List as ListWord}
-use Rattle.refusals.specs.Verdicts.{first, scan}
+use Rattle.refusals.specs.Verdicts.{first, scan, Bad, Fine}
 use Rattle.words.specs.Rows.{tabulate}
 use Rattle.ranges.specs.Points.{range}
 use Rattle.ranges.specs.Merged.{insert, sort, join, merged}

@@ -10,10 +10,8 @@ use lib.ListN.{length, get_or}
 use lib.Dec.{eqb}
 use borrow.Author.Tests.{leb-false, ltb-false, not-false}
 use Rattle.words.proofs.Bools.{or_neither}
-use Rattle.refusals.specs.declared.Verdict.{Verdict}
-use Rattle.refusals.specs.declared.Verdict.TheVariants.{Fine}
 use Rattle.refusals.specs.declared.Refusal.TheVariants.{Inst as InstWord, Stray, Piece as PieceWord}
-use Rattle.refusals.specs.Verdicts.{in_order}
+use Rattle.refusals.specs.Verdicts.{in_order, Fine, Verdict}
 use Rattle.refusals.proofs.Laws.{first_left, first_right, scan_fine}
 use Rattle.ranges.specs.Points.{range}
 use Rattle.graph.specs.Paths.{Between}

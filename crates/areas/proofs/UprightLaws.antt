@@ -9,7 +9,6 @@ use lib.ListN.{length}
 use lib.Dec.{eqb, leb, ltb}
 use borrow.Author.Tests.{ltb-true, ltb-false, leb-false, eq-eqb, not-false}
 use Rattle.words.proofs.Bools.{or_neither}
-use Rattle.refusals.specs.declared.Verdict.TheVariants.{Fine}
 use Rattle.refusals.specs.declared.Refusal.TheVariants.{Line, Stray}
 use Rattle.refusals.proofs.Laws.{scan_fine}
 use Rattle.ranges.specs.declared.Range.{Range}
@@ -29,6 +28,7 @@ use Rattle.areas.proofs.BlockLaws.{clip_up, block_below, bottoms}
 use Rattle.areas.proofs.PlainLaws.{clip_fits, span_upright}
 use Rattle.areas.proofs.EndLaws.{until_has}
 use Rattle.areas.proofs.JobLaws.{order_first, order_rest, line_fine, job_line, live_in, touches_in_lem, placed_in_lem}
+use Rattle.refusals.specs.Verdicts.{Fine}
 
 -- every range of lists put one after another
 gather_upright : {A : Type 0} (f : A → List Range) (l : List A) → ((a : A) → Memᴰ a l → Upright (f a)) → Upright (gather f l)

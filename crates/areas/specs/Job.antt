@@ -1,10 +1,8 @@
 -- Document 01: a job as it is lent, its checks by number 2 to 6, and the area of every item, locals first, then slots.
 use Rattle.std.specs.Prelude.{ℕ, ◌+◌, ◌-◌, ◌≡◌, cond, List, [], ◌∷◌, length, ltb}
 use Rattle.std.proofs.Math.Option.{Option, some, none}
-use Rattle.refusals.specs.declared.Verdict.{Verdict}
-use Rattle.refusals.specs.declared.Verdict.TheVariants.{Fine}
 use Rattle.refusals.specs.declared.Refusal.TheVariants.{List as ListWord}
-use Rattle.refusals.specs.Verdicts.{check, in_order}
+use Rattle.refusals.specs.Verdicts.{check, in_order, Fine, Verdict}
 use Rattle.words.specs.Rows.{records, tabulate}
 use Rattle.words.specs.Widths.{local_width}
 use Rattle.ranges.specs.declared.Range.{Range}

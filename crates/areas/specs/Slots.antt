@@ -1,9 +1,8 @@
 -- Document 01, "Areas of items": moves, the register of a slot, and a slot's area; of number 5 the moves, and number 6.
 use Rattle.std.specs.Prelude.{ℕ, zero, suc, ◌+◌, ◌-◌, min, Bool, true, cond, not, ◌||◌, List, [], ◌∷◌, ◌++◌, length, get_or, eqb, leb, ltb}
 use Rattle.std.proofs.Math.Option.{Option, some, none}
-use Rattle.refusals.specs.declared.Verdict.{Verdict}
 use Rattle.refusals.specs.declared.Refusal.TheVariants.{Stray, Piece as PieceWord}
-use Rattle.refusals.specs.Verdicts.{scan}
+use Rattle.refusals.specs.Verdicts.{scan, Verdict}
 use Rattle.words.specs.Rows.{records}
 use Rattle.words.specs.Widths.{assigned_width, move_width}
 use Rattle.ranges.specs.declared.Range.{Range}

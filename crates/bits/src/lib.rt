@@ -36,22 +36,18 @@ pub fn row_or(w: &mut [u64], to: usize, from: usize, n: usize)
     requires { (to + n ≤ length w.old) × (from + n ≤ length w.old) × Aligned to from n }
     ensures { Row w.old w.new to n (λ c. bit w.old to c || bit w.old from c) }
 {
-    let mut k = 0;
-    while k < n {
+    for k in 0..n {
         w[to + k] = w[to + k] | w[from + k];
-        k += 1;
     }
 }
 
-// The same with the bits of two rows, in one pass.
+// The same with the bits of two rows, in one pass. One function over a list of rows would be no plainer: a loop over the rows in the loop over the words, and clauses over the list.
 pub fn row_or_two(w: &mut [u64], to: usize, one: usize, two: usize, n: usize)
     requires { (to + n ≤ length w.old) × (one + n ≤ length w.old) × (two + n ≤ length w.old) × Aligned to one n × Aligned to two n }
     ensures { Row w.old w.new to n (λ c. bit w.old to c || (bit w.old one c || bit w.old two c)) }
 {
-    let mut k = 0;
-    while k < n {
+    for k in 0..n {
         w[to + k] = w[to + k] | (w[one + k] | w[two + k]);
-        k += 1;
     }
 }
 
@@ -62,16 +58,12 @@ pub fn row_pass(w: &mut [u64], to: usize, from: usize, pass: usize, leave: usize
     ensures { Grown w.old w.new to n (λ c. bit w.old to c || (bit w.old from c && bit w.old pass c || bit w.old leave c)) result }
 {
     let mut came = false;
-    let mut k = 0;
-    while k < n {
+    for k in 0..n {
         let x = w[to + k];
         let y = x | ((w[from + k] & w[pass + k]) | w[leave + k]);
         if y != x {
             w[to + k] = y;
             came = true;
-            k += 1;
-        } else {
-            k += 1;
         }
     }
     came
@@ -98,13 +90,11 @@ pub fn first_from(w: &[u64], base: usize, n: usize, start: usize) -> usize
     requires { (base + n ≤ length w.now) × (start ≤ n) × (n * 64 < 2 ^ 64) }
     ensures { FirstSet w.now base n start result }
 {
-    let mut k = start;
-    while k < n {
+    for k in start..n {
         let x = w[base + k];
         if x != 0 {
             return k * 64 + lowest(x);
         }
-        k += 1;
     }
     n * 64
 }

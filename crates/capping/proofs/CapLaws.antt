@@ -7,9 +7,8 @@ use mathlib.Core.Bool.{Bool, true, false, not, ◌||◌}
 use mathlib.Core.List.{List, ◌++◌}
 use lib.ListN.{get_or, drop}
 use lib.Dec.{ltb}
-use Rattle.refusals.specs.declared.Verdict.TheVariants.{Fine, Bad}
 use Rattle.refusals.specs.declared.Refusal.TheVariants.{Count}
-use Rattle.refusals.specs.Verdicts.{check}
+use Rattle.refusals.specs.Verdicts.{check, Bad, Fine}
 use Rattle.refusals.specs.Outcomes.{unless, numbered, after}
 use Rattle.words.specs.Rows.{whole_rows}
 use Rattle.words.specs.Widths.{cell_width, cell_count, cell_size, cell_align}

@@ -3,11 +3,11 @@ use Prim.Native.Nat.{ℕ, ◌*◌}
 use mathlib.Core.Path.{◌≡◌, refl}
 use mathlib.Core.List.{List, [], ◌∷◌}
 use lib.ListN.{length}
-use Rattle.refusals.specs.declared.Verdict.TheVariants.{Fine, Bad}
 use Rattle.refusals.specs.declared.Refusal.TheVariants.{Count}
 use Rattle.words.specs.Rows.{tabulate, flat}
 use Rattle.words.specs.Widths.{cell_width}
 use Rattle.capping.specs.Cap.{cap_verdict, cap_rows}
+use Rattle.refusals.specs.Verdicts.{Bad, Fine}
 
 pub counts : (cap_verdict (16 ∷ 8 ∷ 4 ∷ 2 ∷ []) 2 ≡ Fine) × (cap_verdict (16 ∷ 8 ∷ 4 ∷ 2 ∷ []) 3 ≡ Bad Count 0) × (cap_verdict (16 ∷ 8 ∷ 4 ∷ []) 1 ≡ Bad Count 0)
 counts = (refl, refl, refl)

@@ -5,7 +5,6 @@ use mathlib.Core.Path.{◌≡◌, refl, ap, sym, subst, ◌∙◌}
 use mathlib.Core.List.{List}
 use lib.ListN.{length, get_or}
 use borrow.Author.Tests.{le-ltb, eq-eqb}
-use Rattle.refusals.specs.declared.Verdict.TheVariants.{Fine}
 use Rattle.words.specs.Rows.{field, tabulate}
 use Rattle.words.specs.Widths.{cell_width, cell_count, cell_size, cell_align}
 use Rattle.words.proofs.RowLaws.{map_tabulate}
@@ -16,6 +15,7 @@ use Rattle.queries.proofs.SeenLaws.{RowsHold, plan_by, plan_seen}
 use Rattle.capping.specs.Cap.{cap_verdict, cap_rows}
 use Rattle.capping.specs.Inner.{capped_plan}
 use Rattle.capping.proofs.CapLaws.{cap_row}
+use Rattle.refusals.specs.Verdicts.{Fine}
 
 module _ {cells items areas : List ℕ} {locals c n : ℕ} {room : ℕ → Room} {item : ℕ → Item} (H : RowsHold cells items areas locals c n room item) where
   pub cap_passes : cap_verdict cells c ≡ Fine

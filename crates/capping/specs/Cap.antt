@@ -1,8 +1,7 @@
 -- What `cap` answers and refuses: document 01, number 1.
 use Rattle.std.specs.Prelude.{ℕ, ◌≡◌, not, ◌||◌, List, [], ◌∷◌, ltb}
-use Rattle.refusals.specs.declared.Verdict.{Verdict}
 use Rattle.refusals.specs.declared.Refusal.TheVariants.{Count}
-use Rattle.refusals.specs.Verdicts.{check}
+use Rattle.refusals.specs.Verdicts.{check, Verdict}
 use Rattle.refusals.specs.Outcomes.{unless, numbered, after}
 use Rattle.words.specs.Rows.{whole_rows, tabulate, flat}
 use Rattle.words.specs.Widths.{cell_width, cell_count, cell_size, cell_align}

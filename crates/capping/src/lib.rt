@@ -6,7 +6,7 @@ ghost use Rattle.fitting.specs.Queries.{cap};
 ghost use Rattle.capping.specs.Cap.{room_by, CappedBy, cap_rows};
 ghost use Rattle.words.specs.Widths.{cell_width};
 
-use refusals::{Refusal, Verdict};
+use refusals::{Refusal, Refused, Verdict};
 use words::widths::cell;
 
 // A cell of a plan, by value.
@@ -42,24 +42,23 @@ pub fn cap(cells: &mut [u32], count: u32, most: u32) -> Verdict
     ensures { CappedBy cells.old count most result cells.new }
 {
     if cells.len() % cell::WIDTH != 0 {
-        return Verdict::Bad(Refusal::Count, 0);
+        return Err(Refused(Refusal::Count, 0));
     }
     if cells.len() / cell::WIDTH < count as usize {
-        return Verdict::Bad(Refusal::Count, 0);
+        return Err(Refused(Refusal::Count, 0));
     }
     if 4096 < count {
-        return Verdict::Bad(Refusal::Count, 0);
+        return Err(Refused(Refusal::Count, 0));
     }
     lower(cells, count as usize, most);
-    Verdict::Fine
+    Ok(())
 }
 
 fn lower(cells: &mut [u32], count: usize, most: u32)
     requires { cell_width * count ≤ length cells.old }
     ensures { cells.new ≡ cap_rows cells.old count most ++ drop (cell_width * count) cells.old }
 {
-    let mut i = 0;
-    while i < count {
+    for i in 0..count {
         let c = lowered(
             Cell {
                 size: cells[cell::WIDTH * i],
@@ -69,6 +68,5 @@ fn lower(cells: &mut [u32], count: usize, most: u32)
         );
         cells[cell::WIDTH * i] = c.size;
         cells[cell::WIDTH * i + cell::ALIGN] = c.align;
-        i += 1;
     }
 }

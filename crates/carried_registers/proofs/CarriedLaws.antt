@@ -8,8 +8,6 @@ use mathlib.Core.Option.{some}
 use mathlib.Core.List.{List, ◌++◌, Memᴰ}
 use lib.ListN.{length, get_or, drop}
 use borrow.Author.Tests.{lt-ltb, le-ltb}
-use Rattle.refusals.specs.declared.Verdict.{Verdict}
-use Rattle.refusals.specs.declared.Verdict.TheVariants.{Fine, Bad}
 use Rattle.refusals.specs.declared.Refusal.{Refusal}
 use Rattle.refusals.specs.Outcomes.{given, after}
 use Rattle.words.specs.Rows.{tabulate}
@@ -31,13 +29,14 @@ use Rattle.follow.specs.declared.Sizes.{Sizes}
 use Rattle.follow.specs.declared.Followed.{Followed}
 use Rattle.queue.specs.Inner.{queued}
 use Rattle.follow.specs.Inner.{FollowedTo}
-use Rattle.carried_registers.specs.declared.Carrying.TheVariants.{Listed, Absent, Refused}
 use Rattle.carry_checks.specs.Checks.{carry_space, carry_verdict}
 use Rattle.carry_checks.specs.Inner.{used_of}
 use Rattle.carried_registers.specs.Carried.{most_of, verdict_of, CarriedTo}
 use Rattle.carried_registers.specs.Inner.{Registers}
 use Rattle.carried_registers.proofs.UpLaws.{Up, apart_of_lem, up_sort, up_below, below_length, up_same}
 use Rattle.carry_checks.proofs.LayoutLaws.{cleared_all}
+use Rattle.refusals.specs.Verdicts.{Bad, Fine, Verdict}
+use Rattle.std.specs.Prelude.{Ok, Err, Some, None}
 
 carried_up : (C : Code) (l : ℕ) → Up (carried C l)
 unfolding carried
@@ -133,7 +132,7 @@ module _ (points v : ℕ) (blocks insts operands crossings locals addresses ends
 
   pub carried_refused : (m : ℕ) → m ≡ most_of v insts → (r : Refusal) (i : ℕ)
       → carry_verdict points v blocks insts operands crossings locals addresses ends (length answer₀) m (length work₀) ≡ Bad r i
-      → CarriedTo points v blocks insts operands crossings locals addresses ends l answer₀ work₀ (Refused r i) answer₀ work₀
+      → CarriedTo points v blocks insts operands crossings locals addresses ends l answer₀ work₀ (Err (r, i)) answer₀ work₀
   carried_refused m em r i f =
       let e : Given ≡ Bad r i = ap (λ (x : ℕ). carry_verdict points v blocks insts operands crossings locals addresses ends (length answer₀) x (length work₀)) (sym em) ∙ f in
       record { outcome = rw e; list = rw e; space = rw e }
@@ -141,7 +140,7 @@ module _ (points v : ℕ) (blocks insts operands crossings locals addresses ends
   pub carried_absent : {work : List ℕ} (m : ℕ) → m ≡ most_of v insts
       → carry_verdict points v blocks insts operands crossings locals addresses ends (length answer₀) m (length work₀) ≡ Fine
       → local_count locals ≤ l → (words : ℕ) → words ≡ carry_space v blocks insts operands crossings locals addresses ends → work ≡ cleared words work₀
-      → CarriedTo points v blocks insts operands crossings locals addresses ends l answer₀ work₀ Absent answer₀ work
+      → CarriedTo points v blocks insts operands crossings locals addresses ends l answer₀ work₀ (Ok None) answer₀ work
   carried_absent {work} m em f h words ew c =
       let e : Given ≡ Fine = ap (λ (x : ℕ). carry_verdict points v blocks insts operands crossings locals addresses ends (length answer₀) x (length work₀)) (sym em) ∙ f in
       let g = le-ltb l (local_count locals) h in
@@ -156,7 +155,7 @@ module _ (points v : ℕ) (blocks insts operands crossings locals addresses ends
       → l < local_count locals → (n : ℕ)
       → Registers C₀ l (used_of (row_words v) (inst_count insts) (operand_count operands) (local_count locals) (address_count addresses)) n answer₀ answer work₀ work₁
       → (words : ℕ) → words ≡ carry_space v blocks insts operands crossings locals addresses ends → work ≡ cleared words work₁
-      → CarriedTo points v blocks insts operands crossings locals addresses ends l answer₀ work₀ (Listed n) answer work
+      → CarriedTo points v blocks insts operands crossings locals addresses ends l answer₀ work₀ (Ok (Some n)) answer work
   carried_given {answer} {work₁} {work} m em f h n r words ew c =
       let e : Given ≡ Fine = ap (λ (x : ℕ). carry_verdict points v blocks insts operands crossings locals addresses ends (length answer₀) x (length work₀)) (sym em) ∙ f in
       let g = lt-ltb l (local_count locals) h in

@@ -1,21 +1,13 @@
 -- The entry `carried`: the registers that carry one local's address.
-use Rattle.std.specs.Prelude.{ℕ, min, ◌≡◌, cond, List, [], length, replicate, ltb}
+use Rattle.std.specs.Prelude.{ℕ, min, ◌≡◌, cond, List, [], length, replicate, ltb, Ok, Err, Some, None, Option as Maybe, Result}
 use Rattle.std.proofs.Math.Option.{Option, some, none}
-use Rattle.refusals.specs.declared.Verdict.{Verdict}
-use Rattle.refusals.specs.Verdicts.{number_of}
-use Rattle.refusals.specs.Outcomes.{Outcome, given, refused, unless, after}
+use Rattle.refusals.specs.Verdicts.{number_of, Verdict, Found}
+use Rattle.refusals.specs.Outcomes.{Outcome, given, refused, unless, after, found}
 use Rattle.words.specs.Widths.{inst_count, local_count}
 use Rattle.carrying.specs.Carried.{Code, carried}
 use Rattle.reach.specs.Prepared.{code_of}
-use Rattle.carried_registers.specs.declared.Carrying.{Carrying}
-use Rattle.carried_registers.specs.declared.Carrying.TheVariants.{Listed, Absent, Refused}
 use Rattle.carry_checks.specs.Checks.{carry_checks, carry_verdict, carry_space}
-
--- what each case of an answer stands for: how many registers, none for a local that is absent, or the refusal
-abbrev pub told : Carrying → Outcome (Option ℕ)
-told (Listed n) = given (some n)
-told Absent = given none
-told (Refused r i) = refused (number_of r) i
+use Rattle.refusals.specs.declared.Refused.{Refused}
 
 -- the most there can be: each is numbered, and the def of an instruction
 abbrev pub most_of : ℕ → List ℕ → ℕ
@@ -38,8 +30,8 @@ verdict_of points v blocks insts operands crossings locals addresses ends lent w
     carry_verdict points v blocks insts operands crossings locals addresses ends lent (most_of v insts) work
 
 -- the answer of `carried`, its list and the work space afterwards
-pub record CarriedTo (points v : ℕ) (blocks insts operands crossings locals addresses ends : List ℕ) (l : ℕ) (answer₀ work₀ : List ℕ) (r : Carrying) (answer work : List ℕ) : Type 0 where
-  pub outcome : told r ≡ unless (verdict_of points v blocks insts operands crossings locals addresses ends (length answer₀) (length work₀))
+pub record CarriedTo (points v : ℕ) (blocks insts operands crossings locals addresses ends : List ℕ) (l : ℕ) (answer₀ work₀ : List ℕ) (r : Found ℕ) (answer work : List ℕ) : Type 0 where
+  pub outcome : found r ≡ unless (verdict_of points v blocks insts operands crossings locals addresses ends (length answer₀) (length work₀))
       (count_of (code_of v insts operands crossings addresses ends) (local_count locals) l)
   pub list : answer ≡ after (unless (verdict_of points v blocks insts operands crossings locals addresses ends (length answer₀) (length work₀))
       (registers_of (code_of v insts operands crossings addresses ends) (local_count locals) l)) (λ rs. rs) answer₀

@@ -11,16 +11,8 @@ ghost use Rattle.words.specs.Regions.{row_words};
 
 use carry_checks::{checks, layout};
 use follow::Sizes;
-use refusals::{Refusal, Verdict};
+use refusals::Refused;
 use words::widths::{inst, local, mention, operand};
-
-// How many registers carry the local's address, that there is no such local, or the refusal.
-#[derive(Clone, Copy)]
-pub enum Carrying {
-    Listed(usize),
-    Absent,
-    Refused(Refusal, usize),
-}
 
 // The smaller of the two.
 fn least(v: u32, n: usize) -> usize
@@ -89,12 +81,12 @@ pub fn carried(
     local: usize,
     answer: &mut [u32],
     work: &mut [u64],
-) -> Carrying
+) -> Result<Option<usize>, Refused>
     ensures { CarriedTo points v blocks.now insts.now operands.now crossings.now locals.now addresses.now
         ends.now local answer.old work.old result answer.new work.new }
 {
     let most = least(v, insts.len() / inst::WIDTH);
-    let verdict = checks::refusal(
+    checks::refusal(
         points,
         v,
         blocks,
@@ -107,20 +99,17 @@ pub fn carried(
         answer.len(),
         most,
         work.len(),
-    );
-    if let Verdict::Bad(r, i) = verdict {
-        return Carrying::Refused(r, i);
-    }
+    )?;
     let w = checks::needed(
         v, blocks, insts, operands, crossings, locals, addresses, ends,
     );
     if local >= locals.len() / local::WIDTH {
         words::clear(work, w);
-        return Carrying::Absent;
+        return Ok(None);
     }
     let n = list(
         v, insts, operands, crossings, locals, addresses, ends, local, answer, work,
     );
     words::clear(work, w);
-    Carrying::Listed(n)
+    Ok(Some(n))
 }

@@ -7,11 +7,9 @@ use mathlib.Core.Bool.{false, not, ◌||◌, true≢false}
 use mathlib.Core.List.{List, [], ◌∷◌}
 use lib.ListN.{length, get_or}
 use borrow.Author.Tests.{le-leb}
-use Rattle.refusals.specs.declared.Verdict.{Verdict}
-use Rattle.refusals.specs.declared.Verdict.TheVariants.{Fine, Bad}
 use Rattle.refusals.specs.declared.Refusal.{Refusal}
 use Rattle.refusals.specs.declared.Refusal.TheVariants.{Stray}
-use Rattle.refusals.specs.Verdicts.{first, in_order, room_verdict}
+use Rattle.refusals.specs.Verdicts.{first, in_order, room_verdict, Bad, Fine, Verdict}
 use Rattle.refusals.proofs.Laws.{first_fine, first_bad, first_left, first_right, first_assoc, scan_fine, bad_fine, check_last}
 use Rattle.words.proofs.Points.{cut}
 use Rattle.words.proofs.Bools.{or_neither}

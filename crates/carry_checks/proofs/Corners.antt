@@ -1,8 +1,7 @@
 -- The corners of the definitions, by computation: W of `reach` and `carried`, and number 7 at it and one word under.
 use mathlib.Core.Path.{◌≡◌, refl}
 use mathlib.Core.List.{[], ◌∷◌}
-use Rattle.refusals.specs.Verdicts.{room_verdict}
-use Rattle.refusals.specs.declared.Verdict.TheVariants.{Fine, Bad}
+use Rattle.refusals.specs.Verdicts.{room_verdict, Bad, Fine}
 use Rattle.refusals.specs.declared.Refusal.TheVariants.{Space}
 use Rattle.carry_checks.specs.Checks.{carry_words, carry_space}
 

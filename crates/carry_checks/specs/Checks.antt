@@ -1,7 +1,6 @@
 -- What the entries of carrying refuse: numbers 1, 2, 4, 5 and 7, and W.
 use Rattle.std.specs.Prelude.{ℕ, ◌+◌, ◌*◌, List, [], ◌∷◌, length}
-use Rattle.refusals.specs.declared.Verdict.{Verdict}
-use Rattle.refusals.specs.Verdicts.{first, in_order, room_verdict}
+use Rattle.refusals.specs.Verdicts.{first, in_order, room_verdict, Verdict}
 use Rattle.words.specs.Widths.{block_count, inst_count, operand_count, local_count, address_count, end_count}
 use Rattle.words.specs.Regions.{row_words}
 use Rattle.graph.specs.Line.{blocks_of, line_verdict}

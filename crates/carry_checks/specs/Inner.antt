@@ -1,7 +1,6 @@
 -- What the functions here promise each other. No public promise names these.
 use Rattle.std.specs.Prelude.{ℕ, ◌+◌, ◌*◌, ◌≤◌, ◌<◌, List, get_or}
-use Rattle.refusals.specs.declared.Verdict.{Verdict}
-use Rattle.refusals.specs.Verdicts.{first}
+use Rattle.refusals.specs.Verdicts.{first, Verdict}
 use Rattle.words.specs.Widths.{inst_count, operand_count, local_count, address_count, end_count, mention_width}
 use Rattle.words.specs.Regions.{row_words}
 use Rattle.graph.specs.Line.{blocks_of, line_verdict}

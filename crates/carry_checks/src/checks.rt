@@ -97,16 +97,10 @@ pub fn refusal(
     ensures { result ≡ carry_verdict points v blocks.now insts.now operands.now crossings.now locals.now addresses.now
         ends.now lent most work }
 {
-    let number = counts(
+    counts(
         v, blocks, insts, operands, crossings, locals, addresses, ends,
-    );
-    if let Verdict::Bad(r, i) = number {
-        return Verdict::Bad(r, i);
-    }
-    let place = insts::checks::located(points, v, blocks, insts, operands);
-    if let Verdict::Bad(r, i) = place {
-        return Verdict::Bad(r, i);
-    }
+    )?;
+    insts::checks::located(points, v, blocks, insts, operands)?;
     let crossed = insts::checks::crossing(v, crossings);
     let astray = stray(insts, addresses, ends);
     let w = needed(

@@ -3,176 +3,69 @@
 // The columns of a case: points, V, the length of the answer list and of the work space; blocks, instructions, operands, crossings, locals, addresses, ends.
 #![tactic(auto)]
 
-ghost use Rattle.std.specs.Prelude.{◌≡◌, length};
-ghost use Rattle.cases.specs.Inner.{Ordered};
-
-use carried_registers::Carrying;
-use cases::Cuts;
-use refusals::Answer;
+use cases::Case;
+use refusals::Refused;
 use std::io;
-use std::io::Stdout;
+use std::io::{Print, Stdout};
 
-fn listed(out: Stdout, c: Carrying) -> io::Result<()> {
+fn listed(out: Stdout, c: Result<Option<usize>, Refused>) -> io::Result<()> {
     match c {
-        Carrying::Listed(n) => cases::counted(out, n),
-        Carrying::Absent => cases::text(out, b" absent:"),
-        Carrying::Refused(r, i) => cases::refused(out, r, i),
-    }
-}
-
-fn given(out: Stdout, a: Answer) -> io::Result<()> {
-    match a {
-        Answer::Given(n) => cases::counted(out, n),
-        Answer::Refused(r, i) => cases::refused(out, r, i),
+        Ok(Some(n)) => cases::counted(out, n),
+        Ok(None) => print!(out; " absent:"),
+        Err(Refused(r, i)) => cases::refused(out, r, i),
     }
 }
 
 // Asks for the kinds of all locals, and then for the registers that carry the address of one, by its place counted from 1.
-fn ask(
-    out: Stdout,
-    points: u32,
-    v: u32,
-    blocks: &[u32],
-    insts: &[u32],
-    operands: &[u32],
-    crossings: &[u32],
-    locals: &[u32],
-    addresses: &[u32],
-    ends: &[u32],
-    l: usize,
-    answer: &mut [u32],
-    work: &mut [u64],
-) -> io::Result<()> {
+fn ask(out: Stdout, case: &Case, l: usize, answer: &mut [u32], work: &mut [u64]) -> io::Result<()> {
+    let points = case.number(0);
+    let v = case.number(1);
+    let blocks = case.column(1);
+    let insts = case.column(2);
+    let operands = case.column(3);
+    let crossings = case.column(4);
+    let locals = case.column(5);
+    let addresses = case.column(6);
+    let ends = case.column(7);
     if l == 0 {
-        given(
-            out,
-            local_kinds::reach(
-                points, v, blocks, insts, operands, crossings, locals, addresses, ends, answer,
-                work,
-            ),
-        )?;
+        print!(out; " reach")?;
+        let a = local_kinds::reach(
+            points, v, blocks, insts, operands, crossings, locals, addresses, ends, answer, work,
+        );
+        return cases::given(out, a);
+    }
+    let local = l - 1;
+    print!(out; " carried({local})")?;
+    let c = carried_registers::carried(
+        points, v, blocks, insts, operands, crossings, locals, addresses, ends, local, answer, work,
+    );
+    listed(out, c)
+}
+
+// In lists of these lengths, and shows what is left.
+fn turn(out: Stdout, case: &Case, l: usize) -> io::Result<()> {
+    let mut answer = [7u32; 16];
+    let mut work = [7u64; 2304];
+    let most = case.number(2) as usize;
+    let words = case.number(3) as usize;
+    if most > 16 || words > 2304 {
         return Ok(());
     }
-    listed(
-        out,
-        carried_registers::carried(
-            points,
-            v,
-            blocks,
-            insts,
-            operands,
-            crossings,
-            locals,
-            addresses,
-            ends,
-            l - 1,
-            answer,
-            work,
-        ),
-    )
-}
-
-// Of the columns of a case.
-fn asked(
-    out: Stdout,
-    n: &[u32],
-    e: Cuts,
-    l: usize,
-    answer: &mut [u32],
-    work: &mut [u64],
-) -> io::Result<()>
-    requires { (length n.now ≡ 1024) × Ordered e 1024 }
-{
-    let c0 = e.c0;
-    let c1 = e.c1;
-    let c2 = e.c2;
-    let c3 = e.c3;
-    let c4 = e.c4;
-    let c5 = e.c5;
-    let c6 = e.c6;
-    let c7 = e.c7;
-    ask(
-        out,
-        n[0],
-        n[1],
-        &n[c0..c1],
-        &n[c1..c2],
-        &n[c2..c3],
-        &n[c3..c4],
-        &n[c4..c5],
-        &n[c5..c6],
-        &n[c6..c7],
-        l,
-        answer,
-        work,
-    )
-}
-
-fn name(out: Stdout, l: usize) -> io::Result<()> {
-    if l == 0 {
-        cases::text(out, b" reach")?;
-    } else {
-        cases::asked(out, b" carried", l - 1)?;
-    }
-    Ok(())
-}
-
-// And shows what is left.
-fn show(
-    out: Stdout,
-    n: &[u32],
-    e: Cuts,
-    l: usize,
-    answer: &mut [u32],
-    work: &mut [u64],
-) -> io::Result<()>
-    requires { (length n.now ≡ 1024) × Ordered e 1024 }
-{
-    name(out, l)?;
-    asked(out, n, e, l, answer, work)?;
+    let answer = &mut answer[..most];
+    let work = &mut work[..words];
+    ask(out, case, l, answer, work)?;
     cases::left(out, answer, work)
 }
 
-// In lists of these lengths.
-fn turn(out: Stdout, n: &[u32], e: Cuts, l: usize) -> io::Result<()>
-    requires { (length n.now ≡ 1024) × Ordered e 1024 }
-{
-    let mut answer = [7u32; 16];
-    let mut work = [7u64; 2304];
-    let most = n[2] as usize;
-    let words = n[3] as usize;
-    if most > 16 {
-        return Ok(());
-    }
-    if words > 2304 {
-        return Ok(());
-    }
-    show(out, n, e, l, &mut answer[0..most], &mut work[0..words])
-}
-
-fn run(out: Stdout, n: &[u32], e: Cuts) -> io::Result<()>
-    requires { (length n.now ≡ 1024) × Ordered e 1024 }
-{
-    let last = 1 + (e.c5 - e.c4) / 2;
-    let mut l = 0;
-    while l <= last {
-        turn(out, n, e, l)?;
-        l += 1;
+fn run(out: Stdout, case: &Case) -> io::Result<()> {
+    for l in 0..2 + case.column(5).len() / 2 {
+        turn(out, case, l)?;
     }
     Ok(())
 }
 
 fn main(rt: HostRuntime) -> io::Result<()> {
     let out = rt.stdout();
-    let mut text = [0u8; 12288];
-    let mut n = [0u32; 1024];
-    let len = cases::input(rt.stdin(), &mut text)?;
-    let mut i = 0;
-    while i < len {
-        cases::name(out, &text, i)?;
-        let e = cases::case(&text, i, &mut n);
-        run(out, &n, e)?;
-        i = e.next;
-    }
-    Ok(())
+    let mut text = [0; 12288];
+    cases::each(rt.stdin(), out, &mut text, |case| run(out, case))
 }

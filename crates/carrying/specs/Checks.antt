@@ -1,8 +1,7 @@
 -- Document 01, the table: number 4, and of number 5 the addresses and the ends.
 use Rattle.std.specs.Prelude.{ℕ, ◌+◌, Bool, not, ◌&&◌, ◌||◌, List, length, get_or, leb, ltb}
-use Rattle.refusals.specs.declared.Verdict.{Verdict}
 use Rattle.refusals.specs.declared.Refusal.TheVariants.{Inst as InstWord, Stray}
-use Rattle.refusals.specs.Verdicts.{scan}
+use Rattle.refusals.specs.Verdicts.{scan, Verdict}
 use Rattle.graph.specs.Line.{Stretch, block_at, place_in}
 use Rattle.carrying.specs.Lists.{any}
 use Rattle.carrying.specs.Insts.{Operand, Inst, inst_at, is_set}

@@ -2,9 +2,10 @@
 #![tactic(auto)]
 
 ghost use Rattle.std.specs.Prelude.{◌≤◌, ◌<◌, length, ◌≡◌, IfOk};
-ghost use Rattle.cases.specs.Inner.{RisingTo, Rising, Ordered};
+ghost use Rattle.cases.specs.Inner.{RisingTo, Rising};
 
-use refusals::{Refusal, number};
+use refusals::{Answer, Refusal, Refused, Verdict, number};
+use std::fmt::Display;
 use std::io;
 use std::io::{Print, Read, Stdin, Stdout};
 
@@ -25,67 +26,51 @@ pub fn input(stdin: Stdin, bytes: &mut [u8]) -> io::Result<usize>
     Ok(len)
 }
 
-pub fn text(out: Stdout, s: &[u8]) -> io::Result<()> {
-    out.write_all(s)
-}
-
-// A number, with what stands before it.
-pub fn put(out: Stdout, before: &[u8], n: u64) -> io::Result<()> {
-    text(out, before)?;
-    out.print(n)
-}
-
-// An entry's name with the index of what it is asked about.
-pub fn asked(out: Stdout, name: &[u8], i: usize) -> io::Result<()> {
-    text(out, name)?;
-    put(out, b"(", i as u64)?;
-    text(out, b")")
-}
-
 // What was answered: a count, or a refusal.
 pub fn counted(out: Stdout, n: usize) -> io::Result<()> {
-    put(out, b" ", n as u64)?;
-    text(out, b":")
+    print!(out; " {n}:")
 }
 
 pub fn bad(out: Stdout, r: Refusal, i: usize) -> io::Result<()> {
-    put(out, b" refused ", number(r) as u64)?;
-    put(out, b" at ", i as u64)
+    let n = number(r);
+    print!(out; " refused {n} at {i}")
 }
 
 pub fn refused(out: Stdout, r: Refusal, i: usize) -> io::Result<()> {
     bad(out, r, i)?;
-    text(out, b":")
+    print!(out; ":")
+}
+
+pub fn given(out: Stdout, a: Answer) -> io::Result<()> {
+    match a {
+        Ok(n) => counted(out, n),
+        Err(Refused(r, i)) => refused(out, r, i),
+    }
+}
+
+pub fn verdict(out: Stdout, v: Verdict) -> io::Result<()> {
+    match v {
+        Ok(()) => print!(out; " fine:"),
+        Err(Refused(r, i)) => refused(out, r, i),
+    }
+}
+
+pub fn yes_or_no(out: Stdout, yes: bool) -> io::Result<()> {
+    if yes {
+        print!(out; " yes")
+    } else {
+        print!(out; " no")
+    }
 }
 
 // A plan: cells, probes and depth.
 pub fn plan(out: Stdout, cells: usize, probes: u64, depth: u64) -> io::Result<()> {
-    put(out, b" ", cells as u64)?;
-    put(out, b" ", probes)?;
-    put(out, b" ", depth)?;
-    text(out, b":")
+    print!(out; " {cells} {probes} {depth}:")
 }
 
-pub fn show(out: Stdout, list: &[u32]) -> io::Result<()> {
-    let mut i = 0;
-    while i < list.len() {
-        put(out, b" ", list[i] as u64)?;
-        i += 1;
-    }
-    Ok(())
-}
-
-// Numbers with a sign.
-pub fn show_signed(out: Stdout, list: &[i32]) -> io::Result<()> {
-    let mut i = 0;
-    while i < list.len() {
-        let z = list[i] as i64;
-        if z < 0 {
-            put(out, b" -", (-z) as u64)?;
-        } else {
-            put(out, b" ", z as u64)?;
-        }
-        i += 1;
+pub fn show<T: Display>(out: Stdout, list: &[T]) -> io::Result<()> {
+    for x in list {
+        print!(out; " {x}")?;
     }
     Ok(())
 }
@@ -93,36 +78,14 @@ pub fn show_signed(out: Stdout, list: &[i32]) -> io::Result<()> {
 // An answer list that others follow.
 pub fn listed(out: Stdout, list: &[u32]) -> io::Result<()> {
     show(out, list)?;
-    text(out, b" |")
-}
-
-// How many words stand before the first that is not zero.
-fn zeros(work: &[u64]) -> usize {
-    let mut i = 0;
-    while i < work.len() {
-        if work[i] != 0 {
-            return i;
-        }
-        i += 1;
-    }
-    i
+    print!(out; " |")
 }
 
 // What was left: an answer list, and how many words at the front of the work space are zero.
-pub fn left(out: Stdout, answer: &[u32], work: &[u64]) -> io::Result<()> {
+pub fn left<T: Display>(out: Stdout, answer: &[T], work: &[u64]) -> io::Result<()> {
+    let zeros = work.iter().take_while(|w| **w == 0).count();
     show(out, answer)?;
-    left_words(out, work)
-}
-
-// The same of offsets.
-pub fn left_offsets(out: Stdout, offsets: &[i32], work: &[u64]) -> io::Result<()> {
-    show_signed(out, offsets)?;
-    left_words(out, work)
-}
-
-fn left_words(out: Stdout, work: &[u64]) -> io::Result<()> {
-    put(out, b" | ", zeros(work) as u64)?;
-    text(out, b"\n")
+    println!(out; " | {zeros}")
 }
 
 // Where the next such byte stands, or the end.
@@ -130,116 +93,122 @@ fn find(text: &[u8], from: usize, byte: u8) -> usize
     requires { from ≤ length text.now }
     ensures { (from ≤ result) × (result ≤ length text.now) }
 {
-    let mut i = from;
-    while i < text.len() {
+    for i in from..text.len() {
         if text[i] == byte {
             return i;
         }
-        i += 1;
     }
-    i
+    text.len()
 }
 
 // Columns that a case does not have are empty.
+#[tactic(auto, using(crate::proofs::ColumnLaws::rising_more))]
 fn rest(ends: &mut [usize], from: usize, n: usize)
     requires { (from ≤ length ends.old) × RisingTo ends.old n from }
     ensures { Rising ends.new n }
 {
-    let mut c = from;
-    while c < ends.len() {
+    for c in from..ends.len() {
         ends[c] = n;
-        c += 1;
     }
 }
 
 // The numbers of a case, and where each column ends; what is past the room is left out. A blank before them is no digit.
+#[tactic(auto, using(crate::proofs::ColumnLaws::rising_none, crate::proofs::ColumnLaws::rising_more, crate::proofs::ColumnLaws::rising_within))]
 fn read(case: &[u8], numbers: &mut [u32], ends: &mut [usize])
     ensures { Rising ends.new (length numbers.old) }
 {
-    let mut i = 0;
     let mut n = 0;
     let mut c = 0;
     let mut x = 0u64;
-    while i < case.len() {
-        let b = case[i];
-        i += 1;
+    for &b in case {
         if b == b'|' {
             if c < ends.len() {
                 ends[c] = n;
                 c += 1;
             }
-        } else {
-            if b == b',' {
-                if n < numbers.len() {
-                    numbers[n] = x as u32;
-                    n += 1;
-                }
-                x = 0;
-            } else {
-                x = (x * 10 + (b % 16) as u64) % 0x1_0000_0000;
+        } else if b == b',' {
+            if n < numbers.len() {
+                numbers[n] = x as u32;
+                n += 1;
             }
+            x = 0;
+        } else {
+            x = (x * 10 + (b % 16) as u64) % 0x1_0000_0000;
         }
     }
     rest(ends, c, n);
 }
 
-// Where thirteen columns end, and where the next case begins.
-#[derive(Clone, Copy)]
-pub struct Cuts {
-    pub c0: usize,
-    pub c1: usize,
-    pub c2: usize,
-    pub c3: usize,
-    pub c4: usize,
-    pub c5: usize,
-    pub c6: usize,
-    pub c7: usize,
-    pub c8: usize,
-    pub c9: usize,
-    pub c10: usize,
-    pub c11: usize,
-    pub c12: usize,
-    pub next: usize,
+// A case: the first letter of its name, its numbers, of which there is room for 1,024, and where thirteen columns of them end.
+#[derive(Drop)]
+pub struct Case {
+    pub letter: u8,
+    numbers: [u32; 1024],
+    ends: [usize; 13],
+    ghost rising: { Rising ends 1024 },
 }
 
-fn cut(ends: &[usize], most: usize, next: usize) -> Cuts
-    requires { (length ends.now ≡ 13) × Rising ends.now most }
-    ensures { Ordered result most × (result.next ≡ next) }
-{
-    Cuts {
-        c0: ends[0],
-        c1: ends[1],
-        c2: ends[2],
-        c3: ends[3],
-        c4: ends[4],
-        c5: ends[5],
-        c6: ends[6],
-        c7: ends[7],
-        c8: ends[8],
-        c9: ends[9],
-        c10: ends[10],
-        c11: ends[11],
-        c12: ends[12],
-        next,
+impl Case {
+    // No column has a number.
+    fn empty() -> Case {
+        let numbers = [0; 1024];
+        let mut ends = [0; 13];
+        rest(&mut ends, 0, 0);
+        Case {
+            letter: b' ',
+            numbers,
+            ends,
+        }
+    }
+
+    // The case of the line that begins there; where the next one begins. Behind its numbers stand those of the cases before.
+    fn take(&mut self, text: &[u8], from: usize) -> usize
+        requires { from < length text.now }
+        ensures { from < result }
+    {
+        let mut ends = [0; 13];
+        let blank = find(text, from, b' ');
+        let end = find(text, blank, b'\n');
+        read(&text[blank..end], &mut self.numbers, &mut ends);
+        self.ends = ends;
+        self.letter = text[from];
+        end + 1
+    }
+
+    // The number at a place among all of them.
+    pub fn number(&self, k: usize) -> u32
+        requires { k < 1024 }
+    {
+        self.numbers[k]
+    }
+
+    // A column: from where the one before it ends to where it does.
+    pub fn column(&self, k: usize) -> &[u32]
+        requires { k < 13 }
+        ensures { length result.now ≤ 1024 }
+    {
+        let from = if k == 0 { 0 } else { self.ends[k - 1] };
+        &self.numbers[from..self.ends[k]]
     }
 }
 
-// Prints the name of the case of the line that begins there.
-pub fn name(out: Stdout, text: &[u8], from: usize) -> io::Result<()>
-    requires { from ≤ length text.now }
+// Runs each case of standard input behind its name, as far as the lent bytes have room.
+pub fn each<F: FnMut(&Case) -> io::Result<()>>(
+    stdin: Stdin,
+    out: Stdout,
+    text: &mut [u8],
+    mut run: F,
+) -> io::Result<()>
+    requires { F.IsAlwaysCallable run }
 {
-    let blank = find(text, from, b' ');
-    out.write_all(&text[from..blank])
-}
-
-// The case of the line that begins there: its numbers, of which there is room for 1,024.
-pub fn case(text: &[u8], from: usize, numbers: &mut [u32]) -> Cuts
-    requires { (from ≤ length text.now) × (length numbers.old ≡ 1024) }
-    ensures { Ordered result 1024 × (from < result.next) }
-{
-    let mut ends = [0usize; 13];
-    let blank = find(text, from, b' ');
-    let end = find(text, blank, b'\n');
-    read(&text[blank..end], numbers, &mut ends);
-    cut(&ends, 1024, end + 1)
+    let mut case = Case::empty();
+    let len = input(stdin, text)?;
+    let mut i = 0;
+    while i < len {
+        let blank = find(text, i, b' ');
+        out.write_all(&text[i..blank])?;
+        i = case.take(text, i);
+        run(&case)?;
+    }
+    Ok(())
 }

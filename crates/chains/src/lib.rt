@@ -21,15 +21,11 @@ pub fn chain(
     requires by_index { (l : ℕ) → l < keys → get_or work.old (heads + l) 0 ≡ 0 }
     ensures { Linked (λ i. field width rows.now i column) n keys heads nexts work.old work.new }
 {
-    let mut i = 0;
-    while i < n {
+    for i in 0..n {
         let l = rows[width * i + column] as usize;
         if l < keys {
             work[nexts + i] = work[heads + l];
             work[heads + l] = i as u64 + 1;
-            i += 1;
-        } else {
-            i += 1;
         }
     }
 }

@@ -1,4 +1,5 @@
 -- Which verdicts have an index that fits its 32 bits of a code, and what is read back from the code of one that has.
+use Rattle.std.specs.Prelude.{Err}
 use Prim.Native.Nat.{ℕ, zero, suc, ◌+◌, ◌/◌, ◌%◌, ◌^◌, ◌≤◌, ◌<◌}
 use native.Mathlib.Omega.{arith}
 use mathlib.Core.Path.{◌≡◌, refl, sym, ap, subst, ◌∙◌}
@@ -7,9 +8,7 @@ use mathlib.Core.Bool.{Bool, true, false, cond}
 use mathlib.Core.Option.{Option, some, none}
 use mathlib.Core.List.{List, [], ◌∷◌}
 use Rattle.refusals.specs.declared.Refusal.{Refusal}
-use Rattle.refusals.specs.declared.Verdict.{Verdict}
-use Rattle.refusals.specs.declared.Verdict.TheVariants.{Fine, Bad}
-use Rattle.refusals.specs.Verdicts.{number_of, first, in_order, scan, check, counted_on}
+use Rattle.refusals.specs.Verdicts.{number_of, first, in_order, scan, check, counted_on, Bad, Fine, Verdict}
 use Rattle.refusals.specs.Outcomes.{given, unless}
 use Rattle.codes.specs.Codes.{refusal_code, code_of, count_code, option_code, truth_of, truth_code, verdict_code, Small, SmallOrAbsent, Read}
 use Rattle.codes.specs.Inner.{index_of, Fits}
@@ -32,7 +31,7 @@ check_fits r b = named_fits r b 0 (omega arith)
 pub first_fits : (v w : Verdict) → Fits v → (v ≡ Fine → Fits w) → Fits (first v w)
 unfolding first
 first_fits Fine w a b = b refl
-first_fits (Bad r i) w a b = a
+first_fits (Err e) w a b = a
 
 pub order_fits : (v : Verdict) (vs : List Verdict) → Fits v → (v ≡ Fine → Fits (in_order vs)) → Fits (in_order (v ∷ vs))
 unfolding in_order
@@ -57,12 +56,12 @@ scan_within r t (suc n) = go (scan r t n) (t n) (scan_within r t n)
     go : (v : Verdict) (b : Bool) → index_of v ≤ n → index_of (first v (cond b (Bad r n) Fine)) ≤ suc n
     go Fine true h = omega arith
     go Fine false h = omega arith
-    go (Bad s i) b h = omega arith
+    go (Err e) b h = omega arith
 
 -- "a second list's ranges are counted on from the first"
 pub counted_fits : (n : ℕ) (v : Verdict) → n + index_of v < 2 ^ 32 → Fits (counted_on n v)
 counted_fits n Fine h = fine_fits
-counted_fits n (Bad r i) h = record { index = h }
+counted_fits n (Err e) h = record { index = h }
 
 -- ---- what is read back
 

@@ -1,11 +1,9 @@
 -- How the exported functions answer in one number: a refusal's number above, its index in the low 32 bits; an answer is below, 0 where it only says that all is done.
 use Rattle.std.specs.Prelude.{ℕ, ◌+◌, ◌*◌, ◌/◌, ◌%◌, ◌^◌, ◌<◌, ◌≡◌, ◌⊎◌, Bool, true, false}
 use Rattle.std.proofs.Math.Option.{Option, some, none}
-use Rattle.refusals.specs.Verdicts.{number_of}
+use Rattle.refusals.specs.Verdicts.{number_of, Bad, Fine, Verdict}
 use Rattle.refusals.specs.Outcomes.{Outcome, given, refused, numbered}
 use Rattle.refusals.specs.declared.Refusal.{Refusal}
-use Rattle.refusals.specs.declared.Verdict.{Verdict}
-use Rattle.refusals.specs.declared.Verdict.TheVariants.{Fine, Bad}
 
 -- a refusal
 abbrev pub refusal_code : ℕ → ℕ → ℕ

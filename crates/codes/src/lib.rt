@@ -3,12 +3,15 @@
 
 ghost use Rattle.std.specs.Prelude.{◌≡◌, ◌∷◌, ◌≤◌, length, drop};
 ghost use Rattle.refusals.specs.Verdicts.{number_of};
-ghost use Rattle.refusals.specs.Outcomes.{answered};
-ghost use Rattle.codes.specs.Codes.{truth_of, verdict_code, count_code, refusal_code};
+ghost use Rattle.refusals.specs.Outcomes.{answered, found};
+ghost use Rattle.codes.specs.Codes.{truth_of, verdict_code, count_code, option_code, refusal_code};
 
-use refusals::{Answer, Refusal, Verdict};
+use refusals::{Answer, Refusal, Refused, Verdict};
 
 const HIGH: u64 = 0x1_0000_0000;
+
+// That there is no such answer.
+pub const ABSENT: u64 = 0xffff_ffff_ffff_ffff;
 
 pub fn refused(r: Refusal, i: usize) -> u64
     ensures { result ≡ refusal_code (number_of r) i }
@@ -21,8 +24,8 @@ pub fn verdict(v: Verdict) -> u64
     ensures { result ≡ verdict_code v }
 {
     match v {
-        Verdict::Fine => 0,
-        Verdict::Bad(r, i) => refused(r, i),
+        Ok(()) => 0,
+        Err(Refused(r, i)) => refused(r, i),
     }
 }
 
@@ -31,8 +34,19 @@ pub fn answer(a: Answer) -> u64
     ensures { result ≡ count_code (answered a) }
 {
     match a {
-        Answer::Given(n) => n as u64,
-        Answer::Refused(r, i) => refused(r, i),
+        Ok(n) => n as u64,
+        Err(Refused(r, i)) => refused(r, i),
+    }
+}
+
+// A number that may be absent.
+pub fn found(f: Result<Option<usize>, Refused>) -> u64
+    ensures { result ≡ option_code (found f) }
+{
+    match f {
+        Ok(Some(n)) => n as u64,
+        Ok(None) => ABSENT,
+        Err(Refused(r, i)) => refused(r, i),
     }
 }
 

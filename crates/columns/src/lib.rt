@@ -7,6 +7,8 @@ ghost use Rattle.ranges.specs.Merged.{union, joined};
 ghost use Rattle.ranges.specs.Forms.{columns};
 ghost use Rattle.ranges.specs.Inner.{TakenUp, Listing, one_first};
 
+// `take_up`, `one_first` and `unite` stand apart from those over words (`packed`, `packed_pairs`), whose answer is written in place among other words: a trait would have to promise the writes too.
+
 // Takes a range up into the first k of the answer: the last is widened where they share a point or touch, else it is appended. After the largest point there is no next one.
 fn take_up(out_start: &mut [u32], out_end: &mut [u32], k: usize, s: u32, e: u32) -> usize
     requires { (length out_start.old ≡ length out_end.old) × (k < length out_start.old) }
@@ -94,8 +96,8 @@ pub fn join_on(
         (joined (columns start.now end.now) (range s e)) }
 {
     let n = start.len();
-    words::copy_u32(out_start, 0, start, 0, n);
-    words::copy_u32(out_end, 0, end, 0, n);
+    out_start[..n].copy_from_slice(start);
+    out_end[..n].copy_from_slice(end);
     if 0 < n && follows(end[n - 1], s) {
         out_end[n - 1] = e;
         return n;

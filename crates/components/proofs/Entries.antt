@@ -8,12 +8,10 @@ use lib.Dec.{ltb}
 use lib.ListN.{length, get_or, drop, replicate, length-drop}
 use lib.Seq.{ext_get_or, get_or-drop}
 use Rattle.refusals.specs.declared.Refusal.{Refusal}
-use Rattle.refusals.specs.declared.Verdict.{Verdict}
-use Rattle.refusals.specs.declared.Verdict.TheVariants.{Fine, Bad}
 use Rattle.refusals.specs.declared.Refusal.TheVariants.{Count, Line, Edge as EdgeWord, Space}
-use Rattle.refusals.specs.Verdicts.{number_of, first, in_order, room_verdict}
+use Rattle.refusals.specs.Verdicts.{number_of, first, in_order, room_verdict, Bad, Fine, Verdict}
 use Rattle.refusals.specs.Orders.{Ordered}
-use Rattle.refusals.proofs.Laws.{first_fine, first_bad, first_left, first_right, bad_fine, check_last}
+use Rattle.refusals.proofs.Laws.{first_fine, first_bad, first_left, first_right, bad_fine, check_last, bad_same}
 use Rattle.refusals.proofs.Orders.{check_gives, order_append, giving_append}
 use Rattle.words.specs.Regions.{cleared}
 use Rattle.words.specs.Inner.{Region}
@@ -28,9 +26,9 @@ use Rattle.graph.proofs.Line.{blocks_length, edges_between}
 use Rattle.line_checks.proofs.Refusals.{Passed, passed, space_told}
 use Rattle.tarjan.specs.Components.{Components}
 use Rattle.tarjan.specs.Inner.Components.{Walkable, Found}
-use Rattle.refusals.specs.declared.Answer.TheVariants.{Given, Refused}
 use Rattle.components.specs.Entry.{components_checks, verdict_of, edges_in, Turned, Answered}
 use Rattle.components.specs.Inner.{Solved}
+use Rattle.std.specs.Prelude.{Ok, Err}
 
 -- ---- the refusals
 
@@ -70,14 +68,14 @@ module _ (blocks edges : List ℕ) (points answer work : ℕ) where
       record { graph = passed blocks edges points (first_left (graph_verdict blocks edges points) _ f); answer_fits = s.0; work_fits = s.1 }
 
 pub refused_is : (blocks edges : List ℕ) (points : ℕ) (which work : List ℕ) (r : Refusal) (i : ℕ) → verdict_of blocks edges points (length which) (length work) ≡ Bad r i
-    → Answered blocks edges points which work (Refused r i) which work
+    → Answered blocks edges points which work (Err (r, i)) which work
 refused_is blocks edges points which work r i e = record {
   answered = λ f. bad_fine (sym e ∙ f);
   turned = λ k j f. same_bad k j (sym e ∙ f);
 }
   where
-    same_bad : (k : Refusal) (j : ℕ) → Bad r i ≡ Bad k j → Turned k j which work (Refused r i) which work
-    same_bad k j q = record { outcome = let a : r ≡ k = cc in let b : i ≡ j = cc in rw (a, b) refl; which_kept = refl; work_kept = refl }
+    same_bad : (k : Refusal) (j : ℕ) → Bad r i ≡ Bad k j → Turned k j which work (Err (r, i)) which work
+    same_bad k j q = record { outcome = let (a, b) = bad_same q in rw (a, b) refl; which_kept = refl; work_kept = refl }
 
 -- ---- the answer
 
@@ -117,7 +115,7 @@ cleared_same n w₀ w K = ap (λ (l : List ℕ). replicate n 0 ++ l) (drop_kept 
 module _ (blocks edges : List ℕ) (points : ℕ) (which₀ which work₀ work₁ work₂ : List ℕ) (base count : ℕ)
     (e : verdict_of blocks edges points (length which₀) (length work₀) ≡ Fine) (S : Solved blocks edges base work₀ work₁ count) where
   pub given_is : Region which₀ which 0 (block_count blocks) (λ i. get_or work₁ (base + i) 0) → work₂ ≡ cleared (8 * (block_count blocks + edge_count edges)) work₁
-      → Answered blocks edges points which₀ work₀ (Given count) which work₂
+      → Answered blocks edges points which₀ work₀ (Ok count) which work₂
   given_is R C = record {
     answered = λ _. record {
       count = count;

@@ -1,9 +1,7 @@
 -- The entry `components`: what it answers, refuses and leaves, for every input.
 use Rattle.std.specs.Prelude.{ℕ, ◌≤◌, ◌≡◌, List, [], ◌∷◌, ◌++◌, length, get_or}
 use Rattle.refusals.specs.declared.Refusal.{Refusal}
-use Rattle.refusals.specs.declared.Verdict.{Verdict}
-use Rattle.refusals.specs.declared.Verdict.TheVariants.{Fine, Bad}
-use Rattle.refusals.specs.Verdicts.{number_of, in_order, room_verdict}
+use Rattle.refusals.specs.Verdicts.{number_of, in_order, room_verdict, Bad, Fine, Verdict, Answer}
 use Rattle.refusals.specs.Outcomes.{given, refused, answered}
 use Rattle.words.specs.Regions.{cleared}
 use Rattle.words.specs.Widths.{block_count, edge_count}
@@ -11,7 +9,6 @@ use Rattle.graph.specs.Paths.{Edge}
 use Rattle.graph.specs.Line.{blocks_of, jumps_of, edges_of}
 use Rattle.graph.specs.Checks.{graph_checks, space_of}
 use Rattle.tarjan.specs.Components.{Components}
-use Rattle.refusals.specs.declared.Answer.{Answer}
 
 -- the checks of `components`, and of `settling`, which is lent the same: numbers 1, 2, 3 and 7, in this order; W is 8 × the records lent
 abbrev pub components_checks : List ℕ → List ℕ → ℕ → ℕ → ℕ → List Verdict

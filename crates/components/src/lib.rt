@@ -2,23 +2,20 @@
 #![tactic(auto)]
 
 ghost use Rattle.std.specs.Prelude.{◌≡◌, ◌+◌, ◌*◌, ◌/◌, ◌≤◌, length};
-ghost use Rattle.refusals.specs.declared.Verdict.TheVariants.{Fine};
 ghost use Rattle.graph.specs.Line.{blocks_of, jumps_of, edge_verdict, Sound};
 ghost use Rattle.components.specs.Entry.{verdict_of, Answered};
 ghost use Rattle.components.specs.Inner.{Solved};
 ghost use Rattle.words.specs.Widths.{block_count, edge_count};
+ghost use Rattle.refusals.specs.Verdicts.{Fine};
 
-use refusals::{Answer, Refusal, Verdict};
+use refusals::{Answer, Verdict};
 use words::widths::{block, edge};
 
 // The refusals of the entry, lowest number first.
 pub fn refusal(blocks: &[u32], edges: &[u32], points: u32, answer: usize, work: usize) -> Verdict
     ensures { result ≡ verdict_of blocks.now edges.now points answer work }
 {
-    let v = line_checks::check(blocks, edges, points);
-    if let Verdict::Bad(r, i) = v {
-        return Verdict::Bad(r, i);
-    }
+    line_checks::check(blocks, edges, points)?;
     let n = blocks.len() / block::WIDTH;
     let e = edges.len() / edge::WIDTH;
     line_checks::space(answer, n, work, n, e, 0)
@@ -49,14 +46,11 @@ pub fn components(
 ) -> Answer
     ensures { Answered blocks.now edges.now points which.old work.old result which.new work.new }
 {
-    let v = refusal(blocks, edges, points, which.len(), work.len());
-    if let Verdict::Bad(r, i) = v {
-        return Answer::Refused(r, i);
-    }
+    refusal(blocks, edges, points, which.len(), work.len())?;
     let n = blocks.len() / block::WIDTH;
     let e = edges.len() / edge::WIDTH;
     let count = solve(blocks, edges, work);
     words::narrow(which, 0, work, e + e + (n + 1 + e), n);
     words::clear(work, 8 * (n + e));
-    Answer::Given(count)
+    Ok(count)
 }

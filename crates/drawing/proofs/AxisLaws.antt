@@ -5,9 +5,11 @@ use native.Mathlib.Nat.{le-div_iff_mul-le, div-lt_iff_lt-mul, mul-le-mul_right, 
 use native.Mathlib.Numerals.{add-one}
 use mathlib.Core.Path.{◌≡◌, refl, ap, ◌∙◌}
 use mathlib.Core.List.{List}
-use Rattle.words.specs.Rows.{field}
+use lib.ListN.{length}
+use Rattle.words.specs.Rows.{field, row_count}
 use Rattle.words.specs.Widths.{block_width, block_count, block_start, block_end, item_ranges, range_width, range_count, range_start, range_end}
 use Rattle.words.proofs.Points.{cut}
+use Rattle.words.proofs.RowLaws.{field_within, rows_within}
 use Rattle.drawing.specs.Axis.{least_of, greatest_of, first_of, last_of, left, axis_width, points_before, Placed, Barred}
 use Rattle.drawing.specs.Inner.{ranges_in}
 
@@ -54,9 +56,9 @@ module _ (w : ℕ) (l : List ℕ) (f a : ℕ) where
       (λ k. let e : i ≡ n = omega arith in rw e (omega arith))
       (λ k. omega (arith, greatest_all n i k))
 
--- rows are no more than their numbers
-pub mul_pos_le : (w i : ℕ) → 0 < w → i ≤ w * i
-mul_pos_le w i h = let k : 1 * i ≤ w * i = mul-le-mul_right i h in omega arith
+-- a row's field is inside the list
+pub row_within : (w i f : ℕ) (l : List ℕ) → i < row_count w l → f < w → w * i + f < length l
+row_within w i f l h k = field_within w (row_count w l) i f (length l) h k (rows_within w l)
 
 -- the ends found in both lists are those of the axis
 module _ (blocks areas : List ℕ) {low high low' high' : ℕ}

@@ -38,19 +38,8 @@ struct Ends {
     high: u32,
 }
 
-fn least(a: u32, b: u32) -> u32
-    ensures { result ≡ min a b }
-{
-    if a < b { a } else { b }
-}
-
-fn greatest(a: u32, b: u32) -> u32
-    ensures { result ≡ max a b }
-{
-    if a < b { b } else { a }
-}
-
 // Two ends, widened by those of the ranges in rows of width `w`, which have their starts and ends at fields `s` and `e`.
+#[tactic(auto, using(crate::proofs::AxisLaws::row_within))]
 fn widened(ends: Ends, l: &[u32], w: usize, s: usize, e: usize) -> Ends
     requires { (s < w) × (e < w) }
     ensures { (result.low ≡ least_of w l.now s ends.low (row_count w l.now)) × (result.high ≡ greatest_of w l.now e ends.high (row_count w l.now)) }
@@ -58,11 +47,9 @@ fn widened(ends: Ends, l: &[u32], w: usize, s: usize, e: usize) -> Ends
     let n = l.len() / w;
     let mut low = ends.low;
     let mut high = ends.high;
-    let mut i = 0;
-    while i < n {
-        low = least(low, l[w * i + s]);
-        high = greatest(high, l[w * i + e]);
-        i += 1;
+    for i in 0..n {
+        low = low.min(l[w * i + s]);
+        high = high.max(l[w * i + e]);
     }
     Ends { low, high }
 }
@@ -94,17 +81,10 @@ pub fn ranges(items: &[u32], room: usize) -> usize
     ensures { result ≡ min room (ranges_in items.now (item_row_count items.now)) }
 {
     let n = items.len() / item::WIDTH;
-    let mut k = 0;
-    let mut i = 0;
-    while i < n {
+    let mut k: usize = 0;
+    for i in 0..n {
         let more = items[item::WIDTH * i + item::RANGES] as usize;
-        if room - k < more {
-            k = room;
-            i += 1;
-        } else {
-            k += more;
-            i += 1;
-        }
+        k = room.min(k.saturating_add(more));
     }
     k
 }
@@ -137,7 +117,7 @@ pub fn place(a: Axis, p: u64) -> u32
 pub fn bar_of(a: Axis, start: u32, end: u32) -> Bar
     ensures { Barred a.first a.more start end result.x result.width }
 {
-    let last = greatest(start, end);
+    let last = start.max(end);
     let x = place(a, start as u64);
     let stop = place(a, last as u64 + 1);
     Bar { x, width: stop - x }

@@ -1,22 +1,20 @@
 -- Demand 3 of the exported job: where `slots_share` answers with no refusal's code, every walk reads through the cells that it wrote as through private ones.
+use Rattle.std.specs.Prelude.{Err, Ok}
 use Prim.Native.Nat.{ℕ, ◌^◌, ◌<◌}
 use native.Mathlib.Omega.{arith}
 use mathlib.Core.Path.{◌≡◌, refl, ap, sym, ◌∙◌}
 use mathlib.Core.List.{List}
 use lib.IntN.{ℤ}
 use lib.ListN.{length, replicate}
-use Rattle.refusals.specs.declared.Verdict.{Verdict}
-use Rattle.refusals.specs.declared.Verdict.TheVariants.{Fine, Bad}
-use Rattle.refusals.specs.Verdicts.{first}
-use Rattle.refusals.specs.Outcomes.{unless, after}
+use Rattle.refusals.specs.Verdicts.{first, Fine, Verdict}
+use Rattle.refusals.specs.Outcomes.{unless, after, answered}
 use Rattle.refusals.proofs.Laws.{first_left}
 use Rattle.areas.specs.Job.{item_count, item_area}
 use Rattle.fitting.specs.Plan.{Plan}
 use Rattle.wants.specs.Entry.{tally_of, cell_rows, cell_offsets}
 use Rattle.soundness.specs.Walks.{Step, Legal}
 use Rattle.soundness.specs.Demand.{frame_of, job_plan, AsPrivate}
-use Rattle.job_answers.specs.declared.Shared.TheVariants.{Plan as Planned}
-use Rattle.job_answers.specs.Answers.{answered, answer_verdict}
+use Rattle.job_answers.specs.Answers.{answer_verdict}
 use Rattle.job_space.specs.Space.{space_of, sizes_of}
 use Rattle.job.specs.Entry.{lent_verdict, SharedAs}
 use Rattle.job.specs.Reads.{cell_in, size_in}
@@ -32,7 +30,7 @@ use Rattle.words.specs.Widths.{range_count}
 -- a number below 2 to the 32 is no refusal's
 pub no_refusal : (v : Verdict) (p : Plan) → code_of (tally_of (unless v p)) < 2 ^ 32 → v ≡ Fine
 no_refusal Fine p h = refl
-no_refusal (Bad r i) p h = absurd (omega (arith, refusal_no_answer r i _ h))
+no_refusal (Err e) p h = absurd (omega (arith, refusal_no_answer e.0 e.1 _ h))
 
 module _ {R : Rows} {t : Terms} {cells items areas counts work cells' items' areas' counts' work' : List ℕ} {offsets offsets' : List ℤ} {r : ℕ}
     (E : JobCoded R t cells items areas offsets counts work r cells' items' areas' offsets' counts' work') (h : r < 2 ^ 32) where
@@ -57,8 +55,8 @@ module _ {R : Rows} {t : Terms} {cells items areas counts work cells' items' are
   same_lent = measured ∙ sym (first_left lent _ measured)
 
   -- the lists are those that `job::share` leaves with a plan
-  pub shared : (c p d : ℕ) → answered (Planned c p d) ≡ tally_of (unless Fine plan)
-      → SharedAs R t cells items areas offsets work (Planned c p d) cells' items' areas' offsets' work'
+  pub shared : (c p d : ℕ) → answered (Ok (record { cells = c; probes = p; depth = d })) ≡ tally_of (unless Fine plan)
+      → SharedAs R t cells items areas offsets work (Ok (record { cells = c; probes = p; depth = d })) cells' items' areas' offsets' work'
   shared c p d e =
       let q = ap (λ (x : Verdict). first x (answer_verdict (item_count (job_of R)) (item_area (job_of R)) (range_count areas) plan)) same_lent in
       record {

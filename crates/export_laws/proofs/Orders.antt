@@ -4,9 +4,8 @@ use mathlib.Core.Path.{◌≡◌, refl, sym, ap, ◌∙◌}
 use mathlib.Core.Bool.{Bool, ◌||◌}
 use mathlib.Core.List.{List, [], ◌∷◌, ◌++◌}
 use lib.Dec.{ltb}
-use Rattle.refusals.specs.declared.Verdict.{Verdict}
 use Rattle.refusals.specs.declared.Refusal.TheVariants.{Count, Space, Want, List as ListWord, Align, Depth}
-use Rattle.refusals.specs.Verdicts.{number_of, first, in_order, check}
+use Rattle.refusals.specs.Verdicts.{number_of, first, in_order, check, Verdict}
 use Rattle.refusals.specs.Orders.{Ordered}
 use Rattle.refusals.proofs.Laws.{first_assoc}
 use Rattle.refusals.proofs.Orders.{check_gives, scan_gives, order_more, order_append, giving_append}

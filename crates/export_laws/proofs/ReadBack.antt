@@ -8,9 +8,8 @@ use mathlib.Core.List.{List, []}
 use lib.IntN.{ℤ}
 use lib.ListN.{length}
 use lib.Dec.{ltb}
-use Rattle.refusals.specs.declared.Verdict.{Verdict}
 use Rattle.refusals.specs.declared.Refusal.TheVariants.{Space}
-use Rattle.refusals.specs.Verdicts.{in_order}
+use Rattle.refusals.specs.Verdicts.{in_order, Verdict}
 use Rattle.refusals.specs.Outcomes.{given, unless}
 use Rattle.words.specs.Rows.{tabulate}
 use Rattle.words.specs.Widths.{local_count}
@@ -24,7 +23,7 @@ use Rattle.fitting.specs.Layout.{laid_verdict}
 use Rattle.wants.specs.Entry.{tally_of, plan_for}
 use Rattle.query_checks.specs.Checks.{plan_verdict, told_verdict, crowded_verdict}
 use Rattle.queries.specs.Entry.{local_of, slot_of, saved_by}
-use Rattle.queries.specs.Shares.{Stretch, shared_part, crowded_of, counted}
+use Rattle.queries.specs.Shares.{shared_part, crowded_of, counted}
 use Rattle.query_codes.specs.Codes.{told_of, part_code, PartTold}
 use Rattle.capping.specs.Cap.{cap_verdict}
 use Rattle.apart.specs.Apart.{apart_verdict, apart_of}
@@ -62,6 +61,7 @@ use Rattle.answer_bounds.proofs.RangeBounds.{merged_fits, merged_count, joined_f
 use Rattle.slots.specs.Exports.{FlowCoded, SpreadCoded, ComponentsCoded, SettlingCoded, ReachCoded, CarriedCoded, MovedCoded, SpilledCoded, LocalAreasCoded, ItemAreasCoded, TextCoded, ListCoded, CrowdCoded, CapCoded, ApartCoded}
 use Rattle.job_space.specs.Rows.{Rows}
 use Rattle.fitting.specs.declared.Terms.{Terms}
+use Rattle.queries.specs.declared.Stretch.{Stretch}
 
 -- ---- the whole job and fitting alone
 

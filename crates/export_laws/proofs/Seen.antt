@@ -1,4 +1,5 @@
 -- A plan that an exported function wrote, as the queries see it: each query of it is the definition's, and none refuses it.
+use Rattle.std.specs.Prelude.{Err, Ok}
 use Prim.Native.Nat.{ℕ, ◌+◌, ◌*◌, ◌%◌, ◌^◌, ◌≤◌, ◌<◌}
 use native.Mathlib.Omega.{arith}
 use mathlib.Core.Path.{◌≡◌, refl, ap, sym, ◌∙◌}
@@ -6,11 +7,9 @@ use mathlib.Core.Bool.{Bool, false, ◌||◌}
 use mathlib.Core.List.{List, [], ◌∷◌}
 use lib.IntN.{ℤ}
 use lib.ListN.{length, take, replicate}
-use Rattle.refusals.specs.declared.Verdict.{Verdict}
-use Rattle.refusals.specs.declared.Verdict.TheVariants.{Fine, Bad}
 use Rattle.refusals.specs.declared.Refusal.TheVariants.{Count, Space}
-use Rattle.refusals.specs.Verdicts.{in_order, check}
-use Rattle.refusals.specs.Outcomes.{unless, after, numbered}
+use Rattle.refusals.specs.Verdicts.{in_order, check, Fine, Verdict}
+use Rattle.refusals.specs.Outcomes.{unless, after, numbered, answered as told_as}
 use Rattle.refusals.proofs.Laws.{first_left, first_right, check_told}
 use Rattle.words.proofs.Bools.{or_neither}
 use Rattle.words.specs.Widths.{local_count, cell_width, item_width, item_cell, range_width, range_count, want_count, slot_count}
@@ -24,8 +23,7 @@ use Rattle.queries.specs.Seen.{PlanSeen}
 use Rattle.queries.proofs.SeenLaws.{answered_is}
 use Rattle.fitting.specs.Plan.{Plan}
 use Rattle.want_checks.specs.Checks.{bad_count, bad_space, wants_verdict, space_of, verdict}
-use Rattle.wants.specs.declared.Fitted.TheVariants.{Plan as Fit}
-use Rattle.wants.specs.Entry.{wants_of, plan_for, tally_of, answer_of, cell_rows, item_rows, cell_offsets, FittedAlone}
+use Rattle.wants.specs.Entry.{wants_of, plan_for, tally_of, cell_rows, item_rows, cell_offsets, FittedAlone}
 use Rattle.wants.proofs.SeenLaws.{wants_long, held as fit-held, fit_laid, fit_seen, fit_lowest}
 use Rattle.want_codes.specs.Plans.{few_counts, coded_verdict, PlanCoded}
 use Rattle.apart.specs.Apart.{locals_of, widths_of, apart_verdict, apart_of, ApartBy}
@@ -111,7 +109,7 @@ module _ (locals budget : ℕ) {wants areas cells items counts work cells' items
   same : coded ≡ own
   same = coded_fine ∙ sym (entry_fine wants areas locals budget (length cells) (length items) (length offsets) (length counts) (length work) coded_fine)
 
-  fitted : (c p d : ℕ) → answer_of (Fit c p d) ≡ tally_of (unless Fine plan) → FittedAlone wants areas own plan cells items offsets work (Fit c p d) cells' items' offsets' work'
+  fitted : (c p d : ℕ) → told_as (Ok (record { cells = c; probes = p; depth = d })) ≡ tally_of (unless Fine plan) → FittedAlone wants areas own plan cells items offsets work (Ok (record { cells = c; probes = p; depth = d })) cells' items' offsets' work'
   fitted c p d e =
       let q = ap (λ (v : Verdict). laid_verdict v plan) same in
       record {
@@ -146,7 +144,7 @@ module _ (locals budget : ℕ) {wants areas cells items counts work cells' items
 
 no_code : (v : Verdict) → verdict_code v < 2 ^ 32 → v ≡ Fine
 no_code Fine h = refl
-no_code (Bad r i) h = absurd (omega (arith, refusal_no_answer r i _ h))
+no_code (Err e) h = absurd (omega (arith, refusal_no_answer e.0 e.1 _ h))
 
 module _ (locals slots : List ℕ) {cells items cells' items' : List ℕ} {r : ℕ}
     (E : ApartCoded (apart_verdict locals slots (length cells) (length items)) (apart_of locals slots (length cells) (length items)) cells items r cells' items') (h : r < 2 ^ 32) where

@@ -1,8 +1,7 @@
 -- Document 01, "lowest number wins", of the exported job and fitting alone: their checks in their order.
 use Rattle.std.specs.Prelude.{ℕ, ◌/◌, ◌||◌, List, ◌∷◌, ◌++◌}
-use Rattle.refusals.specs.declared.Verdict.{Verdict}
 use Rattle.refusals.specs.declared.Refusal.TheVariants.{Count, Space}
-use Rattle.refusals.specs.Verdicts.{check}
+use Rattle.refusals.specs.Verdicts.{check, Verdict}
 use Rattle.areas.specs.Job.{items_verdict}
 use Rattle.fitting.specs.declared.Terms.{Terms}
 use Rattle.fitting.specs.Layout.{rooms_in, layout_checks}

@@ -21,8 +21,7 @@ fn each(w: &mut [u64], t: Tables, width: usize, step: u64, budget: u64) -> Progr
         left: budget,
         top: top,
     };
-    let mut k = 0;
-    while k < t.n {
+    for k in 0..t.n {
         let at = t.end + s.cells * width;
         let row = SampleRow {
             at: at,
@@ -39,7 +38,6 @@ fn each(w: &mut [u64], t: Tables, width: usize, step: u64, budget: u64) -> Progr
         let next = putting::put(w, t, k, s, sample);
         fit_tables::samples::join_row(w, t, k, width, s.cells);
         s = next;
-        k += 1;
     }
     s
 }

@@ -43,16 +43,13 @@ pub fn probe(w: &[u64], t: Tables, k: usize, most: usize, a: Part, s: Sample) ->
         × Sure w.now t s most (ranges_of w.now a) }
     ensures { Probed w.now t most (ranges_of w.now a) result }
 {
-    let mut c = 0;
-    while c < most {
+    for c in 0..most {
         if fit_tables::samples::hit(w, s, c) {
-            c += 1;
-        } else {
-            if joins(w, t, w[t.items + HEADS * t.n + c], a) {
-                return c;
-            }
-            c += 1;
+            continue;
+        }
+        if joins(w, t, w[t.items + HEADS * t.n + c], a) {
+            return c;
         }
     }
-    c
+    most
 }

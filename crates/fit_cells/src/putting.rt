@@ -40,10 +40,7 @@ fn enter(w: &mut [u64], t: Tables, k: usize, i: usize, e: Entry)
 fn least(cells: usize, left: u64) -> usize
     ensures { result ≡ min cells left }
 {
-    if (cells as u64) < left {
-        return cells;
-    }
-    left as usize
+    left.min(cells as u64) as usize
 }
 
 // The item at place `k` of the order goes into the lowest cell that takes it, met while budget is left, else into a new one.

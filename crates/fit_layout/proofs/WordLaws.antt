@@ -16,11 +16,9 @@ use lib.Seq.{paste, paste-zero, paste-suc, take-length}
 use lib.Dec.{eqb, ltb}
 use lib.Pow.{pow_mono}
 use borrow.Author.Tests.{eq-eqb, eqb-true, lt-ltb, le-ltb}
-use Rattle.refusals.specs.declared.Verdict.{Verdict}
-use Rattle.refusals.specs.declared.Verdict.TheVariants.{Fine, Bad}
 use Rattle.refusals.specs.declared.Refusal.TheVariants.{Align, Depth}
 use Rattle.refusals.specs.declared.Refusal.{Refusal}
-use Rattle.refusals.specs.Verdicts.{in_order, scan}
+use Rattle.refusals.specs.Verdicts.{in_order, scan, Bad, Fine, Verdict}
 use Rattle.refusals.proofs.Laws.{first_fine, first_bad, check_last, scan_none, scan_miss, scan_hit, scan_end}
 use Rattle.words.proofs.Bools.{both_ways}
 use Rattle.words.proofs.Points.{cut}

@@ -2,13 +2,13 @@
 #![tactic(auto)]
 
 ghost use Rattle.std.specs.Prelude.{◌≡◌, ◌++◌, ℕ, ◌+◌, ◌<◌, ◌≤◌, length, drop};
-ghost use Rattle.refusals.specs.declared.Verdict.TheVariants.{Fine};
 ghost use Rattle.fit_tables.specs.Inner.{size_of, align_of};
 ghost use Rattle.fitting.specs.Layout.{room_by, round_up, depth_of, offset_of, offsets_of, is_power, align_verdict, depth_verdict, layout_verdict};
 ghost use Rattle.fit_layout.specs.Inner.{rooms_at};
+ghost use Rattle.refusals.specs.Verdicts.{Fine};
 
 use fit_tables::HALF;
-use refusals::{Refusal, Verdict};
+use refusals::{Refusal, Refused, Verdict};
 
 // The deepest that a cell may lie, so that minus its depth is a number of 32 bits with a sign.
 const DEEPEST: u64 = 2147483647;
@@ -28,14 +28,12 @@ fn aligns(w: &[u64], from: usize, cells: usize) -> Verdict
     requires { from + cells ≤ length w.now }
     ensures { result ≡ align_verdict (rooms_at w.now from cells) }
 {
-    let mut c = 0;
-    while c < cells {
+    for c in 0..cells {
         if !power(w[from + c] % HALF) {
-            return Verdict::Bad(Refusal::Align, c);
+            return Err(Refused(Refusal::Align, c));
         }
-        c += 1;
     }
-    Verdict::Fine
+    Ok(())
 }
 
 // A cell's depth, by the depth before it and its word: its size is added, and the sum rounded up to its alignment.
@@ -53,15 +51,13 @@ fn depths(w: &[u64], from: usize, cells: usize) -> Verdict
     ensures { result ≡ depth_verdict (rooms_at w.now from cells) }
 {
     let mut depth = 0;
-    let mut c = 0;
-    while c < cells {
+    for c in 0..cells {
         depth = deeper(depth, w[from + c]);
         if DEEPEST < depth {
-            return Verdict::Bad(Refusal::Depth, c);
+            return Err(Refused(Refusal::Depth, c));
         }
-        c += 1;
     }
-    Verdict::Fine
+    Ok(())
 }
 
 // Refusals 12 and 13 of `cells` cells whose words stand from `from` on: all alignments are tested before a depth is divided by one.
@@ -69,10 +65,7 @@ pub fn refusal(w: &[u64], from: usize, cells: usize) -> Verdict
     requires { from + cells ≤ length w.now }
     ensures { result ≡ layout_verdict (rooms_at w.now from cells) }
 {
-    let v = aligns(w, from, cells);
-    if let Verdict::Bad(r, i) = v {
-        return Verdict::Bad(r, i);
-    }
+    aligns(w, from, cells)?;
     depths(w, from, cells)
 }
 
@@ -91,13 +84,11 @@ pub fn write(offsets: &mut [i32], w: &[u64], from: usize, cells: usize) -> u64
         × (offsets.new ≡ offsets_of (rooms_at w.now from cells) ++ drop cells offsets.old) }
 {
     let mut depth = 0;
-    let mut c = 0;
-    while c < cells {
+    for c in 0..cells {
         let next = deeper(depth, w[from + c]);
         let o = offset(next);
         offsets[c] = o;
         depth = next;
-        c += 1;
     }
     depth
 }

@@ -38,8 +38,7 @@ pub const LISTS: usize = 7;
 // How many tables there are.
 pub const TABLES: usize = 8;
 
-// Two numbers in a word: one above, the other in the low 32 bits.
-pub const HALF: u64 = 0x1_0000_0000;
+pub use words::HALF;
 
 // A plan's counts: its cells and the probes spent.
 #[derive(Clone, Copy)]
@@ -89,8 +88,5 @@ pub struct Sample {
 pub fn larger(a: u64, b: u64) -> u64
     ensures { result ≡ max a b }
 {
-    if a < b {
-        return b;
-    }
-    a
+    a.max(b)
 }

@@ -48,10 +48,8 @@ pub fn reach(w: &[u64], t: Tables) -> u64
     ensures { result < 2 ^ 32 }
 {
     let mut most = 0;
-    let mut i = 0;
-    while i < t.n {
+    for i in 0..t.n {
         most = larger(most, last_point(w, t.at, t.items, w[t.items + i]));
-        i += 1;
     }
     most
 }

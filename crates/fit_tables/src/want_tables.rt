@@ -5,16 +5,14 @@ ghost use Rattle.words.specs.Widths.{cell_width, item_width, range_count, want_c
 ghost use Rattle.fit_tables.specs.Inner.{item_word, area_word_at, item_word_at, want_word_at, Loaded, cell_rows_in, item_rows_in};
 
 use crate::HALF;
-use words::widths::{cell, item, range, want};
+use words::widths::{item, range, want};
 
 fn load_areas(w: &mut [u64], areas: &[u32], n: usize)
     requires { (n ≤ length w.old) × (n ≤ range_count areas.now) }
     ensures { Region w.old w.new 0 n (area_word_at areas.now) }
 {
-    let mut i = 0;
-    while i < n {
+    for i in 0..n {
         w[i] = areas[range::WIDTH * i] as u64 * HALF + areas[range::WIDTH * i + range::END] as u64;
-        i += 1;
     }
 }
 
@@ -33,15 +31,13 @@ fn load_items(w: &mut [u64], at: usize, wants: &[u32], n: usize)
     requires { (at + n ≤ length w.old) × (n ≤ want_count wants.now) × ((i : ℕ) → i < n → 0 < want_present wants.now i → want_first wants.now i ≤ 65536) }
     ensures { Region w.old w.new at n (item_word_at wants.now) }
 {
-    let mut i = 0;
-    while i < n {
+    for i in 0..n {
         let r = want::WIDTH * i;
         w[at + i] = item_word(
             wants[r + want::PRESENT],
             wants[r + want::FIRST],
             wants[r + want::RANGES],
         );
-        i += 1;
     }
 }
 
@@ -49,11 +45,9 @@ fn load_wants(w: &mut [u64], at: usize, wants: &[u32], n: usize)
     requires { (at + n ≤ length w.old) × (n ≤ want_count wants.now) }
     ensures { Region w.old w.new at n (want_word_at wants.now) }
 {
-    let mut i = 0;
-    while i < n {
+    for i in 0..n {
         w[at + i] = wants[want::WIDTH * i] as u64 * HALF
             + wants[want::WIDTH * i + want::ALIGN] as u64;
-        i += 1;
     }
 }
 
@@ -73,13 +67,7 @@ pub fn write_cells(cells: &mut [u32], w: &[u64], from: usize, n: usize)
     requires { (cell_width * n ≤ length cells.old) × (from + n ≤ length w.now) }
     ensures { cells.new ≡ cell_rows_in w.now from n ++ drop (cell_width * n) cells.old }
 {
-    let mut i = 0;
-    while i < n {
-        let x = w[from + i];
-        cells[cell::WIDTH * i] = (x / HALF) as u32;
-        cells[cell::WIDTH * i + cell::ALIGN] = (x % HALF) as u32;
-        i += 1;
-    }
+    answer_rows::write_rows(cells, w, from, n, 0);
 }
 
 // A row of cell, present, first and count for each of `n` items.
@@ -87,13 +75,11 @@ pub fn write_items(items: &mut [u32], w: &[u64], wants: &[u32], from: usize, n: 
     requires { (item_width * n ≤ length items.old) × (from + n ≤ length w.now) × (n ≤ want_count wants.now) × ((i : ℕ) → i < n → get_or w.now (from + i) 0 < 2 ^ 32) }
     ensures { items.new ≡ item_rows_in w.now wants.now from n ++ drop (item_width * n) items.old }
 {
-    let mut i = 0;
-    while i < n {
+    for i in 0..n {
         let cell = w[from + i] as u32;
         let r = want::WIDTH * i;
         if wants[r + want::PRESENT] == 0 {
             put_row(items, item::WIDTH * i, cell, 0, 0, 0);
-            i += 1;
         } else {
             put_row(
                 items,
@@ -103,7 +89,6 @@ pub fn write_items(items: &mut [u32], w: &[u64], wants: &[u32], from: usize, n: 
                 wants[r + want::FIRST],
                 wants[r + want::RANGES],
             );
-            i += 1;
         }
     }
 }

@@ -5,9 +5,8 @@ use mathlib.Core.Bool.{true, false}
 use mathlib.Core.Option.{some, none}
 use mathlib.Core.List.{List, [], ◌∷◌}
 use lib.IntN.{pos, negsuc}
-use Rattle.refusals.specs.declared.Verdict.TheVariants.{Fine, Bad}
 use Rattle.refusals.specs.declared.Refusal.TheVariants.{Align, Depth}
-use Rattle.refusals.specs.Verdicts.{first, in_order, scan}
+use Rattle.refusals.specs.Verdicts.{first, in_order, scan, Bad, Fine}
 use Rattle.words.specs.Rows.{tabulate}
 use Rattle.ranges.specs.Points.{range}
 use Rattle.ranges.specs.Merged.{insert as insertRange, sort, join, merged, meets, clashes}

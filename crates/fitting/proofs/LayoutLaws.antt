@@ -11,9 +11,8 @@ use lib.Signed.{◌≤ℤ◌, ◌<ℤ◌, le_z, <ℤ-≤ℤ_trans, <ℤ_irrefl}
 use lib.ListN.{length}
 use lib.Dec.{T, ltb, le→leb}
 use borrow.Author.Tests.{lt-ltb, ltb-false, not-false}
-use Rattle.refusals.specs.declared.Verdict.TheVariants.{Fine}
 use Rattle.refusals.specs.declared.Refusal.TheVariants.{Align, Depth}
-use Rattle.refusals.specs.Verdicts.{in_order}
+use Rattle.refusals.specs.Verdicts.{in_order, Fine}
 use Rattle.refusals.specs.Orders.{Giving}
 use Rattle.refusals.proofs.Laws.{first_left, first_right, check_last, scan_fine}
 use Rattle.refusals.proofs.Orders.{scan_gives}

@@ -5,8 +5,7 @@ use mathlib.Core.Option.{some}
 use mathlib.Core.List.{List, [], ◌∷◌}
 use lib.IntN.{negsuc}
 use lib.ListN.{length}
-use Rattle.refusals.specs.declared.Verdict.TheVariants.{Fine}
-use Rattle.refusals.specs.Verdicts.{first, in_order, scan}
+use Rattle.refusals.specs.Verdicts.{first, in_order, scan, Fine}
 use Rattle.words.specs.Rows.{tabulate}
 use Rattle.ranges.specs.Points.{range}
 use Rattle.ranges.specs.Merged.{insert as insertRange, sort, join, merged, meets, clashes}

@@ -1,8 +1,7 @@
 -- Document 02, (a): "cells are laid below the frame base in cell order": depths, offsets, and numbers 12 and 13. Over any list of sizes and alignments.
 use Rattle.std.specs.Prelude.{ℕ, zero, suc, ◌+◌, ◌-◌, ◌*◌, ◌/◌, ◌^◌, ◌<◌, ◌≡◌, Bool, false, not, ◌||◌, List, [], ◌∷◌, map, ℤ, pos, neg_ℤ, ◌+ℤ◌, ◌*ℤ◌, ◌≤ℤ◌, length, get_or, eqb, ltb}
-use Rattle.refusals.specs.declared.Verdict.{Verdict}
 use Rattle.refusals.specs.declared.Refusal.TheVariants.{Align, Depth}
-use Rattle.refusals.specs.Verdicts.{first, in_order, scan}
+use Rattle.refusals.specs.Verdicts.{first, in_order, scan, Verdict}
 use Rattle.words.specs.Rows.{tabulate}
 use Rattle.words.specs.Widths.{cell_size, cell_align}
 use Rattle.fitting.specs.Plan.{Plan}

@@ -12,21 +12,24 @@
 // item that names no cell, more cells than items. Crowded slots refused: a row cut short; a list under the slots comes before an item that names no cell; such an item. Then `apart` and `cap`.
 #![tactic(auto)]
 
-ghost use Rattle.std.specs.Prelude.{◌≡◌, length};
-ghost use Rattle.cases.specs.Inner.{Ordered};
-
-use cases::Cuts;
+use cases::Case;
 use fitting::Terms;
-use queries::{Crowd, Place, Saving, Share};
-use refusals::Verdict;
+use queries::Stretch;
+use refusals::{Answer, Refused};
 use std::io;
-use std::io::Stdout;
-use wants::Fitted;
+use std::io::{Print, Stdout};
+use wants::Tally;
 
-fn fitted(out: Stdout, f: Fitted) -> io::Result<()> {
+fn fitted(out: Stdout, f: Result<Tally, Refused>) -> io::Result<()> {
     match f {
-        Fitted::Plan(cells, probes, depth) => cases::plan(out, cells, probes, depth),
-        Fitted::Refused(r, i) => cases::refused(out, r, i),
+        Ok(
+            Tally {
+                cells,
+                probes,
+                depth,
+            },
+        ) => cases::plan(out, cells, probes, depth),
+        Err(Refused(r, i)) => cases::refused(out, r, i),
     }
 }
 
@@ -35,68 +38,58 @@ fn fit(out: Stdout, wants: &[u32], areas: &[u32], locals: u32, budget: u32) -> i
     let mut items = [7u32; 16];
     let mut offsets = [7i32; 4];
     let mut work = [7u64; 60];
-    let terms = Terms { budget: budget };
-    fitted(
-        out,
-        wants::fit_wants(
-            wants,
-            areas,
-            locals,
-            terms,
-            &mut cells,
-            &mut items,
-            &mut offsets,
-            &mut work,
-        ),
-    )?;
+    let f = wants::fit_wants(
+        wants,
+        areas,
+        locals,
+        Terms { budget },
+        &mut cells,
+        &mut items,
+        &mut offsets,
+        &mut work,
+    );
+    fitted(out, f)?;
     cases::listed(out, &cells)?;
     cases::listed(out, &items)?;
-    cases::left_offsets(out, &offsets, &work)
-}
-
-fn number(out: Stdout, x: usize) -> io::Result<()> {
-    cases::put(out, b" ", x as u64)
+    cases::left(out, &offsets, &work)
 }
 
 fn none(out: Stdout) -> io::Result<()> {
-    cases::text(out, b" -")
+    print!(out; " -")
 }
 
-fn placed(out: Stdout, p: Place) -> io::Result<()> {
+fn placed(out: Stdout, p: Result<Option<usize>, Refused>) -> io::Result<()> {
     match p {
-        Place::At(c) => number(out, c),
-        Place::Absent => none(out),
-        Place::Refused(r, i) => cases::bad(out, r, i),
+        Ok(Some(c)) => print!(out; " {c}"),
+        Ok(None) => none(out),
+        Err(Refused(r, i)) => cases::bad(out, r, i),
     }
 }
 
-fn saved(out: Stdout, s: Saving) -> io::Result<()> {
+fn saved(out: Stdout, s: Answer) -> io::Result<()> {
     match s {
-        Saving::Cells(n) => number(out, n),
-        Saving::Refused(r, i) => cases::bad(out, r, i),
+        Ok(n) => print!(out; " {n}"),
+        Err(Refused(r, i)) => cases::bad(out, r, i),
     }
 }
 
 fn places(out: Stdout, cells: &[u32], items: &[u32], locals: u32) -> io::Result<()> {
     placed(out, queries::local(cells, items, locals, 0))?;
     placed(out, queries::local(cells, items, locals, 2))?;
-    cases::text(out, b" slot")?;
+    print!(out; " slot")?;
     placed(out, queries::slot(cells, items, locals, 0))?;
     placed(out, queries::slot(cells, items, locals, 2))?;
-    cases::text(out, b" saved")?;
+    print!(out; " saved")?;
     saved(out, queries::saved(cells, items, locals))
 }
 
-fn shared(out: Stdout, s: Share) -> io::Result<()> {
+fn shared(out: Stdout, s: Result<Option<Stretch>, Refused>) -> io::Result<()> {
     match s {
-        Share::Part(first, n) => {
-            number(out, first)?;
-            number(out, n)?;
-        }
-        Share::Absent => none(out)?,
-        Share::Refused(r, i) => cases::bad(out, r, i)?,
+        Ok(Some(Stretch { first, count: n })) => print!(out; " {first} {n}")?,
+        Ok(None) => none(out)?,
+        Err(Refused(r, i)) => cases::bad(out, r, i)?,
     }
-    cases::text(out, b";")
+    print!(out; ";")
 }
 
 fn shares(out: Stdout, cells: &[u32], items: &[u32], areas: &[u32], locals: u32) -> io::Result<()> {
@@ -105,10 +98,10 @@ fn shares(out: Stdout, cells: &[u32], items: &[u32], areas: &[u32], locals: u32)
     shared(out, queries::shared(cells, items, areas, locals, 2))
 }
 
-fn crowd(out: Stdout, c: Crowd) -> io::Result<()> {
+fn crowd(out: Stdout, c: Answer) -> io::Result<()> {
     match c {
-        Crowd::Slots(n) => cases::counted(out, n),
-        Crowd::Refused(r, i) => cases::refused(out, r, i),
+        Ok(n) => cases::counted(out, n),
+        Err(Refused(r, i)) => cases::refused(out, r, i),
     }
 }
 
@@ -118,73 +111,40 @@ fn crowded(out: Stdout, cells: &[u32], items: &[u32], locals: u32) -> io::Result
     cases::show(out, &slots)
 }
 
-fn verdict(out: Stdout, v: Verdict) -> io::Result<()> {
-    match v {
-        Verdict::Fine => cases::text(out, b" fine:"),
-        Verdict::Bad(r, i) => cases::refused(out, r, i),
-    }
-}
-
 fn apart(out: Stdout, locals: &[u32], slots: &[u32]) -> io::Result<()> {
     let mut cells = [7u32; 6];
     let mut items = [7u32; 12];
-    verdict(out, apart::apart(locals, slots, &mut cells, &mut items))?;
+    cases::verdict(out, apart::apart(locals, slots, &mut cells, &mut items))?;
     cases::listed(out, &cells)?;
     cases::show(out, &items)
 }
 
 fn cap(out: Stdout, count: u32, most: u32) -> io::Result<()> {
     let mut cells = [4u32, 16, 8, 8, 32, 32];
-    verdict(out, capping::cap(&mut cells, count, most))?;
+    cases::verdict(out, capping::cap(&mut cells, count, most))?;
     cases::show(out, &cells)
 }
 
-// `crowded` and `cap` begin with the same letter: `cap` is lent no list.
-fn crowded_or_cap(out: Stdout, a: &[u32], b: &[u32], x: u32, y: u32) -> io::Result<()> {
-    if a.len() == 0 {
-        cap(out, x, y)?;
-    } else {
-        crowded(out, a, b, x)?;
-    }
-    Ok(())
-}
-
-// Runs what a case asks, by the first letter of its name.
-fn ask(out: Stdout, name: u8, a: &[u32], b: &[u32], c: &[u32], x: u32, y: u32) -> io::Result<()> {
-    match name {
-        b'f' => {
-            fit(out, a, b, x, y)?;
-            return Ok(());
-        }
+// Runs what a case asks, by the first letter of its name. `crowded` and `cap` begin with the same letter: `cap` is lent no list.
+fn run(out: Stdout, case: &Case) -> io::Result<()> {
+    let a = case.column(1);
+    let b = case.column(2);
+    let c = case.column(3);
+    let x = case.number(0);
+    let y = case.number(1);
+    match case.letter {
+        b'f' => return fit(out, a, b, x, y),
         b'l' => places(out, a, b, x)?,
         b's' => shares(out, a, b, c, x)?,
         b'a' => apart(out, a, b)?,
-        _ => crowded_or_cap(out, a, b, x, y)?,
+        _ if a.is_empty() => cap(out, x, y)?,
+        _ => crowded(out, a, b, x)?,
     }
-    cases::text(out, b"\n")
-}
-
-fn run(out: Stdout, name: u8, n: &[u32], e: Cuts) -> io::Result<()>
-    requires { (length n.now ≡ 1024) × Ordered e 1024 }
-{
-    let c0 = e.c0;
-    let c1 = e.c1;
-    let c2 = e.c2;
-    let c3 = e.c3;
-    ask(out, name, &n[c0..c1], &n[c1..c2], &n[c2..c3], n[0], n[1])
+    println!(out)
 }
 
 fn main(rt: HostRuntime) -> io::Result<()> {
     let out = rt.stdout();
-    let mut text = [0u8; 4096];
-    let mut n = [0u32; 1024];
-    let len = cases::input(rt.stdin(), &mut text)?;
-    let mut i = 0;
-    while i < len {
-        cases::name(out, &text, i)?;
-        let e = cases::case(&text, i, &mut n);
-        run(out, text[i], &n, e)?;
-        i = e.next;
-    }
-    Ok(())
+    let mut text = [0; 4096];
+    cases::each(rt.stdin(), out, &mut text, |case| run(out, case))
 }

@@ -10,12 +10,10 @@ use native.Mathlib.Omega.{arith}
 use lib.Dec.{eqb, ltb}
 use lib.ListN.{length, get_or, length-append, length-replicate, length-drop}
 use Rattle.refusals.specs.declared.Refusal.{Refusal}
-use Rattle.refusals.specs.declared.Verdict.{Verdict}
-use Rattle.refusals.specs.declared.Verdict.TheVariants.{Fine, Bad}
 use Rattle.refusals.specs.declared.Refusal.TheVariants.{Count, Line, Edge as EdgeWord, Space}
-use Rattle.refusals.specs.Verdicts.{number_of, first, in_order, room_verdict}
+use Rattle.refusals.specs.Verdicts.{number_of, first, in_order, room_verdict, Bad, Fine, Verdict}
 use Rattle.refusals.specs.Orders.{Ordered}
-use Rattle.refusals.proofs.Laws.{first_fine, first_bad, first_left, first_right, bad_fine, check_last}
+use Rattle.refusals.proofs.Laws.{first_fine, first_bad, first_left, first_right, bad_fine, check_last, bad_same}
 use Rattle.refusals.proofs.Orders.{check_gives, order_append, giving_append}
 use Rattle.words.specs.Inner.{Region}
 use Rattle.words.specs.Regions.{cleared}
@@ -101,7 +99,7 @@ refused_is over blocks edges points touched words out work r i e = record {
 }
   where
     same_bad : (k : Refusal) (j : ℕ) → Bad r i ≡ Bad k j → Turned k j out work (Bad r i) out work
-    same_bad k j q = record { outcome = let a : r ≡ k = cc in let b : i ≡ j = cc in rw (a, b) refl; out_kept = refl; work_kept = refl }
+    same_bad k j q = record { outcome = let (a, b) = bad_same q in rw (a, b) refl; out_kept = refl; work_kept = refl }
 
 -- ---- the answer
 

@@ -1,9 +1,7 @@
 -- The entry `flowed`: what it answers, refuses and leaves, for every input.
 use Rattle.std.specs.Prelude.{ℕ, ◌*◌, ◌<◌, ◌≡◌, ◌↔◌, Bool, true, List, [], ◌∷◌, ◌++◌, length}
 use Rattle.refusals.specs.declared.Refusal.{Refusal}
-use Rattle.refusals.specs.declared.Verdict.{Verdict}
-use Rattle.refusals.specs.declared.Verdict.TheVariants.{Fine, Bad}
-use Rattle.refusals.specs.Verdicts.{number_of, in_order, room_verdict}
+use Rattle.refusals.specs.Verdicts.{number_of, in_order, room_verdict, Bad, Fine, Verdict}
 use Rattle.refusals.specs.Outcomes.{given, refused, after, numbered}
 use Rattle.words.specs.Regions.{cleared}
 use Rattle.words.specs.Widths.{block_count, edge_count}

@@ -2,16 +2,16 @@
 #![tactic(auto)]
 
 ghost use Rattle.std.specs.Prelude.{◌≡◌, ◌+◌, ◌*◌, ◌/◌, ◌≤◌, length};
-ghost use Rattle.refusals.specs.declared.Verdict.TheVariants.{Fine};
 ghost use Rattle.graph.specs.Line.{blocks_of, jumps_of, edge_verdict, Sound};
 ghost use Rattle.graph.specs.Inner.Work.{Neighbours};
 ghost use Rattle.components.specs.Entry.{edges_in};
 ghost use Rattle.flow.specs.Inner.{way_of, Solved};
 ghost use Rattle.flow.specs.Entry.{verdict_of, Answered};
 ghost use Rattle.words.specs.Widths.{block_count, edge_count};
+ghost use Rattle.refusals.specs.Verdicts.{Fine};
 
 use flow_rows::Flow;
-use refusals::{Refusal, Verdict};
+use refusals::Verdict;
 use words::widths::{block, edge};
 
 // Which edges are followed.
@@ -34,14 +34,8 @@ pub fn refusal(
     ensures { result ≡ verdict_of blocks.now edges.now points lent words answer work }
 {
     let n = blocks.len() / block::WIDTH;
-    let v = line_checks::rows(lent, n, words);
-    if let Verdict::Bad(r, i) = v {
-        return Verdict::Bad(r, i);
-    }
-    let v = line_checks::check(blocks, edges, points);
-    if let Verdict::Bad(r, i) = v {
-        return Verdict::Bad(r, i);
-    }
+    line_checks::rows(lent, n, words)?;
+    line_checks::check(blocks, edges, points)?;
     line_checks::space(answer, lent, work, n, edges.len() / edge::WIDTH, lent)
 }
 
@@ -108,7 +102,7 @@ pub fn flowed(
 ) -> Verdict
     ensures { Answered over blocks.now edges.now points touched.now words out.old work.old result out.new work.new }
 {
-    let v = refusal(
+    refusal(
         blocks,
         edges,
         points,
@@ -116,15 +110,12 @@ pub fn flowed(
         words,
         out.len(),
         work.len(),
-    );
-    if let Verdict::Bad(r, i) = v {
-        return Verdict::Bad(r, i);
-    }
+    )?;
     let at = solve(over, blocks, edges, touched, words, work);
     words::copy_from(out, 0, work, at, touched.len());
     words::clear(
         work,
         8 * (blocks.len() / block::WIDTH + edges.len() / edge::WIDTH + touched.len()),
     );
-    Verdict::Fine
+    Ok(())
 }

@@ -25,13 +25,12 @@ fn gather(work: &mut [u64], f: Flow, u: usize, c: u64, x: usize) -> bool
     let to = f.at + f.n + 1;
     let row = f.out + x * f.words;
     let end = work[f.at + u + 1] as usize;
-    let mut k = work[f.at + u] as usize;
+    let start = work[f.at + u] as usize;
     let mut looped = false;
-    while k < end {
+    for k in start..end {
         let g = work[to + k] as usize;
         if work[f.base + g] == c {
             looped = true;
-            k += 1;
         } else {
             bits::row_or_two(
                 work,
@@ -40,7 +39,6 @@ fn gather(work: &mut [u64], f: Flow, u: usize, c: u64, x: usize) -> bool
                 f.touched + g * f.words,
                 f.words,
             );
-            k += 1;
         }
     }
     looped
@@ -51,16 +49,13 @@ fn run_end(work: &[u64], f: Flow, ord: usize, i: usize, c: u64) -> usize
     requires { Laid f work.now × (ord ≡ order_from f) × (i < f.n) × (which f work.now (order f work.now i) ≡ c) }
     ensures { Run f work.now i result c }
 {
-    let mut j = i + 1;
-    while j < f.n {
+    for j in (i + 1)..f.n {
         let v = work[ord + j] as usize;
-        if work[f.base + v] == c {
-            j += 1;
-        } else {
+        if work[f.base + v] != c {
             return j;
         }
     }
-    j
+    f.n
 }
 
 // Puts into the row of x what flows over the edges of the places from i up to j of the order to other components than c; whether an edge of them stays in c.
@@ -70,14 +65,10 @@ fn pull(work: &mut [u64], f: Flow, ord: usize, i: usize, j: usize, c: u64, x: us
         × Tells (Member f work.old i j (λ u. Stays f work.old u c)) result }
 {
     let mut looped = false;
-    let mut p = i;
-    while p < j {
+    for p in i..j {
         let u = work[ord + p] as usize;
         if gather(work, f, u, c, x) {
             looped = true;
-            p += 1;
-        } else {
-            p += 1;
         }
     }
     looped
@@ -89,11 +80,9 @@ fn touch(work: &mut [u64], f: Flow, ord: usize, i: usize, j: usize, x: usize)
     ensures { Joins f x (λ b. Member f work.old i j (λ u. touched_bit f work.old u b ≡ true)) work.old work.new }
 {
     let row = f.out + x * f.words;
-    let mut p = i;
-    while p < j {
+    for p in i..j {
         let u = work[ord + p] as usize;
         bits::row_or(work, row, f.touched + u * f.words, f.words);
-        p += 1;
     }
 }
 
@@ -103,14 +92,10 @@ fn share(work: &mut [u64], f: Flow, ord: usize, i: usize, j: usize, c: u64, x: u
     ensures { Shared f x i j c work.old work.new }
 {
     let row = f.out + x * f.words;
-    let mut p = i;
-    while p < j {
+    for p in i..j {
         let u = work[ord + p] as usize;
-        if u == x {
-            p += 1;
-        } else {
+        if u != x {
             words::copy(work, row, f.out + u * f.words, f.words);
-            p += 1;
         }
     }
 }

@@ -36,14 +36,13 @@ fn grow(work: &mut [u64], lay: Lay, z: Sizes, i: usize, n: usize) -> usize
 {
     let q = work[lay.defs + i] - 1;
     let mut k = n;
-    let mut x = work[lay.firsts + i] as usize;
-    while x < z.edges {
+    let first = work[lay.firsts + i] as usize;
+    for x in first..z.edges {
         let y = work[lay.edges + x];
         if y / HALF != q {
             return k;
         }
         k = queue::join(z.v, z.insts, work, lay, (y % HALF) as usize, k);
-        x += 1;
     }
     k
 }
@@ -129,6 +128,7 @@ fn walk(work: &mut [u64], lay: Lay, z: Sizes, b: Begun, whole: bool) -> Walk
         count: b.count,
     };
     let mut h = 0;
+    // The steps make the queue longer, so its length is no bound of a range.
     while h < s.count {
         if stops(s.bad, whole) {
             return s;
@@ -155,10 +155,8 @@ fn unsee(work: &mut [u64], lay: Lay, z: Sizes, n: usize)
     requires { Held z.v z.insts lay work.old n }
     ensures { Unseen lay z work.old work.new n }
 {
-    let mut k = 0;
-    while k < n {
+    for k in 0..n {
         forget(work, lay, z, k);
-        k += 1;
     }
 }
 

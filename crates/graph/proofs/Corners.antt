@@ -4,9 +4,8 @@ use mathlib.Core.Path.{◌≡◌, refl}
 use mathlib.Core.Bool.{true, false}
 use mathlib.Core.List.{List, [], ◌∷◌}
 use lib.ListN.{length}
-use Rattle.refusals.specs.declared.Verdict.TheVariants.{Fine, Bad}
 use Rattle.refusals.specs.declared.Refusal.TheVariants.{Count, Line, Edge as EdgeWord, Space}
-use Rattle.refusals.specs.Verdicts.{first, scan, room_verdict}
+use Rattle.refusals.specs.Verdicts.{first, scan, room_verdict, Bad, Fine}
 use Rattle.words.specs.Rows.{tabulate}
 use Rattle.words.specs.Widths.{block_width, edge_width, want_width}
 use Rattle.graph.specs.Paths.{edge, turned}

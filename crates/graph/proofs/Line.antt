@@ -11,7 +11,6 @@ use native.Mathlib.Omega.{arith}
 use lib.Dec.{leb, ltb}
 use lib.ListN.{length, get_or, length-map}
 use borrow.Author.Tests.{eq-eqb, ne_eqb, eqb-true, eqb-false, leb-false, ltb-false, not-false}
-use Rattle.refusals.specs.declared.Verdict.TheVariants.{Fine}
 use Rattle.refusals.specs.declared.Refusal.TheVariants.{Line, Edge as EdgeWord}
 use Rattle.refusals.proofs.Laws.{scan_fine}
 use Rattle.words.specs.Inner.{Rising, block_number, edge_from, edge_into}
@@ -25,6 +24,7 @@ use Rattle.graph.specs.Paths.{Edge, edge, Between}
 use Rattle.graph.specs.Line.{Stretch, Jump, blocks_of, jumps_of, block_at, place_in, edges_of, used_before, gap_at, bad_block, line_verdict, bad_edge, edge_verdict, Sound}
 use Rattle.graph.specs.Inner.Line.{nowhere, linked, place_of, number_at}
 use Rattle.graph.proofs.Counting.{all_taken}
+use Rattle.refusals.specs.Verdicts.{Fine}
 
 -- ---- lists by index
 

@@ -1,8 +1,7 @@
 -- Document 01, "Limits and what is turned back": numbers 1, 2 and 3 for the blocks and the edges that an entry is lent.
 use Rattle.std.specs.Prelude.{ℕ, ◌+◌, ◌*◌, Bool, not, ◌||◌, List, [], ◌∷◌, ltb, eqb}
-use Rattle.refusals.specs.declared.Verdict.{Verdict}
 use Rattle.refusals.specs.declared.Refusal.TheVariants.{Count}
-use Rattle.refusals.specs.Verdicts.{in_order, check}
+use Rattle.refusals.specs.Verdicts.{in_order, check, Verdict}
 use Rattle.words.specs.Rows.{whole_rows}
 use Rattle.words.specs.Widths.{block_width, block_count, edge_width, edge_count}
 use Rattle.graph.specs.Line.{blocks_of, jumps_of, line_verdict, edge_verdict}

@@ -1,8 +1,7 @@
 -- Document 01, "Blocks and edges": the blocks in line order, edges by block number and by place.
 use Rattle.std.specs.Prelude.{ℕ, zero, suc, ◌+◌, ◌≤◌, ◌<◌, ◌≡◌, Bool, false, cond, not, ◌||◌, List, [], ◌∷◌, map, length, get_or, eqb, leb, ltb}
-use Rattle.refusals.specs.declared.Verdict.{Verdict}
 use Rattle.refusals.specs.declared.Refusal.TheVariants.{Line, Edge as EdgeWord}
-use Rattle.refusals.specs.Verdicts.{scan}
+use Rattle.refusals.specs.Verdicts.{scan, Verdict}
 use Rattle.words.specs.Rows.{records}
 use Rattle.words.specs.Widths.{block_width, edge_width}
 use Rattle.graph.specs.Paths.{Edge, edge}

@@ -7,12 +7,10 @@
 // word under W.
 #![tactic(auto)]
 
-ghost use Rattle.std.specs.Prelude.{◌≡◌, length};
-ghost use Rattle.cases.specs.Inner.{Ordered};
-
-use cases::Cuts;
+use cases::Case;
 use flow::Over;
-use refusals::Refusal;
+use refusals::{Refusal, Refused};
+use std::fmt::Display;
 use std::io;
 use std::io::{Print, Stdout};
 use words::widths::block;
@@ -22,27 +20,14 @@ fn begin(stdout: Stdout, shape: u8, part: u8) -> io::Result<()> {
     stdout.write_all(&head)
 }
 
-fn number(stdout: Stdout, x: u64) -> io::Result<()> {
-    cases::put(stdout, b" ", x)
-}
-
-fn numbers(stdout: Stdout, s: &[u32]) -> io::Result<()> {
-    cases::show(stdout, s)?;
-    cases::text(stdout, b"\n")
-}
-
-fn rows(stdout: Stdout, s: &[u64]) -> io::Result<()> {
-    let mut i = 0;
-    while i < s.len() {
-        number(stdout, s[i])?;
-        i += 1;
-    }
-    cases::text(stdout, b"\n")
+fn row<T: Display>(stdout: Stdout, list: &[T]) -> io::Result<()> {
+    cases::show(stdout, list)?;
+    println!(stdout)
 }
 
 fn refused(stdout: Stdout, r: Refusal, i: usize) -> io::Result<()> {
-    number(stdout, refusals::number(r) as u64)?;
-    number(stdout, i as u64)
+    let n = refusals::number(r);
+    print!(stdout; " {n} {i}")
 }
 
 fn show_components(
@@ -53,13 +38,13 @@ fn show_components(
     work: &mut [u64],
 ) -> io::Result<()> {
     let mut which: [u32; 6] = [9; 6];
-    cases::text(stdout, b"c")?;
+    print!(stdout; "c")?;
     let answer = components::components(blocks, edges, points, &mut which, work);
     match answer {
-        refusals::Answer::Given(count) => number(stdout, count as u64)?,
-        refusals::Answer::Refused(r, i) => refused(stdout, r, i)?,
+        Ok(count) => print!(stdout; " {count}")?,
+        Err(Refused(r, i)) => refused(stdout, r, i)?,
     }
-    numbers(stdout, &which)
+    row(stdout, &which)
 }
 
 fn show_flowed(
@@ -77,10 +62,10 @@ fn show_flowed(
     begin(stdout, shape, part)?;
     let answer = flow::flowed(over, blocks, edges, points, touched, 1, &mut out, work);
     match answer {
-        refusals::Verdict::Fine => {}
-        refusals::Verdict::Bad(r, i) => refused(stdout, r, i)?,
+        Ok(()) => {}
+        Err(Refused(r, i)) => refused(stdout, r, i)?,
     }
-    rows(stdout, &out)
+    row(stdout, &out)
 }
 
 fn show_settling(
@@ -95,10 +80,10 @@ fn show_settling(
     begin(stdout, shape, b'o')?;
     let answer = spread::settling(blocks, edges, points, &mut order, work);
     match answer {
-        refusals::Verdict::Fine => {}
-        refusals::Verdict::Bad(r, i) => refused(stdout, r, i)?,
+        Ok(()) => {}
+        Err(Refused(r, i)) => refused(stdout, r, i)?,
     }
-    numbers(stdout, &order)
+    row(stdout, &order)
 }
 
 fn show_spread(
@@ -115,10 +100,10 @@ fn show_spread(
     begin(stdout, shape, b'a')?;
     let answer = spread::spread(blocks, edges, points, leaves, passes, 1, &mut out, work);
     match answer {
-        refusals::Verdict::Fine => {}
-        refusals::Verdict::Bad(r, i) => refused(stdout, r, i)?,
+        Ok(()) => {}
+        Err(Refused(r, i)) => refused(stdout, r, i)?,
     }
-    rows(stdout, &out)
+    row(stdout, &out)
 }
 
 fn show_rows(
@@ -194,26 +179,19 @@ fn show(
     )
 }
 
-fn run(stdout: Stdout, shape: u8, n: &[u32], e: Cuts) -> io::Result<()>
-    requires { (length n.now ≡ 1024) × Ordered e 1024 }
-{
-    let c0 = e.c0;
-    let c1 = e.c1;
-    let c2 = e.c2;
-    show(stdout, shape, &n[c0..c1], &n[c1..c2], n[0], n[1] as usize)
+fn run(out: Stdout, case: &Case) -> io::Result<()> {
+    show(
+        out,
+        case.letter,
+        case.column(1),
+        case.column(2),
+        case.number(0),
+        case.number(1) as usize,
+    )
 }
 
 fn main(rt: HostRuntime) -> io::Result<()> {
-    let stdout = rt.stdout();
-    let mut text = [0u8; 4096];
-    let mut n = [0u32; 1024];
-    let len = cases::input(rt.stdin(), &mut text)?;
-    let mut i = 0;
-    while i < len {
-        cases::name(stdout, &text, i)?;
-        let e = cases::case(&text, i, &mut n);
-        run(stdout, text[i], &n, e)?;
-        i = e.next;
-    }
-    Ok(())
+    let out = rt.stdout();
+    let mut text = [0; 4096];
+    cases::each(rt.stdin(), out, &mut text, |case| run(out, case))
 }

@@ -10,11 +10,9 @@ use mathlib.Core.List.{List, []}
 use lib.ListN.{length, get_or}
 use lib.Dec.{eqb, leb, ltb}
 use borrow.Author.Tests.{eq-eqb, ne_eqb, lt-ltb, le-ltb, le-leb, lt-leb, leb-false}
-use Rattle.refusals.specs.declared.Verdict.{Verdict}
-use Rattle.refusals.specs.declared.Verdict.TheVariants.{Fine, Bad}
 use Rattle.refusals.specs.declared.Refusal.{Refusal}
 use Rattle.refusals.specs.declared.Refusal.TheVariants.{Count, Inst as InstWord, Stray}
-use Rattle.refusals.specs.Verdicts.{first, scan, check}
+use Rattle.refusals.specs.Verdicts.{first, scan, check, Bad, Fine, Verdict}
 use Rattle.refusals.proofs.Laws.{first_fine, first_bad, first_left, first_right, bad_fine}
 use Rattle.words.specs.Rows.{row_count, field}
 use Rattle.words.specs.Inner.{Splits, inst_placed, inst_early, inst_late, mention_count, mention_inst}

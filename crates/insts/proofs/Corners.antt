@@ -3,9 +3,8 @@ use Prim.Native.Nat.{ℕ, ◌*◌, ◌+◌}
 use mathlib.Core.Path.{◌≡◌, refl}
 use mathlib.Core.List.{List, [], ◌∷◌}
 use lib.ListN.{length}
-use Rattle.refusals.specs.declared.Verdict.TheVariants.{Fine, Bad}
 use Rattle.refusals.specs.declared.Refusal.TheVariants.{Count}
-use Rattle.refusals.specs.Verdicts.{first}
+use Rattle.refusals.specs.Verdicts.{first, Bad, Fine}
 use Rattle.graph.specs.Work.{sum_of}
 use Rattle.insts.specs.Counts.{rows_verdict, most_verdict, block_counts, offset, add_up, inst_counts, code_counts}
 use Rattle.words.specs.Widths.{block_width, inst_width}

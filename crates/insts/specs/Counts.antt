@@ -1,8 +1,7 @@
 -- Document 01, "Limits and what is turned back": number 1 for the rows that entries are lent.
 use Rattle.std.specs.Prelude.{ℕ, ◌/◌, ◌%◌, not, ◌||◌, List, length, eqb, ltb}
-use Rattle.refusals.specs.declared.Verdict.{Verdict}
 use Rattle.refusals.specs.declared.Refusal.TheVariants.{Count}
-use Rattle.refusals.specs.Verdicts.{first, check}
+use Rattle.refusals.specs.Verdicts.{first, check, Verdict}
 use Rattle.words.specs.Rows.{row_count}
 use Rattle.words.specs.Widths.{block_width, inst_width, inst_operands, operand_width, local_width, mention_width}
 use Rattle.graph.specs.Work.{sum_of}

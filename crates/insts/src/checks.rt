@@ -13,7 +13,7 @@ ghost use Rattle.insts.specs.Counts.{offset};
 ghost use Rattle.insts.specs.Inner.{operands_from, placing, row_inst};
 ghost use Rattle.insts.specs.Rows.{AddsUp};
 
-use refusals::{Refusal, Verdict};
+use refusals::{Refusal, Refused, Verdict};
 use words::wide;
 use words::widths::{block, inst, mention};
 
@@ -23,14 +23,12 @@ pub fn below(s: &[u32], width: usize, f: usize, limit: usize, word: Refusal) -> 
     ensures { result ≡ scan word (λ n. leb limit (field width s.now n f)) (row_count width s.now) }
 {
     let n = s.len() / width;
-    let mut i = 0;
-    while i < n {
+    for i in 0..n {
         if limit <= wide(s[width * i + f]) {
-            return Verdict::Bad(word, i);
+            return Err(Refused(word, i));
         }
-        i += 1;
     }
-    Verdict::Fine
+    Ok(())
 }
 
 // Whether a placed instruction is in no block or outside its block's points, where the first `k` blocks start no later than it: the number of the last of them must be the instruction's.
@@ -53,12 +51,10 @@ fn bad_operands(operands: &[u32], from: usize, n: usize, v: u32) -> bool
     requires { (from + n ≤ operand_count operands.now) × (v ≤ 65535) }
     ensures { result ≡ any (bad_operand v) (operands_from operands.now from n) }
 {
-    let mut p = 0;
-    while p < n {
+    for p in 0..n {
         if inst_parts::bad_operand(operands, from + p, v) {
             return true;
         }
-        p += 1;
     }
     false
 }
@@ -137,17 +133,15 @@ pub fn inst(blocks: &[u32], v: u32, insts: &[u32], operands: &[u32]) -> Verdict
 {
     let n = insts.len() / inst::WIDTH;
     let mut from = 0;
-    let mut i = 0;
     let mut k = 0;
-    while i < n {
+    for i in 0..n {
         k = inst_parts::near(blocks, insts[inst::WIDTH * i + inst::EARLY], k);
         if bad_inst(blocks, v, insts, operands, i, from, k) {
-            return Verdict::Bad(Refusal::Inst, i);
+            return Err(Refused(Refusal::Inst, i));
         }
         from += wide(insts[inst::WIDTH * i + inst::OPERANDS]);
-        i += 1;
     }
-    Verdict::Fine
+    Ok(())
 }
 
 // Refusal 4: the first crossing of no register.
@@ -174,14 +168,12 @@ pub fn address(insts: &[u32], addresses: &[u32]) -> Verdict
     ensures { result ≡ address_verdict (insts_of insts.now []) (mentions_of addresses.now) }
 {
     let n = addresses.len() / mention::WIDTH;
-    let mut i = 0;
-    while i < n {
+    for i in 0..n {
         if unplaced(insts, addresses[mention::WIDTH * i]) {
-            return Verdict::Bad(Refusal::Stray, i);
+            return Err(Refused(Refusal::Stray, i));
         }
-        i += 1;
     }
-    Verdict::Fine
+    Ok(())
 }
 
 // Refusal 5: the first end at an absent instruction, whatever the operands.
@@ -202,9 +194,6 @@ pub fn located(points: u32, v: u32, blocks: &[u32], insts: &[u32], operands: &[u
     requires { (1 ≤ block_count blocks.now) × (block_count blocks.now ≤ 4096) × AddsUp insts.now operands.now × (v ≤ 65535) }
     ensures { result ≡ first (line_verdict (blocks_of blocks.now) points) (inst_verdict (blocks_of blocks.now) v (insts_of insts.now operands.now)) }
 {
-    let line = line_checks::line(blocks, points);
-    if let Verdict::Bad(r, i) = line {
-        return Verdict::Bad(r, i);
-    }
+    line_checks::line(blocks, points)?;
     inst(blocks, v, insts, operands)
 }

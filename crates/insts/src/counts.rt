@@ -3,7 +3,7 @@ ghost use Rattle.std.specs.Prelude.{◌≡◌, ◌/◌, ◌≤◌, ◌<◌};
 ghost use Rattle.insts.specs.Counts.{rows_verdict, most_verdict, block_counts, offset, add_up, inst_counts, code_counts};
 ghost use Rattle.words.specs.Widths.{inst_count};
 
-use refusals::{Refusal, Verdict};
+use refusals::{Refusal, Refused, Verdict};
 use words::widths::{block, inst, local, mention, operand};
 
 // At most `limit` rows of `width` numbers each, and whole ones.
@@ -12,12 +12,12 @@ pub fn rows(lent: usize, width: usize, limit: usize) -> Verdict
     ensures { result ≡ rows_verdict width limit lent }
 {
     if lent % width != 0 {
-        return Verdict::Bad(Refusal::Count, 0);
+        return Err(Refused(Refusal::Count, 0));
     }
     if limit < lent / width {
-        return Verdict::Bad(Refusal::Count, 0);
+        return Err(Refused(Refusal::Count, 0));
     }
-    Verdict::Fine
+    Ok(())
 }
 
 // At most `limit`.
@@ -25,23 +25,20 @@ pub fn most(n: usize, limit: usize) -> Verdict
     ensures { result ≡ most_verdict limit n }
 {
     if limit < n {
-        return Verdict::Bad(Refusal::Count, 0);
+        return Err(Refused(Refusal::Count, 0));
     }
-    Verdict::Fine
+    Ok(())
 }
 
 // 1 to 4,096 blocks.
 pub fn blocks(blocks: &[u32]) -> Verdict
     ensures { result ≡ block_counts blocks.now }
 {
-    let v = rows(blocks.len(), block::WIDTH, 4096);
-    if let Verdict::Bad(r, i) = v {
-        return Verdict::Bad(r, i);
-    }
+    rows(blocks.len(), block::WIDTH, 4096)?;
     if blocks.len() / block::WIDTH < 1 {
-        return Verdict::Bad(Refusal::Count, 0);
+        return Err(Refused(Refusal::Count, 0));
     }
-    Verdict::Fine
+    Ok(())
 }
 
 // How many operands the instructions have, by their counts.
@@ -51,10 +48,8 @@ fn operand_sum(insts: &[u32]) -> u64
 {
     let n = insts.len() / inst::WIDTH;
     let mut sum: u64 = 0;
-    let mut i = 0;
-    while i < n {
+    for i in 0..n {
         sum += insts[inst::WIDTH * i + inst::OPERANDS] as u64;
-        i += 1;
     }
     sum
 }
@@ -66,23 +61,17 @@ fn add_up(insts: &[u32], operands: &[u32]) -> Verdict
 {
     let n = (operands.len() / operand::WIDTH) as u64;
     if operand_sum(insts) != n {
-        return Verdict::Bad(Refusal::Count, 0);
+        return Err(Refused(Refusal::Count, 0));
     }
-    Verdict::Fine
+    Ok(())
 }
 
 // Instructions with their operands.
 pub fn insts(insts: &[u32], operands: &[u32]) -> Verdict
     ensures { result ≡ inst_counts insts.now operands.now }
 {
-    let v = rows(insts.len(), inst::WIDTH, 65536);
-    if let Verdict::Bad(r, i) = v {
-        return Verdict::Bad(r, i);
-    }
-    let v = rows(operands.len(), operand::WIDTH, 262144);
-    if let Verdict::Bad(r, i) = v {
-        return Verdict::Bad(r, i);
-    }
+    rows(insts.len(), inst::WIDTH, 65536)?;
+    rows(operands.len(), operand::WIDTH, 262144)?;
     add_up(insts, operands)
 }
 

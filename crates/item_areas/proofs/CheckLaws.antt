@@ -8,8 +8,6 @@ use lib.ListN.{length}
 use lib.Dec.{ltb}
 use borrow.Author.Tests.{lt-ltb, le-ltb, ltb-false}
 use Rattle.words.proofs.Bools.{or_neither}
-use Rattle.refusals.specs.declared.Verdict.{Verdict}
-use Rattle.refusals.specs.declared.Verdict.TheVariants.{Fine, Bad}
 use Rattle.refusals.specs.declared.Refusal.{Refusal}
 use Rattle.refusals.specs.declared.Refusal.TheVariants.{Space}
 use Rattle.refusals.proofs.Laws.{check_told}
@@ -22,6 +20,7 @@ use Rattle.item_areas.specs.Entry.{space_verdict, lent_verdict}
 use Rattle.job_space.specs.Rows.{Rows}
 use Rattle.job_checks.specs.Job.{count_verdict}
 use Rattle.words.specs.Widths.{part_width}
+use Rattle.refusals.specs.Verdicts.{Bad, Fine, Verdict}
 
 -- ---- number 7
 

@@ -5,10 +5,8 @@ use mathlib.Core.Path.{◌≡◌, refl, sym, ap, subst, ◌∙◌}
 use mathlib.Core.Option.{Option}
 use mathlib.Core.List.{List, ◌++◌}
 use lib.ListN.{length, drop, replicate, length-replicate}
-use Rattle.refusals.specs.declared.Verdict.{Verdict}
-use Rattle.refusals.specs.declared.Verdict.TheVariants.{Fine, Bad}
 use Rattle.refusals.specs.declared.Refusal.{Refusal}
-use Rattle.refusals.specs.Verdicts.{first, in_order}
+use Rattle.refusals.specs.Verdicts.{first, in_order, Bad, Fine, Verdict, Answer}
 use Rattle.refusals.proofs.Laws.{first_fine, first_bad}
 use Rattle.words.specs.Regions.{cleared}
 use Rattle.graph.specs.Inner.Work.{Within}
@@ -23,13 +21,12 @@ use Rattle.job_space.specs.declared.Sizes.{Sizes}
 use Rattle.job_space.specs.Space.{sizes_of, space_of}
 use Rattle.job_checks.specs.Job.{job_of}
 use Rattle.job_areas.specs.Inner.{Lent, Solved}
-use Rattle.refusals.specs.declared.Answer.{Answer}
-use Rattle.refusals.specs.declared.Answer.TheVariants.{Refused}
 use Rattle.item_areas.specs.Entry.{lent_verdict, item_checks, ItemAreas}
 use Rattle.item_areas.proofs.OrderLaws.{item_verdict}
 use Rattle.item_lists.specs.Lists.{AnsweredBy}
 use Rattle.item_lists.specs.Inner.{Held}
 use Rattle.job_space.specs.Rows.{Rows}
+use Rattle.std.specs.Prelude.{Err}
 
 module _ (R : Rows) (areas items work : List ℕ) where
   abbrev lent_v : Verdict
@@ -42,7 +39,7 @@ module _ (R : Rows) (areas items work : List ℕ) where
       ≡ first lent_v (items_verdict (job_of R) (range_count areas))
   by_parts = item_verdict R (length areas) (length items) (length work)
 
-  pub refused_entry : (r : Refusal) (i : ℕ) → lent_v ≡ Bad r i → ItemAreas R areas items work (Refused r i) areas items work
+  pub refused_entry : (r : Refusal) (i : ℕ) → lent_v ≡ Bad r i → ItemAreas R areas items work (Err (r, i)) areas items work
   refused_entry r i e = record {
     lists = rw (by_parts ∙ first_bad lent_v (items_verdict (job_of R) (range_count areas)) r i e) (record { answer = refl; in_areas = refl; in_items = refl });
     in_work = rw e refl;

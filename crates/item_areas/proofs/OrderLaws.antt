@@ -4,9 +4,8 @@ use mathlib.Core.Path.{◌≡◌, refl, ap, ◌∙◌}
 use mathlib.Core.Bool.{◌||◌}
 use mathlib.Core.List.{[], ◌∷◌, ◌++◌}
 use lib.Dec.{ltb}
-use Rattle.refusals.specs.declared.Verdict.{Verdict}
 use Rattle.refusals.specs.declared.Refusal.TheVariants.{Count, Space, List as ListWord}
-use Rattle.refusals.specs.Verdicts.{number_of, first, in_order}
+use Rattle.refusals.specs.Verdicts.{number_of, first, in_order, Verdict}
 use Rattle.refusals.specs.Orders.{Ordered}
 use Rattle.refusals.proofs.Laws.{check_last}
 use Rattle.refusals.proofs.Orders.{check_gives, giving_append, order_append}

@@ -1,13 +1,12 @@
 -- By paths, at the entry: what the rows that a call wrote tell of every item's area.
+use Rattle.std.specs.Prelude.{Err, Ok}
 use Prim.Native.Nat.{ℕ, ◌+◌, ◌*◌, ◌<◌}
 use native.Mathlib.Omega.{arith}
 use mathlib.Core.Path.{◌≡◌, refl, sym, ap, ◌∙◌}
 use mathlib.Core.List.{List, ◌++◌}
 use lib.ListN.{length, get_or, drop, get_or-append}
-use Rattle.refusals.specs.declared.Verdict.{Verdict}
-use Rattle.refusals.specs.declared.Verdict.TheVariants.{Fine, Bad}
 use Rattle.refusals.specs.Outcomes.{given, unless, after}
-use Rattle.refusals.specs.Verdicts.{in_order}
+use Rattle.refusals.specs.Verdicts.{in_order, Fine, Verdict}
 use Rattle.refusals.proofs.Laws.{first_left}
 use Rattle.words.specs.Rows.{tabulate, field}
 use Rattle.words.specs.Widths.{part_width, range_count}
@@ -18,7 +17,6 @@ use Rattle.areas.proofs.UprightLaws.{job_upright}
 use Rattle.area_tables.specs.Tables.{area_rows}
 use Rattle.area_points.specs.Parts.{AreasTold}
 use Rattle.area_points.proofs.PartLaws.{rows_told}
-use Rattle.refusals.specs.declared.Answer.TheVariants.{Given}
 use Rattle.item_lists.specs.Lists.{item_row, item_rows}
 use Rattle.item_lists.proofs.TableLaws.{row_long}
 use Rattle.job_checks.specs.Job.{job_of, Passed}
@@ -31,10 +29,10 @@ use Rattle.job_space.specs.Rows.{Rows}
 -- an answer is no refusal
 told : (v : Verdict) (n k : ℕ) → given k ≡ unless v n → v ≡ Fine
 told Fine n k e = refl
-told (Bad r i) n k e = absurd (let z : ◌≡◌ {A = ℕ} 0 1 = cc in omega arith)
+told (Err x) n k e = absurd (let z : ◌≡◌ {A = ℕ} 0 1 = cc in omega arith)
 
 module _ {R : Rows} {areas items work areas' items' work' : List ℕ} {n : ℕ}
-    (E : ItemAreas R areas items work (Given n) areas' items' work') where
+    (E : ItemAreas R areas items work (Ok n) areas' items' work') where
   -- the job's records
   abbrev J : Job
   J = job_of R

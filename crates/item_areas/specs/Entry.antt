@@ -1,9 +1,8 @@
 -- Document 01, "Areas of items", of all items of a job's records: what the entry answers and refuses (numbers 1 to 7 and 9).
 use Rattle.std.specs.Prelude.{ℕ, ◌+◌, ◌/◌, ◌≡◌, ◌||◌, List, [], ◌∷◌, ◌++◌, length, replicate, ltb}
-use Rattle.refusals.specs.declared.Verdict.{Verdict}
 use Rattle.refusals.specs.declared.Refusal.{Refusal}
 use Rattle.refusals.specs.declared.Refusal.TheVariants.{Count, Space, List as ListWord}
-use Rattle.refusals.specs.Verdicts.{in_order, check}
+use Rattle.refusals.specs.Verdicts.{in_order, check, Verdict, Answer}
 use Rattle.refusals.specs.Outcomes.{unless, after}
 use Rattle.words.specs.Widths.{part_width, range_width}
 use Rattle.insts.specs.Counts.{rows_verdict}
@@ -12,7 +11,6 @@ use Rattle.job_space.specs.declared.Sizes.{Sizes}
 use Rattle.job_space.specs.Rows.{Rows}
 use Rattle.job_space.specs.Space.{job_words, sizes_of, space_of}
 use Rattle.job_checks.specs.Job.{job_of, count_verdict, checks_give}
-use Rattle.refusals.specs.declared.Answer.{Answer}
 use Rattle.item_lists.specs.Lists.{AnsweredBy}
 
 -- number 7: work space under W, item list under the item count

@@ -5,7 +5,7 @@ ghost use Rattle.job_space.specs.Space.{Small};
 ghost use Rattle.item_areas.specs.Entry.{space_verdict, lent_verdict};
 
 use job_space::Sizes;
-use refusals::{Refusal, Verdict};
+use refusals::{Refusal, Refused, Verdict};
 use words::widths::part;
 
 // Refusal 7: work space under W, or an item list under the items.
@@ -14,12 +14,12 @@ fn short(z: Sizes, items: usize, work: usize) -> Verdict
     ensures { result ≡ space_verdict z items work }
 {
     if work < job_space::needed(z) {
-        return Verdict::Bad(Refusal::Space, 0);
+        return Err(Refused(Refusal::Space, 0));
     }
     if items / part::WIDTH < z.locals + z.slots {
-        return Verdict::Bad(Refusal::Space, 0);
+        return Err(Refused(Refusal::Space, 0));
     }
-    Verdict::Fine
+    Ok(())
 }
 
 // Of the entry, by the lent records and the lengths of the answer lists and the work space.
@@ -44,24 +44,15 @@ pub fn refusal(
 ) -> Verdict
     ensures { result ≡ lent_verdict (lent_rows points v blocks edges insts operands crossings locals slots addresses ends pieces assigned moves) areas items work }
 {
-    let whole = insts::counts::rows(items, part::WIDTH, items);
-    if let Verdict::Bad(r, i) = whole {
-        return Verdict::Bad(r, i);
-    }
-    let count = job_checks::checks::counts(
+    insts::counts::rows(items, part::WIDTH, items)?;
+    job_checks::checks::counts(
         v, blocks, edges, insts, operands, crossings, locals, slots, addresses, ends, pieces,
         assigned, moves, areas,
-    );
-    if let Verdict::Bad(r, i) = count {
-        return Verdict::Bad(r, i);
-    }
-    let place = job_checks::checks::placed(
+    )?;
+    job_checks::checks::placed(
         points, v, blocks, edges, insts, operands, crossings, addresses, ends, pieces, assigned,
         moves,
-    );
-    if let Verdict::Bad(r, i) = place {
-        return Verdict::Bad(r, i);
-    }
+    )?;
     let z = job_space::records::sizes(
         v, blocks, edges, insts, operands, crossings, locals, slots, addresses, ends, pieces,
         assigned, moves, areas,

@@ -4,8 +4,6 @@
 ghost use Rattle.job_space.specs.Rows.{lent_rows};
 ghost use Rattle.item_areas.specs.Entry.{ItemAreas};
 
-use refusals::Verdict;
-
 mod checks; // checks.rt: refusals 1 to 7
 
 use refusals::Answer;
@@ -35,7 +33,7 @@ pub fn item_areas(
     ensures { ItemAreas (lent_rows points v blocks edges insts operands crossings locals slots addresses ends pieces assigned moves)
         areas.old items.old work.old result areas.new items.new work.new }
 {
-    let verdict = checks::refusal(
+    checks::refusal(
         points,
         v,
         blocks,
@@ -53,10 +51,7 @@ pub fn item_areas(
         areas.len(),
         items.len(),
         work.len(),
-    );
-    if let Verdict::Bad(r, i) = verdict {
-        return Answer::Refused(r, i);
-    }
+    )?;
     let z = job_space::records::sizes(
         v,
         blocks,

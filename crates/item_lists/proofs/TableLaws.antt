@@ -8,10 +8,8 @@ use mathlib.Core.List.{List, [], ◌∷◌, ◌++◌, map}
 use lib.ListN.{length, get_or, drop}
 use lib.Dec.{eqb}
 use borrow.Author.Tests.{lt-ltb, le-ltb, ne_eqb}
-use Rattle.refusals.specs.declared.Verdict.{Verdict}
-use Rattle.refusals.specs.declared.Verdict.TheVariants.{Fine, Bad}
 use Rattle.refusals.specs.declared.Refusal.TheVariants.{List as ListWord}
-use Rattle.refusals.specs.Verdicts.{check}
+use Rattle.refusals.specs.Verdicts.{check, Bad, Fine, Verdict, Answer}
 use Rattle.refusals.specs.Outcomes.{given, unless, after}
 use Rattle.words.specs.Rows.{tabulate, flat}
 use Rattle.words.specs.Widths.{part_width, range_width}
@@ -26,9 +24,8 @@ use Rattle.answer_rows.specs.Inner.{rows_in, row_of, rows_of}
 use Rattle.area_tables.specs.Tables.{area_rows}
 use Rattle.area_tables.specs.Inner.{listing}
 use Rattle.area_tables.proofs.RowLaws.{ranges_below, rows_areas, rows_long}
-use Rattle.refusals.specs.declared.Answer.{Answer}
-use Rattle.refusals.specs.declared.Answer.TheVariants.{Given, Refused}
 use Rattle.item_lists.specs.Lists.{item_row, item_rows, AnsweredBy}
+use Rattle.std.specs.Prelude.{Ok, Err}
 
 -- an item's row, by its word
 pub word_row : (x first : ℕ) (a : Option (List Range)) → x ≡ word_of first a → ranges_in a < 2 ^ 32 → row_of x ≡ item_row first a
@@ -47,7 +44,7 @@ module _ (A : ℕ → Option (List Range)) (count room n : ℕ) (w : List ℕ) (
   pub list_full : room < n → areas_verdict count A room ≡ Bad ListWord 0
   list_full h = ap (check ListWord) (lt-ltb room (ranges_of (tabulate count A)) (omega (arith, D.total_is)))
 
-  pub refused_list : room < n → (areas items : List ℕ) → AnsweredBy (areas_verdict count A room) count A areas items (Refused ListWord 0) areas items
+  pub refused_list : room < n → (areas items : List ℕ) → AnsweredBy (areas_verdict count A room) count A areas items (Err (ListWord, 0)) areas items
   refused_list h areas items = rw (list_full h) (record { answer = refl; in_areas = refl; in_items = refl })
 
   module _ (fits : n ≤ room) (few : room ≤ 65536) (in_work : room + count ≤ length w) where
@@ -68,7 +65,7 @@ module _ (A : ℕ → Option (List Range)) (count room n : ℕ) (w : List ℕ) (
     items_long = flat_length 3 count (λ i. item_row (ranges_of (tabulate i A)) (A i)) (λ i h. row_long (ranges_of (tabulate i A)) (A i))
 
     pub given_list : (areas items areas' items' : List ℕ) → areas' ≡ rows_in w 0 n 0 ++ drop (range_width * n) areas → items' ≡ rows_of w room count ++ drop (part_width * count) items
-        → AnsweredBy (areas_verdict count A room) count A areas items (Given n) areas' items'
+        → AnsweredBy (areas_verdict count A room) count A areas items (Ok n) areas' items'
     given_list areas items areas' items' a b = rw list_fine (record {
       answer = ap (λ (k : ℕ). given k) D.total_is;
       in_areas = a ∙ ap (λ (l : List ℕ). l ++ drop (range_width * n) areas) areas_are ∙ ap (λ (k : ℕ). area_rows count A ++ drop k areas) (sym areas_long);

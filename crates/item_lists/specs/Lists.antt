@@ -1,13 +1,12 @@
 -- Document 01, "Areas of items": what the answer lists of areas hold, of a job's items and of locals lent by themselves, given a verdict.
 use Rattle.std.specs.Prelude.{ℕ, ◌≡◌, List, [], ◌∷◌, length}
 use Rattle.std.proofs.Math.Option.{Option, some, none}
-use Rattle.refusals.specs.declared.Verdict.{Verdict}
 use Rattle.refusals.specs.Outcomes.{unless, after, answered}
 use Rattle.words.specs.Rows.{tabulate, flat}
 use Rattle.ranges.specs.declared.Range.{Range}
 use Rattle.areas.specs.Job.{ranges_of}
 use Rattle.area_tables.specs.Tables.{area_rows}
-use Rattle.refusals.specs.declared.Answer.{Answer}
+use Rattle.refusals.specs.Verdicts.{Verdict, Answer}
 
 -- items 3 numbers: "a present flag and a part of the area list", its first range and how many it has; without an area 0, 0, 0
 abbrev pub item_row : ℕ → Option (List Range) → List ℕ

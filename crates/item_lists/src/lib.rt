@@ -11,7 +11,7 @@ ghost use Rattle.item_lists.specs.Inner.{Held};
 ghost use Rattle.areas.specs.Job.{areas_verdict};
 ghost use Rattle.words.specs.Widths.{part_width, range_count};
 
-use refusals::{Answer, Refusal};
+use refusals::{Answer, Refusal, Refused};
 use words::widths::range;
 
 // Writes the areas and the items, where all n ranges fit the area list (else 9).
@@ -23,9 +23,9 @@ pub fn list(n: usize, areas: &mut [u32], items: &mut [u32], work: &[u64], count:
 {
     let room = areas.len() / range::WIDTH;
     if room < n {
-        return Answer::Refused(Refusal::List, 0);
+        return Err(Refused(Refusal::List, 0));
     }
     answer_rows::write_rows(areas, work, 0, n, 0);
     answer_rows::write_items(items, work, room, count);
-    Answer::Given(n)
+    Ok(n)
 }

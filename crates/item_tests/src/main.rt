@@ -3,114 +3,58 @@
 // The columns of a case: points, V, the lengths of the area list, of the item list and of the work space; then the records of a job, in the job text's group order.
 #![tactic(auto)]
 
-ghost use Rattle.std.specs.Prelude.{◌≡◌, length};
-ghost use Rattle.cases.specs.Inner.{Ordered};
-
-use cases::Cuts;
-use refusals::Answer;
+use cases::Case;
 use std::io;
 use std::io::Stdout;
 
-fn given(out: Stdout, a: Answer) -> io::Result<()> {
-    match a {
-        Answer::Given(n) => cases::counted(out, n),
-        Answer::Refused(r, i) => cases::refused(out, r, i),
-    }
-}
-
-// What `item_areas` answers for the records that stand in `n`, a group from where one column ends to where the next one does.
-fn measured(n: &[u32], e: Cuts, areas: &mut [u32], items: &mut [u32], work: &mut [u64]) -> Answer
-    requires { (length n.now ≡ 1024) × Ordered e 1024 }
-{
-    let c0 = e.c0;
-    let c1 = e.c1;
-    let c2 = e.c2;
-    let c3 = e.c3;
-    let c4 = e.c4;
-    let c5 = e.c5;
-    let c6 = e.c6;
-    let c7 = e.c7;
-    let c8 = e.c8;
-    let c9 = e.c9;
-    let c10 = e.c10;
-    let c11 = e.c11;
-    let c12 = e.c12;
-    item_areas::item_areas(
-        n[0],
-        n[1],
-        &n[c0..c1],
-        &n[c1..c2],
-        &n[c2..c3],
-        &n[c3..c4],
-        &n[c4..c5],
-        &n[c5..c6],
-        &n[c6..c7],
-        &n[c7..c8],
-        &n[c8..c9],
-        &n[c9..c10],
-        &n[c10..c11],
-        &n[c11..c12],
-        areas,
-        items,
-        work,
-    )
-}
-
+// The areas of a case's records.
 fn answer(
     out: Stdout,
-    n: &[u32],
-    e: Cuts,
+    case: &Case,
     areas: &mut [u32],
     items: &mut [u32],
     work: &mut [u64],
-) -> io::Result<()>
-    requires { (length n.now ≡ 1024) × Ordered e 1024 }
-{
-    given(out, measured(n, e, areas, items, work))?;
+) -> io::Result<()> {
+    let a = item_areas::item_areas(
+        case.number(0),
+        case.number(1),
+        case.column(1),
+        case.column(2),
+        case.column(3),
+        case.column(4),
+        case.column(5),
+        case.column(6),
+        case.column(7),
+        case.column(8),
+        case.column(9),
+        case.column(10),
+        case.column(11),
+        case.column(12),
+        areas,
+        items,
+        work,
+    );
+    cases::given(out, a)?;
     cases::listed(out, areas)?;
     cases::left(out, items, work)
 }
 
 // In lists of these lengths.
-fn run(out: Stdout, n: &[u32], e: Cuts) -> io::Result<()>
-    requires { (length n.now ≡ 1024) × Ordered e 1024 }
-{
+fn run(out: Stdout, case: &Case) -> io::Result<()> {
     let mut areas = [7u32; 128];
     let mut items = [7u32; 256];
     let mut work = [7u64; 4096];
-    let a = n[2] as usize;
-    let i = n[3] as usize;
-    let w = n[4] as usize;
-    if a > 128 {
+    let a = case.number(2) as usize;
+    let i = case.number(3) as usize;
+    let w = case.number(4) as usize;
+    if a > 128 || i > 256 || w > 4096 {
         return Ok(());
     }
-    if i > 256 {
-        return Ok(());
-    }
-    if w > 4096 {
-        return Ok(());
-    }
-    answer(
-        out,
-        n,
-        e,
-        &mut areas[0..a],
-        &mut items[0..i],
-        &mut work[0..w],
-    )
+    answer(out, case, &mut areas[..a], &mut items[..i], &mut work[..w])
 }
 
 fn main(rt: HostRuntime) -> io::Result<()> {
     let out = rt.stdout();
-    let mut text = [0u8; 32768];
-    let mut n = [0u32; 1024];
-    let len = cases::input(rt.stdin(), &mut text)?;
-    let mut i = 0;
-    while i < len {
-        cases::name(out, &text, i)?;
-        let e = cases::case(&text, i, &mut n);
-        run(out, &n, e)?;
-        i = e.next;
-    }
-    Ok(())
+    let mut text = [0; 32768];
+    cases::each(rt.stdin(), out, &mut text, |case| run(out, case))
 }

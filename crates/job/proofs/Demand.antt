@@ -1,13 +1,11 @@
 -- Demand 3 of the entry, in terms of what a call returned and wrote.
-use Prim.Native.Nat.{ℕ, zero, suc, ◌+◌, ◌*◌, ◌<◌}
+use Prim.Native.Nat.{ℕ, zero, suc, ◌*◌, ◌<◌}
 use native.Mathlib.Omega.{arith}
 use native.Mathlib.Nat.{add-zero, not-suc-le-zero}
-use mathlib.Core.Path.{◌≡◌, refl, sym, ap, ◌∙◌}
+use mathlib.Core.Path.{◌≡◌, sym, ap, ◌∙◌}
 use mathlib.Core.List.{List, [], ◌∷◌, ◌++◌, map}
 use lib.IntN.{ℤ}
 use lib.ListN.{length, get_or, drop}
-use Rattle.refusals.specs.declared.Verdict.{Verdict}
-use Rattle.refusals.specs.declared.Verdict.TheVariants.{Fine}
 use Rattle.refusals.specs.Outcomes.{unless, after}
 use Rattle.refusals.proofs.Laws.{first_left}
 use Rattle.words.specs.Rows.{flat}
@@ -22,7 +20,6 @@ use Rattle.soundness.specs.Walks.{Step, Legal}
 use Rattle.soundness.specs.Inner.{Separate}
 use Rattle.soundness.specs.Demand.{wants_of, frame_of, job_plan, AsPrivate}
 use Rattle.soundness.proofs.Demand.{job_order, separate, uses, any_cells, demand_3}
-use Rattle.job_answers.specs.declared.Shared.TheVariants.{Plan as Planned}
 use Rattle.job_answers.specs.Answers.{item_rows, answer_verdict}
 use Rattle.job_answers.proofs.SeenLaws.{cell_listed}
 use Rattle.wants.proofs.TallyLaws.{not_refused}
@@ -31,6 +28,8 @@ use Rattle.job.specs.Reads.{cell_in, size_in}
 use Rattle.job.proofs.CheckLaws.{granted}
 use Rattle.job_space.specs.Rows.{Rows}
 use Rattle.fitting.specs.declared.Terms.{Terms}
+use Rattle.refusals.specs.Verdicts.{Fine, Verdict}
+use Rattle.std.specs.Prelude.{Ok}
 
 -- number 2·c of the cell list is cell c's size
 listed_size : (cs : List Cell) (old : List ℕ) (c b : ℕ) → b < (cell_at cs c).size → b < get_or (flat (map cell_row cs) ++ old) (cell_width * c) 0
@@ -42,7 +41,7 @@ listed_size (x ∷ cs) old (suc c) b h =
     rw e (listed_size cs old c b h)
 
 module _ {R : Rows} {t : Terms} {cells items areas work cells' items' areas' work' : List ℕ} {offsets offsets' : List ℤ} {c p d : ℕ}
-    (E : SharedAs R t cells items areas offsets work (Planned c p d) cells' items' areas' offsets' work') where
+    (E : SharedAs R t cells items areas offsets work (Ok (record { cells = c; probes = p; depth = d })) cells' items' areas' offsets' work') where
   -- the job's records
   abbrev J : Job
   J = job_of R

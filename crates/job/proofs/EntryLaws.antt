@@ -9,7 +9,6 @@ use lib.IntN.{ℤ}
 use lib.ListN.{length, get_or, drop, replicate, length-replicate}
 use borrow.Author.Tests.{lt-ltb, le-ltb}
 use native.Mathlib.Nat.{mul-le-mul_right}
-use Rattle.refusals.specs.declared.Verdict.TheVariants.{Fine, Bad}
 use Rattle.refusals.specs.declared.Refusal.{Refusal}
 use Rattle.refusals.proofs.Laws.{first_fine, first_bad}
 use Rattle.words.specs.Regions.{cleared, row_words}
@@ -33,14 +32,16 @@ use Rattle.job_checks.specs.Job.{job_of}
 use Rattle.job_areas.specs.Inner.{Solved}
 use Rattle.job_fit.specs.Inner.{count_of, size_at, align_at, want_for, plan_for}
 use Rattle.soundness.specs.Demand.{want_of, job_plan}
-use Rattle.job_answers.specs.declared.Shared.{Shared}
-use Rattle.job_answers.specs.declared.Shared.TheVariants.{Refused}
 use Rattle.job.specs.Entry.{lent_verdict, SharedAs}
 use Rattle.job_answers.specs.Answers.{answer_verdict, AnsweredBy}
 use Rattle.job_answers.specs.Inner.{Measured}
 use Rattle.job.proofs.CheckLaws.{Granted}
 use Rattle.job_space.specs.Rows.{Rows}
 use Rattle.fitting.specs.declared.Terms.{Terms}
+use Rattle.refusals.specs.Verdicts.{Bad, Fine}
+use Rattle.refusals.specs.declared.Refused.{Refused}
+use Rattle.wants.specs.declared.Tally.{Tally}
+use Rattle.std.specs.Prelude.{Err, Result}
 
 -- ---- the wants are the job's
 
@@ -104,7 +105,7 @@ module _ (R : Rows) (t : Terms) (cells items areas : List ℕ) (offsets : List �
   space = space_of (sizes_of R (length areas))
 
   pub refused_entry : (r : Refusal) (i : ℕ) → lent_verdict R t (length cells) (length items) (length areas) (length offsets) (length work) ≡ Bad r i
-      → SharedAs R t cells items areas offsets work (Refused r i) cells items areas offsets work
+      → SharedAs R t cells items areas offsets work (Err (r, i)) cells items areas offsets work
   refused_entry r i e = record {
     lists = rw (first_bad (lent_verdict R t (length cells) (length items) (length areas) (length offsets) (length work)) (answer_verdict (item_count (job_of R)) (item_area (job_of
         R)) (range_count areas) (job_plan (job_of R) t.budget)) r i e) (record { answer = refl; in_cells = refl; in_items = refl; in_areas = refl; in_offsets = refl });
@@ -134,7 +135,7 @@ module _ (R : Rows) (t : Terms) (cells items areas : List ℕ) (offsets : List �
       some_block : 0 < block_count R.blocks → 0 < length (job_of R).blocks
       some_block h = rw (length_records 3 _ R.blocks) h
 
-  pub answered_entry : lent_verdict R t (length cells) (length items) (length areas) (length offsets) (length work) ≡ Fine → {r : Shared} {cells' items' areas' w w' work' : List ℕ} {offsets' : List ℤ} {n end : ℕ}
+  pub answered_entry : lent_verdict R t (length cells) (length items) (length areas) (length offsets) (length work) ≡ Fine → {r : (Result Tally Refused)} {cells' items' areas' w w' work' : List ℕ} {offsets' : List ℤ} {n end : ℕ}
       → Solved R (length areas) work w n
       → end ≡ space → Within 0 end w w'
       → ((A : ℕ → Option (List Range)) → ListedBy word_of (listing (range_count areas) (range_count areas)) A (count_of R.locals R.slots) n w

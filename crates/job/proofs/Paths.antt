@@ -5,7 +5,6 @@ use mathlib.Core.Path.{◌≡◌, ap, ◌∙◌}
 use mathlib.Core.List.{List, ◌∷◌, ◌++◌}
 use lib.IntN.{ℤ}
 use lib.ListN.{length, get_or, drop}
-use Rattle.refusals.specs.declared.Verdict.{Verdict}
 use Rattle.refusals.specs.Outcomes.{unless, after}
 use Rattle.words.specs.Rows.{tabulate, field}
 use Rattle.words.specs.Widths.{item_width}
@@ -19,15 +18,16 @@ use Rattle.item_lists.specs.Lists.{item_row}
 use Rattle.fitting.specs.Plan.{Plan}
 use Rattle.job_checks.specs.Job.{job_of}
 use Rattle.soundness.specs.Demand.{job_plan}
-use Rattle.job_answers.specs.declared.Shared.TheVariants.{Plan as Planned}
 use Rattle.job.specs.Entry.{SharedAs}
 use Rattle.job_answers.proofs.SeenLaws.{field_listed}
 use Rattle.job.proofs.Demand.{none_refused, passed, items_written}
 use Rattle.job_space.specs.Rows.{Rows}
 use Rattle.fitting.specs.declared.Terms.{Terms}
+use Rattle.refusals.specs.Verdicts.{Verdict}
+use Rattle.std.specs.Prelude.{Ok}
 
 module _ {R : Rows} {t : Terms} {cells items areas work cells' items' areas' work' : List ℕ} {offsets offsets' : List ℤ} {c p d : ℕ}
-    (E : SharedAs R t cells items areas offsets work (Planned c p d) cells' items' areas' offsets' work') where
+    (E : SharedAs R t cells items areas offsets work (Ok (record { cells = c; probes = p; depth = d })) cells' items' areas' offsets' work') where
   -- the job's records
   abbrev J : Job
   J = job_of R

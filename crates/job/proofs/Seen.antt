@@ -5,10 +5,8 @@ use mathlib.Core.Path.{◌≡◌, refl, ap, ◌∙◌}
 use mathlib.Core.Option.{none}
 use mathlib.Core.List.{List, ◌++◌}
 use lib.IntN.{ℤ}
-use lib.ListN.{length, get_or, take, drop, length-append, length-drop, get_or-append}
+use lib.ListN.{length, take, drop, length-append, length-drop, get_or-append}
 use borrow.Author.Tests.{ltb-false}
-use Rattle.refusals.specs.declared.Verdict.{Verdict}
-use Rattle.refusals.specs.declared.Verdict.TheVariants.{Fine}
 use Rattle.refusals.specs.declared.Refusal.TheVariants.{List as ListWord}
 use Rattle.refusals.specs.Outcomes.{unless, after}
 use Rattle.refusals.proofs.Laws.{first_left, first_right, check_told}
@@ -29,12 +27,11 @@ use Rattle.queries.specs.Seen.{PlanSeen}
 use Rattle.queries.proofs.SeenLaws.{RowsHold, room_at, item_of, answered_seen, cut_held}
 use Rattle.area_tables.specs.Tables.{area_rows}
 use Rattle.area_tables.proofs.PartLaws.{areas_long}
-use Rattle.wants.specs.Entry.{Tally, tallied, cell_rows, cell_offsets}
+use Rattle.wants.specs.Entry.{tallied, cell_rows, cell_offsets}
 use Rattle.wants.proofs.ListLaws.{cells_long}
 use Rattle.wants.proofs.SeenLaws.{front_is, told_tally, rows_laid}
 use Rattle.soundness.specs.Demand.{want_of, wants_of, job_plan}
 use Rattle.soundness.proofs.Demand.{job_order}
-use Rattle.job_answers.specs.declared.Shared.TheVariants.{Plan as Planned}
 use Rattle.job_answers.specs.Answers.{item_rows, answer_verdict}
 use Rattle.job_answers.proofs.SeenLaws.{items_long, cell_listed, area_listed, rows_held}
 use Rattle.job_checks.specs.Job.{job_of}
@@ -44,9 +41,12 @@ use Rattle.job.proofs.CheckLaws.{granted, whole_list}
 use Rattle.job.proofs.Demand.{none_refused, lent_fine, cells_written}
 use Rattle.job_space.specs.Rows.{Rows}
 use Rattle.fitting.specs.declared.Terms.{Terms}
+use Rattle.refusals.specs.Verdicts.{Fine, Verdict}
+use Rattle.std.specs.Prelude.{Ok}
+use Rattle.wants.specs.declared.Tally.{Tally}
 
 module _ {R : Rows} {t : Terms} {cells items areas work cells' items' areas' work' : List ℕ} {offsets offsets' : List ℤ} {c p d : ℕ}
-    (E : SharedAs R t cells items areas offsets work (Planned c p d) cells' items' areas' offsets' work') where
+    (E : SharedAs R t cells items areas offsets work (Ok (record { cells = c; probes = p; depth = d })) cells' items' areas' offsets' work') where
   -- the job's records, its plan, and how many locals and items it has
   abbrev J : Job
   J = job_of R

@@ -1,8 +1,7 @@
 -- Document 01, the whole job: what the entry answers and refuses (numbers 1 to 7, 9, and document 02's 12 and 13), and what it leaves in the lists that it was lent.
-use Rattle.std.specs.Prelude.{ℕ, ◌+◌, ◌/◌, ◌≡◌, ◌||◌, List, [], ◌∷◌, ◌++◌, ℤ, length, replicate, ltb}
-use Rattle.refusals.specs.declared.Verdict.{Verdict}
+use Rattle.std.specs.Prelude.{ℕ, ◌+◌, ◌/◌, ◌≡◌, ◌||◌, List, [], ◌∷◌, ◌++◌, ℤ, length, replicate, ltb, Result}
 use Rattle.refusals.specs.declared.Refusal.TheVariants.{Count, Space}
-use Rattle.refusals.specs.Verdicts.{first, in_order, check}
+use Rattle.refusals.specs.Verdicts.{first, in_order, check, Verdict}
 use Rattle.refusals.specs.Outcomes.{unless, after}
 use Rattle.areas.specs.Job.{checks, item_count, item_area, areas_verdict}
 use Rattle.fitting.specs.declared.Terms.{Terms}
@@ -11,10 +10,11 @@ use Rattle.job_space.specs.Rows.{Rows}
 use Rattle.job_space.specs.Space.{job_words, bad_shape}
 use Rattle.job_checks.specs.Job.{job_of, count_verdict}
 use Rattle.soundness.specs.Demand.{job_plan}
-use Rattle.job_answers.specs.declared.Shared.{Shared}
 use Rattle.job_answers.specs.Answers.{answer_verdict, AnsweredBy}
 use Rattle.words.specs.Rows.{row_count}
 use Rattle.words.specs.Widths.{local_width, cell_width, item_width, range_width}
+use Rattle.refusals.specs.declared.Refused.{Refused}
+use Rattle.wants.specs.declared.Tally.{Tally}
 
 -- number 7: work space under W; cell, item or offset list under the item count
 abbrev pub short_verdict : ℕ → ℕ → ℕ → ℕ → ℕ → ℕ → Verdict
@@ -41,7 +41,7 @@ module _ (R : Rows) (t : Terms) (cells items areas offsets work : ℕ) where
   job_checks = lent_checks ++ (areas_verdict (item_count (job_of R)) (item_area (job_of R)) (areas / range_width) ∷ layout_checks (rooms_in (job_plan (job_of R) t.budget)))
 
 -- the whole job: the plan of all items' areas, unless refused; the work space is unchanged after a refusal that comes before measuring, else its first W words are zero
-pub record SharedAs (R : Rows) (t : Terms) (cells items areas : List ℕ) (offsets : List ℤ) (work : List ℕ) (r : Shared)
+pub record SharedAs (R : Rows) (t : Terms) (cells items areas : List ℕ) (offsets : List ℤ) (work : List ℕ) (r : Result Tally Refused)
     (cells' items' areas' : List ℕ) (offsets' : List ℤ) (work' : List ℕ) : Type 0 where
   pub lists : AnsweredBy (verdict_of R t (length cells) (length items) (length areas) (length offsets) (length work)) (item_count (job_of R)) (item_area (job_of R)) (job_plan (job_of R) t.budget)
       cells items areas offsets r cells' items' areas' offsets'

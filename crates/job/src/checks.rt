@@ -6,7 +6,7 @@ ghost use Rattle.job.specs.Inner.{space_verdict};
 ghost use Rattle.job.specs.Entry.{lent_verdict};
 
 use job_space::{Head, Sizes};
-use refusals::{Refusal, Verdict};
+use refusals::{Refusal, Refused, Verdict};
 use words::widths::{cell, item};
 
 // Refusal 7: work space under W, or a cell, an item or an offset list under the items.
@@ -15,18 +15,18 @@ fn short(z: Sizes, cells: usize, items: usize, offsets: usize, work: usize) -> V
     ensures { result ≡ space_verdict z cells items offsets work }
 {
     if work < job_space::needed(z) {
-        return Verdict::Bad(Refusal::Space, 0);
+        return Err(Refused(Refusal::Space, 0));
     }
     if cells / cell::WIDTH < z.locals + z.slots {
-        return Verdict::Bad(Refusal::Space, 0);
+        return Err(Refused(Refusal::Space, 0));
     }
     if items / item::WIDTH < z.locals + z.slots {
-        return Verdict::Bad(Refusal::Space, 0);
+        return Err(Refused(Refusal::Space, 0));
     }
     if offsets < z.locals + z.slots {
-        return Verdict::Bad(Refusal::Space, 0);
+        return Err(Refused(Refusal::Space, 0));
     }
-    Verdict::Fine
+    Ok(())
 }
 
 // Of the entry, by the lent records and the lengths of the answer lists and the work space.
@@ -54,16 +54,13 @@ pub fn refusal(
         head.terms cells items areas offsets work }
 {
     if job_space::bad_shape(head.terms, cells, items) {
-        return Verdict::Bad(Refusal::Count, 0);
+        return Err(Refused(Refusal::Count, 0));
     }
-    let count = job_checks::checks::counts(
+    job_checks::checks::counts(
         head.v, blocks, edges, insts, operands, crossings, locals, slots, addresses, ends, pieces,
         assigned, moves, areas,
-    );
-    if let Verdict::Bad(r, i) = count {
-        return Verdict::Bad(r, i);
-    }
-    let place = job_checks::checks::placed(
+    )?;
+    job_checks::checks::placed(
         head.points,
         head.v,
         blocks,
@@ -76,10 +73,7 @@ pub fn refusal(
         pieces,
         assigned,
         moves,
-    );
-    if let Verdict::Bad(r, i) = place {
-        return Verdict::Bad(r, i);
-    }
+    )?;
     let z = job_space::records::sizes(
         head.v, blocks, edges, insts, operands, crossings, locals, slots, addresses, ends, pieces,
         assigned, moves, areas,

@@ -4,12 +4,12 @@
 ghost use Rattle.job_space.specs.Rows.{lent_rows};
 ghost use Rattle.job.specs.Entry.{SharedAs};
 
-use refusals::Verdict;
+use refusals::Refused;
 
 pub mod checks; // checks.rt: refusals 1 to 7
 
-pub use job_answers::Shared;
 pub use job_space::Head;
+pub use wants::Tally;
 
 // Which items of a job may share a cell: the area of each local and slot by the job's records, and for each item the lowest cell that has an area and doesn't clash
 // with it, while budget is left. Cells come back as rows of size and alignment, items as rows of cell, present, first and count, areas as rows of start and end,
@@ -36,12 +36,12 @@ pub fn share(
     areas: &mut [u32],
     offsets: &mut [i32],
     work: &mut [u64],
-) -> Shared
+) -> Result<Tally, Refused>
     ensures { SharedAs (lent_rows head.points head.v blocks edges insts operands crossings locals slots addresses ends pieces assigned moves) head.terms
         cells.old items.old areas.old offsets.old work.old result
         cells.new items.new areas.new offsets.new work.new }
 {
-    let verdict = checks::refusal(
+    checks::refusal(
         head,
         blocks,
         edges,
@@ -60,10 +60,7 @@ pub fn share(
         areas.len(),
         offsets.len(),
         work.len(),
-    );
-    if let Verdict::Bad(r, i) = verdict {
-        return Shared::Refused(r, i);
-    }
+    )?;
     let z = job_space::records::sizes(
         head.v,
         blocks,

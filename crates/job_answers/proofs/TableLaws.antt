@@ -6,7 +6,6 @@ use mathlib.Core.Option.{Option}
 use mathlib.Core.List.{List, ◌∷◌, ◌++◌}
 use lib.IntN.{ℤ}
 use lib.ListN.{length, get_or, drop}
-use Rattle.refusals.specs.declared.Verdict.TheVariants.{Fine, Bad}
 use Rattle.refusals.specs.declared.Refusal.{Refusal}
 use Rattle.refusals.specs.declared.Refusal.TheVariants.{List as ListWord}
 use Rattle.refusals.proofs.Laws.{first_fine, first_bad}
@@ -34,15 +33,17 @@ use Rattle.wants.proofs.ListLaws.{cells_told, offsets_told, counts_told, layout_
 use Rattle.item_lists.specs.Lists.{item_row}
 use Rattle.item_lists.proofs.TableLaws.{word_row, row_long, list_full, list_fine}
 use Rattle.job_fit.specs.Inner.{count_of, want_for, wants_for, plan_for, Ready, FittedFor}
-use Rattle.job_answers.specs.declared.Shared.{Shared}
-use Rattle.job_answers.specs.declared.Shared.TheVariants.{Plan as Planned, Refused}
 use Rattle.job_answers.specs.Answers.{item_rows, answer_verdict, AnsweredBy}
 use Rattle.job_tables.specs.Inner.{row_of, rows_of, Listable, Written}
 use Rattle.job_answers.specs.Inner.{Measured}
+use Rattle.refusals.specs.Verdicts.{Bad, Fine}
+use Rattle.refusals.specs.declared.Refused.{Refused}
+use Rattle.wants.specs.declared.Tally.{Tally}
+use Rattle.std.specs.Prelude.{Ok, Err, Result}
 
 -- number 9
 pub refused_list : (A : ℕ → Option (List Range)) (p : Plan) (count room n : ℕ) (w : List ℕ) → ListedBy word_of (listing room room) A count n w → room < n
-    → (cells items areas : List ℕ) (offsets : List ℤ) → AnsweredBy (answer_verdict count A room p) count A p cells items areas offsets (Refused ListWord 0) cells items areas offsets
+    → (cells items areas : List ℕ) (offsets : List ℤ) → AnsweredBy (answer_verdict count A room p) count A p cells items areas offsets (Err (ListWord, 0)) cells items areas offsets
 refused_list A p count room n w D h cells items areas offsets =
     rw (first_bad (areas_verdict count A room) (layout_verdict (rooms_in p)) ListWord 0 (list_full A count room n w D h)) (record { answer = refl; in_cells = refl; in_items = refl; in_areas = refl; in_offsets = refl })
 
@@ -68,7 +69,7 @@ module _ (A : ℕ → Option (List Range)) (p : Plan) (n room total : ℕ) (w : 
   verdict_is = first_fine (areas_verdict n A room) (layout_verdict (rooms_in p)) (list_fine A n room total w D fits short in_work)
 
   pub refused_layout : (k : Refusal) (i : ℕ) → Bad k i ≡ layout_verdict (rooms_at w (cell_table (tables_at room n)) r.cells) → (cells items areas : List ℕ) (offsets : List ℤ)
-      → AnsweredBy (answer_verdict n A room p) n A p cells items areas offsets (Refused k i) cells items areas offsets
+      → AnsweredBy (answer_verdict n A room p) n A p cells items areas offsets (Err (k, i)) cells items areas offsets
   refused_layout k i e cells items areas offsets = rw (verdict_is ∙ layout_told M e) (record { answer = refl; in_cells = refl; in_items = refl; in_areas = refl; in_offsets = refl })
 
   items_are : rows_of w room (room + 6 * n) n ≡ item_rows n A p
@@ -91,7 +92,7 @@ module _ (A : ℕ → Option (List Range)) (p : Plan) (n room total : ℕ) (w : 
   pub given_list : (cells items areas cells' items' areas' : List ℕ) (offsets offsets' : List ℤ) (d : ℕ) → room ≡ range_count areas → Written cells items areas w n r.cells total cells' items' areas'
       → Fine ≡ layout_verdict (rooms_at w (cell_table (tables_at room n)) r.cells) → d ≡ depth_of (rooms_at w (cell_table (tables_at room n)) r.cells)
       → offsets' ≡ offsets_of (rooms_at w (cell_table (tables_at room n)) r.cells) ++ drop r.cells offsets
-      → AnsweredBy (answer_verdict n A room p) n A p cells items areas offsets (Planned r.cells r.probes d) cells' items' areas' offsets'
+      → AnsweredBy (answer_verdict n A room p) n A p cells items areas offsets (Ok (record { cells = r.cells; probes = r.probes; depth = d })) cells' items' areas' offsets'
   given_list cells items areas cells' items' areas' offsets offsets' d e W v D' O = rw (verdict_is ∙ layout_told M v) (record {
     answer = counts_told M D';
     in_cells = cells_told M cells (W.in_cells ∙ ap (λ (k : ℕ). cell_rows_in w (cell_table (tables_at k n)) r.cells ++ drop (cell_width * r.cells) cells) (sym e));
@@ -135,20 +136,20 @@ module _ (locals slots : List ℕ) (budget total end : ℕ) (cells items areas :
   cells_few = omega (arith, F.few, M.in_offsets)
 
   module _ (A : ℕ → Option (List Range)) (D : ListedBy word_of (listing (range_count areas) (range_count areas)) A (count_of locals slots) total w₀) where
-    abbrev Told : Shared → List ℕ → List ℕ → List ℕ → List ℤ → Type 0
+    abbrev Told : (Result Tally Refused) → List ℕ → List ℕ → List ℕ → List ℤ → Type 0
     Told = AnsweredBy (answer_verdict (count_of locals slots) A (range_count areas) (plan_for locals slots A budget)) (count_of locals slots) A (plan_for locals slots A budget) cells items areas offsets
 
     abbrev words : List Room
     words = rooms_at w (cell_table (tables_at (range_count areas) (count_of locals slots))) r.cells
 
-    pub refused_list_layout : (k : Refusal) (i : ℕ) → Bad k i ≡ layout_verdict words → Told (Refused k i) cells items areas offsets
+    pub refused_list_layout : (k : Refusal) (i : ℕ) → Bad k i ≡ layout_verdict words → Told (Err (k, i)) cells items areas offsets
     refused_list_layout k i e =
         refused_layout A (plan_for locals slots A budget) (count_of locals slots) (range_count areas) total w r (F.plan A total D fits) (F.listed A total D fits) fits M.short
         (omega (arith, M.space, M.inside, F.kept.len)) k i e cells items areas offsets
 
     pub answered_list : {cells' items' areas' : List ℕ} {offsets' : List ℤ} {d : ℕ} → Written cells items areas w (count_of locals slots) r.cells total cells' items' areas'
         → Fine ≡ layout_verdict words → d ≡ depth_of words → offsets' ≡ offsets_of words ++ drop r.cells offsets
-        → Told (Planned r.cells r.probes d) cells' items' areas' offsets'
+        → Told (Ok (record { cells = r.cells; probes = r.probes; depth = d })) cells' items' areas' offsets'
     answered_list {cells'} {items'} {areas'} {offsets'} {d} W v e O =
         given_list A (plan_for locals slots A budget) (count_of locals slots) (range_count areas) total w r (F.plan A total D fits) (F.listed A total D fits) fits M.short
         (omega (arith, M.space, M.inside, F.kept.len)) cells items areas cells' items' areas' offsets offsets' d refl W v e O

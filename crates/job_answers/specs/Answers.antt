@@ -1,24 +1,18 @@
 -- Document 01, the whole job: its answer and what the answer lists hold, given a verdict and a plan.
-use Rattle.std.specs.Prelude.{ℕ, ◌≡◌, List, ◌∷◌, ℤ}
+use Rattle.std.specs.Prelude.{ℕ, ◌≡◌, List, ◌∷◌, ℤ, Result}
 use Rattle.std.proofs.Math.Option.{Option}
-use Rattle.refusals.specs.declared.Verdict.{Verdict}
-use Rattle.refusals.specs.Verdicts.{number_of}
-use Rattle.refusals.specs.Outcomes.{Outcome, given, refused, unless, after}
+use Rattle.refusals.specs.Verdicts.{number_of, Verdict}
+use Rattle.refusals.specs.Outcomes.{Outcome, given, refused, unless, after, answered}
 use Rattle.words.specs.Rows.{tabulate, flat}
 use Rattle.ranges.specs.declared.Range.{Range}
 use Rattle.areas.specs.Job.{ranges_of, areas_verdict}
 use Rattle.fitting.specs.Plan.{Plan}
 use Rattle.fitting.specs.Layout.{laid_verdict}
-use Rattle.wants.specs.Entry.{Tally, tally_of, cell_rows, cell_offsets}
+use Rattle.wants.specs.Entry.{tally_of, cell_rows, cell_offsets}
 use Rattle.area_tables.specs.Tables.{area_rows}
 use Rattle.item_lists.specs.Lists.{item_row}
-use Rattle.job_answers.specs.declared.Shared.{Shared}
-use Rattle.job_answers.specs.declared.Shared.TheVariants.{Plan as Planned, Refused}
-
--- what each case of the answer stands for: "the number of cells, the probes spent and the depth", or a refusal
-abbrev pub answered : Shared → Outcome Tally
-answered (Planned c p d) = given (record { cells = c; probes = p; depth = d })
-answered (Refused r i) = refused (number_of r) i
+use Rattle.refusals.specs.declared.Refused.{Refused}
+use Rattle.wants.specs.declared.Tally.{Tally}
 
 -- items 4 numbers: "its cell", then "a present flag and a part of the area list"
 abbrev pub item_rows : ℕ → (ℕ → Option (List Range)) → Plan → List ℕ
@@ -29,7 +23,7 @@ abbrev pub answer_verdict : ℕ → (ℕ → Option (List Range)) → ℕ → Pl
 answer_verdict n A room p = laid_verdict (areas_verdict n A room) p
 
 -- the answer and the answer lists, given a verdict and a plan
-pub record AnsweredBy (v : Verdict) (n : ℕ) (A : ℕ → Option (List Range)) (p : Plan) (cells items areas : List ℕ) (offsets : List ℤ) (r : Shared)
+pub record AnsweredBy (v : Verdict) (n : ℕ) (A : ℕ → Option (List Range)) (p : Plan) (cells items areas : List ℕ) (offsets : List ℤ) (r : Result Tally Refused)
     (cells' items' areas' : List ℕ) (offsets' : List ℤ) : Type 0 where
   pub answer : answered r ≡ tally_of (unless v p)
   pub in_cells : cells' ≡ after (unless v p) cell_rows cells

@@ -14,15 +14,9 @@ ghost use Rattle.words.specs.Widths.{range_count};
 
 use fit_tables::CELLS;
 use fitting::Terms;
-use refusals::{Refusal, Verdict};
+use refusals::{Refusal, Refused};
+use wants::Tally;
 use words::widths::{local, range};
-
-// A plan's cells, the probes spent and its depth, or a refusal with the index of the first offending record.
-#[derive(Clone, Copy)]
-pub enum Shared {
-    Plan(usize, u64, u64),
-    Refused(Refusal, usize),
-}
 
 // The plan of the items whose `total` ranges were measured, where these fit the area list (else 9): made in the work space, and only then written, unless its
 // layout is refused (12 and 13).
@@ -37,7 +31,7 @@ pub fn answer(
     areas: &mut [u32],
     offsets: &mut [i32],
     work: &mut [u64],
-) -> Shared
+) -> Result<Tally, Refused>
     requires { Measured (count_of locals.now slots.now) (range_count areas.old) total end (length cells.old) (length items.old) (length offsets.old) work.old }
     ensures { Within 0 end work.old work.new
         × ((A : ℕ → Option (List Range)) → ListedBy word_of (listing (range_count areas.old) (range_count areas.old)) A
@@ -49,16 +43,17 @@ pub fn answer(
 {
     let room = areas.len() / range::WIDTH;
     if room < total {
-        return Shared::Refused(Refusal::List, 0);
+        return Err(Refused(Refusal::List, 0));
     }
     let f = job_fit::fitted(locals, slots, terms.budget, work, room, end);
     let n = locals.len() / local::WIDTH + slots.len();
     let from = room + CELLS * n;
-    let v = fit_layout::refusal(work, from, f.cells);
-    if let Verdict::Bad(r, i) = v {
-        return Shared::Refused(r, i);
-    }
+    fit_layout::refusal(work, from, f.cells)?;
     job_tables::write(cells, items, areas, work, n, f.cells, total);
     let depth = fit_layout::write(offsets, work, from, f.cells);
-    Shared::Plan(f.cells, f.probes, depth)
+    Ok(Tally {
+        cells: f.cells,
+        probes: f.probes,
+        depth,
+    })
 }

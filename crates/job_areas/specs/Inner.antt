@@ -1,7 +1,6 @@
 -- What the functions here promise each other. No public promise names these.
 use Rattle.std.specs.Prelude.{ℕ, ◌+◌, ◌*◌, ◌/◌, ◌^◌, ◌≤◌, ◌<◌, ◌≡◌, List, [], length, get_or}
 use Rattle.std.proofs.Math.Option.{Option}
-use Rattle.refusals.specs.declared.Verdict.TheVariants.{Fine}
 use Rattle.words.specs.Widths.{block_count, local_count, piece_count, move_count, range_width}
 use Rattle.ranges.specs.declared.Range.{Range}
 use Rattle.graph.specs.Line.{blocks_of, Sound}
@@ -22,6 +21,7 @@ use Rattle.job_space.specs.Space.{sizes_of, space_of, Small}
 use Rattle.job_checks.specs.Job.{job_of, Passed}
 use Rattle.job_layout.specs.declared.Regions.{Regions}
 use Rattle.job_layout.specs.Inner.{Placed, most_of_local}
+use Rattle.refusals.specs.Verdicts.{Fine}
 
 -- The areas of all items of a job in the work space.
 

@@ -1,4 +1,5 @@
 -- The checks of a job's records: what the functions join, and what no refusal says.
+use Rattle.std.specs.Prelude.{Err}
 use Prim.Native.Nat.{ℕ, ◌/◌, ◌%◌, ◌≤◌}
 use native.Mathlib.Omega.{arith}
 use mathlib.Core.Path.{◌≡◌, refl, sym, ap, ◌∙◌}
@@ -8,11 +9,9 @@ use lib.ListN.{length}
 use lib.Dec.{eqb}
 use borrow.Author.Tests.{eqb-true, not-false}
 use Rattle.words.proofs.Bools.{or_neither}
-use Rattle.refusals.specs.declared.Verdict.{Verdict}
-use Rattle.refusals.specs.declared.Verdict.TheVariants.{Fine, Bad}
 use Rattle.refusals.specs.declared.Refusal.{Refusal}
 use Rattle.refusals.specs.declared.Refusal.TheVariants.{Count, Edge as EdgeWord}
-use Rattle.refusals.specs.Verdicts.{first, in_order, scan}
+use Rattle.refusals.specs.Verdicts.{first, in_order, scan, Bad, Fine, Verdict}
 use Rattle.refusals.proofs.Laws.{first_fine, first_bad, first_left, first_right, check_last, check_told}
 use Rattle.refusals.proofs.Orders.{order_append}
 use Rattle.words.specs.Widths.{block_count, edge_width, piece_width, assigned_width, move_width, range_width}
@@ -139,15 +138,15 @@ some_sound blocks points h e = line_sound (blocks_of blocks) points (omega (arit
 -- nine checks as the functions join them
 nine : (a b c d e f g h i : Verdict) → first (first a (first b c)) (first d (first (first (first e f) g) (first h i))) ≡ in_order (a ∷ b ∷ c ∷ d ∷ e ∷ f ∷ g ∷ h ∷ i ∷ [])
 unfolding first in_order
-nine (Bad r n) b c d e f g h i = refl
-nine Fine (Bad r n) c d e f g h i = refl
-nine Fine Fine (Bad r n) d e f g h i = refl
-nine Fine Fine Fine (Bad r n) e f g h i = refl
-nine Fine Fine Fine Fine (Bad r n) f g h i = refl
-nine Fine Fine Fine Fine Fine (Bad r n) g h i = refl
-nine Fine Fine Fine Fine Fine Fine (Bad r n) h i = refl
-nine Fine Fine Fine Fine Fine Fine Fine (Bad r n) i = refl
-nine Fine Fine Fine Fine Fine Fine Fine Fine (Bad r n) = refl
+nine (Err x) b c d e f g h i = refl
+nine Fine (Err x) c d e f g h i = refl
+nine Fine Fine (Err x) d e f g h i = refl
+nine Fine Fine Fine (Err x) e f g h i = refl
+nine Fine Fine Fine Fine (Err e) f g h i = refl
+nine Fine Fine Fine Fine Fine (Err e) g h i = refl
+nine Fine Fine Fine Fine Fine Fine (Err e) h i = refl
+nine Fine Fine Fine Fine Fine Fine Fine (Err e) i = refl
+nine Fine Fine Fine Fine Fine Fine Fine Fine (Err e) = refl
 nine Fine Fine Fine Fine Fine Fine Fine Fine Fine = refl
 
 module _ (points v : ℕ) (blocks edges insts operands crossings addresses ends pieces assigned moves : List ℕ) where

@@ -1,9 +1,8 @@
 -- The corners of number 1, by computation: each limit of the job's other records at it and one past, by how many numbers are lent; a row cut short is no count.
 use Prim.Native.Nat.{◌*◌}
 use mathlib.Core.Path.{◌≡◌, refl}
-use Rattle.refusals.specs.declared.Verdict.TheVariants.{Fine, Bad}
 use Rattle.refusals.specs.declared.Refusal.TheVariants.{Count}
-use Rattle.refusals.specs.Verdicts.{first}
+use Rattle.refusals.specs.Verdicts.{first, Bad, Fine}
 use Rattle.job_checks.specs.Job.{other_counts}
 
 -- "edges 16,384; slots 2,048; live pieces, assignments, moves and the area list 65,536 each"

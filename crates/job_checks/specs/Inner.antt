@@ -1,7 +1,6 @@
 -- The checks of a job by the functions that make them. No public promise names these.
 use Rattle.std.specs.Prelude.{ℕ, List}
-use Rattle.refusals.specs.declared.Verdict.{Verdict}
-use Rattle.refusals.specs.Verdicts.{first}
+use Rattle.refusals.specs.Verdicts.{first, Verdict}
 use Rattle.graph.specs.Line.{blocks_of, jumps_of, line_verdict, edge_verdict}
 use Rattle.carrying.specs.Insts.{insts_of}
 use Rattle.carrying.specs.Carried.{pieces_of}

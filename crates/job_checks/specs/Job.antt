@@ -1,10 +1,8 @@
 -- Document 01: a job as its rows are lent, number 1 of it, and what no refusal by numbers 1 to 6 says.
 use Rattle.std.specs.Prelude.{ℕ, ◌*◌, ◌<◌, ◌≡◌, List, [], ◌∷◌, length, get_or}
-use Rattle.refusals.specs.declared.Verdict.{Verdict}
-use Rattle.refusals.specs.declared.Verdict.TheVariants.{Fine}
 use Rattle.refusals.specs.declared.Refusal.{Refusal}
 use Rattle.refusals.specs.declared.Refusal.TheVariants.{Line, Edge, Inst, Stray, Piece}
-use Rattle.refusals.specs.Verdicts.{first}
+use Rattle.refusals.specs.Verdicts.{first, Fine, Verdict}
 use Rattle.words.specs.Widths.{edge_width, inst_count, mention_width, address_count, end_count, piece_width, assigned_width, move_width, range_width}
 use Rattle.graph.specs.Line.{blocks_of, jumps_of, edge_verdict, Sound}
 use Rattle.carrying.specs.Insts.{insts_of}

@@ -78,10 +78,7 @@ fn located(
     requires { (1 ≤ block_count blocks.now) × (block_count blocks.now ≤ 4096) × AddsUp insts.now operands.now × (v ≤ 65535) }
     ensures { result ≡ place_verdict points v blocks.now edges.now insts.now operands.now }
 {
-    let line = line_checks::line(blocks, points);
-    if let Verdict::Bad(r, block) = line {
-        return Verdict::Bad(r, block);
-    }
+    line_checks::line(blocks, points)?;
     let a = line_checks::edge(edges, blocks.len() / block::WIDTH);
     let b = insts::checks::inst(blocks, v, insts, operands);
     refusals::earlier(a, b)
@@ -125,10 +122,7 @@ pub fn placed(
     ensures { result ≡ placed_verdict points v blocks.now edges.now insts.now operands.now crossings.now
         addresses.now ends.now pieces.now assigned.now moves.now }
 {
-    let place = located(points, v, blocks, edges, insts, operands);
-    if let Verdict::Bad(r, i) = place {
-        return Verdict::Bad(r, i);
-    }
+    located(points, v, blocks, edges, insts, operands)?;
     let crossed = insts::checks::crossing(v, crossings);
     let astray = stray(blocks, insts, addresses, ends, moves);
     let outside = live(v, blocks, pieces, assigned);

@@ -1,4 +1,5 @@
 -- From what `job::share` promises and its answer in one number to what the exported job promises, by how many counts there is room for.
+use Rattle.std.specs.Prelude.{Err, Result}
 use Prim.Native.Nat.{ℕ, ◌≤◌, ◌<◌}
 use mathlib.Core.Path.{◌≡◌, refl, sym, ap, ◌∙◌}
 use mathlib.Core.Bool.{Bool}
@@ -6,20 +7,17 @@ use mathlib.Core.List.{List}
 use lib.IntN.{ℤ}
 use lib.ListN.{length, replicate}
 use borrow.Author.Tests.{lt-ltb, le-ltb}
-use Rattle.refusals.specs.declared.Verdict.{Verdict}
-use Rattle.refusals.specs.declared.Verdict.TheVariants.{Fine, Bad}
 use Rattle.refusals.specs.declared.Refusal.{Refusal}
 use Rattle.refusals.specs.declared.Refusal.TheVariants.{Space}
-use Rattle.refusals.specs.Verdicts.{number_of, first, check}
-use Rattle.refusals.specs.Outcomes.{Outcome, unless, after}
+use Rattle.refusals.specs.Verdicts.{number_of, first, check, Bad, Fine, Verdict}
+use Rattle.refusals.specs.Outcomes.{Outcome, unless, after, answered}
 use Rattle.refusals.proofs.Laws.{first_fine, first_bad, first_last}
 use Rattle.areas.specs.Job.{item_count, item_area}
 use Rattle.fitting.specs.Plan.{Plan}
-use Rattle.wants.specs.Entry.{Tally, tally_of, cell_rows, cell_offsets}
+use Rattle.wants.specs.Entry.{tally_of, cell_rows, cell_offsets}
 use Rattle.job_space.specs.Space.{space_of, sizes_of}
 use Rattle.soundness.specs.Demand.{job_plan}
-use Rattle.job_answers.specs.declared.Shared.{Shared}
-use Rattle.job_answers.specs.Answers.{answered, answer_verdict}
+use Rattle.job_answers.specs.Answers.{answer_verdict}
 use Rattle.job.specs.Entry.{lent_verdict, SharedAs}
 use Rattle.codes.specs.Codes.{refusal_code, code_of, verdict_code}
 use Rattle.want_codes.specs.Plans.{counts_of}
@@ -29,12 +27,14 @@ use Rattle.job_space.specs.Rows.{Rows}
 use Rattle.fitting.specs.declared.Terms.{Terms}
 use Rattle.job_checks.specs.Job.{job_of}
 use Rattle.words.specs.Widths.{range_count}
+use Rattle.refusals.specs.declared.Refused.{Refused}
+use Rattle.wants.specs.declared.Tally.{Tally}
 
 -- whatever comes before, a refusal at last is a refusal
 never_fine : (v : Verdict) → (r : Refusal) × (i : ℕ) × (first v (Bad Space 0) ≡ Bad r i)
 unfolding first
 never_fine Fine = (Space, 0, refl)
-never_fine (Bad r i) = (r, i, refl)
+never_fine (Err e) = (e.0, e.1, refl)
 
 module _ (R : Rows) (t : Terms) where
   -- the ways out of `short`
@@ -68,7 +68,7 @@ module _ (R : Rows) (t : Terms) where
     enough : 3 ≤ length counts → measured_verdict R t (length cells) (length items) (length areas) (length offsets) (length counts) (length work) ≡ lent_now
     enough h = ap (λ (b : Bool). first lent_now (check Space b)) (le-ltb (length counts) 3 h) ∙ first_last lent_now
 
-    pub job_coded : {cells' items' areas' counts' work' : List ℕ} {offsets' : List ℤ} {s : Shared} {r : ℕ} → 3 ≤ length counts
+    pub job_coded : {cells' items' areas' counts' work' : List ℕ} {offsets' : List ℤ} {s : (Result Tally Refused)} {r : ℕ} → 3 ≤ length counts
         → SharedAs R t cells items areas offsets work s cells' items' areas' offsets' work' → PlanTold counts (answered s) r counts'
         → JobCoded R t cells items areas offsets counts work r cells' items' areas' offsets' counts' work'
     job_coded h a t =

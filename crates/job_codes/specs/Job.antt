@@ -1,8 +1,7 @@
 -- The whole job as it is exported: the outcome and the lists of `job::share`, the answer in one number.
 use Rattle.std.specs.Prelude.{ℕ, ◌/◌, ◌≡◌, List, ℤ, length, replicate}
-use Rattle.refusals.specs.declared.Verdict.{Verdict}
 use Rattle.refusals.specs.declared.Refusal.TheVariants.{Space}
-use Rattle.refusals.specs.Verdicts.{first, check}
+use Rattle.refusals.specs.Verdicts.{first, check, Verdict}
 use Rattle.refusals.specs.Outcomes.{Outcome, unless, after}
 use Rattle.areas.specs.Job.{item_count, item_area}
 use Rattle.fitting.specs.Plan.{Plan}

@@ -1,37 +1,20 @@
 // The answer of the whole job in one number, and its counts.
 #![tactic(auto)]
 
-ghost use Rattle.std.specs.Prelude.{◌≡◌, ◌≤◌, length};
+ghost use Rattle.std.specs.Prelude.{◌≡◌};
 ghost use Rattle.refusals.specs.declared.Refusal.TheVariants.{Space};
-ghost use Rattle.refusals.specs.declared.Verdict.TheVariants.{Bad};
-ghost use Rattle.refusals.specs.Verdicts.{first};
+ghost use Rattle.refusals.specs.Verdicts.{first, Bad};
 ghost use Rattle.codes.specs.Codes.{verdict_code};
 ghost use Rattle.job_space.specs.Rows.{lent_rows};
 ghost use Rattle.job.specs.Entry.{lent_verdict};
-ghost use Rattle.job_answers.specs.Answers.{answered};
-ghost use Rattle.want_codes.specs.Inner.{PlanTold};
 ghost use Rattle.job_codes.specs.Job.{JobCoded};
 
-use codes::{refused, tell};
-use job_answers::Shared;
 use job_space::Head;
-use refusals::{Refusal, Verdict};
-
-// A plan's counts are told, or the refusal is answered.
-fn job(counts: &mut [u64], s: Shared) -> u64
-    requires { 3 ≤ length counts.old }
-    ensures { PlanTold counts.old (answered s) result counts.new }
-{
-    match s {
-        Shared::Plan(c, p, d) => {
-            tell(counts, c, p, d);
-            0
-        }
-        Shared::Refused(r, i) => refused(r, i),
-    }
-}
+use refusals::{Refusal, Refused};
+use wants::Tally;
 
 // What is refused where there is too little room for the counts: numbers 1 to 6, else 7.
+#[tactic(auto, unfolding(refusals::specs::Verdicts::first))]
 fn short(
     head: Head,
     blocks: &[u32],
@@ -59,10 +42,7 @@ fn short(
         head, blocks, edges, insts, operands, crossings, locals, slots, addresses, ends, pieces,
         assigned, moves, cells, items, areas, offsets, work,
     );
-    if let Verdict::Bad(r, i) = lent {
-        return refused(r, i);
-    }
-    refused(Refusal::Space, 0)
+    codes::verdict(lent.and(Err(Refused(Refusal::Space, 0))))
 }
 
 // `job::share`, the whole job: the plan's counts are cells, probes and depth; fewer than three numbers for them are refused with 7.
@@ -113,7 +93,7 @@ pub fn share(
             work.len(),
         );
     }
-    job(
+    want_codes::plan(
         counts,
         job::share(
             head, blocks, edges, insts, operands, crossings, locals, slots, addresses, ends,

@@ -15,11 +15,9 @@ fn load_locals(w: &mut [u64], at: usize, locals: &[u32])
     ensures { Region w.old w.new at (local_count locals.now) (local_word locals.now) }
 {
     let n = locals.len() / local::WIDTH;
-    let mut i = 0;
-    while i < n {
+    for i in 0..n {
         w[at + i] = locals[local::WIDTH * i] as u64 * HALF
             + locals[local::WIDTH * i + local::ALIGN] as u64;
-        i += 1;
     }
 }
 
@@ -29,10 +27,8 @@ fn load_slots(w: &mut [u64], at: usize, slots: &[u32])
     ensures { Region w.old w.new at (length slots.now) (slot_word slots.now) }
 {
     let n = slots.len();
-    let mut i = 0;
-    while i < n {
+    for i in 0..n {
         w[at + i] = slots[i] as u64 * HALF + slots[i] as u64;
-        i += 1;
     }
 }
 

@@ -1,7 +1,6 @@
 -- What the functions here promise each other. No public promise names these.
 use Rattle.std.specs.Prelude.{ℕ, ◌+◌, ◌*◌, ◌^◌, ◌≤◌, ◌<◌, ◌≡◌, false, List, length, get_or}
 use Rattle.std.proofs.Math.Option.{Option}
-use Rattle.refusals.specs.declared.Verdict.TheVariants.{Fine}
 use Rattle.words.specs.Widths.{block_count, edge_count, inst_count, operand_count, mention_width, address_count, end_count}
 use Rattle.bits.specs.Bits.{bit}
 use Rattle.ranges.specs.declared.Range.{Range}
@@ -27,6 +26,7 @@ use Rattle.job_measure.specs.Inner.{most_in, RowsOf, area_in}
 use Rattle.follow.specs.Inner as following
 use Rattle.job_spots.specs.Inner as fetching
 use Rattle.job_marks.specs.Inner as marking
+use Rattle.refusals.specs.Verdicts.{Fine}
 
 -- The locals of a job in the work space: what all walks read, the rows of every local, and the areas of all.
 

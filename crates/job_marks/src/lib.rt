@@ -55,11 +55,9 @@ pub fn mark_all(
     ensures { MarkedAll blocks.now insts.now addresses.now ends.now pieces.now lay p z g work.old work.new }
 {
     area_flow::clear_marks(work, g, blocks.len() / block::WIDTH);
-    let mut l = 0;
-    while l < z.locals {
+    for l in 0..z.locals {
         mark_one(
             blocks, insts, addresses, ends, pieces, work, lay, p, z, g, l,
         );
-        l += 1;
     }
 }

@@ -84,12 +84,10 @@ pub fn measure_locals(
         work.new result }
 {
     let mut total = 0;
-    let mut l = 0;
-    while l < z.locals {
+    for l in 0..z.locals {
         total = measure_next(
             blocks, insts, addresses, ends, pieces, work, lay, p, z, g, mark, o, l, total,
         );
-        l += 1;
     }
     total
 }

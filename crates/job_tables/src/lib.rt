@@ -27,10 +27,8 @@ fn write_items(out: &mut [u32], w: &[u64], from: usize, cells: usize, n: usize)
     requires { (item_width * n ≤ length out.old) × (from + n ≤ length w.now) × (cells + n ≤ length w.now) × ((i : ℕ) → i < n → get_or w.now (cells + i) 0 < 2 ^ 32) }
     ensures { out.new ≡ rows_of w.now from cells n ++ drop (item_width * n) out.old }
 {
-    let mut i = 0;
-    while i < n {
+    for i in 0..n {
         put_item(out, item::WIDTH * i, w[cells + i], w[from + i]);
-        i += 1;
     }
 }
 

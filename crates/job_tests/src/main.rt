@@ -4,20 +4,18 @@
 // The columns of a case: points, V, budget, the lengths of the cell, the item, the area and the offset list and of the work space; then the records of a job, in the job text's group order.
 #![tactic(auto)]
 
-ghost use Rattle.std.specs.Prelude.{◌≡◌, length};
-ghost use Rattle.cases.specs.Inner.{Ordered};
-
-use cases::Cuts;
+use cases::Case;
 use fitting::Terms;
-use job::Shared;
+use job::Tally;
 use job_space::Head;
+use refusals::Refused;
 use std::io;
-use std::io::Stdout;
+use std::io::{Print, Stdout};
 use words::widths::moving;
 
 // How many plans there are, and how many of them have fewer cells than items, spent as many probes as the budget has, have an ending local, over 64 locals, and a move that
 // names a slot. There are fewer cases than bytes of text, so that no count wraps.
-#[derive(Clone, Copy)]
+#[derive(Clone, Copy, Default)]
 struct Counts {
     plans: u32,
     sharing: u32,
@@ -37,32 +35,24 @@ struct Shown {
     moving: bool,
 }
 
-fn told(out: Stdout, s: Shared) -> io::Result<()> {
+fn told(out: Stdout, s: Result<Tally, Refused>) -> io::Result<()> {
     match s {
-        Shared::Plan(cells, probes, depth) => {
-            cases::text(out, b" plan")?;
+        Ok(
+            Tally {
+                cells,
+                probes,
+                depth,
+            },
+        ) => {
+            print!(out; " plan")?;
             cases::plan(out, cells, probes, depth)?;
         }
-        Shared::Refused(r, i) => cases::refused(out, r, i)?,
+        Err(Refused(r, i)) => cases::refused(out, r, i)?,
     }
     Ok(())
 }
 
-// How many words are as they were.
-fn kept(work: &[u64]) -> usize {
-    let mut n = 0;
-    let mut i = 0;
-    while i < work.len() {
-        if work[i] == 7 {
-            n += 1;
-            i += 1;
-        } else {
-            i += 1;
-        }
-    }
-    n
-}
-
+// How many words are as they were, and what the lists hold.
 fn show(
     out: Stdout,
     cells: &[u32],
@@ -71,60 +61,42 @@ fn show(
     offsets: &[i32],
     work: &[u64],
 ) -> io::Result<()> {
-    cases::put(out, b" ", kept(work) as u64)?;
-    cases::text(out, b" |")?;
+    let kept = work.iter().filter(|w| **w == 7).count();
+    print!(out; " {kept} |")?;
     cases::listed(out, cells)?;
     cases::listed(out, items)?;
     cases::listed(out, areas)?;
-    cases::left_offsets(out, offsets, work)
+    cases::left(out, offsets, work)
 }
 
-// What `share` answers for the records that stand in `n`, a group from where one column ends to where the next one does.
+// What `share` answers for the records of a case.
 fn shared(
-    n: &[u32],
-    e: Cuts,
+    case: &Case,
     cells: &mut [u32],
     items: &mut [u32],
     areas: &mut [u32],
     offsets: &mut [i32],
     work: &mut [u64],
-) -> Shared
-    requires { (length n.now ≡ 1024) × Ordered e 1024 }
-{
-    let c0 = e.c0;
-    let c1 = e.c1;
-    let c2 = e.c2;
-    let c3 = e.c3;
-    let c4 = e.c4;
-    let c5 = e.c5;
-    let c6 = e.c6;
-    let c7 = e.c7;
-    let c8 = e.c8;
-    let c9 = e.c9;
-    let c10 = e.c10;
-    let c11 = e.c11;
-    let c12 = e.c12;
-    let points = n[0];
-    let v = n[1];
-    let budget = n[2];
+) -> Result<Tally, Refused> {
+    let budget = case.number(2);
     job::share(
         Head {
-            points: points,
-            v: v,
-            terms: Terms { budget: budget },
+            points: case.number(0),
+            v: case.number(1),
+            terms: Terms { budget },
         },
-        &n[c0..c1],
-        &n[c1..c2],
-        &n[c2..c3],
-        &n[c3..c4],
-        &n[c4..c5],
-        &n[c5..c6],
-        &n[c6..c7],
-        &n[c7..c8],
-        &n[c8..c9],
-        &n[c9..c10],
-        &n[c10..c11],
-        &n[c11..c12],
+        case.column(1),
+        case.column(2),
+        case.column(3),
+        case.column(4),
+        case.column(5),
+        case.column(6),
+        case.column(7),
+        case.column(8),
+        case.column(9),
+        case.column(10),
+        case.column(11),
+        case.column(12),
         cells,
         items,
         areas,
@@ -133,84 +105,41 @@ fn shared(
     )
 }
 
-// The kinds of the locals, by the same records; a refusal leaves the list as it was.
-fn reached(n: &[u32], e: Cuts, kinds: &mut [u32], work: &mut [u64])
-    requires { (length n.now ≡ 1024) × Ordered e 1024 }
-{
-    let c0 = e.c0;
-    let c1 = e.c1;
-    let c2 = e.c2;
-    let c3 = e.c3;
-    let c4 = e.c4;
-    let c5 = e.c5;
-    let c6 = e.c6;
-    let c7 = e.c7;
-    let c8 = e.c8;
-    let c9 = e.c9;
-    local_kinds::reach(
-        n[0],
-        n[1],
-        &n[c0..c1],
-        &n[c2..c3],
-        &n[c3..c4],
-        &n[c4..c5],
-        &n[c5..c6],
-        &n[c7..c8],
-        &n[c8..c9],
-        kinds,
-        work,
-    );
-}
-
-// Whether a kind is that of an ending local.
-fn has_ending(kinds: &[u32]) -> bool {
-    let mut i = 0;
-    while i < kinds.len() {
-        if kinds[i] == 2 {
-            return true;
-        }
-        i += 1;
-    }
-    false
-}
-
-fn ending(n: &[u32], e: Cuts) -> bool
-    requires { (length n.now ≡ 1024) × Ordered e 1024 }
-{
+// Whether a local of these records ends; a refusal leaves the kinds as they were.
+fn ending(case: &Case) -> bool {
     let mut kinds = [7u32; 160];
     let mut work = [7u64; 4096];
-    reached(n, e, &mut kinds, &mut work);
-    has_ending(&kinds)
+    let _ = local_kinds::reach(
+        case.number(0),
+        case.number(1),
+        case.column(1),
+        case.column(3),
+        case.column(4),
+        case.column(5),
+        case.column(6),
+        case.column(8),
+        case.column(9),
+        &mut kinds,
+        &mut work,
+    );
+    kinds.contains(&2)
 }
 
 // Whether a row of these moves names one of so many slots.
 fn moving(moves: &[u32], slots: usize) -> bool {
-    let mut i = 0;
-    while i < moves.len() / moving::WIDTH {
-        if (moves[moving::WIDTH * i + moving::TO] as usize) < slots {
-            return true;
-        }
-        if (moves[moving::WIDTH * i + moving::FROM] as usize) < slots {
-            return true;
-        }
-        i += 1;
-    }
-    false
+    let mut rows = moves.chunks_exact(moving::WIDTH);
+    rows.any(|m| (m[moving::TO] as usize) < slots || (m[moving::FROM] as usize) < slots)
 }
 
-fn shows(cells: usize, probes: u64, n: &[u32], e: Cuts) -> Shown
-    requires { (length n.now ≡ 1024) × Ordered e 1024 }
-{
-    let locals = (e.c6 - e.c5) / 2;
-    let slots = e.c7 - e.c6;
-    let c11 = e.c11;
-    let c12 = e.c12;
+fn shows(cells: usize, probes: u64, case: &Case) -> Shown {
+    let locals = case.column(6).len() / 2;
+    let slots = case.column(7).len();
     Shown {
         sharing: cells < locals + slots,
-        spent: probes == n[2] as u64,
-        ending: ending(n, e),
+        spent: probes == case.number(2) as u64,
+        ending: ending(case),
         wide: locals > 64,
-        moving: moving(&n[c11..c12], slots),
+        moving: moving(case.column(12), slots),
     }
 }
 
@@ -233,106 +162,79 @@ fn added(t: Counts, s: Shown) -> Counts {
     }
 }
 
-// The counts with this answer.
-fn counted(t: Counts, s: Shared, n: &[u32], e: Cuts) -> Counts
-    requires { (length n.now ≡ 1024) × Ordered e 1024 }
-{
-    match s {
-        Shared::Plan(cells, probes, _) => added(t, shows(cells, probes, n, e)),
-        Shared::Refused(_, _) => t,
-    }
-}
-
 fn plan(
     out: Stdout,
-    n: &[u32],
-    e: Cuts,
+    case: &Case,
     t: Counts,
     cells: &mut [u32],
     items: &mut [u32],
     areas: &mut [u32],
     offsets: &mut [i32],
     work: &mut [u64],
-) -> io::Result<Counts>
-    requires { (length n.now ≡ 1024) × Ordered e 1024 }
-{
-    let s = shared(n, e, cells, items, areas, offsets, work);
+) -> io::Result<Counts> {
+    let s = shared(case, cells, items, areas, offsets, work);
     told(out, s)?;
     show(out, cells, items, areas, offsets, work)?;
-    Ok(counted(t, s, n, e))
+    Ok(match s {
+        Ok(
+            Tally {
+                cells,
+                probes,
+                depth: _,
+            },
+        ) => added(t, shows(cells, probes, case)),
+        Err(Refused(_, _)) => t,
+    })
 }
 
 // In lists of these lengths; the counts with its answer.
-fn run(out: Stdout, n: &[u32], e: Cuts, t: Counts) -> io::Result<Counts>
-    requires { (length n.now ≡ 1024) × Ordered e 1024 }
-{
+fn run(out: Stdout, case: &Case, t: Counts) -> io::Result<Counts> {
     let mut cells = [7u32; 160];
     let mut items = [7u32; 320];
     let mut areas = [7u32; 128];
     let mut offsets = [7i32; 80];
     let mut work = [7u64; 4096];
-    let c = n[3] as usize;
-    let i = n[4] as usize;
-    let a = n[5] as usize;
-    let o = n[6] as usize;
-    let w = n[7] as usize;
-    if c > 160 {
-        return Ok(t);
-    }
-    if i > 320 {
-        return Ok(t);
-    }
-    if a > 128 {
-        return Ok(t);
-    }
-    if o > 80 {
-        return Ok(t);
-    }
-    if w > 4096 {
+    let c = case.number(3) as usize;
+    let i = case.number(4) as usize;
+    let a = case.number(5) as usize;
+    let o = case.number(6) as usize;
+    let w = case.number(7) as usize;
+    if c > 160 || i > 320 || a > 128 || o > 80 || w > 4096 {
         return Ok(t);
     }
     plan(
         out,
-        n,
-        e,
+        case,
         t,
-        &mut cells[0..c],
-        &mut items[0..i],
-        &mut areas[0..a],
-        &mut offsets[0..o],
-        &mut work[0..w],
+        &mut cells[..c],
+        &mut items[..i],
+        &mut areas[..a],
+        &mut offsets[..o],
+        &mut work[..w],
     )
 }
 
 fn summed(out: Stdout, t: Counts) -> io::Result<()> {
-    cases::put(out, b"plans ", t.plans as u64)?;
-    cases::put(out, b": a shared cell ", t.sharing as u64)?;
-    cases::put(out, b", the budget spent ", t.spent as u64)?;
-    cases::put(out, b", an ending local ", t.ending as u64)?;
-    cases::put(out, b", over 64 locals ", t.wide as u64)?;
-    cases::put(out, b", a move of a slot ", t.moving as u64)?;
-    cases::text(out, b"\n")
+    let Counts {
+        plans,
+        sharing,
+        spent,
+        ending,
+        wide,
+        moving,
+    } = t;
+    println!(out;
+        "plans {plans}: a shared cell {sharing}, the budget spent {spent}, an ending local {ending}, over 64 locals {wide}, a move of a slot {moving}"
+    )
 }
 
 fn main(rt: HostRuntime) -> io::Result<()> {
     let out = rt.stdout();
-    let mut text = [0u8; 98304];
-    let mut n = [0u32; 1024];
-    let len = cases::input(rt.stdin(), &mut text)?;
-    let mut t = Counts {
-        plans: 0,
-        sharing: 0,
-        spent: 0,
-        ending: 0,
-        wide: 0,
-        moving: 0,
-    };
-    let mut i = 0;
-    while i < len {
-        cases::name(out, &text, i)?;
-        let e = cases::case(&text, i, &mut n);
-        t = run(out, &n, e, t)?;
-        i = e.next;
-    }
+    let mut text = [0; 98304];
+    let mut t = Counts::default();
+    cases::each(rt.stdin(), out, &mut text, |case| {
+        t = run(out, case, t)?;
+        Ok(())
+    })?;
     summed(out, t)
 }

@@ -1,7 +1,6 @@
 -- A list of packed ranges that grows in the work space: a range pushed, or put on through `joined`.
 use Prim.Native.Nat.{ℕ, ◌+◌, ◌-◌, ◌/◌, ◌%◌, ◌^◌, ◌<◌}
 use mathlib.Core.Path.{◌≡◌, refl, sym, ap, ◌∙◌}
-use mathlib.Core.Bool.{Bool, true, false, cond}
 use mathlib.Core.List.{List, [], ◌∷◌, ◌++◌}
 use native.Mathlib.Omega.{arith}
 use native.Mathlib.Numerals.{add-one}
@@ -77,13 +76,3 @@ module _ (w : List ℕ) (at k : ℕ) (room : at + k < length w) (x : ℕ) where
       where
         longer : Range
         longer = range (get_or w (at + k - 1) 0 / 2 ^ 32) (x % 2 ^ 32)
-
--- ---- the ends by the two bits
-
-pub lengthened_is : (x top bottom : ℕ) (written read : Bool) → bottom < 2 ^ 32 → (first last : ℕ) → first ≡ cond written top (x / 2 ^ 32) → last ≡ cond read bottom (x % 2 ^ 32)
-    → unpack (pack (range first last)) ≡ range (cond written top (unpack x).start) (cond read bottom (unpack x).end)
-lengthened_is x top bottom written read small first last f l = unpack_pack first last (rw l (under read)) ∙ rw (f, l)
-  where
-    under : (t : Bool) → cond t bottom (x % 2 ^ 32) < 2 ^ 32
-    under true = small
-    under false = omega arith

@@ -27,20 +27,11 @@ pub fn join(work: &mut [u64], at: usize, k: usize, x: u64) -> usize
     k + 1
 }
 
-fn either(test: bool, x: u32, y: u32) -> u32
-    ensures { result ≡ cond test x y }
-{
-    if test {
-        return x;
-    }
-    y
-}
-
 // The span of a block, from its top by the written bit and to its bottom by the read one.
 pub fn lengthened(x: u64, top: u32, bottom: u32, written: bool, read: bool) -> u64
     ensures { unpack result ≡ range (cond written top (unpack x).start) (cond read bottom (unpack x).end) }
 {
-    let first = either(written, top, packed::start_of(x));
-    let last = either(read, bottom, packed::end_of(x));
+    let first = if written { top } else { packed::start_of(x) };
+    let last = if read { bottom } else { packed::end_of(x) };
     packed::pack(first, last)
 }

@@ -58,10 +58,8 @@ pub fn mark_leaving(blocks: &[u32], work: &mut [u64], s: Spots, c: Column)
         work.old k) work.old work.new }
 {
     let at = s.at;
-    let mut i = 0;
-    while i < s.count {
+    for i in 0..s.count {
         let x = work[at + i];
         mark_leave(blocks, work, s, c, packed::start_of(x), packed::end_of(x));
-        i += 1;
     }
 }

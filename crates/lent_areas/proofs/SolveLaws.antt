@@ -11,7 +11,6 @@ use mathlib.Core.List.Memᴰ
 use mathlib.Core.List.{List, [], ◌∷◌, Memᴰ}
 use lib.ListN.{length, get_or}
 use lib.Dec.{eqb}
-use Rattle.refusals.specs.declared.Verdict.TheVariants.{Fine}
 use Rattle.refusals.specs.declared.Refusal.TheVariants.{Piece}
 use Rattle.refusals.proofs.Laws.{scan_fine}
 use Rattle.words.specs.Rows.{row_count, field, records}
@@ -50,6 +49,7 @@ use Rattle.lent_areas.specs.Areas.{graph_for}
 use Rattle.lent_areas.specs.Inner.{listing, Markable, Marking, Rowed, Solved}
 use Rattle.words.proofs.FitLaws.{rows_few}
 use Rattle.area_layout.proofs.FitLaws.{layout_fits}
+use Rattle.refusals.specs.Verdicts.{Fine}
 
 -- the ends' room is not far
 pub past_ends : (z : Sizes) (p : Places) → Small z → Placed z p → p.ends + z.ends ≤ 1048576

@@ -2,13 +2,13 @@
 #![tactic(auto)]
 
 ghost use Rattle.std.specs.Prelude.{◌≡◌, ◌+◌, ◌/◌, ◌≤◌, length};
-ghost use Rattle.refusals.specs.declared.Verdict.TheVariants.{Fine};
 ghost use Rattle.graph.specs.Line.{blocks_of, jumps_of, edge_verdict, Sound};
 ghost use Rattle.components.specs.Entry.{edges_in};
 ghost use Rattle.area_flow.specs.Inner.{Laid, Quiet};
 ghost use Rattle.area_checks.specs.Inner.{Lent};
 ghost use Rattle.lent_areas.specs.Inner.{Markable, Marking, Rowed, Solved};
 ghost use Rattle.words.specs.Widths.{block_count, edge_count};
+ghost use Rattle.refusals.specs.Verdicts.{Fine};
 
 use area_flow::Grid;
 use area_layout::Sizes;

@@ -9,7 +9,7 @@ ghost use Rattle.graph.specs.Inner.Checks.{bad_span};
 ghost use Rattle.graph.specs.Checks.{count_verdict, graph_verdict, rows_verdict, space_of};
 ghost use Rattle.words.specs.Widths.{block_count};
 
-use refusals::{Refusal, Verdict};
+use refusals::{Refusal, Refused, Verdict};
 use words::wide;
 use words::widths::{block, edge};
 
@@ -18,21 +18,21 @@ pub fn count(blocks: &[u32], edges: &[u32]) -> Verdict
     ensures { result ≡ count_verdict blocks.now edges.now }
 {
     if blocks.len() % block::WIDTH != 0 {
-        return Verdict::Bad(Refusal::Count, 0);
+        return Err(Refused(Refusal::Count, 0));
     }
     if blocks.len() / block::WIDTH < 1 {
-        return Verdict::Bad(Refusal::Count, 0);
+        return Err(Refused(Refusal::Count, 0));
     }
     if 4096 < blocks.len() / block::WIDTH {
-        return Verdict::Bad(Refusal::Count, 0);
+        return Err(Refused(Refusal::Count, 0));
     }
     if edges.len() % edge::WIDTH != 0 {
-        return Verdict::Bad(Refusal::Count, 0);
+        return Err(Refused(Refusal::Count, 0));
     }
     if 16384 < edges.len() / edge::WIDTH {
-        return Verdict::Bad(Refusal::Count, 0);
+        return Err(Refused(Refusal::Count, 0));
     }
-    Verdict::Fine
+    Ok(())
 }
 
 // Whether `start` is one past `last`.
@@ -73,22 +73,20 @@ pub fn line(blocks: &[u32], points: u32) -> Verdict
 {
     let n = blocks.len() / block::WIDTH;
     let mut used: [u64; 64] = [0; 64];
-    let mut i = 0;
-    while i < n {
+    for i in 0..n {
         let number = wide(blocks[block::WIDTH * i]);
         if n <= number {
-            return Verdict::Bad(Refusal::Line, i);
+            return Err(Refused(Refusal::Line, i));
         }
         if bits::test(&used, 0, number) {
-            return Verdict::Bad(Refusal::Line, i);
+            return Err(Refused(Refusal::Line, i));
         }
         if bad_span(blocks, points, i) {
-            return Verdict::Bad(Refusal::Line, i);
+            return Err(Refused(Refusal::Line, i));
         }
         bits::set(&mut used, 0, number);
-        i += 1;
     }
-    Verdict::Fine
+    Ok(())
 }
 
 // Refusal 3: the first edge that names none of the n blocks.
@@ -96,31 +94,23 @@ pub fn edge(edges: &[u32], n: usize) -> Verdict
     ensures { result ≡ scan EdgeWord (bad_edge n (jumps_of edges.now)) (length (jumps_of edges.now)) }
 {
     let m = edges.len() / edge::WIDTH;
-    let mut i = 0;
-    while i < m {
+    for i in 0..m {
         if n <= wide(edges[edge::WIDTH * i]) {
-            return Verdict::Bad(Refusal::Edge, i);
+            return Err(Refused(Refusal::Edge, i));
         }
         if n <= wide(edges[edge::WIDTH * i + edge::INTO]) {
-            return Verdict::Bad(Refusal::Edge, i);
+            return Err(Refused(Refusal::Edge, i));
         }
-        i += 1;
     }
-    Verdict::Fine
+    Ok(())
 }
 
 // Refusals 1, 2 and 3 for the blocks and the edges.
 pub fn check(blocks: &[u32], edges: &[u32], points: u32) -> Verdict
     ensures { result ≡ graph_verdict blocks.now edges.now points }
 {
-    let v = count(blocks, edges);
-    if let Verdict::Bad(r, i) = v {
-        return Verdict::Bad(r, i);
-    }
-    let v = line(blocks, points);
-    if let Verdict::Bad(r, i) = v {
-        return Verdict::Bad(r, i);
-    }
+    count(blocks, edges)?;
+    line(blocks, points)?;
     edge(edges, blocks.len() / block::WIDTH)
 }
 
@@ -130,17 +120,17 @@ pub fn rows(lent: usize, n: usize, words: usize) -> Verdict
 {
     if words == 0 {
         if lent == 0 {
-            return Verdict::Fine;
+            return Ok(());
         }
-        return Verdict::Bad(Refusal::Count, 0);
+        return Err(Refused(Refusal::Count, 0));
     }
     if lent / words != n {
-        return Verdict::Bad(Refusal::Count, 0);
+        return Err(Refused(Refusal::Count, 0));
     }
     if lent % words != 0 {
-        return Verdict::Bad(Refusal::Count, 0);
+        return Err(Refused(Refusal::Count, 0));
     }
-    Verdict::Fine
+    Ok(())
 }
 
 // Refusal 7: an answer list of `answer` where `most` are needed, or `work` words of work space under W. W is not computed where it might not fit.
@@ -149,13 +139,13 @@ pub fn space(answer: usize, most: usize, work: usize, n: usize, e: usize, rows: 
     ensures { result ≡ room_verdict answer most work (space_of n e rows) }
 {
     if answer < most {
-        return Verdict::Bad(Refusal::Space, 0);
+        return Err(Refused(Refusal::Space, 0));
     }
     if work / 8 < rows {
-        return Verdict::Bad(Refusal::Space, 0);
+        return Err(Refused(Refusal::Space, 0));
     }
     if work / 8 < n + e + rows {
-        return Verdict::Bad(Refusal::Space, 0);
+        return Err(Refused(Refusal::Space, 0));
     }
-    Verdict::Fine
+    Ok(())
 }

@@ -5,7 +5,6 @@ use mathlib.Core.Path.{◌≡◌, refl, sym, ap, ◌∙◌}
 use mathlib.Core.Bool.{Bool}
 use mathlib.Core.List.{List, ◌++◌}
 use lib.ListN.{length, set, drop, length-set}
-use Rattle.refusals.specs.declared.Verdict.TheVariants.{Fine, Bad}
 use Rattle.refusals.specs.declared.Refusal.{Refusal}
 use Rattle.words.specs.Regions.{cleared, row_words}
 use Rattle.words.specs.Widths.{inst_count, operand_count, local_count, address_count}
@@ -24,11 +23,12 @@ use Rattle.follow.specs.declared.Followed.{Followed}
 use Rattle.follow.specs.Inner.{FollowsAny, Ready}
 use Rattle.follow.proofs.KeptLaws.{prepared_kept, ready_kept}
 use Rattle.carry_checks.proofs.LayoutLaws.{cleared_all}
-use Rattle.refusals.specs.declared.Answer.TheVariants.{Given, Refused}
 use Rattle.carry_checks.specs.Checks.{carry_space, carry_verdict}
 use Rattle.local_kinds.specs.Entry.{kind_number, kinds_of, ReachTo}
 use Rattle.local_kinds.specs.Inner.{Kinds, Measured}
 use Rattle.carry_checks.specs.Inner.{used_of, Checked}
+use Rattle.refusals.specs.Verdicts.{Bad, Fine}
+use Rattle.std.specs.Prelude.{Ok, Err}
 
 -- ---- the kinds of the first l locals
 
@@ -100,14 +100,14 @@ module _ (v : ℕ) (insts operands crossings locals addresses ends : List ℕ) (
 
 module _ (points v : ℕ) (blocks insts operands crossings locals addresses ends answer₀ work₀ : List ℕ) where
   pub reach_refused : (r : Refusal) (i : ℕ) → carry_verdict points v blocks insts operands crossings locals addresses ends (length answer₀) (local_count locals) (length work₀) ≡ Bad r i
-      → ReachTo points v blocks insts operands crossings locals addresses ends answer₀ work₀ (Refused r i) answer₀ work₀
+      → ReachTo points v blocks insts operands crossings locals addresses ends answer₀ work₀ (Err (r, i)) answer₀ work₀
   reach_refused r i e = record { outcome = rw e; list = rw e; space = rw e }
 
   pub reach_given : {answer work₁ work : List ℕ} → carry_verdict points v blocks insts operands crossings locals addresses ends (length answer₀) (local_count locals) (length work₀) ≡ Fine
       → local_count locals ≤ length answer₀
       → Measured (code_of v insts operands crossings addresses ends) (local_count locals) (used_of (row_words v) (inst_count insts) (operand_count operands) (local_count locals) (address_count addresses)) answer₀ answer work₀ work₁
       → (words : ℕ) → words ≡ carry_space v blocks insts operands crossings locals addresses ends → work ≡ cleared words work₁
-      → ReachTo points v blocks insts operands crossings locals addresses ends answer₀ work₀ (Given (local_count locals)) answer work
+      → ReachTo points v blocks insts operands crossings locals addresses ends answer₀ work₀ (Ok (local_count locals)) answer work
   reach_given {answer} {work₁} {work} e h m words ew c = record {
     outcome = rw e;
     list = rw e (region_front m.kinds h ∙ ap (λ (x : ℕ). kinds_of (code_of v insts operands crossings addresses ends) (local_count locals) ++ drop x answer₀) (sym (length_tabulate (local_count locals) _)));

@@ -1,13 +1,12 @@
 -- What the entry `reach` answers.
 use Rattle.std.specs.Prelude.{ℕ, ◌≡◌, List, length, replicate}
-use Rattle.refusals.specs.declared.Verdict.{Verdict}
 use Rattle.refusals.specs.Outcomes.{unless, after, answered}
 use Rattle.words.specs.Rows.{tabulate}
 use Rattle.words.specs.Widths.{local_count}
 use Rattle.carrying.specs.Carried.{Code, kind_of}
 use Rattle.reach.specs.Prepared.{code_of}
-use Rattle.refusals.specs.declared.Answer.{Answer}
 use Rattle.carry_checks.specs.Checks.{carry_checks, carry_verdict, carry_space}
+use Rattle.refusals.specs.Verdicts.{Verdict, Answer}
 pub use Rattle.kind_numbers.specs.Numbers.{kind_number}
 
 -- the kinds of the first n locals

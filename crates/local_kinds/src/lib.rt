@@ -13,7 +13,7 @@ ghost use Rattle.words.specs.Regions.{row_words};
 use carry_checks::{checks, layout};
 use follow::Sizes;
 use reach::Lay;
-use refusals::{Answer, Refusal, Verdict};
+use refusals::Answer;
 use words::widths::{inst, local, mention, operand};
 
 // The kind of each local.
@@ -21,12 +21,10 @@ fn kinds(insts: &[u32], addresses: &[u32], answer: &mut [u32], work: &mut [u64],
     requires { Ready lay z insts.now addresses.now work.old × (z.locals ≤ length answer.old) }
     ensures { Kinds insts.now addresses.now lay z answer.old answer.new work.old work.new }
 {
-    let mut l = 0;
-    while l < z.locals {
+    for l in 0..z.locals {
         let f = follow::walks::follow(insts, addresses, work, lay, z, l, false);
         let k = f.kind;
         answer[l] = kind_numbers::number(k);
-        l += 1;
     }
 }
 
@@ -92,7 +90,7 @@ pub fn reach(
     ensures { ReachTo points v blocks.now insts.now operands.now crossings.now locals.now addresses.now
         ends.now answer.old work.old result answer.new work.new }
 {
-    let verdict = checks::refusal(
+    checks::refusal(
         points,
         v,
         blocks,
@@ -105,10 +103,7 @@ pub fn reach(
         answer.len(),
         locals.len() / local::WIDTH,
         work.len(),
-    );
-    if let Verdict::Bad(r, i) = verdict {
-        return Answer::Refused(r, i);
-    }
+    )?;
     measure(
         v, insts, operands, crossings, locals, addresses, ends, answer, work,
     );
@@ -116,5 +111,5 @@ pub fn reach(
         v, blocks, insts, operands, crossings, locals, addresses, ends,
     );
     words::clear(work, w);
-    Answer::Given(locals.len() / local::WIDTH)
+    Ok(locals.len() / local::WIDTH)
 }

@@ -101,10 +101,8 @@ pub fn mark_all(
         work.old work.new }
 {
     area_flow::clear_marks(work, g, blocks.len() / block::WIDTH);
-    let mut l = 0;
-    while l < p.locals {
+    for l in 0..p.locals {
         let kind = kinds[l];
         mark_one(blocks, touches, ends, work, p, g, l, kind);
-        l += 1;
     }
 }

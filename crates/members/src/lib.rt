@@ -13,13 +13,9 @@ pub fn members(items: &[u32], cell: u32) -> usize
 {
     let n = items.len() / item::WIDTH;
     let mut m = 0;
-    let mut i = 0;
-    while i < n {
+    for i in 0..n {
         if items[item::WIDTH * i] == cell {
             m += 1;
-            i += 1;
-        } else {
-            i += 1;
         }
     }
     m
@@ -32,11 +28,9 @@ fn count(items: &[u32], counts: &mut [u32])
     ensures { Counted items.now counts.new (item_row_count items.now) }
 {
     let n = items.len() / item::WIDTH;
-    let mut i = 0;
-    while i < n {
+    for i in 0..n {
         let c = items[item::WIDTH * i] as usize;
         counts[c] = counts[c] + 1;
-        i += 1;
     }
 }
 
@@ -48,15 +42,11 @@ fn pick(items: &[u32], locals: usize, counts: &[u32], out: &mut [u32]) -> usize
 {
     let n = items.len() / item::WIDTH - locals;
     let mut k = 0;
-    let mut s = 0;
-    while s < n {
+    for s in 0..n {
         let c = items[item::WIDTH * (locals + s)] as usize;
         if 1 < counts[c] {
             out[k] = s as u32;
             k += 1;
-            s += 1;
-        } else {
-            s += 1;
         }
     }
     k

@@ -2,7 +2,6 @@
 #![tactic(auto)]
 
 ghost use Rattle.std.specs.Prelude.{[], ◌∷◌, ◌≡◌, ◌+◌, ◌*◌, ◌≤◌, ◌<◌, length};
-ghost use Rattle.refusals.specs.declared.Verdict.TheVariants.{Fine};
 ghost use Rattle.graph.specs.Line.{blocks_of, Sound};
 ghost use Rattle.graph.specs.Inner.Work.{Table};
 ghost use Rattle.carrying.specs.Insts.{insts_of};
@@ -10,8 +9,8 @@ ghost use Rattle.areas.specs.Slots.{moves_of, move_verdict, around, covering};
 ghost use Rattle.move_points.specs.Inner.{move_row};
 ghost use Rattle.move_covers.specs.Inner.{Wrote};
 ghost use Rattle.words.specs.Widths.{block_count, move_count, range_width};
+ghost use Rattle.refusals.specs.Verdicts.{Fine};
 
-use move_points::Spot;
 use words::widths::{moving, range};
 
 // Appends what a move at `p` covers to the first `k` ranges of the answer.
@@ -50,7 +49,7 @@ pub fn covers(
         moves[moving::WIDTH * i],
         moves[moving::WIDTH * i + moving::NUMBER],
     );
-    let Spot::At(p) = at else {
+    let Some(p) = at else {
         return k;
     };
     let to = moves[moving::WIDTH * i + moving::TO];

@@ -8,7 +8,6 @@ use mathlib.Core.List.{List, [], ◌∷◌, ◌++◌}
 use lib.ListN.{length}
 use lib.Dec.{eqb}
 use borrow.Author.Tests.{eq-eqb, ne_eqb, leb-false}
-use Rattle.refusals.specs.declared.Verdict.TheVariants.{Fine}
 use Rattle.refusals.specs.declared.Refusal.TheVariants.{Stray as StrayWord}
 use Rattle.refusals.proofs.Laws.{scan_fine}
 use Rattle.words.specs.Widths.{block_count, block_start, block_end, inst_count, move_count}
@@ -24,13 +23,14 @@ use Rattle.carrying.specs.Insts.{Inst, insts_of, inst_at, is_set}
 use Rattle.carrying.specs.Checks.{absent}
 use Rattle.insts.proofs.DealtLaws.{insts_length, early_is, late_is}
 use Rattle.areas.specs.Slots.{Move, moves_of, around, position, covering, bad_move, move_at, move_verdict}
-use Rattle.move_points.specs.declared.Spot.TheVariants.{At, Nowhere}
 use Rattle.move_points.specs.Inner.{position_at}
 use Rattle.spill_checks.specs.declared.Position.{Position}
 use Rattle.spill_checks.specs.declared.Position.TheVariants.{Early, Late, Start, End, Stray}
 use Rattle.spill_checks.specs.Inner.{position_of}
 use Rattle.spill_checks.proofs.CheckLaws.{kind_0, kind_1, kind_2, kind_3, move_at_lem, moves_length}
 use Rattle.spill_checks.proofs.PositionLaws.{told, stray_told}
+use Rattle.refusals.specs.Verdicts.{Fine}
+use Rattle.std.specs.Prelude.{Some, None}
 
 -- ---- where a move stands
 
@@ -42,7 +42,7 @@ row_there blocks s b p h e =
     (q, (let l = place_lt s b.0 h in let n = blocks_length blocks in omega arith))
 
 -- a move that was accepted stands where `position` says
-pub spot_is : (bs : List Stretch) (is : List Inst) (k n : ℕ) → bad_move bs is k n ≡ false → position_at bs is k n ≡ At (position bs is k n)
+pub spot_is : (bs : List Stretch) (is : List Inst) (k n : ℕ) → bad_move bs is k n ≡ false → position_at bs is k n ≡ Some (position bs is k n)
 spot_is bs is k n e = rw e
 
 module _ (blocks insts : List ℕ) (k n : ℕ) where
@@ -57,17 +57,17 @@ module _ (blocks insts : List ℕ) (k n : ℕ) where
       omega arith
 
   -- the instruction or block of a position is there, and its field is the point
-  pub at_early : (i : ℕ) → Here ≡ Early i → (i < inst_count insts) × (At (inst_early insts i) ≡ position_at (blocks_of blocks) (insts_of insts []) k n)
+  pub at_early : (i : ℕ) → Here ≡ Early i → (i < inst_count insts) × (Some (inst_early insts i) ≡ position_at (blocks_of blocks) (insts_of insts []) k n)
   at_early i e =
       let t = told (blocks_of blocks) (insts_of insts []) k n (Early i) e (λ q. let z : ◌≡◌ {A = ℕ} 0 1 = cc in omega arith) in
       let h = there (sym (kind_0 (blocks_of blocks) (insts_of insts []) n k t.1) ∙ t.0) in
-      (rw t.2 at h, ap (λ (x : ℕ). At (inst_early insts x)) (sym t.2) ∙ ap At (sym (early_is insts [] n h)) ∙ ap (λ (x : ℕ). At (position (blocks_of blocks) (insts_of insts []) x n)) (sym t.1) ∙ sym (spot_is _ _ k n t.0))
+      (rw t.2 at h, ap (λ (x : ℕ). Some (inst_early insts x)) (sym t.2) ∙ ap Some (sym (early_is insts [] n h)) ∙ ap (λ (x : ℕ). Some (position (blocks_of blocks) (insts_of insts []) x n)) (sym t.1) ∙ sym (spot_is _ _ k n t.0))
 
-  pub at_late : (i : ℕ) → Here ≡ Late i → (i < inst_count insts) × (At (inst_late insts i) ≡ position_at (blocks_of blocks) (insts_of insts []) k n)
+  pub at_late : (i : ℕ) → Here ≡ Late i → (i < inst_count insts) × (Some (inst_late insts i) ≡ position_at (blocks_of blocks) (insts_of insts []) k n)
   at_late i e =
       let t = told (blocks_of blocks) (insts_of insts []) k n (Late i) e (λ q. let z : ◌≡◌ {A = ℕ} 0 1 = cc in omega arith) in
       let h = there (sym (kind_1 (blocks_of blocks) (insts_of insts []) n k t.1) ∙ t.0) in
-      (rw t.2 at h, ap (λ (x : ℕ). At (inst_late insts x)) (sym t.2) ∙ ap At (sym (late_is insts [] n h)) ∙ ap (λ (x : ℕ). At (position (blocks_of blocks) (insts_of insts []) x n)) (sym t.1) ∙ sym (spot_is _ _ k n t.0))
+      (rw t.2 at h, ap (λ (x : ℕ). Some (inst_late insts x)) (sym t.2) ∙ ap Some (sym (late_is insts [] n h)) ∙ ap (λ (x : ℕ). Some (position (blocks_of blocks) (insts_of insts []) x n)) (sym t.1) ∙ sym (spot_is _ _ k n t.0))
 
   pub start_there : (b : Block) → Here ≡ Start b → b.0 < length (blocks_of blocks)
   start_there b e =
@@ -81,19 +81,19 @@ module _ (blocks insts : List ℕ) (k n : ℕ) where
       let h = leb-false (length (blocks_of blocks)) n (sym (kind_3 (blocks_of blocks) (insts_of insts []) n k t.1) ∙ t.0) in
       rw t.2 at h
 
-  pub at_start : (b : Block) (p : ℕ) → Here ≡ Start b → p ≡ place_in (blocks_of blocks) b.0 → p < block_count blocks → At (block_start blocks p) ≡ position_at (blocks_of blocks) (insts_of insts []) k n
+  pub at_start : (b : Block) (p : ℕ) → Here ≡ Start b → p ≡ place_in (blocks_of blocks) b.0 → p < block_count blocks → Some (block_start blocks p) ≡ position_at (blocks_of blocks) (insts_of insts []) k n
   at_start b p e q h =
       let t = told (blocks_of blocks) (insts_of insts []) k n (Start b) e (λ q. let z : ◌≡◌ {A = ℕ} 0 1 = cc in omega arith) in
-      ap At (sym (start_is blocks p h) ∙ ap (λ (x : ℕ). (block_at (blocks_of blocks) x).start) (q ∙ ap (place_in (blocks_of blocks)) (sym t.2)))
-      ∙ ap (λ (x : ℕ). At (position (blocks_of blocks) (insts_of insts []) x n)) (sym t.1) ∙ sym (spot_is _ _ k n t.0)
+      ap Some (sym (start_is blocks p h) ∙ ap (λ (x : ℕ). (block_at (blocks_of blocks) x).start) (q ∙ ap (place_in (blocks_of blocks)) (sym t.2)))
+      ∙ ap (λ (x : ℕ). Some (position (blocks_of blocks) (insts_of insts []) x n)) (sym t.1) ∙ sym (spot_is _ _ k n t.0)
 
-  pub at_end : (b : Block) (p : ℕ) → Here ≡ End b → p ≡ place_in (blocks_of blocks) b.0 → p < block_count blocks → At (block_end blocks p) ≡ position_at (blocks_of blocks) (insts_of insts []) k n
+  pub at_end : (b : Block) (p : ℕ) → Here ≡ End b → p ≡ place_in (blocks_of blocks) b.0 → p < block_count blocks → Some (block_end blocks p) ≡ position_at (blocks_of blocks) (insts_of insts []) k n
   at_end b p e q h =
       let t = told (blocks_of blocks) (insts_of insts []) k n (End b) e (λ q. let z : ◌≡◌ {A = ℕ} 0 1 = cc in omega arith) in
-      ap At (sym (end_is blocks p h) ∙ ap (λ (x : ℕ). (block_at (blocks_of blocks) x).end) (q ∙ ap (place_in (blocks_of blocks)) (sym t.2)))
-      ∙ ap (λ (x : ℕ). At (position (blocks_of blocks) (insts_of insts []) x n)) (sym t.1) ∙ sym (spot_is _ _ k n t.0)
+      ap Some (sym (end_is blocks p h) ∙ ap (λ (x : ℕ). (block_at (blocks_of blocks) x).end) (q ∙ ap (place_in (blocks_of blocks)) (sym t.2)))
+      ∙ ap (λ (x : ℕ). Some (position (blocks_of blocks) (insts_of insts []) x n)) (sym t.1) ∙ sym (spot_is _ _ k n t.0)
 
-  pub at_none : Here ≡ Stray → Nowhere ≡ position_at (blocks_of blocks) (insts_of insts []) k n
+  pub at_none : Here ≡ Stray → None ≡ position_at (blocks_of blocks) (insts_of insts []) k n
   at_none e = rw (stray_told (blocks_of blocks) (insts_of insts []) k n e)
 
 pub move_fine : (bs : List Stretch) (is : List Inst) (s : List ℕ) (i : ℕ) → move_verdict bs is (moves_of s) ≡ Fine → i < move_count s
@@ -133,11 +133,11 @@ module _ (points : ℕ) (bs : List Stretch) (is : List Inst) (slot : ℕ) (m : M
       go false false = omega arith
 
   -- the point that was found
-  pub point_is : (p : ℕ) → bad_move bs is m.kind m.number ≡ false → At p ≡ position_at bs is m.kind m.number → around points p ≡ A
+  pub point_is : (p : ℕ) → bad_move bs is m.kind m.number ≡ false → Some p ≡ position_at bs is m.kind m.number → around points p ≡ A
   point_is p e q = ap (around points) (same_point p (position bs is m.kind m.number) (q ∙ spot_is bs is m.kind m.number e))
     where
-      same_point : (a b : ℕ) → At a ≡ At b → a ≡ b
+      same_point : (a b : ℕ) → Some a ≡ Some b → a ≡ b
       same_point a b z = cc
 
-  pub not_nowhere : bad_move bs is m.kind m.number ≡ false → Nowhere ≡ position_at bs is m.kind m.number → ⊥
+  pub not_nowhere : bad_move bs is m.kind m.number ≡ false → None ≡ position_at bs is m.kind m.number → ⊥
   not_nowhere e q = let r = q ∙ spot_is bs is m.kind m.number e in let z : ◌≡◌ {A = ℕ} 0 1 = cc in omega arith

@@ -11,13 +11,6 @@ ghost use Rattle.words.specs.Widths.{block_count};
 use spill_checks::Position;
 use words::widths::{block, inst};
 
-// The point of a move, or that it stands nowhere.
-#[derive(Clone, Copy)]
-pub enum Spot {
-    At(u32),
-    Nowhere,
-}
-
 // The point of a move by its kind. The table of places stands from `table` on.
 pub fn position(
     blocks: &[u32],
@@ -26,20 +19,20 @@ pub fn position(
     table: usize,
     kind: u32,
     number: u32,
-) -> Spot
+) -> Option<u32>
     requires { Sound (blocks_of blocks.now) × Table (blocks_of blocks.now) table work.now × (table + block_count blocks.now ≤ length work.now) }
     ensures { result ≡ position_at (blocks_of blocks.now) (insts_of insts.now []) kind number }
 {
     match spill_checks::locate(blocks, insts, kind, number) {
-        Position::Early(i) => Spot::At(insts[inst::WIDTH * i as usize + inst::EARLY]),
-        Position::Late(i) => Spot::At(insts[inst::WIDTH * i as usize + inst::LATE]),
-        Position::Start(b) => Spot::At(
+        Position::Early(i) => Some(insts[inst::WIDTH * i as usize + inst::EARLY]),
+        Position::Late(i) => Some(insts[inst::WIDTH * i as usize + inst::LATE]),
+        Position::Start(b) => Some(
             blocks[block::WIDTH * edge_rows::place_of(work, table, b).0 + block::START],
         ),
-        Position::End(b) => Spot::At(
+        Position::End(b) => Some(
             blocks[block::WIDTH * edge_rows::place_of(work, table, b).0 + block::END],
         ),
-        Position::Stray => Spot::Nowhere,
+        Position::Stray => None,
     }
 }
 

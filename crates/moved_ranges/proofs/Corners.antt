@@ -1,9 +1,8 @@
 -- The corners of the definitions, by computation: W of `moved`, number 7 at it and one under, and number 1 of its answer list.
 use mathlib.Core.Path.{◌≡◌, refl}
 use mathlib.Core.List.{[], ◌∷◌}
-use Rattle.refusals.specs.declared.Verdict.TheVariants.{Fine, Bad}
 use Rattle.refusals.specs.declared.Refusal.TheVariants.{Count, Space}
-use Rattle.refusals.specs.Verdicts.{first}
+use Rattle.refusals.specs.Verdicts.{first, Bad, Fine}
 use Rattle.graph.specs.Work.{sum_of}
 use Rattle.insts.specs.Counts.{inst_counts}
 use Rattle.moved_ranges.specs.Moved.{moved_counts, moved_words, moved_space, moved_room}

@@ -7,11 +7,9 @@ use mathlib.Core.List.{List, [], ◌∷◌, ◌++◌}
 use lib.ListN.{length, drop, replicate, length-replicate}
 use lib.Dec.{eqb}
 use borrow.Author.Tests.{eq-eqb, ne_eqb}
-use Rattle.refusals.specs.declared.Verdict.{Verdict}
-use Rattle.refusals.specs.declared.Verdict.TheVariants.{Fine, Bad}
 use Rattle.refusals.specs.declared.Refusal.{Refusal}
 use Rattle.refusals.specs.declared.Refusal.TheVariants.{Count}
-use Rattle.refusals.specs.Verdicts.{first, in_order, check}
+use Rattle.refusals.specs.Verdicts.{first, in_order, check, Bad, Fine, Verdict}
 use Rattle.refusals.specs.Outcomes.{given}
 use Rattle.refusals.proofs.Laws.{first_fine, first_bad, first_left, first_right, first_assoc, bad_fine, check_last}
 use Rattle.words.specs.Regions.{cleared}
@@ -29,10 +27,10 @@ use Rattle.insts.specs.Rows.{AddsUp}
 use Rattle.insts.proofs.CheckLaws.{most_few, rows_few, blocks_few, blocks_some, insts_counted}
 use Rattle.refusals.proofs.RoomLaws.{room_answer, room_work}
 use Rattle.areas.specs.Slots.{moves_of, moved, move_verdict}
-use Rattle.refusals.specs.declared.Answer.TheVariants.{Given, Refused}
 use Rattle.moved_ranges.specs.Moved.{rows_of, Wrote, moved_counts, moved_space, moved_room, moved_verdict, moved_of, MovedTo}
 use Rattle.move_covers.proofs.MovedLaws.{rows_length}
 use Rattle.spill_checks.proofs.OperandLaws.{moves_whatever, moved_whatever}
+use Rattle.std.specs.Prelude.{Ok, Err}
 
 -- ---- the checks
 
@@ -141,12 +139,12 @@ rows_none o = refl
 
 module _ (points v : ℕ) (blocks insts operands moves : List ℕ) (slot : ℕ) (out₀ work₀ : List ℕ) where
   pub moved_refused : (r : Refusal) (i : ℕ) → moved_verdict points v blocks insts operands moves (length out₀) (length work₀) ≡ Bad r i
-      → MovedTo points v blocks insts operands moves slot out₀ work₀ (Refused r i) out₀ work₀
+      → MovedTo points v blocks insts operands moves slot out₀ work₀ (Err (r, i)) out₀ work₀
   moved_refused r i e = record { outcome = rw e; list = rw e; space = rw e }
 
   pub moved_given : {out work₁ work : List ℕ} {n : ℕ} → moved_verdict points v blocks insts operands moves (length out₀) (length work₀) ≡ Fine
       → Within 0 (0 + length (blocks_of blocks)) work₀ work₁ → Wrote out₀ out 0 n (moved points (blocks_of blocks) (insts_of insts []) (moves_of moves) slot)
-      → (words : ℕ) → words ≡ moved_space v blocks insts operands moves → work ≡ cleared words work₁ → MovedTo points v blocks insts operands moves slot out₀ work₀ (Given n) out work
+      → (words : ℕ) → words ≡ moved_space v blocks insts operands moves → work ≡ cleared words work₁ → MovedTo points v blocks insts operands moves slot out₀ work₀ (Ok n) out work
   moved_given {out} {work₁} {work} {n} e k w words d c =
       let same : moved points (blocks_of blocks) (insts_of insts []) (moves_of moves) slot ≡ moved_of points blocks insts operands moves slot
       = moved_whatever (blocks_of blocks) insts operands points slot (moves_of moves) in

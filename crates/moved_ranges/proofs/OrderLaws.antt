@@ -5,9 +5,8 @@ use mathlib.Core.Bool.{not, ◌||◌}
 use mathlib.Core.List.{List, [], ◌∷◌}
 use lib.ListN.{length}
 use lib.Dec.{ltb, eqb}
-use Rattle.refusals.specs.declared.Verdict.{Verdict}
 use Rattle.refusals.specs.declared.Refusal.TheVariants.{Count, Line, Inst, Stray, Space}
-use Rattle.refusals.specs.Verdicts.{number_of, first, check}
+use Rattle.refusals.specs.Verdicts.{number_of, first, check, Verdict}
 use Rattle.refusals.specs.Orders.{Gives, Ordered}
 use Rattle.refusals.proofs.Orders.{check_gives, first_gives, scan_gives}
 use Rattle.words.specs.Widths.{block_width, block_count, inst_width, inst_count, operand_width, operand_count, move_width, move_count}

@@ -1,8 +1,7 @@
 -- The entry `moved`: what it refuses (numbers 1, 2, 4, 5 and 7) and what it answers.
 use Rattle.std.specs.Prelude.{ℕ, ◌+◌, ◌*◌, ◌%◌, ◌≡◌, not, ◌||◌, List, [], ◌∷◌, length, replicate, ltb, eqb}
-use Rattle.refusals.specs.declared.Verdict.{Verdict}
 use Rattle.refusals.specs.declared.Refusal.TheVariants.{Count, Space}
-use Rattle.refusals.specs.Verdicts.{first, in_order, check}
+use Rattle.refusals.specs.Verdicts.{first, in_order, check, Verdict, Answer}
 use Rattle.refusals.specs.Outcomes.{unless, after, answered}
 use Rattle.words.specs.Widths.{block_count, inst_count, operand_count, move_width, move_count}
 use Rattle.words.specs.Regions.{row_words}
@@ -14,7 +13,6 @@ use Rattle.insts.specs.Counts.{rows_verdict, most_verdict, block_counts, inst_co
 use Rattle.areas.specs.Slots.{moves_of, moved, move_verdict}
 unfoldable pub use Rattle.move_covers.specs.Wrote.{rows_of}
 pub use Rattle.move_covers.specs.Inner.{Wrote}
-use Rattle.refusals.specs.declared.Answer.{Answer}
 
 -- number 1: "B 1 to 4,096; instructions 65,536; operands 262,144; V 65,535; moves 65,536", and an answer list that is no whole rows
 unfoldable pub moved_counts : ℕ → List ℕ → List ℕ → List ℕ → List ℕ → ℕ → Verdict

@@ -3,8 +3,7 @@
 
 ghost use Rattle.std.specs.Prelude.{◌≡◌, not, [], ◌+◌, ◌-◌, ◌*◌, ◌/◌, ◌%◌, ◌≤◌, ◌<◌, length, eqb};
 ghost use Rattle.refusals.specs.declared.Refusal.TheVariants.{Count};
-ghost use Rattle.refusals.specs.Verdicts.{check};
-ghost use Rattle.refusals.specs.declared.Verdict.TheVariants.{Fine};
+ghost use Rattle.refusals.specs.Verdicts.{check, Fine};
 ghost use Rattle.graph.specs.Line.{blocks_of, Sound};
 ghost use Rattle.graph.specs.Inner.Work.{Table};
 ghost use Rattle.carrying.specs.Insts.{insts_of};
@@ -12,7 +11,7 @@ ghost use Rattle.areas.specs.Slots.{moves_of, move_verdict, moved};
 ghost use Rattle.moved_ranges.specs.Moved.{Wrote, moved_counts, moved_words, moved_space, moved_verdict, MovedTo};
 ghost use Rattle.words.specs.Widths.{block_count, inst_count, operand_count, move_count};
 
-use refusals::{Answer, Refusal, Verdict};
+use refusals::{Answer, Refusal, Refused, Verdict};
 use words::widths::{block, inst, moving, operand};
 
 // What all moves cover of the slot.
@@ -31,10 +30,8 @@ fn all(
 {
     let m = moves.len() / moving::WIDTH;
     let mut k = 0;
-    let mut i = 0;
-    while i < m {
+    for i in 0..m {
         k = move_covers::covers(points, blocks, insts, moves, slot, work, out, k, i);
-        i += 1;
     }
     k
 }
@@ -44,9 +41,9 @@ fn whole(lent: usize) -> Verdict
     ensures { result ≡ check Count (not (eqb (lent % 2) 0)) }
 {
     if lent % 2 != 0 {
-        return Verdict::Bad(Refusal::Count, 0);
+        return Err(Refused(Refusal::Count, 0));
     }
-    Verdict::Fine
+    Ok(())
 }
 
 // Refusal 1 of `moved`.
@@ -105,14 +102,8 @@ fn refusal(
 ) -> Verdict
     ensures { result ≡ moved_verdict points v blocks.now insts.now operands.now moves.now lent work }
 {
-    let number = counts(v, blocks, insts, operands, moves, lent);
-    if let Verdict::Bad(r, i) = number {
-        return Verdict::Bad(r, i);
-    }
-    let place = insts::checks::located(points, v, blocks, insts, operands);
-    if let Verdict::Bad(r, i) = place {
-        return Verdict::Bad(r, i);
-    }
+    counts(v, blocks, insts, operands, moves, lent)?;
+    insts::checks::located(points, v, blocks, insts, operands)?;
     let stray = spill_checks::moves(blocks, insts, moves);
     let w = needed(v, blocks, insts, operands, moves);
     let short = refusals::room(lent, 4 * (moves.len() / moving::WIDTH), work, w);
@@ -136,7 +127,7 @@ pub fn moved(
     ensures { MovedTo points v blocks.now insts.now operands.now moves.now slot out.old work.old result
         out.new work.new }
 {
-    let verdict = refusal(
+    refusal(
         points,
         v,
         blocks,
@@ -145,13 +136,10 @@ pub fn moved(
         moves,
         out.len(),
         work.len(),
-    );
-    if let Verdict::Bad(r, i) = verdict {
-        return Answer::Refused(r, i);
-    }
+    )?;
     edge_rows::table(blocks, work, 0);
     let n = all(points, blocks, insts, moves, slot, work, out);
     let w = needed(v, blocks, insts, operands, moves);
     words::clear(work, w);
-    Answer::Given(n)
+    Ok(n)
 }

@@ -1,5 +1,8 @@
 -- Laws of operands: the registers that they define, and uses by position.
-use Prim.Native.Nat.{ℕ, zero, suc, ◌+◌, ◌≤◌, ◌<◌}
+use Prim.Native.Nat.{ℕ, zero, suc, ◌+◌, ◌*◌, ◌≤◌, ◌<◌}
+use native.Mathlib.Nat.{add-zero}
+use Rattle.words.specs.Widths.{operand_width}
+use Rattle.words.specs.Inner.{operand_def}
 use native.Mathlib.Numerals.{add-one}
 use native.Mathlib.Omega.{arith}
 use native.Mathlib.Decide.{le_ind}
@@ -8,7 +11,7 @@ use mathlib.Core.Logic.{◌≢◌}
 use mathlib.Core.Bool.{Bool, true, false, cond, not, ◌&&◌, ◌||◌}
 use mathlib.Core.Option.{Option, some, none}
 use mathlib.Core.List.{List, [], ◌∷◌, ◌++◌, map, append_assoc, append-nil}
-use lib.ListN.{length, drop, drop_of_length-le}
+use lib.ListN.{get_or, length, drop, drop_of_length-le}
 use lib.Seq.{drop-cons}
 use lib.Dec.{eqb, ltb}
 use borrow.Author.Tests.{eq-eqb, ne_eqb, lt-ltb, le-ltb}
@@ -17,6 +20,10 @@ use Rattle.words.proofs.RowLaws.{tabulate_suc, length_tabulate, get_d_tabulate}
 use Rattle.carrying.specs.Lists.{keep}
 use Rattle.carrying.specs.Insts.{Operand, Inst, is_set, only_one, is_use, address_position, each_address}
 use Rattle.operands.specs.Inner.{def_number, addressing}
+
+-- An operand's def is its first word.
+pub def_word : (os : List ℕ) (i : ℕ) → operand_def os i ≡ get_or os (operand_width * i) 0
+def_word os i = ap (λ (k : ℕ). get_or os k 0) (add-zero (operand_width * i))
 
 -- ---- the registers that operands define
 

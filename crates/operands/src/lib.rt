@@ -17,8 +17,7 @@ pub fn def(operands: &[u32], from: usize, n: usize, v: u32) -> u32
 {
     let mut count: usize = 0;
     let mut register: u32 = 0;
-    let mut p = 0;
-    while p < n {
+    for p in 0..n {
         let i = from + p;
         if operands[operand::WIDTH * i] == 1 {
             if count == 1 {
@@ -26,9 +25,6 @@ pub fn def(operands: &[u32], from: usize, n: usize, v: u32) -> u32
             }
             count = 1;
             register = operands[operand::WIDTH * i + operand::REGISTER];
-            p += 1;
-        } else {
-            p += 1;
         }
     }
     if count == 0 {
@@ -72,12 +68,10 @@ pub fn addressed(operands: &[u32], from: usize, n: usize, r: u32, base: u32, ind
     requires { from + n ≤ operand_count operands.now }
     ensures { result ≡ each_address (addressing base index) r 0 (operands_from operands.now from n) }
 {
-    let mut p = 0;
-    while p < n {
+    for p in 0..n {
         if stray(operands, from + p, p, r, base, index) {
             return false;
         }
-        p += 1;
     }
     true
 }

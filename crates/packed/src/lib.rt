@@ -54,12 +54,10 @@ pub fn merge(w: &mut [u64], at: usize, n: usize) -> usize
     ensures { MergedIn w.old w.new at n result }
 {
     sorting::sort_part(w, at, n);
-    let mut i = 0;
     let mut k = 0;
-    while i < n {
+    for i in 0..n {
         let x = w[at + i];
         k = take_up(w, at, k, x);
-        i += 1;
     }
     k
 }

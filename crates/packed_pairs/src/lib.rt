@@ -1,15 +1,17 @@
 // The range functions over two lists of words that hold a range each.
 #![tactic(auto)]
 
-ghost use Rattle.std.specs.Prelude.{◌≡◌, ◌+◌, ◌-◌, ◌%◌, ◌^◌, ◌<◌, ◌≤◌, length, get_or, ltb};
-ghost use Rattle.words.specs.Inner.{Rising, Splits, part};
+ghost use Rattle.std.specs.Prelude.{◌≡◌, ◌+◌, ◌≤◌, length};
+ghost use Rattle.words.specs.Inner.{part};
 ghost use Rattle.ranges.specs.Points.{Apart};
 ghost use Rattle.ranges.specs.Merged.{clashes};
-ghost use Rattle.ranges.specs.Inner.{unpacked, Galloped, one_first};
+ghost use Rattle.ranges.specs.Inner.{unpacked, one_first};
 ghost use Rattle.packed.specs.Inner.{Clear};
 ghost use Rattle.packed_pairs.specs.Inner.{UnitedIn};
 
+use clashing::Listed;
 use packed::{end_of, start_of, take_up};
+use ranges::Range;
 
 // Whether the first list's front is next of both lists together.
 fn one_first(w: &[u64], one: usize, n: usize, two: usize, m: usize, i: usize, j: usize) -> bool
@@ -49,42 +51,30 @@ pub fn unite(w: &mut [u64], one: usize, n: usize, two: usize, m: usize, to: usiz
     k
 }
 
-// How far to look for the first range that does not end before a point.
-fn gallop(w: &[u64], from: usize, n: usize, point: u32) -> usize
-    requires { from + n ≤ length w.now }
-    ensures { Galloped (λ i. get_or w.now (from + i) 0 % 2 ^ 32) n point result }
-{
-    let mut bound = 1;
-    while bound < n {
-        if end_of(w[from + bound]) >= point {
-            return bound;
-        }
-        bound *= 2;
-    }
-    bound
+// Words that hold a range each.
+#[derive(Drop)]
+struct Words<'a> {
+    words: &'a [u64],
 }
 
-// How many ranges from `from` on end before a point.
-fn ending_before(w: &[u64], from: usize, point: u32) -> usize
-    requires { (from ≤ length w.now) × Rising (λ i. get_or w.now (from + i) 0 % 2 ^ 32) (length w.now - from) }
-    ensures { Splits (λ i. ltb (get_or w.now (from + i) 0 % 2 ^ 32) point) (length w.now - from) result }
-{
-    let n = w.len() - from;
-    let bound = gallop(w, from, n, point);
-    let mut low = bound / 2;
-    let mut high = n;
-    if bound < n {
-        high = bound;
+impl<'a> Listed for Words<'a> {
+    ghost list = { λ w. unpacked w.words.now };
+
+    fn count(&self) -> usize {
+        self.words.len()
     }
-    while low < high {
-        let mid = low + (high - low) / 2;
-        if end_of(w[from + mid]) < point {
-            low = mid + 1;
-        } else {
-            high = mid;
+
+    fn at(&self, i: usize) -> Range {
+        let x = self.words[i];
+        Range {
+            start: start_of(x),
+            end: end_of(x),
         }
     }
-    low
+
+    fn ending_before(&self, from: usize, point: u32) -> usize {
+        words::gallop(&self.words[from..], |x| end_of(*x) < point)
+    }
 }
 
 // Whether some point is in both of two lists that are in order and apart.
@@ -92,26 +82,7 @@ pub fn clash(one: &[u64], two: &[u64]) -> bool
     requires { Apart (unpacked one.now) × Apart (unpacked two.now) }
     ensures { result ≡ clashes (unpacked one.now) (unpacked two.now) }
 {
-    let mut i = 0;
-    let mut j = 0;
-    while i < one.len() {
-        if j >= two.len() {
-            return false;
-        }
-        let x = one[i];
-        let y = two[j];
-        let s = start_of(x);
-        let e = end_of(x);
-        let t = start_of(y);
-        let f = end_of(y);
-        if ranges::overlaps(s, e, t, f) {
-            return true;
-        }
-        if e < f {
-            i += ending_before(one, i, t);
-        } else {
-            j += ending_before(two, j, s);
-        }
-    }
-    false
+    let one = Words { words: one };
+    let two = Words { words: two };
+    clashing::clash_of(&one, &two)
 }

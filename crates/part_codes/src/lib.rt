@@ -1,30 +1,21 @@
-// The answers of the parts in one number: rows over a graph, and ranges.
+// The answer of the clash test in one number, the direction of `flowed`, and W of the entries over a graph.
 #![tactic(auto)]
 
 ghost use Rattle.std.specs.Prelude.{◌≡◌};
-ghost use Rattle.range_entries.specs.Entries.{counted, clashing};
-ghost use Rattle.codes.specs.Codes.{count_code, truth_code};
+ghost use Rattle.codes.specs.Codes.{truth_code};
 ghost use Rattle.part_codes.specs.Codes.{over_of, graph_words};
+ghost use Rattle.refusals.specs.Outcomes.{answered};
 
 use codes::refused;
 use flow::Over;
-use range_entries::{Clash, Counted};
+use refusals::Refused;
 
-pub fn counted(c: Counted) -> u64
-    ensures { result ≡ count_code (counted c) }
+pub fn clash(c: Result<bool, Refused>) -> u64
+    ensures { result ≡ truth_code (answered c) }
 {
     match c {
-        Counted::Ranges(n) => n as u64,
-        Counted::Refused(r, i) => refused(r, i),
-    }
-}
-
-pub fn clash(c: Clash) -> u64
-    ensures { result ≡ truth_code (clashing c) }
-{
-    match c {
-        Clash::Is(b) => codes::truth(b),
-        Clash::Refused(r, i) => refused(r, i),
+        Ok(b) => codes::truth(b),
+        Err(Refused(r, i)) => refused(r, i),
     }
 }
 

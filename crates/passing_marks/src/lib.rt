@@ -49,14 +49,10 @@ pub fn mark_passing(blocks: &[u32], work: &mut [u64], s: Spots, c: Column)
         work.new }
 {
     let ends = s.ends;
-    let mut i = 0;
-    while i < s.stops {
+    for i in 0..s.stops {
         let k = stopped(blocks, work[ends + i]);
         if k < c.n {
             unmark(work, c, k);
-            i += 1;
-        } else {
-            i += 1;
         }
     }
 }

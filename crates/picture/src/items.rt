@@ -2,28 +2,35 @@
 ghost use Rattle.std.specs.Prelude.{◌*◌, ◌≤◌, ◌<◌, length};
 ghost use Rattle.words.specs.Widths.{item_width};
 
-use crate::svg::{fill, say};
 use drawing::{Axis, Bar, bar_of, digits, font, hue, row_of};
-use std::io;
-use std::io::Stdout;
+use std::io::{Print, Stdout};
+use std::{fmt, io};
 use words::widths::{item, range};
 
 // An item's name, as a job's text counts: a letter, and the place among the locals or the slots.
 #[derive(Clone, Copy)]
 struct Name {
-    letter: u8,
+    letter: char,
     index: u32,
+}
+
+impl fmt::Display for Name {
+    fn fmt<W: fmt::Write>(&self, f: &mut fmt::Formatter<W>) -> fmt::Result {
+        let letter = self.letter;
+        let index = self.index;
+        write!(f, "{letter}{index}")
+    }
 }
 
 fn name_of(item: u32, locals: u32) -> Name {
     if item < locals {
         return Name {
-            letter: b'L',
+            letter: 'L',
             index: item,
         };
     }
     Name {
-        letter: b'S',
+        letter: 'S',
         index: item - locals,
     }
 }
@@ -35,50 +42,29 @@ fn label(out: Stdout, b: Bar, y: u64, n: Name) -> io::Result<()>
     let x = b.x as u64 + b.width as u64 / 2;
     let along = font(b.width, 2 + digits(n.index), 120) as u64;
     if along < 70 {
-        let s = font(b.width / 9 * 5, 1, 110) as u64;
-        let ns = [x + 35 * s / 100, y, s, n.letter as u64, n.index as u64];
-        fill(
-            out,
-            b"<text class=\"mid\" transform=\"translate(@ @)rotate(-90)\" font-size=\"@\">^@</text>\n",
-            &ns,
-        )?;
+        let size = font(b.width / 9 * 5, 1, 110) as u64;
+        let right = x + 35 * size / 100;
+        print!(out;
+            "<text class=\"mid\" transform=\"translate({right} {y})rotate(-90)\" font-size=\"{size}\">{n}</text>\n"
+        )
     } else {
-        let ns = [
-            x,
-            y + 35 * along / 100,
-            along,
-            n.letter as u64,
-            n.index as u64,
-        ];
-        fill(
-            out,
-            b"<text class=\"mid\" x=\"@\" y=\"@\" font-size=\"@\">^@</text>\n",
-            &ns,
-        )?;
+        let below = y + 35 * along / 100;
+        print!(out;
+            "<text class=\"mid\" x=\"{x}\" y=\"{below}\" font-size=\"{along}\">{n}</text>\n"
+        )
     }
-    Ok(())
 }
 
 // One range of an item's area.
 fn range(out: Stdout, a: Axis, cell: u32, n: Name, start: u32, end: u32) -> io::Result<()> {
     let b = bar_of(a, start, end);
     let row = row_of(cell);
-    let w = b.width as u64;
-    let ns = [
-        b.x as u64,
-        row.y,
-        w,
-        row.height,
-        w,
-        n.letter as u64,
-        n.index as u64,
-        start as u64,
-        end as u64,
-    ];
-    fill(
-        out,
-        b"<path class=\"bar\" d=\"M@ @h@v@h-@z\"><title>^@: @&#8211;@</title></path>",
-        &ns,
+    let x = b.x;
+    let w = b.width;
+    let y = row.y;
+    let height = row.height;
+    print!(out;
+        "<path class=\"bar\" d=\"M{x} {y}h{w}v{height}h-{w}z\"><title>{n}: {start}&#8211;{end}</title></path>"
     )?;
     label(out, b, row.y + row.height / 2, n)
 }
@@ -86,25 +72,18 @@ fn range(out: Stdout, a: Axis, cell: u32, n: Name, start: u32, end: u32) -> io::
 // An item without area: it keeps its cell for itself, over the whole width.
 fn whole(out: Stdout, cell: u32, n: Name) -> io::Result<()> {
     let row = row_of(cell);
-    let ns = [
-        row.y,
-        row.height,
-        row.y + row.height / 2 + 42,
-        n.letter as u64,
-        n.index as u64,
-    ];
-    fill(
-        out,
-        b"<path class=\"whole\" d=\"M1700 @h8000v@h-8000z\"/><text class=\"mid\" x=\"5700\" y=\"@\" font-size=\"120\">^@, no area</text>\n",
-        &ns,
+    let top = row.y;
+    let height = row.height;
+    let y = top + height / 2 + 42;
+    print!(out;
+        "<path class=\"whole\" d=\"M1700 {top}h8000v{height}h-8000z\"/><text class=\"mid\" x=\"5700\" y=\"{y}\" font-size=\"120\">{n}, no area</text>\n"
     )
 }
 
 // The ranges of an area.
 fn area(out: Stdout, a: Axis, cell: u32, n: Name, part: &[u32]) -> io::Result<()> {
     let m = part.len() / range::WIDTH;
-    let mut k = 0;
-    while k < m {
+    for k in 0..m {
         range(
             out,
             a,
@@ -113,7 +92,6 @@ fn area(out: Stdout, a: Axis, cell: u32, n: Name, part: &[u32]) -> io::Result<()
             part[range::WIDTH * k],
             part[range::WIDTH * k + range::END],
         )?;
-        k += 1;
     }
     Ok(())
 }
@@ -147,12 +125,8 @@ fn item(
 
 // The group of an item's bars, in its colour.
 fn group(out: Stdout, item: u32, n: Name) -> io::Result<()> {
-    let ns = [n.letter as u64, n.index as u64, hue(item)];
-    fill(
-        out,
-        b"<g class=\"item\" id=\"^@\" fill=\"hsl(@,70%,75%)\">\n",
-        &ns,
-    )
+    let hue = hue(item);
+    print!(out; "<g class=\"item\" id=\"{n}\" fill=\"hsl({hue},70%,75%)\">\n")
 }
 
 // The items of a cell, among `n` in rows of cell, present, first and count.
@@ -167,8 +141,7 @@ pub fn of_cell(
 ) -> io::Result<()>
     requires { item_width * n ≤ length items.now }
 {
-    let mut i: u32 = 0;
-    while i < n {
+    for i in 0..n {
         let k = item::WIDTH * i as usize;
         if items[k] == cell {
             let name = name_of(i, locals);
@@ -183,10 +156,7 @@ pub fn of_cell(
                 areas,
                 name,
             )?;
-            say(out, b"</g>\n")?;
-            i += 1;
-        } else {
-            i += 1;
+            print!(out; "</g>\n")?;
         }
     }
     Ok(())

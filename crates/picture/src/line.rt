@@ -1,26 +1,19 @@
 // The blocks along the axis, with their numbers and points, and their borders down the picture.
-use crate::svg::fill;
 use drawing::{Axis, Bar, bar_of, digits, font};
 use std::io;
-use std::io::Stdout;
+use std::io::{Print, Stdout};
 use words::widths::block;
 
 // A block's number, and below it its points, as large as fits; the end has the most digits.
 fn labels(out: Stdout, b: Bar, number: u32, start: u32, end: u32) -> io::Result<()> {
     let x = b.x as u64 + b.width as u64 / 2;
     let large = font(b.width, 2 + digits(number), 120) as u64;
-    let ns = [x, 520 + 35 * large / 100, large, number as u64];
-    fill(
-        out,
-        b"<text class=\"mid\" x=\"@\" y=\"@\" font-size=\"@\">B@</text>",
-        &ns,
-    )?;
+    let y = 520 + 35 * large / 100;
+    print!(out; "<text class=\"mid\" x=\"{x}\" y=\"{y}\" font-size=\"{large}\">B{number}</text>")?;
     let small = font(b.width, 2 + 2 * digits(end), 90) as u64;
-    let ns = [x, 670 + 35 * small / 100, small, start as u64, end as u64];
-    fill(
-        out,
-        b"<text class=\"mid\" x=\"@\" y=\"@\" font-size=\"@\">@&#8211;@</text>\n",
-        &ns,
+    let y = 670 + 35 * small / 100;
+    print!(out;
+        "<text class=\"mid\" x=\"{x}\" y=\"{y}\" font-size=\"{small}\">{start}&#8211;{end}</text>\n"
     )
 }
 
@@ -29,22 +22,9 @@ fn block(out: Stdout, a: Axis, number: u32, start: u32, end: u32, bottom: u64) -
     let b = bar_of(a, start, end);
     let x = b.x as u64;
     let w = b.width as u64;
-    let ns = [
-        x,
-        bottom,
-        x + w,
-        bottom,
-        x,
-        w,
-        w,
-        number as u64,
-        start as u64,
-        end as u64,
-    ];
-    fill(
-        out,
-        b"<path class=\"border\" d=\"M@ 760V@M@ 760V@\"/>\n<path class=\"block\" d=\"M@ 420h@v340h-@z\"><title>B@: @&#8211;@</title></path>\n",
-        &ns,
+    let right = x + w;
+    print!(out;
+        "<path class=\"border\" d=\"M{x} 760V{bottom}M{right} 760V{bottom}\"/>\n<path class=\"block\" d=\"M{x} 420h{w}v340h-{w}z\"><title>B{number}: {start}&#8211;{end}</title></path>\n"
     )?;
     labels(out, b, number, start, end)
 }
@@ -52,8 +32,7 @@ fn block(out: Stdout, a: Axis, number: u32, start: u32, end: u32, bottom: u64) -
 // Blocks in rows of number, start and end.
 pub fn blocks(out: Stdout, a: Axis, l: &[u32], bottom: u64) -> io::Result<()> {
     let n = l.len() / block::WIDTH;
-    let mut i = 0;
-    while i < n {
+    for i in 0..n {
         block(
             out,
             a,
@@ -62,7 +41,6 @@ pub fn blocks(out: Stdout, a: Axis, l: &[u32], bottom: u64) -> io::Result<()> {
             l[block::WIDTH * i + block::END],
             bottom,
         )?;
-        i += 1;
     }
     Ok(())
 }

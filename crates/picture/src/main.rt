@@ -8,10 +8,9 @@ ghost use Rattle.planning.specs.Inner.{Few};
 ghost use Rattle.words.specs.Widths.{cell_width, item_width};
 
 use drawing::{Axis, axis_of, height, ranges};
-use job::Shared;
 use planning::row_plans::{held, planned, records};
 use reading::input;
-use refusals::Verdict;
+use refusals::Refused;
 use std::io;
 use std::io::Stdout;
 use text_grammar::{BLOCKS, GROUP_COUNT, LOCALS, ROW_NUMBERS, SLOTS};
@@ -21,7 +20,6 @@ mod frame; // frame.rt: what stands around the rows, and the refusal
 mod items; // items.rt: the items of a cell
 mod line; // line.rt: the blocks
 mod rows; // rows.rt: the cells
-mod svg; // svg.rt: pieces of text
 
 // A plan of `n` items in `m` cells, along an axis.
 fn draw(
@@ -86,8 +84,9 @@ fn plan(out: Stdout, rows: &[u32], counts: &[u32]) -> io::Result<()>
         &mut work,
     );
     match r {
-        Shared::Plan(c, probes, depth) => {
-            frame::open(out, c as u32, n as u32, probes, depth)?;
+        Ok(t) => {
+            let c = t.cells as u32;
+            frame::open(out, c, n as u32, t.probes, t.depth)?;
             show(
                 out,
                 blocks,
@@ -95,11 +94,11 @@ fn plan(out: Stdout, rows: &[u32], counts: &[u32]) -> io::Result<()>
                 &items[0..item::WIDTH * n],
                 &areas,
                 counts[LOCALS],
-                c as u32,
+                c,
                 n as u32,
             )?;
         }
-        Shared::Refused(r, i) => frame::refuse(out, r, i)?,
+        Err(Refused(r, i)) => frame::refuse(out, r, i)?,
     }
     Ok(())
 }
@@ -110,7 +109,7 @@ fn main(rt: HostRuntime) -> io::Result<()> {
     let mut counts = [0; GROUP_COUNT];
     let v = input(rt.stdin(), &mut rows, &mut counts)?;
     match v {
-        Verdict::Fine => plan(out, &rows, &counts),
-        Verdict::Bad(r, i) => frame::refuse(out, r, i),
+        Ok(()) => plan(out, &rows, &counts),
+        Err(Refused(r, i)) => frame::refuse(out, r, i),
     }
 }

@@ -1,4 +1,6 @@
 -- From what each function leaves to what the program prints.
+use Rattle.std.specs.Result.{result_unwrap_or}
+use Rattle.std.specs.Prelude.{Err, Ok, Result}
 use Prim.Native.Nat.{ℕ, ◌+◌, ◌-◌, ◌*◌, ◌/◌, ◌≤◌, ◌<◌}
 use native.Mathlib.Omega.{arith}
 use mathlib.Core.Path.{◌≡◌, refl, ap, sym, subst, ◌∙◌}
@@ -9,11 +11,9 @@ use lib.ListN.{length, get_or, take, drop, length-append}
 use lib.Seq.{take-append_seam}
 use lib.Dec.{lit<}
 use borrow.Author.Tests.{le-ltb}
-use Rattle.refusals.specs.declared.Verdict.{Verdict}
-use Rattle.refusals.specs.declared.Verdict.TheVariants.{Fine, Bad}
 use Rattle.refusals.specs.declared.Refusal.{Refusal}
-use Rattle.refusals.specs.Verdicts.{number_of, first}
-use Rattle.refusals.specs.Outcomes.{Outcome, given, refused, unless, after}
+use Rattle.refusals.specs.Verdicts.{number_of, first, Bad, Fine, Verdict, Answer}
+use Rattle.refusals.specs.Outcomes.{Outcome, given, refused, unless, after, answered}
 use Rattle.refusals.proofs.Laws.{first_left}
 use Rattle.refusals.proofs.Numbers.{numbered_same}
 use Rattle.words.specs.Inner.{part}
@@ -23,12 +23,10 @@ use Rattle.words.proofs.RegionLaws.{length_part}
 use Rattle.areas.specs.Job.{Job, Local, item_count, item_area}
 use Rattle.fitting.specs.Plan.{Plan}
 use Rattle.query_checks.specs.Checks.{shared_verdict}
-use Rattle.wants.specs.Entry.{Tally, tallied, tally_of, cell_rows}
+use Rattle.wants.specs.Entry.{tallied, tally_of, cell_rows}
 use Rattle.area_tables.specs.Tables.{area_rows}
 use Rattle.soundness.specs.Demand.{job_plan}
-use Rattle.job_answers.specs.declared.Shared.{Shared}
-use Rattle.job_answers.specs.declared.Shared.TheVariants.{Plan as Planned, Refused}
-use Rattle.job_answers.specs.Answers.{answered, item_rows}
+use Rattle.job_answers.specs.Answers.{item_rows}
 use Rattle.text_grammar.specs.Groups.{group_at, base_at, group_count, row_numbers, head_group, local_group, slot_group}
 use Rattle.text_grammar.specs.Lines.{lines_of}
 use Rattle.text_grammar.specs.Text.{lines_verdict, read_verdict}
@@ -37,9 +35,7 @@ use Rattle.text_lines.specs.declared.job_rows.Reader.{Reader}
 use Rattle.text_lines.specs.Inner.{Ready, Records, Finishes, Finished}
 use Rattle.text_lines.proofs.EndLaws.{head_counted, accepted_few}
 use Rattle.text_lines.proofs.WholeLaws.{text_fine}
-use Rattle.text_plan.specs.declared.plan_text.Written.{Written}
-use Rattle.text_plan.specs.declared.plan_text.Written.TheVariants.{Bytes, Refused as WrittenRefused}
-use Rattle.text_plan.specs.Printed.{printed, refusal_text, in_room, written_of, PrintedTo, plan_text}
+use Rattle.text_plan.specs.Printed.{printed, refusal_text, in_room, PrintedTo, plan_text}
 use Rattle.text_plan.proofs.PlanLaws.{room_told, plan_in_room}
 use Rattle.planning.specs.Groups.{terms_for, job, lent_for, verdict_for, SharedFor}
 use Rattle.planning.specs.Inner.{numbers_at, Few, Read, Stands, Answers}
@@ -51,11 +47,13 @@ use Rattle.job_answers.proofs.SeenLaws.{items_long}
 use Rattle.planning.proofs.GroupLaws.{same_printed}
 use Rattle.planning.proofs.PrintLaws.{Printable, plan_fine, text_before, printed_same}
 use Rattle.planning.proofs.JobLaws.{list_fine, job_printable}
+use Rattle.refusals.specs.declared.Refused.{Refused}
+use Rattle.wants.specs.declared.Tally.{Tally}
 
 -- ---- a text that was written
 
-pub stands_of : {o : Outcome (List ℕ)} {out : List ℕ} {w : Written} {out' : List ℕ} {n : ℕ} (text : List ℕ) → o ≡ given text → PrintedTo o out w out'
-    → ((m : ℕ) → written_of w ≡ given m → n ≡ m) → Stands text out n out'
+pub stands_of : {o : Outcome (List ℕ)} {out : List ℕ} {w : Answer} {out' : List ℕ} {n : ℕ} (text : List ℕ) → o ≡ given text → PrintedTo o out w out'
+    → ((m : ℕ) → answered w ≡ given m → n ≡ m) → Stands text out n out'
 stands_of {o} {out} {w} {out'} {n} text e p f =
     let q = subst (λ (x : Outcome (List ℕ)). PrintedTo x out w out') e p in
     record { count = f (length text) q.answer; in_out = q.in_out }
@@ -64,23 +62,20 @@ abbrev number_in : Outcome ℕ → ℕ
 number_in (given n) = n
 number_in (refused n i) = 0
 
-pub bytes_known : {w : Written} {n : ℕ} → w ≡ Bytes n → (m : ℕ) → written_of w ≡ given m → n ≡ m
-bytes_known e m f = ap number_in (ap written_of (sym e) ∙ f)
-
-pub bytes_refused : {w : Written} {r : Refusal} {i : ℕ} → w ≡ WrittenRefused r i → (m : ℕ) → written_of w ≡ given m → 0 ≡ m
-bytes_refused {w} {r} {i} e m f =
-    let g : refused (number_of r) i ≡ given m = ap written_of (sym e) ∙ f in
-    absurd (let z : ◌≡◌ {A = ℕ} 0 1 = cc in omega arith)
+-- how many bytes were written, and 0 where the text was refused
+pub bytes_known : (w : Answer) {n : ℕ} → n ≡ result_unwrap_or w 0 → (m : ℕ) → answered w ≡ given m → n ≡ m
+bytes_known (Ok k) e m f = e ∙ ap number_in f
+bytes_known (Err x) e m f = absurd (let z : ◌≡◌ {A = ℕ} 0 1 = cc in omega arith)
 
 -- a text that has room is given
 pub room_given : (text : List ℕ) (room : ℕ) → length text ≤ room → in_room text room ≡ given text
 room_given text room h = room_told text room false (le-ltb room (length text) h)
 
-pub printed_as : {a b : List ℕ} {out : List ℕ} {w : Written} {out' : List ℕ} → a ≡ b → PrintedTo (in_room a (length out)) out w out' → PrintedTo (in_room b (length out)) out w out'
+pub printed_as : {a b : List ℕ} {out : List ℕ} {w : Answer} {out' : List ℕ} → a ≡ b → PrintedTo (in_room a (length out)) out w out' → PrintedTo (in_room b (length out)) out w out'
 printed_as {a} {b} {out} {w} {out'} e p = subst (λ (x : List ℕ). PrintedTo (in_room x (length out)) out w out') e p
 
 -- the plan is not refused, and so only the list can be
-pub plan_told : (cells items areas : List ℕ) (locals probes depth : ℕ) {out : List ℕ} {w : Written} {out' : List ℕ} → shared_verdict cells items areas locals ≡ Fine
+pub plan_told : (cells items areas : List ℕ) (locals probes depth : ℕ) {out : List ℕ} {w : Answer} {out' : List ℕ} → shared_verdict cells items areas locals ≡ Fine
     → PrintedTo (plan_text cells items areas locals probes depth (length out)) out w out' → PrintedTo (in_room (printed cells items areas locals probes depth) (length out)) out w out'
 plan_told cells items areas locals probes depth {out} {w} {out'} e p =
     subst (λ (x : Outcome (List ℕ)). PrintedTo x out w out') (plan_in_room cells items areas locals probes depth (length out) e) p
@@ -124,9 +119,9 @@ sum_is e f = omega arith
 
 told_refused : (v : Verdict) (p : Plan) (n i : ℕ) → refused n i ≡ tally_of (unless v p) → (t : List ℕ) → refusal_text n i ≡ told (unless v t)
 told_refused Fine p n i e t = absurd (let z : ◌≡◌ {A = ℕ} 0 1 = cc in omega arith)
-told_refused (Bad r k) p n i e t =
-    let a : n ≡ number_of r = cc in
-    let b : i ≡ k = cc in
+told_refused (Err x) p n i e t =
+    let a : n ≡ number_of x.0 = cc in
+    let b : i ≡ x.1 = cc in
     rw (a, b) refl
 
 take_front : (l more : List ℕ) (b : ℕ) → b ≡ length l → take (b - 0) (drop 0 (l ++ more)) ≡ l
@@ -161,7 +156,7 @@ module _ (rows counts : List ℕ) (long : length rows ≡ row_numbers) (F : Few 
   abbrev P : Plan
   P = job_plan J (terms_for group).budget
 
-  module _ (cells items areas : List ℕ) (offsets : List ℤ) (work : List ℕ) (r : Shared) (cells' items' areas' : List ℕ) (offsets' : List ℤ) (work' : List ℕ)
+  module _ (cells items areas : List ℕ) (offsets : List ℤ) (work : List ℕ) (r : Result Tally Refused) (cells' items' areas' : List ℕ) (offsets' : List ℤ) (work' : List ℕ)
       (E : SharedFor group cells items areas offsets work r cells' items' areas' offsets' work')
       (lc : length cells ≡ cell_numbers) (li : length items ≡ item_numbers) (la : length areas ≡ area_numbers) (lo : length offsets ≡ offset_numbers) (lw : length work ≡ work_words) where
     verdict_is : verdict_for group (length cells) (length items) (length areas) (length offsets) (length work) ≡ refusal group
@@ -171,12 +166,12 @@ module _ (rows counts : List ℕ) (long : length rows ≡ row_numbers) (F : Few 
     answer_is = E.lists.answer ∙ ap (λ (v : Verdict). tally_of (unless v P)) verdict_is
 
     -- a refusal
-    pub plan_refused : (q : Refusal) (i : ℕ) → r ≡ Refused q i → refusal_text (number_of q) i ≡ printed_for group Fine
+    pub plan_refused : (q : Refusal) (i : ℕ) → r ≡ Err (q, i) → refusal_text (number_of q) i ≡ printed_for group Fine
     unfolding printed_for first
     plan_refused q i e = told_refused (refusal group) P (number_of q) i (ap answered (sym e) ∙ answer_is) (job_text J (terms_for group).budget)
 
     -- a plan
-    module _ (c p d : ℕ) (re : r ≡ Planned c p d) where
+    module _ (c p d : ℕ) (re : r ≡ Ok (record { cells = c; probes = p; depth = d })) where
       none_refused : refusal group ≡ Fine
       none_refused = not_refused (refusal group) P (record { cells = c; probes = p; depth = d }) (ap answered (sym re) ∙ answer_is)
 

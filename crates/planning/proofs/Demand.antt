@@ -7,9 +7,7 @@ use mathlib.Core.Option.{Option}
 use mathlib.Core.List.{List, [], ◌∷◌, map}
 use lib.ListN.{length, get_or}
 use lib.Dec.{lit≤}
-use Rattle.refusals.specs.declared.Verdict.{Verdict}
-use Rattle.refusals.specs.declared.Verdict.TheVariants.{Fine}
-use Rattle.refusals.specs.Verdicts.{first}
+use Rattle.refusals.specs.Verdicts.{first, Fine, Verdict}
 use Rattle.refusals.specs.Outcomes.{unless}
 use Rattle.refusals.proofs.Laws.{first_left, first_right}
 use Rattle.words.specs.Rows.{tabulate, flat}

@@ -8,12 +8,9 @@ use mathlib.Core.List.{List}
 use lib.IntN.{ℤ}
 use lib.ListN.{length, get_or, take, drop, replicate, length-replicate}
 use lib.Dec.{leb, leb→le}
-use Rattle.refusals.specs.declared.Verdict.{Verdict}
-use Rattle.refusals.specs.declared.Verdict.TheVariants.{Fine}
 use Rattle.words.specs.Inner.{part}
 use Rattle.words.proofs.RegionLaws.{get_d_part, lent_part}
 use Rattle.areas.specs.Job.{Checked}
-use Rattle.job_answers.specs.declared.Shared.{Shared}
 use Rattle.job.specs.Entry.{SharedAs}
 use Rattle.job.proofs.CheckLaws.{granted}
 use Rattle.text_grammar.specs.Groups.{group_at, base_at, group_count, allowed, row_numbers, head_group, block_group, edge_group, inst_group, operand_group, crossing_group, local_group, slot_group, address_group, end_group, piece_group, assigned_group, move_group}
@@ -22,6 +19,10 @@ use Rattle.job_space.specs.Rows.{rows_of}
 use Rattle.planning.specs.Groups.{rows_for, terms_for, job, lent_for, SharedFor}
 use Rattle.planning.specs.Inner.{numbers_at, Few}
 use Rattle.planning.specs.Program.{printed_for}
+use Rattle.refusals.specs.Verdicts.{Fine, Verdict}
+use Rattle.refusals.specs.declared.Refused.{Refused}
+use Rattle.wants.specs.declared.Tally.{Tally}
+use Rattle.std.specs.Prelude.{Result}
 
 -- ---- in the reader's list
 
@@ -60,7 +61,7 @@ reads_in rows i h e = omega arith
 -- ---- by their numbers only
 
 -- the job of lists that are the groups'
-pub shared_for : (group : ℕ → List ℕ) {p v b : ℕ} {g1 g2 g3 g4 g5 g6 g7 g8 g9 g10 g11 g12 : List ℕ} {cells items areas work cells' items' areas' work' : List ℕ} {offsets offsets' : List ℤ} {r : Shared}
+pub shared_for : (group : ℕ → List ℕ) {p v b : ℕ} {g1 g2 g3 g4 g5 g6 g7 g8 g9 g10 g11 g12 : List ℕ} {cells items areas work cells' items' areas' work' : List ℕ} {offsets offsets' : List ℤ} {r : (Result Tally Refused)}
     → p ≡ (rows_for group).points → v ≡ (rows_for group).v → b ≡ (terms_for group).budget
     → g1 ≡ group block_group → g2 ≡ group edge_group → g3 ≡ group inst_group → g4 ≡ group operand_group → g5 ≡ group crossing_group → g6 ≡ group local_group
     → g7 ≡ group slot_group → g8 ≡ group address_group → g9 ≡ group end_group → g10 ≡ group piece_group → g11 ≡ group assigned_group → g12 ≡ group move_group

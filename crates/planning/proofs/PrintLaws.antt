@@ -1,5 +1,5 @@
 -- The rows of a plan as the printing takes them: none is refused, areas behind the answer do not show, and the text is not long.
-use Prim.Native.Nat.{ℕ, zero, suc, ◌+◌, ◌-◌, ◌*◌, ◌%◌, ◌≤◌, ◌<◌}
+use Prim.Native.Nat.{ℕ, zero, suc, ◌-◌, ◌*◌, ◌%◌, ◌≤◌, ◌<◌}
 use native.Mathlib.Omega.{arith}
 use mathlib.Core.Path.{◌≡◌, refl, ap, sym, subst, ◌∙◌}
 use mathlib.Core.Bool.{Bool, true, false, cond}
@@ -7,7 +7,6 @@ use mathlib.Core.Option.{Option, some, none}
 use mathlib.Core.List.{List, [], ◌∷◌, ◌++◌, map, append-nil}
 use lib.ListN.{length, length-append}
 use lib.Dec.{lit≤}
-use Rattle.refusals.specs.declared.Verdict.TheVariants.{Fine}
 use Rattle.words.specs.Rows.{tabulate, flat}
 use Rattle.words.specs.Widths.{cell_count, item_row_count, range_width}
 use Rattle.words.proofs.RowLaws.{tabulate_eq, get_d_tabulate}
@@ -32,6 +31,7 @@ use Rattle.text_plan.specs.Printed.{cell_lines, item_lines, range_line, area_lin
 use Rattle.text_plan.proofs.LineLaws.{line_length}
 use Rattle.text_plan.proofs.PlanLaws.{cells_length, items_length}
 use Rattle.planning.specs.Program.{text_of}
+use Rattle.refusals.specs.Verdicts.{Fine}
 
 -- ---- lines of ranges
 

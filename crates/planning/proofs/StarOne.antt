@@ -4,9 +4,7 @@ use mathlib.Core.Path.{◌≡◌, refl, sym, ap, ◌∙◌}
 use mathlib.Core.Option.{Option, some, some-injective}
 use mathlib.Core.List.{List, [], ◌∷◌, map}
 use lib.ListN.{get_or}
-use Rattle.refusals.specs.declared.Verdict.{Verdict}
-use Rattle.refusals.specs.declared.Verdict.TheVariants.{Fine}
-use Rattle.refusals.specs.Verdicts.{first, in_order, scan}
+use Rattle.refusals.specs.Verdicts.{first, in_order, scan, Fine, Verdict}
 use Rattle.refusals.specs.Outcomes.{unless}
 use Rattle.refusals.proofs.Laws.{first_fine}
 use Rattle.words.specs.Rows.{tabulate, flat}

@@ -1,14 +1,13 @@
 -- From a text to what the program prints for it: how long that is, and where it stands.
+use Rattle.std.specs.Prelude.{Err}
 use Prim.Native.Nat.{ℕ, ◌≤◌}
 use native.Mathlib.Omega.{arith}
 use mathlib.Core.Path.{◌≡◌, refl, ◌∙◌}
 use mathlib.Core.List.{List, [], ◌∷◌}
 use lib.ListN.{length}
 use lib.Dec.{lit<, lit≤}
-use Rattle.refusals.specs.declared.Verdict.{Verdict}
-use Rattle.refusals.specs.declared.Verdict.TheVariants.{Fine, Bad}
-use Rattle.refusals.specs.Verdicts.{number_of, first}
-use Rattle.refusals.specs.Outcomes.{given, unless}
+use Rattle.refusals.specs.Verdicts.{number_of, first, Fine, Verdict, Answer}
+use Rattle.refusals.specs.Outcomes.{given, unless, answered}
 use Rattle.refusals.proofs.Laws.{first_left, first_right}
 use Rattle.words.proofs.RowLaws.{length_records}
 use Rattle.areas.specs.Job.{Job, item_count, item_area}
@@ -20,8 +19,6 @@ use Rattle.text_grammar.proofs.RowLaws.{length_rows}
 use Rattle.text_lines.specs.Read.{TextRead}
 use Rattle.text_lines.proofs.EndLaws.{accepted_few}
 use Rattle.text_lines.proofs.WholeLaws.{read_finished}
-use Rattle.text_plan.specs.declared.plan_text.Written.{Written}
-use Rattle.text_plan.specs.Printed.{written_of}
 use Rattle.text_plan.proofs.LineLaws.{line_length}
 use Rattle.planning.specs.Groups.{terms_for, job, lent_for}
 use Rattle.planning.specs.Program.{told, job_text, refusal, printed_for, numbers_in, program_text, cell_numbers, item_numbers, area_numbers, offset_numbers, work_words}
@@ -69,11 +66,11 @@ program_short text = go (first (read_verdict text) (refusal (numbers_in text))) 
   where
     go : (v : Verdict) → (v ≡ Fine → length (job_text (job (numbers_in text)) (terms_for (numbers_in text)).budget) ≤ room_for) → length (told (unless v (job_text (job (numbers_in text)) (terms_for (numbers_in text)).budget))) ≤ room_for
     go Fine h = h refl
-    go (Bad r i) h = let l = line_length 78 (number_of r ∷ i ∷ []) (lit≤ tt) in omega arith
+    go (Err e) h = let l = line_length 78 (number_of e.0 ∷ e.1 ∷ []) (lit≤ tt) in omega arith
 
 -- ---- for the program, and for a text that is lent
 
-pub told_stands : {v : Verdict} {rows counts out : List ℕ} {w : Written} {out' : List ℕ} {n : ℕ} → room_for ≤ length out → Tells v rows counts out w out' → ((m : ℕ) → written_of w ≡ given m → n ≡ m) → Answers v rows counts out n out'
+pub told_stands : {v : Verdict} {rows counts out : List ℕ} {w : Answer} {out' : List ℕ} {n : ℕ} → room_for ≤ length out → Tells v rows counts out w out' → ((m : ℕ) → answered w ≡ given m → n ≡ m) → Answers v rows counts out n out'
 told_stands {out = out} h t f = λ text F. stands_of (program_text text) (room_given (program_text text) (length out) (let s = program_short text in omega arith)) (t text F) f
 
 pub text_read : {text rows counts : List ℕ} {v : Verdict} {rows' counts' : List ℕ} → length rows ≡ row_numbers → length counts ≡ group_count → length rows' ≡ length rows → length counts' ≡ length counts

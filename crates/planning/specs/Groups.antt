@@ -1,14 +1,15 @@
 -- The records of each group by the group's name, and the whole job of them.
-use Rattle.std.specs.Prelude.{ℕ, List, ℤ, get_or}
-use Rattle.refusals.specs.declared.Verdict.{Verdict}
+use Rattle.std.specs.Prelude.{ℕ, List, ℤ, get_or, Result}
 use Rattle.areas.specs.Job.{Job}
 use Rattle.fitting.specs.declared.Terms.{Terms}
 use Rattle.job_space.specs.Rows.{Rows, rows_of}
 use Rattle.job_checks.specs.Job.{job_of}
-use Rattle.job_answers.specs.declared.Shared.{Shared}
 use Rattle.job.specs.Entry.{lent_verdict, verdict_of, SharedAs}
 use Rattle.text_grammar.specs.Groups.{head_group, block_group, edge_group, inst_group, operand_group, crossing_group, local_group, slot_group}
 use Rattle.text_grammar.specs.Groups.{address_group, end_group, piece_group, assigned_group, move_group}
+use Rattle.refusals.specs.Verdicts.{Verdict}
+use Rattle.refusals.specs.declared.Refused.{Refused}
+use Rattle.wants.specs.declared.Tally.{Tally}
 
 -- the numbers of the records of each group
 module _ (group : ℕ → List ℕ) where
@@ -33,5 +34,5 @@ module _ (group : ℕ → List ℕ) where
   verdict_for = verdict_of rows_for terms_for
 
   -- what the whole job answers
-  abbrev pub SharedFor : List ℕ → List ℕ → List ℕ → List ℤ → List ℕ → Shared → List ℕ → List ℕ → List ℕ → List ℤ → List ℕ → Type 0
+  abbrev pub SharedFor : List ℕ → List ℕ → List ℕ → List ℤ → List ℕ → (Result Tally Refused) → List ℕ → List ℕ → List ℕ → List ℤ → List ℕ → Type 0
   SharedFor = SharedAs rows_for terms_for

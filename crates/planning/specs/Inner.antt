@@ -1,12 +1,11 @@
 -- What the functions here promise each other. No public promise names these.
 use Rattle.std.specs.Prelude.{ℕ, ◌*◌, ◌≤◌, ◌<◌, ◌≡◌, List, ◌++◌, length, drop, get_or}
-use Rattle.refusals.specs.declared.Verdict.{Verdict}
 use Rattle.text_grammar.specs.Groups.{group_count, row_numbers, group_at, base_at, allowed, head_group}
 use Rattle.text_lines.specs.Inner.{Finished}
-use Rattle.text_plan.specs.declared.plan_text.Written.{Written}
 use Rattle.planning.specs.Program.{program_text}
 use Rattle.words.specs.Inner.{part}
 use Rattle.planning.specs.Answer.{TextPrinted}
+use Rattle.refusals.specs.Verdicts.{Verdict, Answer}
 
 -- the reader came to the end of some text
 pub record Read (v : Verdict) (rows counts : List ℕ) : Type 0 where
@@ -21,7 +20,7 @@ pub record Stands (text out : List ℕ) (n : ℕ) (out' : List ℕ) : Type 0 whe
   pub in_out : out' ≡ text ++ drop (length text) out
 
 -- the same, whatever the text was that the reader read
-abbrev pub Tells : Verdict → List ℕ → List ℕ → List ℕ → Written → List ℕ → Type 0
+abbrev pub Tells : Verdict → List ℕ → List ℕ → List ℕ → Answer → List ℕ → Type 0
 Tells v rows counts out r out' = (text : List ℕ) → Finished text v rows counts → TextPrinted text out r out'
 
 -- in a list with room for any text

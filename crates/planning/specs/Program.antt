@@ -1,8 +1,7 @@
 -- Document 01, "Job text": what the planning program prints for a text.
 use Rattle.std.specs.Prelude.{ℕ, List, length}
 use Rattle.std.proofs.Math.Option.{Option}
-use Rattle.refusals.specs.declared.Verdict.{Verdict}
-use Rattle.refusals.specs.Verdicts.{first}
+use Rattle.refusals.specs.Verdicts.{first, Verdict}
 use Rattle.refusals.specs.Outcomes.{Outcome, given, refused, unless}
 use Rattle.words.specs.Rows.{flat}
 use Rattle.ranges.specs.declared.Range.{Range}

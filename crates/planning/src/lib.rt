@@ -1,44 +1,32 @@
 // The planning program between its reader and its writer: from a job's rows to the bytes that it prints.
 #![tactic(auto)]
 
-ghost use Rattle.std.specs.Prelude.{◌≡◌, ℕ, ◌≤◌, length};
-ghost use Rattle.refusals.specs.declared.Verdict.TheVariants.{Fine};
-ghost use Rattle.refusals.specs.Verdicts.{number_of};
-ghost use Rattle.refusals.specs.Outcomes.{given};
+ghost use Rattle.std.specs.Prelude.{◌≡◌, ◌≤◌, length};
+ghost use Rattle.refusals.specs.Verdicts.{number_of, Fine};
 ghost use Rattle.text_grammar.specs.Groups.{row_numbers, group_count};
-ghost use Rattle.text_plan.specs.Printed.{refusal_text, in_room, written_of, PrintedTo};
+ghost use Rattle.text_plan.specs.Printed.{refusal_text, in_room, PrintedTo};
 ghost use Rattle.planning.specs.Program.{printed_for};
 ghost use Rattle.planning.specs.Inner.{numbers_at, Few, Read, Tells, Answers};
 ghost use Rattle.planning.specs.Answer.{TextPrinted, room_for};
 
 use crate::row_plans::{held, planned};
-use job::Shared;
-use refusals::{Refusal, Verdict, number};
+use refusals::{Answer, Refused, Verdict, number};
 use text_grammar::{GROUP_COUNT, LOCALS, ROW_NUMBERS, SLOTS};
 use text_lines::text::read_text;
-use text_plan::plan_text::{Written, print_plan, print_refusal};
+use text_plan::plan_text::{print_plan, print_refusal};
 use words::widths::{cell, item};
 
 pub mod row_plans; // row_plans.rt: the whole job of the records that the reader left in its list
 
-// How many bytes were written, where the text was not refused.
-fn bytes(w: Written) -> usize
-    ensures { (m : ℕ) → written_of w ≡ given m → result ≡ m }
+fn refuse(e: Refused, out: &mut [u8]) -> Answer
+    ensures { PrintedTo (in_room (refusal_text (number_of e.0) e.1) (length out.old)) out.old result out.new }
 {
-    match w {
-        Written::Bytes(n) => n,
-        Written::Refused(_, _) => 0,
-    }
-}
-
-fn refuse(r: Refusal, i: usize, out: &mut [u8]) -> Written
-    ensures { PrintedTo (in_room (refusal_text (number_of r) i) (length out.old)) out.old result out.new }
-{
+    let Refused(r, i) = e;
     print_refusal(number(r), i as u64, out)
 }
 
 // The text of the records' plan, or of their refusal.
-fn plan(rows: &[u32], counts: &[u32], out: &mut [u8]) -> Written
+fn plan(rows: &[u32], counts: &[u32], out: &mut [u8]) -> Answer
     requires { (length rows.now ≡ row_numbers) × (length counts.now ≡ group_count) × Few counts.now }
     ensures { PrintedTo (in_room (printed_for (numbers_at rows.now counts.now) Fine) (length out.old)) out.old result out.new }
 {
@@ -58,27 +46,27 @@ fn plan(rows: &[u32], counts: &[u32], out: &mut [u8]) -> Written
         &mut work,
     );
     match r {
-        Shared::Plan(c, probes, depth) => print_plan(
-            &cells[0..cell::WIDTH * c],
+        Ok(t) => print_plan(
+            &cells[0..cell::WIDTH * t.cells],
             &items[0..item::WIDTH * n],
             &areas,
             counts[LOCALS],
-            probes,
-            depth,
+            t.probes,
+            t.depth,
             out,
         ),
-        Shared::Refused(r, i) => refuse(r, i, out),
+        Err(e) => refuse(e, out),
     }
 }
 
 // What the program prints, given what its reader answered and left in its lists.
-fn tell(v: Verdict, rows: &[u32], counts: &[u32], out: &mut [u8]) -> Written
+fn tell(v: Verdict, rows: &[u32], counts: &[u32], out: &mut [u8]) -> Answer
     requires { Read v rows.now counts.now }
     ensures { Tells v rows.now counts.now out.old result out.new }
 {
     match v {
-        Verdict::Fine => plan(rows, counts, out),
-        Verdict::Bad(r, i) => refuse(r, i, out),
+        Ok(()) => plan(rows, counts, out),
+        Err(bad) => refuse(bad, out),
     }
 }
 
@@ -87,12 +75,11 @@ pub fn answer(v: Verdict, rows: &[u32], counts: &[u32], out: &mut [u8]) -> usize
     requires { Read v rows.now counts.now × (room_for ≤ length out.old) }
     ensures { Answers v rows.now counts.now out.old result out.new }
 {
-    let w = tell(v, rows, counts, out);
-    bytes(w)
+    tell(v, rows, counts, out).unwrap_or(0)
 }
 
 // A job's text in, the program's text out: its plan, or the line of its refusal. Refuses a list that is shorter than that text (7); 65,536 bytes are enough for any.
-pub fn print_text(text: &[u8], out: &mut [u8]) -> Written
+pub fn print_text(text: &[u8], out: &mut [u8]) -> Answer
     ensures { TextPrinted text.now out.old result out.new }
 {
     let mut rows = [0; ROW_NUMBERS];

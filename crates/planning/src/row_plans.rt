@@ -5,12 +5,13 @@ ghost use Rattle.planning.specs.Inner.{numbers_at, Few};
 ghost use Rattle.planning.specs.Groups.{SharedFor};
 
 use fitting::Terms;
-use job::Shared;
 use job_space::Head;
+use refusals::Refused;
 use text_grammar::{
     ADDRESSES, ASSIGNED, BLOCKS, BUDGET, CROSSINGS, EDGES, ENDS, INSTS, LOCALS, MOVES, OPERANDS,
     PIECES, POINTS, REGISTERS, SLOTS, entry_of,
 };
+use wants::Tally;
 
 // How many records of a group stand in the reader's list.
 pub fn held(counts: &[u32], group: usize) -> usize
@@ -40,7 +41,7 @@ pub fn planned(
     areas: &mut [u32],
     offsets: &mut [i32],
     work: &mut [u64],
-) -> Shared
+) -> Result<Tally, Refused>
     requires { (length rows.now ≡ row_numbers) × (length counts.now ≡ group_count) × Few counts.now }
     ensures { SharedFor (numbers_at rows.now counts.now)
         cells.old items.old areas.old offsets.old work.old result

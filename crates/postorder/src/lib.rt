@@ -91,13 +91,9 @@ pub fn order(work: &mut [u64], n: usize, at: usize, base: usize)
     let next = base + n + n + n;
     words::fill(work, next, n, 0);
     let mut left = n;
-    let mut root = 0;
-    while root < n {
+    for root in 0..n {
         if work[next + root] == 0 {
             left = walk(work, n, at, base, root, left);
-            root += 1;
-        } else {
-            root += 1;
         }
     }
 }

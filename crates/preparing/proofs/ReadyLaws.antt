@@ -22,7 +22,7 @@ use Rattle.graph.proofs.Within.{within_trans, within_wider, region_within}
 use Rattle.graph.proofs.Line.{mem_at, at_mem}
 use Rattle.carrying.specs.Lists.{any, keep}
 use Rattle.carrying.specs.Insts.{Inst, insts_of, inst_at, def_of, is_set}
-use Rattle.carrying.specs.Carried.{Code, mentions_of, mentions, mentioned, is_none, escapes, ends_of, empty}
+use Rattle.carrying.specs.Carried.{Code, mentions_of, mentions, mentioned, is_none, ends_of, empty}
 use Rattle.insts.specs.Rows.{AddsUp}
 use Rattle.insts.proofs.DealtLaws.{insts_length, placed_is}
 use Rattle.reach.specs.declared.Lay.{Lay}

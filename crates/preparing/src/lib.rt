@@ -20,15 +20,9 @@ fn cross(crossings: &[u32], v: u32, work: &mut [u64], row: usize)
     requires { row + row_words v ≤ length work.old }
     ensures { Marked work.old work.new row v (λ r. any (eqb r) crossings.now) }
 {
-    let n = crossings.len();
-    let mut k = 0;
-    while k < n {
-        let r = crossings[k];
-        if r < v {
-            bits::set(work, row, r as usize);
-            k += 1;
-        } else {
-            k += 1;
+    for r in crossings {
+        if *r < v {
+            bits::set(work, row, *r as usize);
         }
     }
 }
@@ -39,15 +33,11 @@ fn firsts(work: &mut [u64], lay: Lay, m: usize, n: usize)
     requires rising { Rising (λ k. get_or work.old (lay.edges + k) 0) n × ((i : ℕ) → i < m → get_or work.old (lay.defs + i) 0 ≤ 65536) }
     ensures { Firsts lay m n work.old work.new }
 {
-    let mut i = 0;
-    while i < m {
+    for i in 0..m {
         let d = work[lay.defs + i];
-        if d == 0 {
-            i += 1;
-        } else {
+        if d != 0 {
             let f = words::below(work, lay.edges, n, (d - 1) * HALF);
             work[lay.firsts + i] = f as u64;
-            i += 1;
         }
     }
 }
@@ -69,17 +59,11 @@ fn ends(insts: &[u32], ends: &[u32], locals: usize, work: &mut [u64], lay: Lay)
     ensures { Ends lay insts.now ends.now locals (end_count ends.now) work.old work.new }
 {
     let n = ends.len() / mention::WIDTH;
-    let mut k = 0;
-    while k < n {
+    for k in 0..n {
         let i = ends[mention::WIDTH * k] as usize;
         let l = ends[mention::WIDTH * k + mention::LOCAL] as usize;
-        if insts[inst::WIDTH * i] != 1 {
-            k += 1;
-        } else if l < locals {
+        if insts[inst::WIDTH * i] == 1 && l < locals {
             work[lay.ended + l] = 1;
-            k += 1;
-        } else {
-            k += 1;
         }
     }
 }

@@ -6,19 +6,16 @@ use mathlib.Core.Path.{◌≡◌, refl, ap, sym, ◌∙◌}
 use mathlib.Core.Option.{Option, some, none}
 use mathlib.Core.List.{List}
 use lib.ListN.{length, get_or, get_elem?}
-use Rattle.refusals.specs.declared.Verdict.{Verdict}
-use Rattle.refusals.specs.declared.Verdict.TheVariants.{Fine, Bad}
 use Rattle.refusals.specs.declared.Refusal.{Refusal}
-use Rattle.refusals.specs.Outcomes.{unless}
+use Rattle.refusals.specs.Outcomes.{unless, answered, found}
 use Rattle.words.specs.Rows.{tabulate}
 use Rattle.words.specs.Widths.{cell_count, item_width, item_row_count, item_cell, item_present, item_first, item_ranges}
 use Rattle.words.proofs.RowLaws.{length_tabulate, take_tabulate, drop_tabulate}
 use Rattle.ranges.specs.Forms.{areas_of}
 use Rattle.fitting.specs.Queries.{Item, slots_of, part_of, cell_in, local, slot, saved}
-use Rattle.queries.specs.declared.Place.TheVariants.{At, Absent, Refused as PlaceRefused}
-use Rattle.queries.specs.declared.Saving.TheVariants.{Cells, Refused as SavedRefused}
 use Rattle.query_checks.proofs.CheckLaws.{Sound}
-use Rattle.queries.specs.Entry.{place_of, saved_of}
+use Rattle.refusals.specs.Verdicts.{Bad, Fine, Verdict}
+use Rattle.std.specs.Prelude.{Ok, Err, Some, None}
 
 -- ---- an item by its index
 
@@ -73,17 +70,17 @@ module _ (areas cells items : List ℕ) (locals : ℕ) (S : Sound cells items lo
 
 -- ---- outcomes
 
-pub place_told : (v : Verdict) (o : Option ℕ) (c : ℕ) → v ≡ Fine → o ≡ some c → place_of (At c) ≡ unless v o
+pub place_told : (v : Verdict) (o : Option ℕ) (c : ℕ) → v ≡ Fine → o ≡ some c → found (Ok (Some c)) ≡ unless v o
 place_told v o c e f = rw (e, f)
 
-pub place_none : (v : Verdict) (o : Option ℕ) → v ≡ Fine → o ≡ none → place_of Absent ≡ unless v o
+pub place_none : (v : Verdict) (o : Option ℕ) → v ≡ Fine → o ≡ none → found (Ok None) ≡ unless v o
 place_none v o e f = rw (e, f)
 
-pub place_refused : (v : Verdict) (o : Option ℕ) (r : Refusal) (i : ℕ) → v ≡ Bad r i → place_of (PlaceRefused r i) ≡ unless v o
+pub place_refused : (v : Verdict) (o : Option ℕ) (r : Refusal) (i : ℕ) → v ≡ Bad r i → found (Err (r, i)) ≡ unless v o
 place_refused v o r i e = rw e
 
-pub saved_told : (v : Verdict) (n m : ℕ) → v ≡ Fine → n ≡ m → saved_of (Cells n) ≡ unless v m
+pub saved_told : (v : Verdict) (n m : ℕ) → v ≡ Fine → n ≡ m → answered (Ok n) ≡ unless v m
 saved_told v n m e f = rw (e, f)
 
-pub saved_refused : (v : Verdict) (m : ℕ) (r : Refusal) (i : ℕ) → v ≡ Bad r i → saved_of (SavedRefused r i) ≡ unless v m
+pub saved_refused : (v : Verdict) (m : ℕ) (r : Refusal) (i : ℕ) → v ≡ Bad r i → answered (Err (r, i)) ≡ unless v m
 saved_refused v m r i e = rw e

@@ -10,8 +10,6 @@ use lib.ListN.{length, get_or, take, drop, get_elem?}
 use lib.Seq.{length-take-le, get_or-take}
 use lib.Dec.{ltb, eqb}
 use borrow.Author.Tests.{le-ltb, lt-leb, eq-eqb}
-use Rattle.refusals.specs.declared.Verdict.{Verdict}
-use Rattle.refusals.specs.declared.Verdict.TheVariants.{Fine}
 use Rattle.refusals.specs.declared.Refusal.TheVariants.{Want as WantRefused}
 use Rattle.refusals.specs.Outcomes.{given, unless}
 use Rattle.refusals.proofs.Laws.{scan_all}
@@ -31,6 +29,7 @@ use Rattle.queries.specs.Shares.{shared_part, area_of}
 use Rattle.queries.specs.Seen.{PlanSeen}
 use Rattle.queries.proofs.QueryLaws.{there, not_there, item_at}
 use Rattle.queries.proofs.ShareLaws.{shared_area}
+use Rattle.refusals.specs.Verdicts.{Fine, Verdict}
 
 -- ---- a plan of c cells and n items, by index
 

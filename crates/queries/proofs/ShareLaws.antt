@@ -9,22 +9,21 @@ use mathlib.Core.List.{List, [], ◌++◌}
 use lib.ListN.{length, get_or, get_elem?, take, drop}
 use lib.Dec.{ltb, eqb}
 use borrow.Author.Tests.{lt-ltb, le-ltb, eq-eqb, ne_eqb, eqb-false}
-use Rattle.refusals.specs.declared.Verdict.{Verdict}
-use Rattle.refusals.specs.declared.Verdict.TheVariants.{Fine, Bad}
 use Rattle.refusals.specs.declared.Refusal.{Refusal}
-use Rattle.refusals.specs.Outcomes.{given, unless}
+use Rattle.refusals.specs.Outcomes.{given, unless, found}
 use Rattle.words.specs.Widths.{item_width, item_cell, item_present, item_first, item_ranges, range_count}
 use Rattle.words.proofs.Points.{cut}
 use Rattle.ranges.specs.Forms.{areas_of}
 use Rattle.fitting.specs.Queries.{Item, slots_of, crowd, shared_by, shared}
-use Rattle.queries.specs.declared.Share.TheVariants.{Part, Absent, Refused as ShareRefused}
-use Rattle.queries.specs.declared.Crowd.TheVariants.{Slots as SlotsGiven, Refused as CrowdRefused}
 use Rattle.query_checks.specs.Checks.{shared_verdict, crowded_verdict}
-use Rattle.queries.specs.Shares.{Stretch, share_of, part_named, shared_part, shared_of, ranges_of, crowded_of, CrowdedBy}
+use Rattle.queries.specs.Shares.{part_named, shared_part, shared_of, ranges_of, crowded_of, CrowdedBy}
 use Rattle.query_checks.proofs.CheckLaws.{crowd_passed, Sound, sound, shared_sound, part_inside}
 use Rattle.members.specs.Inner.{members_in, crowded_slots, Picked}
 use Rattle.queries.proofs.QueryLaws.{there, not_there, item_at, locals_are}
 use Rattle.queries.proofs.MemberLaws.{crowd_is, crowded_is}
+use Rattle.refusals.specs.Verdicts.{Bad, Fine, Verdict}
+use Rattle.std.specs.Prelude.{Ok, Err, Some, None}
+use Rattle.queries.specs.declared.Stretch.{Stretch}
 
 -- ---- `shared`: the part
 
@@ -59,14 +58,14 @@ module _ (cells items : List ℕ) (locals i : ℕ) where
         ∙ ap (λ (t : Bool). cond t none (some (record { first = item_first items i; count = item_ranges items i }))) (ne_eqb _ _ d)
 
 module _ (cells items areas : List ℕ) (locals i : ℕ) where
-  pub share_refused : (r : Refusal) (k : ℕ) → shared_verdict cells items areas locals ≡ Bad r k → share_of (ShareRefused r k) ≡ shared_of cells items areas locals i
+  pub share_refused : (r : Refusal) (k : ℕ) → shared_verdict cells items areas locals ≡ Bad r k → found (Err (r, k)) ≡ shared_of cells items areas locals i
   share_refused r k e = rw e
 
-  pub share_none : shared_verdict cells items areas locals ≡ Fine → shared_part cells items locals i ≡ none → share_of Absent ≡ shared_of cells items areas locals i
+  pub share_none : shared_verdict cells items areas locals ≡ Fine → shared_part cells items locals i ≡ none → found (Ok None) ≡ shared_of cells items areas locals i
   share_none e f = sym (ap (λ (v : Verdict). unless v (shared_part cells items locals i)) e ∙ ap (λ (o : Option Stretch). given o) f)
 
   pub share_some : shared_verdict cells items areas locals ≡ Fine → (first count : ℕ) → shared_part cells items locals i ≡ some (record { first = first; count = count })
-      → share_of (Part first count) ≡ shared_of cells items areas locals i
+      → found (Ok (Some (record { first = first; count = count }))) ≡ shared_of cells items areas locals i
   share_some e first count f = sym (ap (λ (v : Verdict). unless v (shared_part cells items locals i)) e ∙ ap (λ (o : Option Stretch). given o) f)
 
 -- ---- `shared`: the area that the part is
@@ -116,11 +115,11 @@ module _ (cells items areas : List ℕ) (locals i : ℕ) (fine : shared_verdict 
 -- ---- `crowded`
 
 module _ (cells items : List ℕ) (locals room : ℕ) where
-  pub crowded_refused : (out : List ℕ) (r : Refusal) (k : ℕ) → crowded_verdict cells items locals room ≡ Bad r k → CrowdedBy (crowded_of cells items locals room) out (CrowdRefused r k) out
+  pub crowded_refused : (out : List ℕ) (r : Refusal) (k : ℕ) → crowded_verdict cells items locals room ≡ Bad r k → CrowdedBy (crowded_of cells items locals room) out (Err (r, k)) out
   crowded_refused out r k e = record { answer = rw e; in_out = rw e }
 
   pub crowded_told : (out out' : List ℕ) (n : ℕ) → crowded_verdict cells items locals room ≡ Fine → Picked (crowded_slots items locals) out out' n
-      → CrowdedBy (crowded_of cells items locals room) out (SlotsGiven n) out'
+      → CrowdedBy (crowded_of cells items locals room) out (Ok n) out'
   crowded_told out out' n e p =
       let q = crowded_is cells items locals (sound cells items locals (crowd_passed cells items locals room e).plan) in
       record {

@@ -1,29 +1,16 @@
 -- What `shared` and `crowded` answer.
-use Rattle.std.specs.Prelude.{ℕ, ◌≡◌, cond, List, [], length, take, drop, ltb, eqb}
+use Rattle.std.specs.Prelude.{ℕ, ◌≡◌, cond, List, [], length, take, drop, ltb, eqb, Ok, Err, Some, None, Option as Maybe, Result}
 use Rattle.std.proofs.Math.Option.{Option, some, none}
-use Rattle.refusals.specs.Verdicts.{number_of}
-use Rattle.refusals.specs.Outcomes.{Outcome, given, refused, unless, after}
+use Rattle.refusals.specs.Verdicts.{number_of, Answer}
+use Rattle.refusals.specs.Outcomes.{Outcome, given, refused, unless, after, answered, found}
 use Rattle.words.specs.Widths.{item_cell, item_present, item_first, item_ranges}
 use Rattle.ranges.specs.declared.Range.{Range}
 use Rattle.fitting.specs.Queries.{slots_of, crowd, crowded}
 use Rattle.query_checks.specs.Checks.{shared_verdict, crowded_verdict}
-use Rattle.queries.specs.declared.Share.{Share}
-use Rattle.queries.specs.declared.Share.TheVariants.{Part, Absent, Refused as ShareRefused}
-use Rattle.queries.specs.declared.Crowd.{Crowd}
-use Rattle.queries.specs.declared.Crowd.TheVariants.{Slots as SlotsGiven, Refused as CrowdRefused}
+use Rattle.refusals.specs.declared.Refused.{Refused}
+use Rattle.queries.specs.declared.Stretch.{Stretch}
 
 -- ---- `shared`
-
--- "a part of the area list": its first range and how many it has
-pub record Stretch : Type 0 where
-  pub first : ℕ
-  pub count : ℕ
-
--- what each case of the answer stands for: a part of the lent area list, or no shared area
-abbrev pub share_of : Share → Outcome (Option Stretch)
-share_of (Part first count) = given (some (record { first = first; count = count }))
-share_of Absent = given none
-share_of (ShareRefused r i) = refused (number_of r) i
 
 -- the part that an item's row names: "a present flag and a part of the area list"
 abbrev pub part_named : List ℕ → ℕ → Option Stretch
@@ -47,10 +34,6 @@ area_of areas (refused n i) = refused n i
 
 -- ---- `crowded`
 
-abbrev pub crowd_of : Crowd → Outcome ℕ
-crowd_of (SlotsGiven n) = given n
-crowd_of (CrowdRefused r i) = refused (number_of r) i
-
 abbrev pub crowded_of : List ℕ → List ℕ → ℕ → ℕ → Outcome (List ℕ)
 crowded_of cells items locals room = unless (crowded_verdict cells items locals room) (crowded (slots_of locals cells items []))
 
@@ -58,6 +41,6 @@ abbrev pub counted : Outcome (List ℕ) → Outcome ℕ
 counted (given l) = given (length l)
 counted (refused n i) = refused n i
 
-pub record CrowdedBy (o : Outcome (List ℕ)) (out : List ℕ) (r : Crowd) (out' : List ℕ) : Type 0 where
-  pub answer : crowd_of r ≡ counted o
+pub record CrowdedBy (o : Outcome (List ℕ)) (out : List ℕ) (r : Answer) (out' : List ℕ) : Type 0 where
+  pub answer : answered r ≡ counted o
   pub in_out : out' ≡ after o (λ l. l) out

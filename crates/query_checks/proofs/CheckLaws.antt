@@ -8,11 +8,9 @@ use mathlib.Core.List.{List, [], ◌∷◌}
 use lib.ListN.{get_or}
 use lib.Dec.{leb, ltb}
 use borrow.Author.Tests.{ltb-false, leb-false, lt-ltb, le-ltb, le-leb, lt-leb, ltb-true, eq-eqb, ne_eqb}
-use Rattle.refusals.specs.declared.Verdict.{Verdict}
-use Rattle.refusals.specs.declared.Verdict.TheVariants.{Fine, Bad}
 use Rattle.refusals.specs.declared.Refusal.{Refusal}
 use Rattle.refusals.specs.declared.Refusal.TheVariants.{Count, Want, Space}
-use Rattle.refusals.specs.Verdicts.{in_order, first, check}
+use Rattle.refusals.specs.Verdicts.{in_order, first, check, Bad, Fine, Verdict}
 use Rattle.refusals.proofs.Laws.{check_bad, check_fine, check_last, first_fine, first_bad, first_left, first_right, scan_fine}
 use Rattle.words.specs.Rows.{whole_rows}
 use Rattle.words.specs.Widths.{cell_width, cell_count, item_width, item_row_count, item_cell, item_present, item_first, item_ranges, range_count}

@@ -4,9 +4,8 @@ use mathlib.Core.Path.{◌≡◌, refl}
 use mathlib.Core.Bool.{true, false}
 use mathlib.Core.List.{List, [], ◌∷◌}
 use lib.ListN.{length}
-use Rattle.refusals.specs.declared.Verdict.TheVariants.{Fine, Bad}
 use Rattle.refusals.specs.declared.Refusal.TheVariants.{Count, Space, Want}
-use Rattle.refusals.specs.Verdicts.{first, in_order, scan}
+use Rattle.refusals.specs.Verdicts.{first, in_order, scan, Bad, Fine}
 use Rattle.query_checks.specs.Checks.{bad_count, plan_verdict, bad_areas, outside, shared_verdict, crowded_verdict}
 use Rattle.words.specs.Widths.{item_width, range_width}
 

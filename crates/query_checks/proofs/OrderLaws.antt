@@ -4,9 +4,8 @@ use mathlib.Core.Path.{refl}
 use mathlib.Core.Bool.{Bool, true, false, cond, ◌||◌}
 use mathlib.Core.List.{List, [], ◌∷◌}
 use lib.Dec.{ltb}
-use Rattle.refusals.specs.declared.Verdict.TheVariants.{Fine, Bad}
 use Rattle.refusals.specs.declared.Refusal.TheVariants.{Count, Space, Want}
-use Rattle.refusals.specs.Verdicts.{number_of}
+use Rattle.refusals.specs.Verdicts.{number_of, Bad, Fine}
 use Rattle.refusals.specs.Orders.{Gives, Ordered}
 use Rattle.refusals.proofs.Orders.{check_gives, scan_gives}
 use Rattle.words.specs.Widths.{cell_count, item_row_count}

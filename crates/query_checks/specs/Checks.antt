@@ -1,8 +1,6 @@
 -- What the queries of a lent plan refuse: document 01, numbers 1, 7 and 10.
 use Rattle.std.specs.Prelude.{ℕ, ◌-◌, ◌+◌, Bool, cond, not, ◌||◌, false, List, [], ◌∷◌, leb, ltb, eqb}
-use Rattle.refusals.specs.declared.Verdict.{Verdict}
-use Rattle.refusals.specs.declared.Verdict.TheVariants.{Fine, Bad}
-use Rattle.refusals.specs.Verdicts.{in_order, scan, check}
+use Rattle.refusals.specs.Verdicts.{in_order, scan, check, Bad, Fine, Verdict}
 use Rattle.words.specs.Rows.{whole_rows}
 use Rattle.words.specs.Widths.{cell_width, cell_count, item_width, item_row_count, item_cell, item_present, item_first, item_ranges, range_width, range_count}
 use Rattle.refusals.specs.declared.Refusal.TheVariants.{Count, Space, Want}

@@ -4,7 +4,7 @@
 ghost use Rattle.std.specs.Prelude.{◌≡◌, ◌||◌, ◌+◌};
 ghost use Rattle.query_checks.specs.Checks.{bad_count, items_verdict, plan_verdict, bad_areas, outside, parts_verdict, shared_verdict, crowded_verdict};
 
-use refusals::{Refusal, Verdict};
+use refusals::{Refusal, Refused, Verdict};
 use words::widths::{cell, item, range};
 
 // The most locals, slots and ranges.
@@ -39,14 +39,12 @@ fn items_named(cells: &[u32], items: &[u32]) -> Verdict
 {
     let count = cells.len() / cell::WIDTH;
     let n = items.len() / item::WIDTH;
-    let mut i = 0;
-    while i < n {
+    for i in 0..n {
         if count <= items[item::WIDTH * i] as usize {
-            return Verdict::Bad(Refusal::Want, i);
+            return Err(Refused(Refusal::Want, i));
         }
-        i += 1;
     }
-    Verdict::Fine
+    Ok(())
 }
 
 // Of a plan that is lent.
@@ -54,16 +52,13 @@ pub fn plan(cells: &[u32], items: &[u32], locals: u32) -> Verdict
     ensures { result ≡ plan_verdict cells.now items.now locals }
 {
     if bad_count(cells, items, locals) {
-        return Verdict::Bad(Refusal::Count, 0);
+        return Err(Refused(Refusal::Count, 0));
     }
-    let v = items_named(cells, items);
-    if let Verdict::Bad(r, i) = v {
-        return Verdict::Bad(r, i);
-    }
+    items_named(cells, items)?;
     if items.len() / item::WIDTH < cells.len() / cell::WIDTH {
-        return Verdict::Bad(Refusal::Want, items.len() / item::WIDTH);
+        return Err(Refused(Refusal::Want, items.len() / item::WIDTH));
     }
-    Verdict::Fine
+    Ok(())
 }
 
 // Whether an area list is no whole rows, or over its limit.
@@ -102,11 +97,10 @@ fn items_within(cells: &[u32], items: &[u32], ranges: usize) -> Verdict
 {
     let count = cells.len() / cell::WIDTH;
     let n = items.len() / item::WIDTH;
-    let mut i = 0;
-    while i < n {
+    for i in 0..n {
         let at = item::WIDTH * i;
         if count <= items[at] as usize {
-            return Verdict::Bad(Refusal::Want, i);
+            return Err(Refused(Refusal::Want, i));
         }
         if part_outside(
             ranges,
@@ -114,11 +108,10 @@ fn items_within(cells: &[u32], items: &[u32], ranges: usize) -> Verdict
             items[at + item::FIRST],
             items[at + item::RANGES],
         ) {
-            return Verdict::Bad(Refusal::Want, i);
+            return Err(Refused(Refusal::Want, i));
         }
-        i += 1;
     }
-    Verdict::Fine
+    Ok(())
 }
 
 // Of `shared`.
@@ -126,16 +119,13 @@ pub fn parts(cells: &[u32], items: &[u32], areas: &[u32], locals: u32) -> Verdic
     ensures { result ≡ shared_verdict cells.now items.now areas.now locals }
 {
     if counts(cells, items, areas, locals) {
-        return Verdict::Bad(Refusal::Count, 0);
+        return Err(Refused(Refusal::Count, 0));
     }
-    let v = items_within(cells, items, areas.len() / range::WIDTH);
-    if let Verdict::Bad(r, i) = v {
-        return Verdict::Bad(r, i);
-    }
+    items_within(cells, items, areas.len() / range::WIDTH)?;
     if items.len() / item::WIDTH < cells.len() / cell::WIDTH {
-        return Verdict::Bad(Refusal::Want, items.len() / item::WIDTH);
+        return Err(Refused(Refusal::Want, items.len() / item::WIDTH));
     }
-    Verdict::Fine
+    Ok(())
 }
 
 // Of `crowded`, by the length of its answer list.
@@ -143,10 +133,10 @@ pub fn crowd(cells: &[u32], items: &[u32], locals: u32, room: usize) -> Verdict
     ensures { result ≡ crowded_verdict cells.now items.now locals room }
 {
     if bad_count(cells, items, locals) {
-        return Verdict::Bad(Refusal::Count, 0);
+        return Err(Refused(Refusal::Count, 0));
     }
     if room < items.len() / item::WIDTH - locals as usize {
-        return Verdict::Bad(Refusal::Space, 0);
+        return Err(Refused(Refusal::Space, 0));
     }
     plan(cells, items, locals)
 }

@@ -3,8 +3,9 @@ use Rattle.std.specs.Prelude.{ℕ, ◌≡◌, List, ◌∷◌, drop}
 use Rattle.std.proofs.Math.Option.{Option, some, none}
 use Rattle.refusals.specs.Outcomes.{Outcome, given, refused, unless}
 use Rattle.query_checks.specs.Checks.{told_verdict}
-use Rattle.queries.specs.Shares.{Stretch, shared_part}
+use Rattle.queries.specs.Shares.{shared_part}
 use Rattle.codes.specs.Codes.{refusal_code, absent_code}
+use Rattle.queries.specs.declared.Stretch.{Stretch}
 
 -- `shared`, told in a list of so many numbers: one under two is refused, also where there is no shared area
 abbrev pub told_of : List ℕ → List ℕ → List ℕ → ℕ → ℕ → ℕ → Outcome (Option Stretch)

@@ -5,9 +5,8 @@ use mathlib.Core.Bool.{Bool, true, false, ◌||◌}
 use mathlib.Core.List.{List, [], ◌∷◌}
 use lib.ListN.{length}
 use lib.Dec.{ltb}
-use Rattle.refusals.specs.declared.Verdict.{Verdict}
 use Rattle.refusals.specs.declared.Refusal.TheVariants.{Count, Space, Want}
-use Rattle.refusals.specs.Verdicts.{number_of, check, counted_on}
+use Rattle.refusals.specs.Verdicts.{number_of, check, counted_on, Verdict}
 use Rattle.refusals.specs.Orders.{Gives, Ordered}
 use Rattle.refusals.proofs.Orders.{check_gives, first_gives, counted_gives, scan_gives}
 use Rattle.ranges.specs.declared.Range.{Range}

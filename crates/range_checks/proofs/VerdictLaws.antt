@@ -8,11 +8,9 @@ use lib.ListN.{length}
 use lib.Dec.{ltb}
 use borrow.Author.Tests.{lt-ltb, le-ltb, eq-eqb, ne_eqb, eqb-true, ltb-false, not-false}
 use Rattle.words.proofs.Bools.{or_neither}
-use Rattle.refusals.specs.declared.Verdict.{Verdict}
-use Rattle.refusals.specs.declared.Verdict.TheVariants.{Fine, Bad}
 use Rattle.refusals.specs.declared.Refusal.{Refusal}
 use Rattle.refusals.specs.declared.Refusal.TheVariants.{Count, Space, Want}
-use Rattle.refusals.specs.Verdicts.{first, in_order, scan, check, counted_on}
+use Rattle.refusals.specs.Verdicts.{first, in_order, scan, check, counted_on, Bad, Fine, Verdict}
 use Rattle.refusals.proofs.Laws.{first_fine, first_bad, check_bad, check_fine, check_last, three_second, three_third}
 use Rattle.ranges.specs.declared.Range.{Range}
 use Rattle.ranges.specs.Points.{range}

@@ -1,8 +1,7 @@
 -- What the range entries refuse: document 01, "Limits and what is turned back", numbers 1, 7 and 10.
 use Rattle.std.specs.Prelude.{ℕ, ◌+◌, Bool, true, false, not, ◌||◌, List, [], ◌∷◌, length, ltb, eqb}
-use Rattle.refusals.specs.declared.Verdict.{Verdict}
 use Rattle.refusals.specs.declared.Refusal.TheVariants.{Count, Space}
-use Rattle.refusals.specs.Verdicts.{first, in_order, check, counted_on}
+use Rattle.refusals.specs.Verdicts.{first, in_order, check, counted_on, Verdict}
 use Rattle.ranges.specs.declared.Range.{Range}
 use Rattle.ranges.specs.Lent.{list_verdict}
 use Rattle.ranges.specs.Forms.{columns}

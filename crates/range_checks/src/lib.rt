@@ -8,7 +8,7 @@ ghost use Rattle.ranges.specs.Forms.{columns};
 ghost use Rattle.ranges.specs.Lent.{wrong_at, list_verdict};
 ghost use Rattle.range_checks.specs.Verdicts.{bad_list, pair_verdict, merged_verdict, joined_verdict, union_verdict, clashes_verdict};
 
-use refusals::{Refusal, Verdict};
+use refusals::{Refusal, Refused, Verdict};
 
 // The most ranges in a list that is lent.
 const LIMIT: usize = 65536;
@@ -42,14 +42,12 @@ fn list(start: &[u32], end: &[u32], ordered: bool, from: usize) -> Verdict
     requires { (length start.now ≡ length end.now) × (from + length start.now < 2 ^ 64) }
     ensures { result ≡ counted_on from (list_verdict ordered (columns start.now end.now)) }
 {
-    let mut i = 0;
-    while i < start.len() {
+    for i in 0..start.len() {
         if wrong(start, end, ordered, i) {
-            return Verdict::Bad(Refusal::Want, from + i);
+            return Err(Refused(Refusal::Want, from + i));
         }
-        i += 1;
     }
-    Verdict::Fine
+    Ok(())
 }
 
 // The first range of two lists that is wrong.
@@ -57,10 +55,7 @@ fn pair(start: &[u32], end: &[u32], other_start: &[u32], other_end: &[u32]) -> V
     requires { (length start.now ≡ length end.now) × (length other_start.now ≡ length other_end.now) × (length start.now + length other_start.now < 2 ^ 64) }
     ensures { result ≡ pair_verdict true (columns start.now end.now) (columns other_start.now other_end.now) }
 {
-    let v = list(start, end, true, 0);
-    if let Verdict::Bad(r, i) = v {
-        return Verdict::Bad(r, i);
-    }
+    list(start, end, true, 0)?;
     list(other_start, other_end, true, start.len())
 }
 
@@ -69,13 +64,13 @@ pub fn merged(start: &[u32], end: &[u32], n: usize, m: usize) -> Verdict
     ensures { result ≡ merged_verdict start.now end.now n m }
 {
     if bad_list(start, end) {
-        return Verdict::Bad(Refusal::Count, 0);
+        return Err(Refused(Refusal::Count, 0));
     }
     if n != m {
-        return Verdict::Bad(Refusal::Count, 0);
+        return Err(Refused(Refusal::Count, 0));
     }
     if n < start.len() {
-        return Verdict::Bad(Refusal::Space, 0);
+        return Err(Refused(Refusal::Space, 0));
     }
     list(start, end, false, 0)
 }
@@ -85,22 +80,19 @@ pub fn joined(start: &[u32], end: &[u32], s: u32, e: u32, n: usize, m: usize) ->
     ensures { result ≡ joined_verdict start.now end.now (range s e) n m }
 {
     if bad_list(start, end) {
-        return Verdict::Bad(Refusal::Count, 0);
+        return Err(Refused(Refusal::Count, 0));
     }
     if n != m {
-        return Verdict::Bad(Refusal::Count, 0);
+        return Err(Refused(Refusal::Count, 0));
     }
     if n <= start.len() {
-        return Verdict::Bad(Refusal::Space, 0);
+        return Err(Refused(Refusal::Space, 0));
     }
-    let v = list(start, end, false, 0);
-    if let Verdict::Bad(r, i) = v {
-        return Verdict::Bad(r, i);
-    }
+    list(start, end, false, 0)?;
     if e < s {
-        return Verdict::Bad(Refusal::Want, start.len());
+        return Err(Refused(Refusal::Want, start.len()));
     }
-    Verdict::Fine
+    Ok(())
 }
 
 // Of `union`.
@@ -115,16 +107,16 @@ pub fn union(
     ensures { result ≡ union_verdict start.now end.now other_start.now other_end.now n m }
 {
     if bad_list(start, end) {
-        return Verdict::Bad(Refusal::Count, 0);
+        return Err(Refused(Refusal::Count, 0));
     }
     if bad_list(other_start, other_end) {
-        return Verdict::Bad(Refusal::Count, 0);
+        return Err(Refused(Refusal::Count, 0));
     }
     if n != m {
-        return Verdict::Bad(Refusal::Count, 0);
+        return Err(Refused(Refusal::Count, 0));
     }
     if n < start.len() + other_start.len() {
-        return Verdict::Bad(Refusal::Space, 0);
+        return Err(Refused(Refusal::Space, 0));
     }
     pair(start, end, other_start, other_end)
 }
@@ -134,10 +126,10 @@ pub fn clashes(start: &[u32], end: &[u32], other_start: &[u32], other_end: &[u32
     ensures { result ≡ clashes_verdict start.now end.now other_start.now other_end.now }
 {
     if bad_list(start, end) {
-        return Verdict::Bad(Refusal::Count, 0);
+        return Err(Refused(Refusal::Count, 0));
     }
     if bad_list(other_start, other_end) {
-        return Verdict::Bad(Refusal::Count, 0);
+        return Err(Refused(Refusal::Count, 0));
     }
     pair(start, end, other_start, other_end)
 }

@@ -1,4 +1,5 @@
 -- The range entries: what a verdict that is fine says of the lists, and what an answer or a refusal leaves.
+use Rattle.std.specs.Prelude.{Err, Ok}
 use mathlib.Core.Path.{◌≡◌, refl, sym, ap, ◌∙◌}
 use mathlib.Core.Logic.{◌↔◌}
 use mathlib.Core.Bool.{Bool, true, false, ◌||◌}
@@ -10,22 +11,18 @@ use lib.Seq.{take-append_seam}
 use lib.Dec.{ltb}
 use borrow.Author.Tests.{ltb-false, eqb-true, not-false}
 use Rattle.words.proofs.Bools.{or_neither}
-use Rattle.refusals.specs.declared.Verdict.{Verdict}
-use Rattle.refusals.specs.declared.Verdict.TheVariants.{Fine, Bad}
 use Rattle.refusals.specs.declared.Refusal.{Refusal}
 use Rattle.refusals.specs.declared.Refusal.TheVariants.{Count, Space}
-use Rattle.refusals.specs.Verdicts.{in_order, check, counted_on}
-use Rattle.refusals.specs.Outcomes.{given, unless, after}
+use Rattle.refusals.specs.Verdicts.{in_order, check, counted_on, Bad, Fine, Verdict}
+use Rattle.refusals.specs.Outcomes.{given, unless, after, answered}
 use Rattle.refusals.proofs.Laws.{first_left, first_right, check_told}
 use Rattle.ranges.specs.declared.Range.{Range}
-use Rattle.range_entries.specs.declared.Counted.TheVariants.{Ranges, Refused}
-use Rattle.range_entries.specs.declared.Clash.TheVariants.{Is, Refused as ClashRefused}
 use Rattle.ranges.specs.Points.{Upright, Apart, Same}
 use Rattle.ranges.specs.Merged.{merged}
 use Rattle.ranges.specs.Forms.{columns, starts, ends}
 use Rattle.ranges.specs.Lent.{list_verdict}
 use Rattle.range_checks.specs.Verdicts.{uneven, bad_list, pair_verdict, merged_verdict, joined_verdict, union_verdict, clashes_verdict}
-use Rattle.range_entries.specs.Entries.{clashing, size, merged_of, Listed}
+use Rattle.range_entries.specs.Entries.{size, merged_of, Listed}
 use Rattle.ranges.specs.Inner.{Listing}
 use Rattle.ranges.proofs.LentLaws.{fine_upright, fine_apart}
 use Rattle.ranges.proofs.GapLaws.{merged_same}
@@ -54,7 +51,7 @@ test_told c v e = (check_told Count c (first_left _ _ e), first_left v _ (first_
 
 counted_fine : (n : ℕ) (v : Verdict) → counted_on n v ≡ Fine → v ≡ Fine
 counted_fine n Fine e = refl
-counted_fine n (Bad r i) e = absurd (let z : ◌≡◌ {A = ℕ} 0 1 = cc in omega arith)
+counted_fine n (Err x) e = absurd (let z : ◌≡◌ {A = ℕ} 0 1 = cc in omega arith)
 
 pub pair_apart_one : (rs ss : List Range) → pair_verdict true rs ss ≡ Fine → Apart rs
 unfolding pair_verdict
@@ -114,26 +111,26 @@ clashes_fine ss es ts fs e =
 -- ---- what the answer lists hold
 
 pub listed : (v : Verdict) (rs : List Range) (os oe os' oe' : List ℕ) (k : ℕ) → v ≡ Fine → length os ≡ length oe → length os' ≡ length oe'
-    → Listing (columns os oe) (columns os' oe') k rs → Listed (unless v rs) os oe (Ranges k) os' oe'
+    → Listing (columns os oe) (columns os' oe') k rs → Listed (unless v rs) os oe (Ok k) os' oe'
 listed v rs os oe os' oe' k e h h' w =
     rw e (record { answer = ap given (sym (listing_length w)); in_starts = starts_are os oe os' oe' h h' w; in_ends = ends_are os oe os' oe' h h' w })
 
-pub unlisted : (v : Verdict) (rs : List Range) (os oe : List ℕ) (r : Refusal) (i : ℕ) → v ≡ Bad r i → Listed (unless v rs) os oe (Refused r i) os oe
+pub unlisted : (v : Verdict) (rs : List Range) (os oe : List ℕ) (r : Refusal) (i : ℕ) → v ≡ Bad r i → Listed (unless v rs) os oe (Err (r, i)) os oe
 unlisted v rs os oe r i e = rw e (record { answer = refl; in_starts = refl; in_ends = refl })
 
-pub clash_told : (v : Verdict) (b c : Bool) → v ≡ Fine → b ≡ c → clashing (Is b) ≡ unless v c
+pub clash_told : (v : Verdict) (b c : Bool) → v ≡ Fine → b ≡ c → answered (Ok b) ≡ unless v c
 clash_told v b c e h = rw (e, h)
 
-pub clash_refused : (v : Verdict) (c : Bool) (r : Refusal) (i : ℕ) → v ≡ Bad r i → clashing (ClashRefused r i) ≡ unless v c
+pub clash_refused : (v : Verdict) (c : Bool) (r : Refusal) (i : ℕ) → v ≡ Bad r i → answered (Err (r, i)) ≡ unless v c
 clash_refused v c r i e = rw e
 
 -- ---- two calls of `merged`
 
 given_fine : (v : Verdict) (rs : List Range) (n : ℕ) → given n ≡ size (unless v rs) → v ≡ Fine
 given_fine Fine rs n e = refl
-given_fine (Bad r i) rs n e = absurd (let z : ◌≡◌ {A = ℕ} 0 1 = cc in omega arith)
+given_fine (Err x) rs n e = absurd (let z : ◌≡◌ {A = ℕ} 0 1 = cc in omega arith)
 
-module _ (ss es : List ℕ) {os oe os' oe' : List ℕ} {n : ℕ} (M : Listed (merged_of ss es (length os) (length oe)) os oe (Ranges n) os' oe') where
+module _ (ss es : List ℕ) {os oe os' oe' : List ℕ} {n : ℕ} (M : Listed (merged_of ss es (length os) (length oe)) os oe (Ok n) os' oe') where
   abbrev all : List Range
   all = merged (columns ss es)
 
@@ -157,8 +154,8 @@ module _ (ss es : List ℕ) {os oe os' oe' : List ℕ} {n : ℕ} (M : Listed (me
       ∙ ap (columns (starts all)) (front (λ r. r.end) _ oe' (M.in_ends ∙ ap (λ (v : Verdict). after (unless v all) ends oe) fine)) ∙ columns_again all
 
 -- document 02, (b): what two calls wrote is the same list exactly when the lists that were lent cover the same points
-pub merged_answers : (ss es ts fs : List ℕ) {os oe os' oe' ps qs ps' qs' : List ℕ} {n m : ℕ} → Listed (merged_of ss es (length os) (length oe)) os oe (Ranges n) os' oe'
-    → Listed (merged_of ts fs (length ps) (length qs)) ps qs (Ranges m) ps' qs'
+pub merged_answers : (ss es ts fs : List ℕ) {os oe os' oe' ps qs ps' qs' : List ℕ} {n m : ℕ} → Listed (merged_of ss es (length os) (length oe)) os oe (Ok n) os' oe'
+    → Listed (merged_of ts fs (length ps) (length qs)) ps qs (Ok m) ps' qs'
     → (columns (take n os') (take n oe') ≡ columns (take m ps') (take m qs')) ↔ Same (columns ss es) (columns ts fs)
 merged_answers ss es ts fs M N =
     let s = merged_same (columns ss es) (columns ts fs) (lent_upright ss es M) (lent_upright ts fs N) in

@@ -1,24 +1,12 @@
 -- What the range entries answer: an outcome each, a refusal's number and index or the answer.
 use Rattle.std.specs.Prelude.{ℕ, ◌≡◌, Bool, List, length}
-use Rattle.refusals.specs.Verdicts.{number_of}
-use Rattle.refusals.specs.Outcomes.{Outcome, given, refused, unless, after}
+use Rattle.refusals.specs.Verdicts.{number_of, Answer}
+use Rattle.refusals.specs.Outcomes.{Outcome, given, refused, unless, after, answered}
 use Rattle.ranges.specs.declared.Range.{Range}
 use Rattle.ranges.specs.Merged.{merged, joined, union, clashes}
 use Rattle.ranges.specs.Forms.{columns, starts, ends}
 use Rattle.range_checks.specs.Verdicts.{merged_verdict, joined_verdict, union_verdict, clashes_verdict}
-use Rattle.range_entries.specs.declared.Counted.{Counted}
-use Rattle.range_entries.specs.declared.Counted.TheVariants.{Ranges, Refused}
-use Rattle.range_entries.specs.declared.Clash.{Clash}
-use Rattle.range_entries.specs.declared.Clash.TheVariants.{Is, Refused as ClashRefused}
-
--- what each case of an answer stands for
-abbrev pub counted : Counted → Outcome ℕ
-counted (Ranges n) = given n
-counted (Refused r i) = refused (number_of r) i
-
-abbrev pub clashing : Clash → Outcome Bool
-clashing (Is b) = given b
-clashing (ClashRefused r i) = refused (number_of r) i
+use Rattle.refusals.specs.declared.Refused.{Refused}
 
 -- the outcomes of the entries
 abbrev pub merged_of : List ℕ → List ℕ → ℕ → ℕ → Outcome (List Range)
@@ -39,7 +27,7 @@ size (given rs) = given (length rs)
 size (refused n i) = refused n i
 
 -- the answer is the outcome's count, and the two columns hold its ranges, then what they held
-pub record Listed (o : Outcome (List Range)) (os oe : List ℕ) (r : Counted) (os' oe' : List ℕ) : Type 0 where
-  pub answer : counted r ≡ size o
+pub record Listed (o : Outcome (List Range)) (os oe : List ℕ) (r : Answer) (os' oe' : List ℕ) : Type 0 where
+  pub answer : answered r ≡ size o
   pub in_starts : os' ≡ after o starts os
   pub in_ends : oe' ≡ after o ends oe

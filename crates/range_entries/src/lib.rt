@@ -3,35 +3,19 @@
 
 ghost use Rattle.std.specs.Prelude.{◌≡◌, length};
 ghost use Rattle.ranges.specs.Points.{range};
-ghost use Rattle.range_entries.specs.Entries.{merged_of, joined_of, union_of, clashes_of, clashing, Listed};
+ghost use Rattle.range_entries.specs.Entries.{merged_of, joined_of, union_of, clashes_of, Listed};
+ghost use Rattle.refusals.specs.Outcomes.{answered};
 
-use refusals::{Refusal, Verdict};
-
-// The answer of an entry that writes ranges: how many it wrote, or its refusal.
-#[derive(Clone, Copy)]
-pub enum Counted {
-    Ranges(usize),
-    Refused(Refusal, usize),
-}
-
-// The answer of the clash test, or its refusal.
-#[derive(Clone, Copy)]
-pub enum Clash {
-    Is(bool),
-    Refused(Refusal, usize),
-}
+use refusals::{Answer, Refused};
 
 // The ranges sorted by start, then end, with those joined that share a point or touch, into the answer's columns: O(n log n).
 // Refuses columns of different lengths or more than 65,536 ranges (1), an answer shorter than the list (7), a reversed range (10).
-pub fn merged(start: &[u32], end: &[u32], out_start: &mut [u32], out_end: &mut [u32]) -> Counted
+pub fn merged(start: &[u32], end: &[u32], out_start: &mut [u32], out_end: &mut [u32]) -> Answer
     ensures { Listed (merged_of start.now end.now (length out_start.old) (length out_end.old))
         out_start.old out_end.old result out_start.new out_end.new }
 {
-    let v = range_checks::merged(start, end, out_start.len(), out_end.len());
-    if let Verdict::Bad(r, i) = v {
-        return Counted::Refused(r, i);
-    }
-    Counted::Ranges(merging::merge(start, end, out_start, out_end))
+    range_checks::merged(start, end, out_start.len(), out_end.len())?;
+    Ok(merging::merge(start, end, out_start, out_end))
 }
 
 // The list with one range more: its last range lengthened where the new one starts on the point after its end, else the new one appended.
@@ -43,22 +27,19 @@ pub fn joined(
     new_end: u32,
     out_start: &mut [u32],
     out_end: &mut [u32],
-) -> Counted
+) -> Answer
     ensures { Listed (joined_of start.now end.now (range new_start new_end) (length out_start.old) (length out_end.old))
         out_start.old out_end.old result out_start.new out_end.new }
 {
-    let v = range_checks::joined(
+    range_checks::joined(
         start,
         end,
         new_start,
         new_end,
         out_start.len(),
         out_end.len(),
-    );
-    if let Verdict::Bad(r, i) = v {
-        return Counted::Refused(r, i);
-    }
-    Counted::Ranges(columns::join_on(start, end, new_start, new_end, out_start, out_end))
+    )?;
+    Ok(columns::join_on(start, end, new_start, new_end, out_start, out_end))
 }
 
 // What `merged` makes of two lists together, in one pass: both are in order and apart.
@@ -70,32 +51,31 @@ pub fn union(
     other_end: &[u32],
     out_start: &mut [u32],
     out_end: &mut [u32],
-) -> Counted
+) -> Answer
     ensures { Listed (union_of start.now end.now other_start.now other_end.now (length out_start.old)
         (length out_end.old))
         out_start.old out_end.old result out_start.new out_end.new }
 {
-    let v = range_checks::union(
+    range_checks::union(
         start,
         end,
         other_start,
         other_end,
         out_start.len(),
         out_end.len(),
-    );
-    if let Verdict::Bad(r, i) = v {
-        return Counted::Refused(r, i);
-    }
-    Counted::Ranges(columns::unite(start, end, other_start, other_end, out_start, out_end))
+    )?;
+    Ok(columns::unite(start, end, other_start, other_end, out_start, out_end))
 }
 
 // Whether some point is in both lists, which are in order and apart. Refuses as `union` does, but has no answer list.
-pub fn clashes(start: &[u32], end: &[u32], other_start: &[u32], other_end: &[u32]) -> Clash
-    ensures { clashing result ≡ clashes_of start.now end.now other_start.now other_end.now }
+pub fn clashes(
+    start: &[u32],
+    end: &[u32],
+    other_start: &[u32],
+    other_end: &[u32],
+) -> Result<bool, Refused>
+    ensures { answered result ≡ clashes_of start.now end.now other_start.now other_end.now }
 {
-    let v = range_checks::clashes(start, end, other_start, other_end);
-    if let Verdict::Bad(r, i) = v {
-        return Clash::Refused(r, i);
-    }
-    Clash::Is(clashing::clash(start, end, other_start, other_end))
+    range_checks::clashes(start, end, other_start, other_end)?;
+    Ok(clashing::clash(start, end, other_start, other_end))
 }

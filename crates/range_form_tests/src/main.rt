@@ -2,79 +2,39 @@
 // `clash` and `join` lend their locals.
 #![tactic(auto)]
 
-use range_entries::Clash;
-use range_forms::TakenUp;
 use ranges::Range;
-use refusals::{Refusal, number};
+use refusals::Refused;
 use std::io;
 use std::io::{Print, Stdout};
 
-fn text(out: Stdout, s: &[u8]) -> io::Result<()> {
-    out.write_all(s)
-}
-
-fn refused(out: Stdout, r: Refusal, i: usize) -> io::Result<()> {
-    text(out, b"refused ")?;
-    out.print(number(r) as u64)?;
-    text(out, b" at ")?;
-    out.print(i as u64)
-}
-
-fn yes_or_no(out: Stdout, b: bool) -> io::Result<()> {
-    if b {
-        text(out, b"yes")?;
-    } else {
-        text(out, b"no")?;
-    }
-    Ok(())
-}
-
-fn show_clash(out: Stdout, c: Clash) -> io::Result<()> {
-    text(out, b"clashes ")?;
-    match c {
-        Clash::Is(b) => yes_or_no(out, b)?,
-        Clash::Refused(r, i) => refused(out, r, i)?,
-    }
-    text(out, b"\n")
-}
-
-fn show_joined(out: Stdout, last: Range, t: TakenUp) -> io::Result<()> {
-    text(out, b"joined ")?;
-    match t {
-        TakenUp::Is(b) => yes_or_no(out, b)?,
-        TakenUp::Refused(r, i) => refused(out, r, i)?,
-    }
-    text(out, b": ")?;
-    out.print(last.start as u64)?;
-    text(out, b"-")?;
-    out.print(last.end as u64)?;
-    text(out, b"\n")
-}
-
 // Two lists of two ranges, lent.
 fn clash(out: Stdout, a: [Range; 2], b: [Range; 2]) -> io::Result<()> {
-    let c = range_forms::clashes(&a, &b);
-    show_clash(out, c)
+    print!(out; "clashes")?;
+    match range_forms::clashes(&a, &b) {
+        Ok(b) => cases::yes_or_no(out, b)?,
+        Err(Refused(r, i)) => cases::bad(out, r, i)?,
+    }
+    println!(out)
 }
 
 // The first range lent, and a new one.
 fn join(out: Stdout, last: Range, new: Range) -> io::Result<()> {
     let mut l = last;
-    let t = range_forms::joined(&mut l, new);
-    show_joined(out, l, t)
+    print!(out; "joined")?;
+    match range_forms::joined(&mut l, new) {
+        Ok(b) => cases::yes_or_no(out, b)?,
+        Err(Refused(r, i)) => cases::bad(out, r, i)?,
+    }
+    let Range { start, end } = l;
+    println!(out; ": {start}-{end}")
 }
 
 fn range(start: u32, end: u32) -> Range {
-    Range {
-        start: start,
-        end: end,
-    }
+    Range { start, end }
 }
 
 fn two(a: u32, b: u32, c: u32, d: u32) -> [Range; 2] {
-    let r = range(a, b);
-    let s = range(c, d);
-    [r, s]
+    [range(a, b), range(c, d)]
 }
 
 // Document 01's third and fourth example, each with a range far off in either list; the largest point; a gap that the other list fills; a reversed range, and one

@@ -9,9 +9,8 @@ use lib.ListN.{length, get_or, set, take, length-map}
 use borrow.Author.Tests.{lt-ltb, le-ltb, eq-eqb}
 use Rattle.words.proofs.Points.{stored, cut}
 use Rattle.words.proofs.Bools.{or_right, or_left}
-use Rattle.refusals.specs.declared.Verdict.{Verdict}
 use Rattle.refusals.specs.declared.Refusal.TheVariants.{Count}
-use Rattle.refusals.specs.Verdicts.{in_order, check}
+use Rattle.refusals.specs.Verdicts.{in_order, check, Verdict}
 use Rattle.refusals.specs.Outcomes.{Outcome, refused, unless}
 use Rattle.ranges.specs.declared.Range.{Range}
 use Rattle.ranges.specs.Points.{range_at}
@@ -49,11 +48,11 @@ module _ (k : ℕ) (s e : List ℕ) (n : ℕ) (t f : List ℕ) (m : ℕ) where
   over_fine h l = sym (rw (le-ltb k n h, le-ltb k m l))
 
 module _ (k : ℕ) (rs ss : List Range) where
-  within_first : k < length rs → refused 1 0 ≡ clashes_within k rs ss
+  pub within_first : k < length rs → refused 1 0 ≡ clashes_within k rs ss
   unfolding clashes_within
   within_first h = sym (rw (lt-ltb k (length rs) h))
 
-  within_second : length rs ≤ k → k < length ss → refused 1 0 ≡ clashes_within k rs ss
+  pub within_second : length rs ≤ k → k < length ss → refused 1 0 ≡ clashes_within k rs ss
   unfolding clashes_within
   within_second h l = sym (rw (le-ltb k (length rs) h, lt-ltb k (length ss) l))
 
@@ -108,6 +107,10 @@ module _ (rs ss : List Range) where
       cut (length rs) 65536
       (λ h. cut (length ss) 65536 (λ l. within_both 65536 rs ss h l) (λ l. sym (within_second 65536 rs ss h l) ∙ second_over l))
       (λ h. sym (within_first 65536 rs ss h) ∙ first_over h)
+
+-- a column as long as the zeros that it was
+pub column_of : (k n : ℕ) (t : Bool) (rs : List Range) (c : List ℕ) → n ≡ k → Column n t rs c → Column k t rs c
+column_of k n t rs c e h = subst (λ (m : ℕ). Column m t rs c) e h
 
 -- what is taken of a list into columns of k numbers
 pub record Apart (k : ℕ) (rs : List Range) (s e : List ℕ) : Type 0 where

@@ -1,4 +1,5 @@
 -- `joined` of one range and a new one, by the facts that each way out of the code has found.
+use Rattle.std.specs.Prelude.{Err, Ok, Result}
 use mathlib.Core.Path.{◌≡◌, refl, sym, ap, ◌∙◌}
 use mathlib.Core.Bool.{Bool, true, false, cond}
 use mathlib.Core.List.{[], ◌∷◌}
@@ -6,21 +7,18 @@ use Prim.Native.Nat.{ℕ, ◌+◌, ◌≤◌, ◌<◌}
 use lib.ListN.{length}
 use lib.Dec.{eqb}
 use borrow.Author.Tests.{lt-ltb, le-ltb}
-use Rattle.refusals.specs.declared.Verdict.{Verdict}
-use Rattle.refusals.specs.declared.Verdict.TheVariants.{Fine, Bad}
 use Rattle.refusals.specs.declared.Refusal.{Refusal}
 use Rattle.refusals.specs.declared.Refusal.TheVariants.{Want}
-use Rattle.refusals.specs.Verdicts.{scan, first}
-use Rattle.refusals.specs.Outcomes.{Outcome, given, refused, unless}
+use Rattle.refusals.specs.Verdicts.{scan, first, Bad, Fine, Verdict}
+use Rattle.refusals.specs.Outcomes.{Outcome, given, refused, unless, answered}
 use Rattle.ranges.specs.declared.Range.{Range}
 use Rattle.ranges.specs.Points.{range}
 use Rattle.ranges.specs.Merged.{joined}
 use Rattle.ranges.specs.Lent.{list_verdict}
 use Rattle.range_checks.proofs.VerdictLaws.{pair_first, pair_new_bad, pair_new_fine}
 use Rattle.range_checks.specs.Verdicts.{pair_verdict}
-use Rattle.range_forms.specs.Lent.{joined_of, taken_up, last_after, taking}
-use Rattle.range_forms.specs.declared.TakenUp.{TakenUp}
-use Rattle.range_forms.specs.declared.TakenUp.TheVariants.{Is, Refused}
+use Rattle.range_forms.specs.Lent.{joined_of, taken_up, last_after}
+use Rattle.refusals.specs.declared.Refused.{Refused}
 
 -- one range by itself
 alone_bad : (r : Range) → r.end < r.start → list_verdict false (r ∷ []) ≡ Bad Want 0
@@ -45,10 +43,10 @@ module _ (last new : Range) where
   both_upright u v = rw (sym (pair_new_fine (last ∷ []) new.start new.end (alone_fine last u) v))
 
   -- the ways out of `taken_up`
-  pub says_last : last.end < last.start → taking (Refused Want 0) ≡ taken_up (joined_of last new)
+  pub says_last : last.end < last.start → answered (Err (Want, 0)) ≡ taken_up (joined_of last new)
   says_last h = sym (ap taken_up (last_reversed h))
 
-  pub says_new : last.start ≤ last.end → new.end < new.start → taking (Refused Want 1) ≡ taken_up (joined_of last new)
+  pub says_new : last.start ≤ last.end → new.end < new.start → answered (Err (Want, 1)) ≡ taken_up (joined_of last new)
   says_new u h = sym (ap taken_up (new_reversed u h))
 
   one_left : (t : Bool) → eqb (length (cond t (range last.start new.end ∷ []) (last ∷ new ∷ []))) 1 ≡ t
@@ -59,7 +57,7 @@ module _ (last new : Range) where
   unfolding joined
   counted = one_left (eqb new.start (last.end + 1))
 
-  pub says_follows : last.start ≤ last.end → new.start ≤ new.end → (b : Bool) → b ≡ eqb new.start (last.end + 1) → taking (Is b) ≡ taken_up (joined_of last new)
+  pub says_follows : last.start ≤ last.end → new.start ≤ new.end → (b : Bool) → b ≡ eqb new.start (last.end + 1) → answered (Ok b) ≡ taken_up (joined_of last new)
   says_follows u v b e = ap given (e ∙ sym counted) ∙ sym (ap taken_up (both_upright u v))
 
   -- the last range afterwards, by whether the new one was taken up
@@ -77,27 +75,27 @@ module _ (last new : Range) where
 
   after_unless : (v : Verdict) → last_after (unless v (joined (last ∷ []) new)) last ≡ range last.start (end_by (taken_up (unless v (joined (last ∷ []) new))))
   after_unless Fine = after_joined
-  after_unless (Bad r i) = refl
+  after_unless (Err e) = refl
 
   after_by : last_after (joined_of last new) last ≡ range last.start (end_by (taken_up (joined_of last new)))
   unfolding joined_of
   after_by = after_unless (pair_verdict false (last ∷ []) (new ∷ []))
 
-  end_by_lem : (t : TakenUp) → taking t ≡ taken_up (joined_of last new) → (last_after (joined_of last new) last).end ≡ end_by (taking t)
+  end_by_lem : (t : Result Bool Refused) → answered t ≡ taken_up (joined_of last new) → (last_after (joined_of last new) last).end ≡ end_by (answered t)
   end_by_lem t e = ap (λ (r : Range). r.end) after_by ∙ ap end_by (sym e)
 
   -- the ways out of `end_after`
-  pub end_told : (t : TakenUp) → taking t ≡ taken_up (joined_of last new) → (b : Bool) → t ≡ Is b → cond b new.end last.end ≡ (last_after (joined_of last new) last).end
-  end_told t e b h = sym (end_by_lem t e ∙ ap (λ (u : TakenUp). end_by (taking u)) h)
+  pub end_told : (t : Result Bool Refused) → answered t ≡ taken_up (joined_of last new) → (b : Bool) → t ≡ Ok b → cond b new.end last.end ≡ (last_after (joined_of last new) last).end
+  end_told t e b h = sym (end_by_lem t e ∙ ap (λ (u : Result Bool Refused). end_by (answered u)) h)
 
-  pub end_raised : (t : TakenUp) → taking t ≡ taken_up (joined_of last new) → (b : Bool) → t ≡ Is b → b ≡ true → new.end ≡ (last_after (joined_of last new) last).end
+  pub end_raised : (t : Result Bool Refused) → answered t ≡ taken_up (joined_of last new) → (b : Bool) → t ≡ Ok b → b ≡ true → new.end ≡ (last_after (joined_of last new) last).end
   end_raised t e b h y = sym (ap (λ (x : Bool). cond x new.end last.end) y) ∙ end_told t e b h
 
-  pub end_left : (t : TakenUp) → taking t ≡ taken_up (joined_of last new) → (b : Bool) → t ≡ Is b → b ≡ false → last.end ≡ (last_after (joined_of last new) last).end
+  pub end_left : (t : Result Bool Refused) → answered t ≡ taken_up (joined_of last new) → (b : Bool) → t ≡ Ok b → b ≡ false → last.end ≡ (last_after (joined_of last new) last).end
   end_left t e b h y = sym (ap (λ (x : Bool). cond x new.end last.end) y) ∙ end_told t e b h
 
-  pub end_kept : (t : TakenUp) → taking t ≡ taken_up (joined_of last new) → (r : Refusal) (i : ℕ) → t ≡ Refused r i → last.end ≡ (last_after (joined_of last new) last).end
-  end_kept t e r i h = sym (end_by_lem t e ∙ ap (λ (u : TakenUp). end_by (taking u)) h)
+  pub end_kept : (t : Result Bool Refused) → answered t ≡ taken_up (joined_of last new) → (r : Refusal) (i : ℕ) → t ≡ Err (r, i) → last.end ≡ (last_after (joined_of last new) last).end
+  end_kept t e r i h = sym (end_by_lem t e ∙ ap (λ (u : Result Bool Refused). end_by (answered u)) h)
 
   -- only the end changes
   pub end_changes : (e : ℕ) → e ≡ (last_after (joined_of last new) last).end → range last.start e ≡ last_after (joined_of last new) last

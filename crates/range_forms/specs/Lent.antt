@@ -1,19 +1,13 @@
 -- Document 01, "The form for each place": the range functions over ranges that are lent as structs.
-use Rattle.std.specs.Prelude.{◌≡◌, Bool, true, false, ◌||◌, List, [], ◌∷◌, length, eqb, ltb}
+use Rattle.std.specs.Prelude.{◌≡◌, Bool, true, false, ◌||◌, List, [], ◌∷◌, length, eqb, ltb, Result}
 use Rattle.refusals.specs.declared.Refusal.TheVariants.{Count}
 use Rattle.refusals.specs.Verdicts.{number_of, in_order, check}
-use Rattle.refusals.specs.Outcomes.{Outcome, given, refused, unless}
+use Rattle.refusals.specs.Outcomes.{Outcome, given, refused, unless, answered}
 use Rattle.ranges.specs.declared.Range.{Range}
 use Rattle.ranges.specs.Points.{range_at}
 use Rattle.ranges.specs.Merged.{joined, clashes}
 use Rattle.range_checks.specs.Verdicts.{pair_verdict}
-use Rattle.range_forms.specs.declared.TakenUp.{TakenUp}
-use Rattle.range_forms.specs.declared.TakenUp.TheVariants.{Is, Refused}
-
--- what each case of an answer stands for
-abbrev pub taking : TakenUp → Outcome Bool
-taking (Is b) = given b
-taking (Refused r i) = refused (number_of r) i
+use Rattle.refusals.specs.declared.Refused.{Refused}
 
 -- `joined` of a list that is the last range alone: number 10 for a reversed range, the new one counted on from the last
 unfoldable pub joined_of : Range → Range → Outcome (List Range)
@@ -30,8 +24,8 @@ last_after (given rs) last = range_at rs 0
 last_after (refused n i) last = last
 
 -- the answer, and what the lent range has become
-pub record Joins (last new : Range) (r : TakenUp) (last' : Range) : Type 0 where
-  pub answer : taking r ≡ taken_up (joined_of last new)
+pub record Joins (last new : Range) (r : Result Bool Refused) (last' : Range) : Type 0 where
+  pub answer : answered r ≡ taken_up (joined_of last new)
   pub in_last : last' ≡ last_after (joined_of last new) last
 
 -- number 1: a list lent that is over its limit

@@ -1,4 +1,5 @@
 -- What a walk tells: by the range where it stops, of a want's part, and number 10 by its count.
+use Rattle.std.specs.Prelude.{Err}
 use Prim.Native.Nat.{ℕ, ◌+◌, ◌-◌, ◌≤◌, ◌<◌}
 use native.Mathlib.Omega.{arith}
 use mathlib.Core.Path.{◌≡◌, refl, ap, sym, ◌∙◌}
@@ -7,11 +8,9 @@ use mathlib.Core.List.{List}
 use lib.ListN.{length, take, drop, length-take}
 use lib.Dec.{ltb, eqb}
 use borrow.Author.Tests.{lt-ltb, le-ltb, eq-eqb, ne_eqb}
-use Rattle.refusals.specs.declared.Verdict.{Verdict}
-use Rattle.refusals.specs.declared.Verdict.TheVariants.{Fine, Bad}
 use Rattle.refusals.specs.declared.Refusal.{Refusal}
 use Rattle.refusals.specs.declared.Refusal.TheVariants.{Want}
-use Rattle.refusals.specs.Verdicts.{scan, refuses}
+use Rattle.refusals.specs.Verdicts.{scan, refuses, Bad, Fine, Verdict}
 use Rattle.refusals.proofs.Laws.{scan_hit, scan_all, scan_bad}
 use Rattle.words.specs.Widths.{range_count}
 use Rattle.ranges.specs.declared.Range.{Range}
@@ -47,7 +46,7 @@ module _ (rs : List Range) where
     where
       go : (v : Verdict) → list_verdict true rs ≡ v → refuses v ≡ false → up_to (length rs) v ≡ length rs
       go Fine q e = refl
-      go (Bad r i) q e = absurd (true≢false e)
+      go (Err x) q e = absurd (true≢false e)
 
   -- "or up to and with the first that is reversed or starts no later than the one before ends"
   pub looked_first : (i : ℕ) → i < length rs → wrong_at true rs i ≡ true → ((j : ℕ) → j < i → wrong_at true rs j ≡ false) → looked_in rs ≡ i + 1
@@ -60,14 +59,14 @@ module _ (rs : List Range) where
     where
       go : (v : Verdict) → list_verdict true rs ≡ v → v ≡ cond (refuses v) (Bad Want (up_to (length rs) v - 1)) Fine
       go Fine q = refl
-      go (Bad r i) q = let (e, l) = named r i q in let d : i + 1 - 1 ≡ i = omega arith in rw (e, d) refl
+      go (Err x) q = let (e, l) = named x.0 x.1 q in let d : x.1 + 1 - 1 ≡ x.1 = omega arith in rw (e, d) refl
 
   most : looked_in rs ≤ length rs
   most = go (list_verdict true rs) refl
     where
       go : (v : Verdict) → list_verdict true rs ≡ v → up_to (length rs) v ≤ length rs
       go Fine q = omega arith
-      go (Bad r i) q = let l = (named r i q).1 in omega arith
+      go (Err e) q = let l = (named e.0 e.1 q).1 in omega arith
 
 -- never more than the part has
 pub looked_within : (areas : List Range) (present first count : ℕ) → looked_at areas present first count ≤ count

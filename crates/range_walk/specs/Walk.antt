@@ -1,9 +1,8 @@
 -- Document 02, (c), "One walk over a given area": of a want's part of the area list, whether number 10 applies, and how many of its ranges are looked at.
-use Rattle.std.specs.Prelude.{ℕ, ◌+◌, Bool, true, false, cond, ◌||◌, List, length, take, drop, ltb, eqb}
-use Rattle.refusals.specs.declared.Verdict.{Verdict}
-use Rattle.refusals.specs.declared.Verdict.TheVariants.{Fine, Bad}
+use Rattle.std.specs.Prelude.{ℕ, ◌+◌, Bool, true, false, cond, ◌||◌, List, length, take, drop, ltb, eqb, Err}
 use Rattle.ranges.specs.declared.Range.{Range}
 use Rattle.ranges.specs.Lent.{list_verdict, faulty}
+use Rattle.refusals.specs.Verdicts.{Fine, Verdict}
 
 -- number 10: "an area outside its list, reversed, unsorted or overlapping itself"; an absent want's part is not read
 abbrev pub bad_part : List Range → ℕ → ℕ → ℕ → Bool
@@ -12,7 +11,7 @@ bad_part areas present first count = cond (eqb present 0) false (ltb (length are
 -- "all, or up to and with the first" that a verdict names
 abbrev pub up_to : ℕ → Verdict → ℕ
 up_to all Fine = all
-up_to all (Bad r i) = i + 1
+up_to all (Err e) = e.1 + 1
 
 -- "the ranges it looks at": "all, or up to and with the first that is reversed or starts no later than the one before ends"
 abbrev pub looked_in : List Range → ℕ

@@ -42,12 +42,10 @@ fn along(areas: &[u32], first: usize, count: usize) -> Look
     requires { first + count ≤ range_count areas.now }
     ensures { (result.fine ≡ not (faulty (take count (drop first (areas_of areas.now))))) × (result.looked ≡ looked_in (take count (drop first (areas_of areas.now)))) }
 {
-    let mut i = 0;
-    while i < count {
+    for i in 0..count {
         if wrong(areas, first, i) {
             return tell(false, i + 1);
         }
-        i += 1;
     }
     tell(true, count)
 }

@@ -2,9 +2,8 @@
 use mathlib.Core.Path.{◌≡◌, refl}
 use mathlib.Core.Bool.{true, false}
 use mathlib.Core.List.{[], ◌∷◌}
-use Rattle.refusals.specs.declared.Verdict.TheVariants.{Fine, Bad}
 use Rattle.refusals.specs.declared.Refusal.TheVariants.{Want}
-use Rattle.refusals.specs.Verdicts.{first, scan}
+use Rattle.refusals.specs.Verdicts.{first, scan, Bad, Fine}
 use Rattle.words.specs.Rows.{tabulate}
 use Rattle.ranges.specs.Points.{range, within, inside, overlaps}
 use Rattle.ranges.specs.Merged.{not_after, insert, sort, join, merged, joined}

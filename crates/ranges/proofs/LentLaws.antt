@@ -1,4 +1,5 @@
 -- A lent list: its test at one range, by the numbers that are read; without refusal no range is reversed, and one that is to be in order is in order and apart.
+use Rattle.std.specs.Prelude.{Err}
 use mathlib.Core.Path.{◌≡◌, refl, ap, sym, ◌∙◌}
 use mathlib.Core.Bool.{Bool, true, false, true≢false}
 use mathlib.Core.List.{List, [], ◌∷◌}
@@ -9,10 +10,8 @@ use lib.Seq.{get_or-take}
 use lib.Dec.{leb}
 use borrow.Author.Tests.{lt-ltb, le-ltb, ltb-false, leb-false}
 use Rattle.words.proofs.Bools.{or_neither}
-use Rattle.refusals.specs.declared.Verdict.{Verdict}
-use Rattle.refusals.specs.declared.Verdict.TheVariants.{Fine, Bad}
 use Rattle.refusals.specs.declared.Refusal.TheVariants.{Want}
-use Rattle.refusals.specs.Verdicts.{refuses}
+use Rattle.refusals.specs.Verdicts.{refuses, Fine, Verdict}
 use Rattle.refusals.proofs.Laws.{scan_fine, scan_all}
 use Rattle.ranges.specs.declared.Range.{Range}
 use Rattle.ranges.specs.Points.{range, range_at, Upright, Past, Apart}
@@ -90,7 +89,7 @@ faulty_at rs i h e = go (list_verdict true rs) refl
   where
     go : (v : Verdict) → list_verdict true rs ≡ v → refuses v ≡ true
     go Fine f = absurd (true≢false (sym e ∙ right_at true rs f i h))
-    go (Bad r j) f = refl
+    go (Err e) f = refl
 
 pub faulty_none : (rs : List Range) → ((i : ℕ) → i < length rs → wrong_at true rs i ≡ false) → faulty rs ≡ false
 unfolding list_verdict
@@ -101,4 +100,4 @@ faulty_apart rs e = go (list_verdict true rs) refl
   where
     go : (v : Verdict) → list_verdict true rs ≡ v → Apart rs
     go Fine f = fine_apart rs f
-    go (Bad r j) f = absurd (true≢false (sym (ap refuses f) ∙ e))
+    go (Err x) f = absurd (true≢false (sym (ap refuses f) ∙ e))

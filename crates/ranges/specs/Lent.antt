@@ -1,8 +1,7 @@
 -- Document 01, number 10: the form of a list of ranges that is lent.
 use Rattle.std.specs.Prelude.{ℕ, zero, suc, Bool, true, false, ◌&&◌, ◌||◌, List, length, leb, ltb}
-use Rattle.refusals.specs.declared.Verdict.{Verdict}
 use Rattle.refusals.specs.declared.Refusal.TheVariants.{Want}
-use Rattle.refusals.specs.Verdicts.{scan, refuses}
+use Rattle.refusals.specs.Verdicts.{scan, refuses, Verdict}
 use Rattle.ranges.specs.declared.Range.{Range}
 use Rattle.ranges.specs.Points.{range_at}
 

@@ -45,14 +45,10 @@ fn escape(
     requires { (from + n ≤ operand_count operands.now) × (row + row_words v ≤ length work.old) }
     ensures { Marked work.old work.new row v (escapes_in mem base index (operands_from operands.now from n)) }
 {
-    let mut p = 0;
-    while p < n {
+    for p in 0..n {
         if strays(operands, from + p, p, v, mem, base, index) {
             let r = wide(operands[operand::WIDTH * (from + p) + operand::REGISTER]);
             bits::set(work, row, r);
-            p += 1;
-        } else {
-            p += 1;
         }
     }
 }
@@ -93,14 +89,10 @@ fn stick(
     requires { (from + n ≤ operand_count operands.now) × (row + row_words v ≤ length work.old) }
     ensures { Marked work.old work.new row v (hands_in base index (operands_from operands.now from n)) }
 {
-    let mut p = 0;
-    while p < n {
+    for p in 0..n {
         if handed(operands, from, n, p, v, base, index) {
             let r = wide(operands[operand::WIDTH * (from + p) + operand::REGISTER]);
             bits::set(work, row, r);
-            p += 1;
-        } else {
-            p += 1;
         }
     }
 }
@@ -122,15 +114,11 @@ fn link(
     ensures { Linked work.old work.new at v inst n count result (hands_in base index (operands_from operands.now from n)) }
 {
     let mut k = count;
-    let mut p = 0;
-    while p < n {
+    for p in 0..n {
         if handed(operands, from, n, p, v, base, index) {
             let r = operands[operand::WIDTH * (from + p) + operand::REGISTER] as u64;
             work[at + k] = r * HALF + inst as u64;
             k += 1;
-            p += 1;
-        } else {
-            p += 1;
         }
     }
     k
@@ -232,11 +220,9 @@ pub fn scan(insts: &[u32], operands: &[u32], v: u32, work: &mut [u64], lay: Lay)
     let m = insts.len() / inst::WIDTH;
     let mut count = 0;
     let mut from = 0;
-    let mut i = 0;
-    while i < m {
+    for i in 0..m {
         count = one(insts, operands, i, from, v, work, lay, count);
         from += wide(insts[inst::WIDTH * i + inst::OPERANDS]);
-        i += 1;
     }
     count
 }

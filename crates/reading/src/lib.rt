@@ -22,14 +22,12 @@ pub fn input(stdin: Stdin, rows: &mut [u32], counts: &mut [u32]) -> io::Result<V
     let mut fields = [0; MOST_FIELDS];
     let mut piece = [0; 4096];
     let mut s = start(&mut line, rows, counts);
-    let mut turn: usize = 0;
-    while turn < 0x8_0000_0000_0000 {
+    for turn in 0..0x8_0000_0000_0000_u64 {
         let n = from.read(&mut piece)?;
         if n == 0 {
             return Ok(finish(s, rows));
         }
         s = feed(s, &piece[0..n], &mut line, &mut fields, rows, counts);
-        turn += 1;
     }
     Ok(finish(s, rows))
 }

@@ -4,10 +4,9 @@ use mathlib.Core.Path.{◌≡◌, refl}
 use mathlib.Core.Bool.{true, false}
 use mathlib.Core.List.{List, [], ◌∷◌, map}
 use lib.Dec.{eqb, leb}
-use Rattle.refusals.specs.declared.Verdict.TheVariants.{Fine, Bad}
 use Rattle.refusals.specs.declared.Refusal.{Refusal}
 use Rattle.refusals.specs.declared.Refusal.TheVariants.{Count, Line, Edge, Inst, Stray, Piece, Space, List as ListFull, Want, Text, Align, Depth}
-use Rattle.refusals.specs.Verdicts.{number_of, rank_of, first, in_order, scan, check, refuses, counted_on}
+use Rattle.refusals.specs.Verdicts.{number_of, rank_of, first, in_order, scan, check, refuses, counted_on, Bad, Fine}
 use Rattle.refusals.specs.Outcomes.{given, refused, unless, after}
 
 -- the table's first column, and "lowest number wins, except 11, which comes before all"

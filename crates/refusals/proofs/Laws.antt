@@ -1,4 +1,6 @@
 -- Laws of verdicts, one set for every group of records.
+use Rattle.std.specs.Prelude.{Result, Err, IsErrAnd}
+use Rattle.std.proofs.lemmas.Result.{err_from_is_err_and}
 use Prim.Native.Nat.{ℕ, zero, suc, ◌+◌, ◌≤◌, ◌<◌}
 use native.Mathlib.Numerals.{add-one}
 use native.Mathlib.Omega.{arith}
@@ -7,14 +9,21 @@ use mathlib.Core.Path.{◌≡◌, refl, sym, ap, ◌∙◌}
 use mathlib.Core.Bool.{Bool, true, false, cond}
 use mathlib.Core.List.{List, [], ◌∷◌}
 use Rattle.refusals.specs.Outcomes.{numbered}
-use Rattle.refusals.specs.Verdicts.{first, in_order, scan, check, counted_on}
+use Rattle.refusals.specs.Verdicts.{first, in_order, scan, check, counted_on, Bad, Fine, Verdict}
 use native.Mathlib.Nat.{zero-add}
 use Rattle.refusals.specs.declared.Refusal.{Refusal}
-use Rattle.refusals.specs.declared.Verdict.{Verdict}
-use Rattle.refusals.specs.declared.Verdict.TheVariants.{Fine, Bad}
+use Rattle.refusals.specs.declared.Refused.{Refused}
 
 pub bad_fine : {A : Type 0} {r : Refusal} {i : ℕ} → Bad r i ≡ Fine → A
 bad_fine e = absurd (let z : ◌≡◌ {A = ℕ} 0 1 = cc in omega arith)
+
+-- refusals that are the same have one number and one index
+pub bad_same : {r q : Refusal} {i j : ℕ} → Bad r i ≡ Bad q j → (r ≡ q) × (i ≡ j)
+bad_same {r} {q} {i} {j} e = let z : ◌≡◌ {A = Refused} (r, i) (q, j) = cc in (ap (λ x. x.0) z, ap (λ x. x.1) z)
+
+-- `?` hands on the refusal that it met
+pub handed_on : {A : Type 0} {r : Result A Refused} {e : Refused} → IsErrAnd r (λ y. y ≡ e) → r ≡ Err e
+handed_on {A} {r} h = let p = err_from_is_err_and r h in p.1 ∙ ap Err p.2
 
 -- a check that is fine was not met
 pub check_told : (r : Refusal) (t : Bool) → check r t ≡ Fine → t ≡ false
@@ -24,7 +33,7 @@ check_told r false e = refl
 -- what is told as done was not refused
 pub numbered_fine : (v : Verdict) → numbered Fine ≡ numbered v → v ≡ Fine
 numbered_fine Fine e = refl
-numbered_fine (Bad r i) e = absurd (let z : ◌≡◌ {A = ℕ} 0 1 = cc in omega arith)
+numbered_fine (Err x) e = absurd (let z : ◌≡◌ {A = ℕ} 0 1 = cc in omega arith)
 
 -- ---- the first of two
 
@@ -44,23 +53,23 @@ first_then r v a w p q = p ∙ ap (λ (x : Verdict). first x w) q
 pub first_left : (v w : Verdict) → first v w ≡ Fine → v ≡ Fine
 unfolding first
 first_left Fine w e = refl
-first_left (Bad r i) w e = e
+first_left (Err x) w e = e
 
 pub first_right : (v w : Verdict) → first v w ≡ Fine → w ≡ Fine
 unfolding first
 first_right Fine w e = e
-first_right (Bad r i) w e = absurd (let z : ◌≡◌ {A = ℕ} 0 1 = cc in omega arith)
+first_right (Err x) w e = absurd (let z : ◌≡◌ {A = ℕ} 0 1 = cc in omega arith)
 
 -- a check that is made last and was not met
 pub first_last : (v : Verdict) → first v Fine ≡ v
 unfolding first
 first_last Fine = refl
-first_last (Bad r i) = refl
+first_last (Err e) = refl
 
 pub first_assoc : (u v w : Verdict) → first (first u v) w ≡ first u (first v w)
 unfolding first
 first_assoc Fine v w = refl
-first_assoc (Bad r i) v w = refl
+first_assoc (Err e) v w = refl
 
 -- ---- checks in order
 
@@ -90,7 +99,7 @@ module _ (r q : Refusal) (b t : Bool) (v : Verdict) where
 
 pub counted_from_none : (v : Verdict) → counted_on 0 v ≡ v
 counted_from_none Fine = refl
-counted_from_none (Bad r i) = ap (Bad r) (zero-add i)
+counted_from_none (Err e) = ap (Bad e.0) (zero-add e.1)
 
 -- ---- the first record whose test is true
 
@@ -125,7 +134,7 @@ module _ (r : Refusal) (t : ℕ → Bool) where
       go : (v : Verdict) (b : Bool) → scan r t n ≡ v → t n ≡ b → first v (cond b (Bad r n) Fine) ≡ Fine → (scan r t n ≡ Fine) × (t n ≡ false)
       go Fine true p q h = absurd (let z : ◌≡◌ {A = ℕ} 0 1 = cc in omega arith)
       go Fine false p q h = (p, q)
-      go (Bad s i) b p q h = absurd (let z : ◌≡◌ {A = ℕ} 0 1 = cc in omega arith)
+      go (Err e) b p q h = absurd (let z : ◌≡◌ {A = ℕ} 0 1 = cc in omega arith)
 
   -- a group without refusal has no offending record
   pub scan_fine : (n : ℕ) → scan r t n ≡ Fine → (i : ℕ) → i < n → t i ≡ false
@@ -146,6 +155,6 @@ module _ (r : Refusal) (t : ℕ → Bool) where
   scan_bad (suc n) q i e = go (scan r t n) (t n) refl refl (scan_bad n q i) e
     where
       go : (v : Verdict) (b : Bool) → scan r t n ≡ v → t n ≡ b → (scan r t n ≡ Bad q i → (q ≡ r) × (i < n)) → first v (cond b (Bad r n) Fine) ≡ Bad q i → (q ≡ r) × (i < suc n)
-      go Fine true p h f e = let a : r ≡ q = cc in let d : n ≡ i = cc in (sym a, omega arith)
+      go Fine true p h f e = let (a, d) = bad_same e in (sym a, omega arith)
       go Fine false p h f e = absurd (let z : ◌≡◌ {A = ℕ} 0 1 = cc in omega arith)
-      go (Bad s j) b p h f e = let (a, l) = f (p ∙ e) in (a, omega arith)
+      go (Err x) b p h f e = let (a, l) = f (p ∙ e) in (a, omega arith)

@@ -1,15 +1,14 @@
 -- A verdict is known by document 01's number and index: no two refusals have one number. None has number 8.
+use Rattle.std.specs.Prelude.{Err}
 use Prim.Native.Nat.{ℕ}
 use native.Mathlib.Omega.{arith}
 use mathlib.Core.Path.{◌≡◌, refl, sym, ap, ◌∙◌}
 use mathlib.Core.List.{[], ◌∷◌}
 use lib.ListN.{get_or}
-use Rattle.refusals.specs.Verdicts.{number_of}
+use Rattle.refusals.specs.Verdicts.{number_of, Bad, Fine, Verdict}
 use Rattle.refusals.specs.Outcomes.{Outcome, given, refused, numbered}
 use Rattle.refusals.specs.declared.Refusal.{Refusal}
 use Rattle.refusals.specs.declared.Refusal.TheVariants.{Count, Line, Edge, Inst, Stray, Piece, Space, List as ListFull, Want, Text, Align, Depth}
-use Rattle.refusals.specs.declared.Verdict.{Verdict}
-use Rattle.refusals.specs.declared.Verdict.TheVariants.{Fine, Bad}
 
 -- the refusal of a number; 8 is no refusal's, so what stands there is never asked
 abbrev refusal_of : ℕ → Refusal
@@ -35,7 +34,7 @@ verdict_by (refused n i) = Bad (refusal_of n) i
 
 verdict_back : (v : Verdict) → verdict_by (numbered v) ≡ v
 verdict_back Fine = refl
-verdict_back (Bad r i) = ap (λ (s : Refusal). Bad s i) (number_back r)
+verdict_back (Err e) = ap (λ (s : Refusal). Bad s e.1) (number_back e.0)
 
 pub numbered_same : (v w : Verdict) → numbered v ≡ numbered w → v ≡ w
 numbered_same v w e = sym (verdict_back v) ∙ ap verdict_by e ∙ verdict_back w

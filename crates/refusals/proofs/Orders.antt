@@ -1,4 +1,5 @@
 -- Laws of an entry's checks in its own order: of all refusals that they find the one of the lowest rank is given.
+use Rattle.std.specs.Prelude.{Err}
 use Prim.Native.Nat.{ℕ, zero, suc, ◌≤◌}
 use native.Mathlib.Omega.{arith}
 use mathlib.Core.Path.{◌≡◌, refl, sym, ap, ◌∙◌}
@@ -8,13 +9,11 @@ use mathlib.Core.List.Memᴰ
 use mathlib.Core.List.{List, [], ◌∷◌, ◌++◌, Memᴰ}
 use lib.Dec.{leb}
 use borrow.Author.Tests.{leb-true}
-use Rattle.refusals.specs.Verdicts.{first, in_order, scan, check, counted_on, rank_of}
+use Rattle.refusals.specs.Verdicts.{first, in_order, scan, check, counted_on, rank_of, Bad, Fine, Verdict}
 use Rattle.refusals.specs.Orders.{Gives, Giving, rising, Ordered}
 use Rattle.refusals.specs.declared.Refusal.{Refusal}
 use Rattle.refusals.specs.declared.Refusal.TheVariants.{Count, Line, Edge, Inst, Stray, Piece, Space, List as ListFull, Want, Text, Align, Depth}
-use Rattle.refusals.specs.declared.Verdict.{Verdict}
-use Rattle.refusals.specs.declared.Verdict.TheVariants.{Fine, Bad}
-use Rattle.refusals.proofs.Laws.{first_assoc, check_last}
+use Rattle.refusals.proofs.Laws.{first_assoc, check_last, bad_same}
 
 -- ---- which refusal a check gives
 
@@ -25,11 +24,11 @@ check_gives r false = tt
 pub first_gives : (r : Refusal) (v w : Verdict) → Gives r v → Gives r w → Gives r (first v w)
 unfolding first
 first_gives r Fine w g h = h
-first_gives r (Bad s i) w g h = g
+first_gives r (Err e) w g h = g
 
 pub counted_gives : (r : Refusal) (n : ℕ) (v : Verdict) → Gives r v → Gives r (counted_on n v)
 counted_gives r n Fine g = tt
-counted_gives r n (Bad s i) g = g
+counted_gives r n (Err e) g = g
 
 at_gives : (r : Refusal) (t : Bool) (i : ℕ) → Gives r (cond t (Bad r i) Fine)
 at_gives r true i = refl
@@ -87,7 +86,7 @@ module _ (rank : Refusal → ℕ) where
     where
       own : (w : Verdict) → Gives s w → Bad r i ≡ w → r ≡ s
       own Fine h e = absurd (let z : ◌≡◌ {A = ℕ} 0 1 = cc in omega arith)
-      own (Bad q j) h e = cc
+      own (Err x) h e = (bad_same e).0 ∙ h
 
       go : (Bad r i ≡ v) ⊎ Memᴰ (Bad r i) vs → (Memᴰ (Bad r i) vs → rank s ≤ rank r) → n ≤ rank r
       go (inl e) k = rw (own v g.0 e) (rises_first n s rs f)
@@ -104,13 +103,13 @@ module _ (rank : Refusal → ℕ) where
       go : (Bad s j ≡ Fine) ⊎ Memᴰ (Bad s j) vs → (Memᴰ (Bad s j) vs → rank r ≤ rank s) → rank r ≤ rank s
       go (inl h) k = absurd (let z : ◌≡◌ {A = ℕ} 0 1 = cc in omega arith)
       go (inr h) k = k h
-  lowest n (q ∷ rs) (Bad p l ∷ vs) f g r s i j e m = go (Memᴰ.cases_cons m) (no_lower (rank q) rs vs (rises_rest n q rs f) g.1 s j)
+  lowest n (q ∷ rs) (Err x ∷ vs) f g r s i j e m = go (Memᴰ.cases_cons m) (no_lower (rank q) rs vs (rises_rest n q rs f) g.1 s j)
     where
       same : r ≡ q
-      same = let h = g.0 in cc
+      same = sym (bad_same e).0 ∙ g.0
 
-      go : (Bad s j ≡ Bad p l) ⊎ Memᴰ (Bad s j) vs → (Memᴰ (Bad s j) vs → rank q ≤ rank s) → rank r ≤ rank s
-      go (inl h) k = let z : s ≡ r = cc in rw z (omega arith)
+      go : (Bad s j ≡ Err x) ⊎ Memᴰ (Bad s j) vs → (Memᴰ (Bad s j) vs → rank q ≤ rank s) → rank r ≤ rank s
+      go (inl h) k = rw ((bad_same h).0 ∙ g.0 ∙ sym same) (omega arith)
       go (inr h) k = rw same (k h)
 
 -- what an entry gives has the lowest rank of all refusals that its checks find: "lowest number wins" where the rank is the number

@@ -2,9 +2,8 @@
 use Prim.Native.Nat.{ℕ, ◌≤◌, ◌<◌}
 use mathlib.Core.Path.{◌≡◌}
 use borrow.Author.Tests.{lt-ltb, le-ltb}
-use Rattle.refusals.specs.declared.Verdict.TheVariants.{Fine, Bad}
 use Rattle.refusals.specs.declared.Refusal.TheVariants.{Space}
-use Rattle.refusals.specs.Verdicts.{room_verdict}
+use Rattle.refusals.specs.Verdicts.{room_verdict, Bad, Fine}
 
 module _ (lent most work space : ℕ) where
   pub room_answer : lent < most → Bad Space 0 ≡ room_verdict lent most work space

@@ -1,13 +1,12 @@
 -- Document 01, "lowest number wins": an entry's checks in its own order, and which refusals they give.
-use Rattle.std.specs.Prelude.{ℕ, ◌≡◌, Bool, true, ◌&&◌, List, [], ◌∷◌, leb}
+use Rattle.std.specs.Prelude.{Err, ℕ, ◌≡◌, Bool, true, ◌&&◌, List, [], ◌∷◌, leb}
 use Rattle.refusals.specs.declared.Refusal.{Refusal}
-use Rattle.refusals.specs.declared.Verdict.{Verdict}
-use Rattle.refusals.specs.declared.Verdict.TheVariants.{Fine, Bad}
+use Rattle.refusals.specs.Verdicts.{Verdict, Fine}
 
 -- a check that gives no other refusal than r
 abbrev pub Gives : Refusal → Verdict → Type 0
 Gives r Fine = Unit {0}
-Gives r (Bad s i) = s ≡ r
+Gives r (Err e) = e.0 ≡ r
 
 -- the refusals that the checks of a list give, one each
 abbrev pub Giving : List Refusal → List Verdict → Type 0

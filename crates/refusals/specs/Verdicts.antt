@@ -1,9 +1,8 @@
 -- Refusals by number, and which one is given: checks are made in an order, and the first that refuses wins.
-use Rattle.std.specs.Prelude.{ℕ, zero, suc, ◌+◌, Bool, true, false, cond, ◌||◌, List, [], ◌∷◌, ltb}
+use Rattle.std.specs.Prelude.{Result, Ok, Err, Option as Maybe, ℕ, zero, suc, ◌+◌, Bool, true, false, cond, ◌||◌, List, [], ◌∷◌, ltb}
 use Rattle.refusals.specs.declared.Refusal.{Refusal}
 use Rattle.refusals.specs.declared.Refusal.TheVariants.{Count, Line, Edge, Inst, Stray, Piece, Space, List as ListFull, Want, Text, Align, Depth}
-use Rattle.refusals.specs.declared.Verdict.{Verdict}
-use Rattle.refusals.specs.declared.Verdict.TheVariants.{Fine, Bad}
+use Rattle.refusals.specs.declared.Refused.{Refused}
 
 -- document 01, the table's first column, and document 02's new numbers; 8 is retired: "the number is not given out again"
 abbrev pub number_of : Refusal → ℕ
@@ -20,10 +19,28 @@ number_of Text = 11
 number_of Align = 12
 number_of Depth = 13
 
+-- of a check: nothing to refuse, or a refusal and the index of its first offending record
+abbrev pub Verdict : Type 0
+Verdict = Result (Unit {0}) Refused
+
+pattern abbrev pub Fine : Verdict
+Fine = Ok tt
+
+abbrev pub Bad : Refusal → ℕ → Verdict
+Bad r i = Err (r, i)
+
+-- of an entry that lists: how many it gives, or a refusal
+abbrev pub Answer : Type 0
+Answer = Result ℕ Refused
+
+-- of an entry whose answer may be absent: the answer, none, or a refusal
+abbrev pub Found : Type 0 → Type 0
+Found A = Result (Maybe A) Refused
+
 -- the first of two verdicts that is a refusal
 unfoldable pub first : Verdict → Verdict → Verdict
 first Fine w = w
-first (Bad r i) w = Bad r i
+first (Err e) w = Err e
 
 -- the verdict of checks made in order
 unfoldable pub in_order : List Verdict → Verdict
@@ -46,12 +63,12 @@ room_verdict lent most work space = check Space (ltb lent most || ltb work space
 -- whether a verdict refuses
 abbrev pub refuses : Verdict → Bool
 refuses Fine = false
-refuses (Bad r i) = true
+refuses (Err e) = true
 
 -- "a second list's ranges are counted on from the first"
 abbrev pub counted_on : ℕ → Verdict → Verdict
 counted_on n Fine = Fine
-counted_on n (Bad r i) = Bad r (n + i)
+counted_on n (Err e) = Bad e.0 (n + e.1)
 
 -- "lowest number wins, except 11, which comes before all"
 abbrev pub rank_of : Refusal → ℕ

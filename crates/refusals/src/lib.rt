@@ -21,19 +21,15 @@ pub enum Refusal {
     Depth,
 }
 
-// Fine, or a refusal with the index of its first offending record.
+// A refusal, and the index of its first offending record.
 #[derive(Clone, Copy)]
-pub enum Verdict {
-    Fine,
-    Bad(Refusal, usize),
-}
+pub struct Refused(pub Refusal, pub usize);
 
-// How many an entry gives of what it lists, or a refusal with the index of its first offending record.
-#[derive(Clone, Copy)]
-pub enum Answer {
-    Given(usize),
-    Refused(Refusal, usize),
-}
+// Of a check: nothing to refuse, or its refusal.
+pub type Verdict = Result<(), Refused>;
+
+// How many an entry gives of what it lists, or its refusal.
+pub type Answer = Result<usize, Refused>;
 
 // The number of a refusal. 8 is retired and not given out again.
 pub fn number(r: Refusal) -> u32
@@ -56,13 +52,11 @@ pub fn number(r: Refusal) -> u32
 }
 
 // The first of two verdicts that is a refusal: checks are made in order, and the first to refuse wins.
+#[tactic(auto, unfolding(crate::specs::Verdicts::first))]
 pub fn earlier(v: Verdict, w: Verdict) -> Verdict
     ensures { result ≡ first v w }
 {
-    match v {
-        Verdict::Fine => w,
-        Verdict::Bad(r, i) => Verdict::Bad(r, i),
-    }
+    v.and(w)
 }
 
 // Refusal 7: an answer list of `lent` numbers where `most` may be needed, or `work` words of work space where `space` are.
@@ -70,10 +64,10 @@ pub fn room(lent: usize, most: usize, work: usize, space: usize) -> Verdict
     ensures { result ≡ room_verdict lent most work space }
 {
     if lent < most {
-        return Verdict::Bad(Refusal::Space, 0);
+        return Err(Refused(Refusal::Space, 0));
     }
     if work < space {
-        return Verdict::Bad(Refusal::Space, 0);
+        return Err(Refused(Refusal::Space, 0));
     }
-    Verdict::Fine
+    Ok(())
 }

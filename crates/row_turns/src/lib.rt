@@ -46,11 +46,9 @@ fn turn_row(work: &mut [u64], t: Turn, k: usize)
         words: t.width,
         bit: k,
     };
-    let mut i = 0;
-    while i < t.words {
+    for i in 0..t.words {
         let word = work[one + i] & work[two + i];
         scatter(work, c, i, word);
-        i += 1;
     }
 }
 
@@ -59,9 +57,7 @@ pub fn by_local(work: &mut [u64], t: Turn)
     requires { Turnable t work.old }
     ensures { Turned t work.old work.new }
 {
-    let mut k = 0;
-    while k < t.n {
+    for k in 0..t.n {
         turn_row(work, t, k);
-        k += 1;
     }
 }

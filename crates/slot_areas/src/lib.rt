@@ -2,7 +2,6 @@
 #![tactic(auto)]
 
 ghost use Rattle.std.specs.Prelude.{◌≡◌, [], ◌+◌, ◌/◌, ◌≤◌, ◌<◌, length};
-ghost use Rattle.refusals.specs.declared.Verdict.TheVariants.{Fine};
 ghost use Rattle.graph.specs.Line.{blocks_of, Sound};
 ghost use Rattle.graph.specs.Inner.Work.{Table};
 ghost use Rattle.carrying.specs.Insts.{insts_of};
@@ -11,6 +10,7 @@ ghost use Rattle.words.specs.Widths.{block_count, piece_count, move_count};
 ghost use Rattle.live.specs.Inner.{InOrder};
 ghost use Rattle.slot_spots.specs.Inner.{Laid, Chains};
 ghost use Rattle.slot_areas.specs.Inner.{MovedIn, HeldIn};
+ghost use Rattle.refusals.specs.Verdicts.{Fine};
 
 use slot_spots::Places;
 use words::widths::moving;

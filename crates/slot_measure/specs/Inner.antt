@@ -1,7 +1,6 @@
 -- What the functions here promise each other. No public promise names these.
 use Rattle.std.specs.Prelude.{ℕ, ◌+◌, ◌≤◌, ◌<◌, ◌-◌, ◌^◌, ◌≡◌, List, [], length, get_or, ◌⊎◌}
 use Rattle.std.proofs.Math.Option.{Option}
-use Rattle.refusals.specs.declared.Verdict.TheVariants.{Fine}
 use Rattle.words.specs.Widths.{block_count, piece_count, move_count}
 use Rattle.ranges.specs.declared.Range.{Range}
 use Rattle.graph.specs.Line.{blocks_of, Sound}
@@ -20,6 +19,7 @@ use Rattle.areas.specs.Job.{ranges_in}
 use Rattle.slot_areas.specs.declared.Found.{Found}
 use Rattle.slot_areas.specs.Inner.{Stands}
 use Rattle.ranges.specs.Points.{listed}
+use Rattle.refusals.specs.Verdicts.{Fine}
 
 -- The areas of all slots of a job, behind those of its locals.
 

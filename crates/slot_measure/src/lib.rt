@@ -2,7 +2,6 @@
 #![tactic(auto)]
 
 ghost use Rattle.std.specs.Prelude.{◌≡◌, [], ◌+◌, ◌*◌, ◌≤◌, ◌<◌, length, get_or};
-ghost use Rattle.refusals.specs.declared.Verdict.TheVariants.{Fine};
 ghost use Rattle.words.specs.Widths.{block_count, piece_count, move_count};
 ghost use Rattle.graph.specs.Line.{blocks_of, Sound};
 ghost use Rattle.graph.specs.Inner.Work.{Table};
@@ -11,6 +10,7 @@ ghost use Rattle.areas.specs.Slots.{moves_of, move_verdict};
 ghost use Rattle.live.specs.Inner.{InOrder};
 ghost use Rattle.slot_spots.specs.Inner.{Laid, Chains};
 ghost use Rattle.slot_measure.specs.Inner.{SlotIn, Placeable, Placed};
+ghost use Rattle.refusals.specs.Verdicts.{Fine};
 
 use area_measure::Listing;
 use slot_areas::Found;

@@ -50,12 +50,10 @@ pub fn measure_slots(
     ensures { MeasuredSlots points blocks.now insts.now moves.now pieces.now p keys held o first total work.old work.new result }
 {
     let mut n = total;
-    let mut s = 0;
-    while s < p.slots {
+    for s in 0..p.slots {
         n = measure_next(
             points, blocks, insts, moves, pieces, work, p, keys, held, o, first, s, n,
         );
-        s += 1;
     }
     n
 }

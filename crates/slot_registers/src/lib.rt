@@ -14,14 +14,10 @@ pub fn assign(assigned: &[u32], work: &mut [u64], at: usize, slots: usize)
     ensures { Region work.old work.new at slots (λ s. held_word (spilled (assigned_of assigned.now) s)) }
 {
     let n = assigned.len() / assigned::WIDTH;
-    let mut i = 0;
-    while i < n {
+    for i in 0..n {
         let s = assigned[assigned::WIDTH * i + assigned::SLOT] as usize;
         if s < slots {
             work[at + s] = assigned[assigned::WIDTH * i] as u64 + 1;
-            i += 1;
-        } else {
-            i += 1;
         }
     }
 }

@@ -26,7 +26,6 @@ use Rattle.carrying.specs.Insts.{Inst, insts_of}
 use Rattle.areas.specs.Slots.{Move, moves_of, moved, bad_move}
 use Rattle.areas.proofs.PermuteLaws.{perm_refl, perm_front, perm_exchange}
 use Rattle.reach.specs.Inner.{latest}
-use Rattle.move_points.specs.declared.Spot.TheVariants.{At}
 use Rattle.move_points.specs.Inner.{position_at, move_row}
 use Rattle.move_points.proofs.MoveLaws.{point_is}
 use Rattle.chains.specs.Inner.{Linked, Walkable, words_of, Walked}
@@ -34,6 +33,7 @@ use Rattle.chains.proofs.ChainLaws.{chain_kept}
 use Rattle.chains.proofs.WalkLaws.{words_are}
 use Rattle.slot_spots.specs.declared.Places.{Places}
 use Rattle.slot_spots.specs.Inner.{cover_of, moved_to, moved_from, Laid, Chains, Chained, Fetched}
+use Rattle.std.specs.Prelude.{Some}
 
 -- ---- the chains
 
@@ -74,7 +74,7 @@ pub table_kept : (blocks : List ℕ) {at lo hi : ℕ} {w w' : List ℕ} → at +
 table_kept blocks {at} h k t = record { place = λ n g. k.below (at + n) (let z = blocks_length blocks in omega arith) ∙ t.place n g }
 
 -- a move's cover, by the point that was found
-pub cover_is : (points : ℕ) (bs : List Stretch) (is : List Inst) (m : Move) (p s e x : ℕ) → bad_move bs is m.kind m.number ≡ false → At p ≡ position_at bs is m.kind m.number
+pub cover_is : (points : ℕ) (bs : List Stretch) (is : List Inst) (m : Move) (p s e x : ℕ) → bad_move bs is m.kind m.number ≡ false → Some p ≡ position_at bs is m.kind m.number
     → s ≡ p - 1 → e ≡ min (p + 1) points → x ≡ pack (range s e) → x ≡ pack (cover_of points bs is m)
 cover_is points bs is m p s e x fine at es ee ex =
     ex ∙ ap (λ (k : ℕ). pack (range k e)) es ∙ ap (λ (k : ℕ). pack (range (p - 1) k)) ee ∙ ap pack (point_is points bs is 0 m p fine at)

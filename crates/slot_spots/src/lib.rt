@@ -2,7 +2,6 @@
 #![tactic(auto)]
 
 ghost use Rattle.std.specs.Prelude.{◌≡◌, [], ◌+◌, ◌*◌, ◌/◌, ◌≤◌, ◌<◌, length};
-ghost use Rattle.refusals.specs.declared.Verdict.TheVariants.{Fine};
 ghost use Rattle.words.specs.Rows.{field};
 ghost use Rattle.words.specs.Inner.{Region};
 ghost use Rattle.words.specs.Widths.{block_count, move_width, move_count};
@@ -14,8 +13,8 @@ ghost use Rattle.areas.specs.Slots.{assigned_of, spilled, moves_of, move_verdict
 ghost use Rattle.move_points.specs.Inner.{move_row};
 ghost use Rattle.chains.specs.Inner.{Walkable, Walked};
 ghost use Rattle.slot_spots.specs.Inner.{held_word, cover_of, Laid, Chains, Chained, Fetched};
+ghost use Rattle.refusals.specs.Verdicts.{Fine};
 
-use move_points::Spot;
 use words::widths::moving;
 
 // Where the moves of `slots` slots are kept, each region past the one before: from `table` on the place of each block, by its number; from `heads` on each
@@ -99,7 +98,7 @@ fn cover(
         moves[moving::WIDTH * i],
         moves[moving::WIDTH * i + moving::NUMBER],
     );
-    let Spot::At(p) = at else {
+    let Some(p) = at else {
         return 0;
     };
     let start = move_points::preceding(p);

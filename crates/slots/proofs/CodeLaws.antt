@@ -1,31 +1,29 @@
 -- From what an entry promises and its answer in one number to what the exported function promises.
+use Rattle.std.specs.Prelude.{Err}
 use mathlib.Core.Path.{◌≡◌, refl, sym, ap, ◌∙◌}
 use mathlib.Core.List.{List}
 use Prim.Native.Nat.{ℕ}
-use Rattle.refusals.specs.Outcomes.{Outcome, numbered}
-use Rattle.refusals.specs.declared.Verdict.{Verdict}
-use Rattle.refusals.specs.declared.Verdict.TheVariants.{Fine, Bad}
+use Rattle.refusals.specs.Outcomes.{Outcome, numbered, answered}
 use Rattle.ranges.specs.declared.Range.{Range}
-use Rattle.range_entries.specs.declared.Counted.{Counted}
-use Rattle.range_entries.specs.Entries.{counted, Listed}
+use Rattle.range_entries.specs.Entries.{Listed}
 use Rattle.fitting.specs.Queries.{Slots}
-use Rattle.queries.specs.declared.Crowd.{Crowd}
-use Rattle.queries.specs.Shares.{crowd_of, CrowdedBy}
+use Rattle.queries.specs.Shares.{CrowdedBy}
 use Rattle.capping.specs.Cap.{cap_verdict, CappedBy}
 use Rattle.apart.specs.Apart.{ApartBy}
 use Rattle.codes.specs.Codes.{code_of, count_code, verdict_code}
 use Rattle.slots.specs.Exports.{ListCoded, CrowdCoded, CapCoded, ApartCoded}
+use Rattle.refusals.specs.Verdicts.{Fine, Verdict, Answer}
 
-pub list_coded : {o : Outcome (List Range)} {os oe os' oe' : List ℕ} {c : Counted} {r : ℕ} → Listed o os oe c os' oe' → r ≡ count_code (counted c) → ListCoded o os oe r os' oe'
+pub list_coded : {o : Outcome (List Range)} {os oe os' oe' : List ℕ} {c : Answer} {r : ℕ} → Listed o os oe c os' oe' → r ≡ count_code (answered c) → ListCoded o os oe r os' oe'
 list_coded a e = record { answer = e ∙ ap count_code a.answer; in_starts = a.in_starts; in_ends = a.in_ends }
 
-pub crowd_coded : {o : Outcome (List ℕ)} {out out' : List ℕ} {c : Crowd} {r : ℕ} → CrowdedBy o out c out' → r ≡ count_code (crowd_of c) → CrowdCoded o out r out'
+pub crowd_coded : {o : Outcome (List ℕ)} {out out' : List ℕ} {c : Answer} {r : ℕ} → CrowdedBy o out c out' → r ≡ count_code (answered c) → CrowdCoded o out r out'
 crowd_coded a e = record { answer = e ∙ ap count_code a.answer; in_out = a.in_out }
 
 -- a verdict's code is that of its number and index
 code_numbered : (v : Verdict) → verdict_code v ≡ code_of (numbered v)
 code_numbered Fine = refl
-code_numbered (Bad r i) = refl
+code_numbered (Err e) = refl
 
 by_number : (v w : Verdict) → numbered v ≡ numbered w → verdict_code v ≡ verdict_code w
 by_number v w e = code_numbered v ∙ ap code_of e ∙ sym (code_numbered w)

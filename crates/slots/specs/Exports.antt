@@ -1,7 +1,6 @@
 -- What the exported functions promise: what the entry of the same name promises, its answer in one number.
 use Rattle.std.specs.Prelude.{ℕ, ◌+◌, ◌*◌, ◌≡◌, List}
-use Rattle.refusals.specs.Outcomes.{Outcome, answered, unless, after}
-use Rattle.refusals.specs.declared.Verdict.{Verdict}
+use Rattle.refusals.specs.Outcomes.{Outcome, answered, unless, after, found}
 use Rattle.ranges.specs.declared.Range.{Range}
 use Rattle.ranges.specs.Forms.{starts, ends}
 use Rattle.range_entries.specs.Entries.{size}
@@ -9,13 +8,12 @@ use Rattle.flow.specs.Entry.{Answered as Flowed}
 use Rattle.spread.specs.Entry.{Answered as Spread, Settled}
 use Rattle.components.specs.Entry.{Answered as Components}
 use Rattle.local_kinds.specs.Entry.{ReachTo}
-use Rattle.carried_registers.specs.Carried.{CarriedTo, told as carriedOutcome}
+use Rattle.carried_registers.specs.Carried.{CarriedTo}
 use Rattle.moved_ranges.specs.Moved.{MovedTo}
 use Rattle.spilled_registers.specs.Spilled.{SpilledTo}
 use Rattle.area_entries.specs.Entry.{LocalAreas}
 use Rattle.job_space.specs.Rows.{Rows}
 use Rattle.item_areas.specs.Entry.{ItemAreas}
-use Rattle.text_plan.specs.Printed.{written_of}
 use Rattle.planning.specs.Answer.{TextPrinted}
 use Rattle.fitting.specs.Queries.{Slots}
 use Rattle.queries.specs.Shares.{counted}
@@ -23,6 +21,7 @@ use Rattle.capping.specs.Cap.{cap_verdict, cap_rows}
 use Rattle.apart.specs.Apart.{room_rows, lone_rows}
 use Rattle.codes.specs.Codes.{count_code, option_code, verdict_code, Coded}
 use Rattle.part_codes.specs.Codes.{over_of}
+use Rattle.refusals.specs.Verdicts.{Verdict}
 
 -- ---- over a graph
 
@@ -48,7 +47,7 @@ ReachCoded points v blocks insts operands crossings locals addresses ends kinds�
 
 abbrev pub CarriedCoded : ℕ → ℕ → List ℕ → List ℕ → List ℕ → List ℕ → List ℕ → List ℕ → List ℕ → ℕ → List ℕ → List ℕ → ℕ → List ℕ → List ℕ → Type 0
 CarriedCoded points v blocks insts operands crossings locals addresses ends local registers₀ work₀ r registers work =
-    Coded (λ a. option_code (carriedOutcome a)) (λ a. CarriedTo points v blocks insts operands crossings locals addresses ends local registers₀ work₀ a registers work) r
+    Coded (λ a. option_code (found a)) (λ a. CarriedTo points v blocks insts operands crossings locals addresses ends local registers₀ work₀ a registers work) r
 
 abbrev pub MovedCoded : ℕ → ℕ → List ℕ → List ℕ → List ℕ → List ℕ → ℕ → List ℕ → List ℕ → ℕ → List ℕ → List ℕ → Type 0
 MovedCoded points v blocks insts operands moves slot out₀ work₀ r out work =
@@ -70,7 +69,7 @@ ItemAreasCoded R areas₀ items₀ work₀ r areas items work = Coded (λ a. cou
 -- ---- text
 
 abbrev pub TextCoded : List ℕ → List ℕ → ℕ → List ℕ → Type 0
-TextCoded text out₀ r out = Coded (λ a. count_code (written_of a)) (λ a. TextPrinted text out₀ a out) r
+TextCoded text out₀ r out = Coded (λ a. count_code (answered a)) (λ a. TextPrinted text out₀ a out) r
 
 -- ---- fitting, queries and ranges
 

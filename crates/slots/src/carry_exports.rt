@@ -46,7 +46,7 @@ pub fn slots_carried(
         ends.now local
         registers.old work.old result registers.new work.new }
 {
-    carry_codes::carried_code(carried_registers::carried(
+    codes::found(carried_registers::carried(
         points,
         v,
         blocks,

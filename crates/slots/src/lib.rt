@@ -212,7 +212,7 @@ pub fn slots_slot(cells: &[u32], items: &[u32], locals: u32, i: u32) -> u64
 pub fn slots_saved(cells: &[u32], items: &[u32], locals: u32) -> u64
     ensures { result ≡ count_code (saved_by cells.now items.now locals) }
 {
-    query_codes::saving(queries::saved(cells, items, locals))
+    codes::answer(queries::saved(cells, items, locals))
 }
 
 // `queries::shared`: of the part's first range and how many there are, as many as `part` has room for.
@@ -233,7 +233,7 @@ pub fn slots_shared(
 pub fn slots_crowded(cells: &[u32], items: &[u32], locals: u32, out: &mut [u32]) -> u64
     ensures { CrowdCoded (crowded_of cells.now items.now locals (length out.old)) out.old result out.new }
 {
-    query_codes::crowd(queries::crowded(cells, items, locals, out))
+    codes::answer(queries::crowded(cells, items, locals, out))
 }
 
 // `capping::cap`.
@@ -266,7 +266,7 @@ pub fn slots_merged(start: &[u32], end: &[u32], out_start: &mut [u32], out_end: 
     ensures { ListCoded (merged_of start.now end.now (length out_start.old) (length out_end.old))
         out_start.old out_end.old result out_start.new out_end.new }
 {
-    part_codes::counted(range_entries::merged(start, end, out_start, out_end))
+    codes::answer(range_entries::merged(start, end, out_start, out_end))
 }
 
 // `range_entries::joined`.
@@ -281,7 +281,7 @@ pub fn slots_joined(
     ensures { ListCoded (joined_of start.now end.now (range new_start new_end) (length out_start.old) (length out_end.old))
         out_start.old out_end.old result out_start.new out_end.new }
 {
-    part_codes::counted(range_entries::joined(start, end, new_start, new_end, out_start, out_end))
+    codes::answer(range_entries::joined(start, end, new_start, new_end, out_start, out_end))
 }
 
 // `range_entries::union`.
@@ -297,14 +297,7 @@ pub fn slots_union(
         (length out_end.old))
         out_start.old out_end.old result out_start.new out_end.new }
 {
-    part_codes::counted(range_entries::union(
-        start,
-        end,
-        other_start,
-        other_end,
-        out_start,
-        out_end,
-    ))
+    codes::answer(range_entries::union(start, end, other_start, other_end, out_start, out_end))
 }
 
 // `range_entries::clashes`: 1 or 0.

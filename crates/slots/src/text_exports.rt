@@ -5,5 +5,5 @@ ghost use Rattle.slots.specs.Exports.{TextCoded};
 pub fn slots_print_text(text: &[u8], out: &mut [u8]) -> u64
     ensures { TextCoded text.now out.old result out.new }
 {
-    text_codes::text_code(planning::print_text(text, out))
+    codes::answer(planning::print_text(text, out))
 }

@@ -12,7 +12,7 @@ ghost use Rattle.spill_checks.specs.Inner.{piece_at, position_of};
 ghost use Rattle.spill_checks.specs.declared.Position.TheVariants.{Stray};
 
 use graph::Block;
-use refusals::{Refusal, Verdict};
+use refusals::{Refusal, Refused, Verdict};
 use words::wide;
 use words::widths::{assigned, block, moving, piece};
 
@@ -78,19 +78,17 @@ pub fn moves(blocks: &[u32], insts: &[u32], moves: &[u32]) -> Verdict
     ensures { result ≡ move_verdict (blocks_of blocks.now) (insts_of insts.now []) (moves_of moves.now) }
 {
     let n = moves.len() / moving::WIDTH;
-    let mut i = 0;
-    while i < n {
+    for i in 0..n {
         if bad_move(
             blocks,
             insts,
             moves[moving::WIDTH * i],
             moves[moving::WIDTH * i + moving::NUMBER],
         ) {
-            return Verdict::Bad(Refusal::Stray, i);
+            return Err(Refused(Refusal::Stray, i));
         }
-        i += 1;
     }
-    Verdict::Fine
+    Ok(())
 }
 
 // Whether live piece `i` is reversed, not wholly in the blocks, or of a register that is not numbered.
@@ -110,14 +108,12 @@ pub fn pieces(blocks: &[u32], v: u32, pieces: &[u32]) -> Verdict
     ensures { result ≡ piece_verdict (blocks_of blocks.now) v (pieces_of pieces.now) }
 {
     let n = pieces.len() / piece::WIDTH;
-    let mut i = 0;
-    while i < n {
+    for i in 0..n {
         if bad_piece(blocks, v, pieces, i) {
-            return Verdict::Bad(Refusal::Piece, i);
+            return Err(Refused(Refusal::Piece, i));
         }
-        i += 1;
     }
-    Verdict::Fine
+    Ok(())
 }
 
 // Refusal 6: the first assignment of a register that is not numbered.

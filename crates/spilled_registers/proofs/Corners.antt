@@ -1,9 +1,8 @@
 -- The corners of the definitions, by computation: W of `spilled`, number 7 at it and one under, and the limits of number 1.
 use mathlib.Core.Path.{◌≡◌, refl}
 use mathlib.Core.List.{[], ◌∷◌}
-use Rattle.refusals.specs.declared.Verdict.TheVariants.{Fine, Bad}
 use Rattle.refusals.specs.declared.Refusal.TheVariants.{Count, Space}
-use Rattle.refusals.specs.Verdicts.{first}
+use Rattle.refusals.specs.Verdicts.{first, Bad, Fine}
 use Rattle.spilled_registers.specs.Spilled.{spilled_counts, spilled_words, spilled_space, spilled_room}
 
 -- no register, 64 and 65; an assignment has 2 numbers

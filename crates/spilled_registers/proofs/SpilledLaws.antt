@@ -1,15 +1,13 @@
 -- Laws of `spilled`: one assignment more, and the entry's two ways out.
+use Rattle.std.specs.Prelude.{Ok, Err}
 use Prim.Native.Nat.{ℕ, ◌+◌, ◌≤◌, ◌<◌}
 use native.Mathlib.Omega.{arith}
 use mathlib.Core.Path.{◌≡◌, refl, sym, ap, ◌∙◌}
 use mathlib.Core.List.{List, [], ◌∷◌, ◌++◌}
 use lib.ListN.{length, get_or, set, length-set, drop, replicate, length-replicate}
 use lib.Seq.{get_or-set_same, get_or-set_other}
-use Rattle.refusals.specs.declared.Verdict.{Verdict}
-use Rattle.refusals.specs.declared.Verdict.TheVariants.{Fine, Bad}
 use Rattle.refusals.specs.declared.Refusal.{Refusal}
-use Rattle.refusals.specs.Verdicts.{first, in_order}
-use Rattle.refusals.specs.Outcomes.{after}
+use Rattle.refusals.specs.Verdicts.{first, in_order, Bad, Fine, Verdict}
 use Rattle.refusals.proofs.Laws.{first_fine, first_bad, first_left, first_right, bad_fine, check_last}
 use Rattle.words.specs.Rows.{tabulate}
 use Rattle.words.specs.Inner.{Region}
@@ -22,7 +20,6 @@ use Rattle.insts.specs.Counts.{rows_verdict, most_verdict}
 use Rattle.insts.proofs.CheckLaws.{rows_few}
 use Rattle.refusals.proofs.RoomLaws.{room_answer, room_work}
 use Rattle.areas.specs.Slots.{Assigned, assigned_of, spilled, assigned_verdict}
-use Rattle.refusals.specs.declared.Answer.TheVariants.{Given, Refused}
 use Rattle.spill_checks.proofs.AssignedLaws.{next_same, next_other}
 use Rattle.spilled_registers.specs.Spilled.{spilled_counts, spilled_space, spilled_room, spilled_verdict, register_or, registers, SpilledTo}
 
@@ -116,12 +113,12 @@ module _ (v slots : ℕ) (assigned : List ℕ) (lent work : ℕ) where
 
 module _ (v slots : ℕ) (assigned answer₀ work₀ : List ℕ) where
   pub spilled_refused : (r : Refusal) (i : ℕ) → spilled_verdict v slots assigned (length answer₀) (length work₀) ≡ Bad r i
-      → SpilledTo v slots assigned answer₀ work₀ (Refused r i) answer₀ work₀
+      → SpilledTo v slots assigned answer₀ work₀ (Err (r, i)) answer₀ work₀
   spilled_refused r i e = record { outcome = rw e; list = rw e; space = rw e }
 
   pub spilled_given : {filled answer work : List ℕ} → spilled_verdict v slots assigned (length answer₀) (length work₀) ≡ Fine → Region answer₀ filled 0 slots (λ s. v)
       → Region filled answer 0 slots (λ s. register_or (get_or filled s 0) (spilled (assigned_of assigned) s))
-      → (words : ℕ) → words ≡ spilled_space v assigned → work ≡ cleared words work₀ → SpilledTo v slots assigned answer₀ work₀ (Given slots) answer work
+      → (words : ℕ) → words ≡ spilled_space v assigned → work ≡ cleared words work₀ → SpilledTo v slots assigned answer₀ work₀ (Ok slots) answer work
   spilled_given {filled} {answer} {work} e p q words d c = record {
     outcome = rw e;
     list = rw e (region_front whole (fit v slots assigned (length answer₀) (length work₀) e).answer ∙ tidy);

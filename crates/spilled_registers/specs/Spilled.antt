@@ -1,16 +1,14 @@
 -- The entry `spilled`: what it refuses (numbers 1, 6 and 7) and what it answers.
 use Rattle.std.specs.Prelude.{ℕ, ◌+◌, ◌*◌, ◌≡◌, ◌||◌, List, [], ◌∷◌, length, replicate, ltb}
 use Rattle.std.proofs.Math.Option.{Option, some, none}
-use Rattle.refusals.specs.declared.Verdict.{Verdict}
 use Rattle.refusals.specs.declared.Refusal.TheVariants.{Space}
-use Rattle.refusals.specs.Verdicts.{first, in_order, check}
+use Rattle.refusals.specs.Verdicts.{first, in_order, check, Verdict, Answer}
 use Rattle.refusals.specs.Outcomes.{unless, after, answered}
 use Rattle.words.specs.Rows.{tabulate}
 use Rattle.words.specs.Widths.{assigned_width, assigned_count}
 use Rattle.words.specs.Regions.{row_words}
 use Rattle.insts.specs.Counts.{rows_verdict, most_verdict}
 use Rattle.areas.specs.Slots.{assigned_of, spilled, assigned_verdict}
-use Rattle.refusals.specs.declared.Answer.{Answer}
 
 -- number 1: "V 65,535; slots 2,048; assignments 65,536"
 unfoldable pub spilled_counts : ℕ → ℕ → List ℕ → Verdict

@@ -41,10 +41,7 @@ fn needed(v: u32, assigned: &[u32]) -> usize
 fn refusal(v: u32, slots: usize, assigned: &[u32], lent: usize, work: usize) -> Verdict
     ensures { result ≡ spilled_verdict v slots assigned.now lent work }
 {
-    let number = counts(v, slots, assigned);
-    if let Verdict::Bad(r, i) = number {
-        return Verdict::Bad(r, i);
-    }
+    counts(v, slots, assigned)?;
     let piece = spill_checks::assigned(v, assigned);
     let w = needed(v, assigned);
     let short = refusals::room(lent, slots, work, w);
@@ -56,11 +53,7 @@ fn without(answer: &mut [u32], n: usize, v: u32)
     requires { n ≤ length answer.old }
     ensures { Region answer.old answer.new 0 n (λ s. v) }
 {
-    let mut s = 0;
-    while s < n {
-        answer[s] = v;
-        s += 1;
-    }
+    answer[..n].fill(v);
 }
 
 // The last register assigned to each of `n` slots, where there is one.
@@ -69,14 +62,10 @@ fn assign(assigned: &[u32], answer: &mut [u32], n: usize)
     ensures { Region answer.old answer.new 0 n (λ s. register_or (get_or answer.old s 0) (spilled (assigned_of assigned.now) s)) }
 {
     let m = assigned.len() / assigned::WIDTH;
-    let mut i = 0;
-    while i < m {
+    for i in 0..m {
         let slot = assigned[assigned::WIDTH * i + assigned::SLOT] as usize;
         if slot < n {
             answer[slot] = assigned[assigned::WIDTH * i];
-            i += 1;
-        } else {
-            i += 1;
         }
     }
 }
@@ -93,13 +82,10 @@ pub fn spilled(
 ) -> Answer
     ensures { SpilledTo v slots assigned.now answer.old work.old result answer.new work.new }
 {
-    let verdict = refusal(v, slots, assigned, answer.len(), work.len());
-    if let Verdict::Bad(r, i) = verdict {
-        return Answer::Refused(r, i);
-    }
+    refusal(v, slots, assigned, answer.len(), work.len())?;
     without(answer, slots, v);
     assign(assigned, answer, slots);
     let w = needed(v, assigned);
     words::clear(work, w);
-    Answer::Given(slots)
+    Ok(slots)
 }

@@ -10,12 +10,10 @@ use native.Mathlib.Omega.{arith}
 use lib.Dec.{eqb}
 use lib.ListN.{length, get_or}
 use Rattle.refusals.specs.declared.Refusal.{Refusal}
-use Rattle.refusals.specs.declared.Verdict.{Verdict}
-use Rattle.refusals.specs.declared.Verdict.TheVariants.{Fine, Bad}
 use Rattle.refusals.specs.declared.Refusal.TheVariants.{Count, Line, Edge as EdgeWord, Space}
-use Rattle.refusals.specs.Verdicts.{number_of, first, in_order}
+use Rattle.refusals.specs.Verdicts.{number_of, first, in_order, Bad, Fine, Verdict}
 use Rattle.refusals.specs.Orders.{Ordered}
-use Rattle.refusals.proofs.Laws.{first_fine, first_bad, first_left, first_right, bad_fine}
+use Rattle.refusals.proofs.Laws.{first_fine, first_bad, first_left, first_right, bad_fine, bad_same}
 use Rattle.refusals.proofs.Orders.{check_gives}
 use Rattle.words.specs.Inner.{Region}
 use Rattle.words.specs.Regions.{cleared}
@@ -48,7 +46,7 @@ use Rattle.spread.specs.Inner.{Prepared, Solved}
 use Rattle.spread_rows.proofs.Turns.{arrives_as}
 
 same_bad : (r : Refusal) (i : ℕ) (list work : List ℕ) (k : Refusal) (j : ℕ) → Bad r i ≡ Bad k j → Turned k j list work (Bad r i) list work
-same_bad r i list work k j q = record { outcome = let a : r ≡ k = cc in let b : i ≡ j = cc in rw (a, b) refl; list_kept = refl; work_kept = refl }
+same_bad r i list work k j q = record { outcome = let (a, b) = bad_same q in rw (a, b) refl; list_kept = refl; work_kept = refl }
 
 -- ---- what is computed fits
 

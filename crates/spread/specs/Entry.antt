@@ -1,9 +1,7 @@
 -- The entries `settling` and `spread`: what they answer, refuse and leave, for every input.
 use Rattle.std.specs.Prelude.{ℕ, ◌*◌, ◌≤◌, ◌<◌, ◌≡◌, ◌↔◌, true, List, ◌∷◌, length, get_or}
 use Rattle.refusals.specs.declared.Refusal.{Refusal}
-use Rattle.refusals.specs.declared.Verdict.{Verdict}
-use Rattle.refusals.specs.declared.Verdict.TheVariants.{Fine, Bad}
-use Rattle.refusals.specs.Verdicts.{number_of, in_order}
+use Rattle.refusals.specs.Verdicts.{number_of, in_order, Bad, Fine, Verdict}
 use Rattle.refusals.specs.Outcomes.{given, refused, after, numbered}
 use Rattle.words.specs.Regions.{cleared}
 use Rattle.words.specs.Widths.{block_count, edge_count}

@@ -2,13 +2,13 @@
 #![tactic(auto)]
 
 ghost use Rattle.std.specs.Prelude.{◌≡◌, ◌+◌, ◌*◌, ◌/◌, ◌≤◌, length};
-ghost use Rattle.refusals.specs.declared.Verdict.TheVariants.{Fine};
 ghost use Rattle.graph.specs.Line.{blocks_of, jumps_of, edge_verdict, Sound};
 ghost use Rattle.spread.specs.Entry.{verdict_of, Settled, Answered};
 ghost use Rattle.spread.specs.Inner.{Prepared, Solved};
 ghost use Rattle.words.specs.Widths.{block_count, edge_count};
+ghost use Rattle.refusals.specs.Verdicts.{Fine};
 
-use refusals::{Refusal, Verdict};
+use refusals::Verdict;
 use spread_rows::Layout;
 use words::widths::{block, edge};
 
@@ -38,17 +38,14 @@ pub fn settling(
 ) -> Verdict
     ensures { Settled blocks.now edges.now points order.old work.old result order.new work.new }
 {
-    let v = components::refusal(blocks, edges, points, order.len(), work.len());
-    if let Verdict::Bad(r, i) = v {
-        return Verdict::Bad(r, i);
-    }
+    components::refusal(blocks, edges, points, order.len(), work.len())?;
     let at = prepare(blocks, edges, work);
     words::narrow(order, 0, work, at, blocks.len() / block::WIDTH);
     words::clear(
         work,
         8 * (blocks.len() / block::WIDTH + edges.len() / edge::WIDTH),
     );
-    Verdict::Fine
+    Ok(())
 }
 
 fn refusal(
@@ -63,10 +60,7 @@ fn refusal(
 ) -> Verdict
     ensures { result ≡ verdict_of blocks.now edges.now points leaving passing words answer work }
 {
-    let v = line_checks::rows(passing, blocks.len() / block::WIDTH, words);
-    if let Verdict::Bad(r, i) = v {
-        return Verdict::Bad(r, i);
-    }
+    line_checks::rows(passing, blocks.len() / block::WIDTH, words)?;
     flow::refusal(blocks, edges, points, leaving, words, answer, work)
 }
 
@@ -125,7 +119,7 @@ pub fn spread(
     ensures { Answered blocks.now edges.now points leaves.now passes.now words out.old work.old result
         out.new work.new }
 {
-    let v = refusal(
+    refusal(
         blocks,
         edges,
         points,
@@ -134,15 +128,12 @@ pub fn spread(
         words,
         out.len(),
         work.len(),
-    );
-    if let Verdict::Bad(r, i) = v {
-        return Verdict::Bad(r, i);
-    }
+    )?;
     let at = solve(blocks, edges, leaves, passes, words, work);
     words::copy_from(out, 0, work, at, leaves.len());
     words::clear(
         work,
         8 * (blocks.len() / block::WIDTH + edges.len() / edge::WIDTH + leaves.len()),
     );
-    Verdict::Fine
+    Ok(())
 }

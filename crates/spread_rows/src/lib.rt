@@ -31,15 +31,12 @@ fn push(work: &mut [u64], s: Layout, u: usize)
     let pass = s.passes + row;
     let leave = s.leaves + row;
     let end = work[s.at + u + 1] as usize;
-    let mut k = work[s.at + u] as usize;
-    while k < end {
+    let start = work[s.at + u] as usize;
+    for k in start..end {
         let v = work[to + k] as usize;
         if bits::row_pass(work, out + v * s.words, from, pass, leave, s.words) {
             let r = work[s.rank + v] as usize;
             bits::set(work, s.wait, r);
-            k += 1;
-        } else {
-            k += 1;
         }
     }
 }
@@ -50,10 +47,8 @@ fn begin(work: &mut [u64], s: Layout)
     ensures { Begun s work.old work.new }
 {
     words::fill(work, s.wait, s.n / 64 + 1 + s.n * s.words, 0);
-    let mut r = 0;
-    while r < s.n {
+    for r in 0..s.n {
         bits::set(work, s.wait, r);
-        r += 1;
     }
 }
 

@@ -47,13 +47,11 @@ fn close(w: &mut [u64], n: usize, base: usize, p: usize, s: usize, x: u64, e: us
 {
     let stk = base + n;
     let ord = stk + n + n + n + n + e;
-    let mut i = p;
-    while i < s {
+    for i in p..s {
         let v = w[stk + i];
         let to = base + v as usize;
         w[to] = x;
         w[ord + (i - p)] = v;
-        i += 1;
     }
 }
 
@@ -168,11 +166,9 @@ fn begin(w: &mut [u64], n: usize, at: usize, base: usize)
     ensures { Begun n at base w.old n w.new }
 {
     let nxt = base + n + n + n + n;
-    let mut v = 0;
-    while v < n {
+    for v in 0..n {
         w[base + v] = 0;
         w[nxt + v] = w[at + v];
-        v += 1;
     }
 }
 
@@ -181,10 +177,8 @@ fn number(w: &mut [u64], n: usize, base: usize)
     requires { (base + n + n ≤ length w.old) × ((v : ℕ) → v < n → n < get_or w.old (base + v) 0) }
     ensures { Numbered n base w.old n w.new }
 {
-    let mut v = 0;
-    while v < n {
+    for v in 0..n {
         w[base + v] = w[base + v] - (n + 1) as u64;
-        v += 1;
     }
 }
 
@@ -198,14 +192,12 @@ pub fn components(work: &mut [u64], n: usize, at: usize, base: usize) -> usize
     let to = at + n + 1;
     let mut c = 0;
     let mut e = 0;
-    let mut root = 0;
-    while root < n {
+    for root in 0..n {
         if work[base + root] == 0 {
             let z = walk(work, n, at, to, base, root, c, e);
             c = z.c;
             e = z.e;
         }
-        root += 1;
     }
     number(work, n, base);
     c

@@ -3,9 +3,8 @@ use Prim.Native.Nat.{ℕ}
 use mathlib.Core.Path.{◌≡◌, refl}
 use mathlib.Core.Bool.{true, false}
 use mathlib.Core.List.{List, [], ◌∷◌, ◌++◌, map}
-use Rattle.refusals.specs.declared.Verdict.TheVariants.{Fine, Bad}
 use Rattle.refusals.specs.declared.Refusal.TheVariants.{Text as TextRefused}
-use Rattle.refusals.specs.Verdicts.{first, scan}
+use Rattle.refusals.specs.Verdicts.{first, scan, Bad, Fine}
 use Rattle.text_grammar.specs.Numerals.{digits_of, decimal, digits, value_from, number_from, field_of, dash, no_field}
 use Rattle.text_grammar.specs.Groups.{Group, groups, group_count, letters, no_slot, base_at, row_numbers, may_follow, index_of}
 use Rattle.text_grammar.specs.Groups.{head_group, block_group, inst_group, operand_group, assigned_group, move_group}

@@ -10,7 +10,6 @@ use lib.Seq.{take-suc, take-length}
 use lib.Dec.{leb, ltb}
 use borrow.Author.Tests.{eq-eqb, ltb-true, leb-true, not-false}
 use Rattle.words.proofs.Bools.{and_both}
-use Rattle.refusals.specs.declared.Verdict.TheVariants.{Fine}
 use Rattle.refusals.specs.declared.Refusal.TheVariants.{Text as TextRefused}
 use Rattle.refusals.proofs.Laws.{scan_fine}
 use Rattle.text_grammar.specs.Groups.{group_count, may_follow, operand_group}
@@ -19,6 +18,7 @@ use Rattle.text_grammar.specs.Text.{place_before, malformed, bad_line}
 use Rattle.text_grammar.proofs.TableLaws.{open_place}
 use Rattle.text_grammar.proofs.OperandLaws.{opens, open_inst, open_operand}
 use Rattle.text_grammar.proofs.OrderLaws.{so_far}
+use Rattle.refusals.specs.Verdicts.{Fine}
 
 -- a line that is not malformed has a group that may follow
 pub follows_of : (p : ℕ) (l : List ℕ) → malformed p l ≡ false → (line_group l < group_count) × (may_follow p (line_group l) ≡ true)

@@ -8,10 +8,8 @@ use mathlib.Core.List.{List, [], ◌∷◌, ◌++◌}
 use lib.ListN.{length, get_or, get_or-append, length-append}
 use lib.Seq.{get_or-append_seam}
 use lib.Dec.{ltb}
-use Rattle.refusals.specs.declared.Verdict.{Verdict}
-use Rattle.refusals.specs.declared.Verdict.TheVariants.{Fine, Bad}
 use Rattle.refusals.specs.declared.Refusal.TheVariants.{Text as TextRefused}
-use Rattle.refusals.specs.Verdicts.{first, scan}
+use Rattle.refusals.specs.Verdicts.{first, scan, Bad, Fine, Verdict}
 use Rattle.refusals.proofs.Laws.{scan_miss, scan_hit}
 use Rattle.text_grammar.specs.Groups.{group_at, group_count, may_follow}
 use Rattle.text_grammar.specs.Lines.{line_group, well_formed}

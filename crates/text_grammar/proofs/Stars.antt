@@ -2,8 +2,7 @@
 use mathlib.Core.Path.{◌≡◌, refl}
 use mathlib.Core.List.{List, [], ◌∷◌}
 use Prim.Native.Nat.{ℕ}
-use Rattle.refusals.specs.declared.Verdict.TheVariants.{Fine}
-use Rattle.refusals.specs.Verdicts.{first, scan}
+use Rattle.refusals.specs.Verdicts.{first, scan, Fine}
 use Rattle.text_grammar.specs.Numerals.{digits, value_from, number_from, field_of}
 use Rattle.text_grammar.specs.Groups.{index_of, head_group, block_group, edge_group, inst_group, operand_group, crossing_group, local_group, slot_group}
 use Rattle.text_grammar.specs.Groups.{address_group, end_group, piece_group, assigned_group, move_group}

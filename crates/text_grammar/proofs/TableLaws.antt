@@ -109,8 +109,8 @@ module _ {x : ℕ} {l : List ℕ} {k : ℕ} (s : Seeking x l k) where
     from = omega (arith, s.from, ap (index_of x) (drop-cons l k 0 h) ∙ past_at x (get_or l k 0) (drop (suc k) l) d, ap (λ (n : ℕ). index_of x (drop n l)) (add-one k));
   }
 
-  pub seek_end : length l ≤ k → k ≡ index_of x l
-  seek_end h = omega (arith, s.from, ap (index_of x) (drop_of_length-le l h) ∙ none_left x)
+  pub seek_end : length l ≤ k → length l ≡ index_of x l
+  seek_end h = omega (arith, s.k_le, s.from, ap (index_of x) (drop_of_length-le l h) ∙ none_left x)
 
 -- ---- the groups' regions in the reader's list
 

@@ -1,8 +1,7 @@
 -- Document 01, "Job text": number 11, and what a text without a malformed line decodes to.
 use Rattle.std.specs.Prelude.{ℕ, zero, suc, max, Bool, false, cond, not, ◌&&◌, ◌||◌, List, [], ◌∷◌, ◌++◌, length, get_or, eqb, ltb}
-use Rattle.refusals.specs.declared.Verdict.{Verdict}
 use Rattle.refusals.specs.declared.Refusal.TheVariants.{Count, Text as TextRefused}
-use Rattle.refusals.specs.Verdicts.{first, scan, check}
+use Rattle.refusals.specs.Verdicts.{first, scan, check, Verdict}
 use Rattle.text_grammar.specs.Numerals.{dash}
 use Rattle.text_grammar.specs.Groups.{group_at, may_follow, group_count, allowed, head_group, inst_group, operand_group}
 use Rattle.text_grammar.specs.Lines.{lines_of, line_group, line_fields, meant}

@@ -118,14 +118,12 @@ pub fn entry_of(k: usize) -> Entry
 pub fn find(s: &[u8], x: u8) -> usize
     ensures { result ≡ index_of x s.now }
 {
-    let mut k = 0;
-    while k < s.len() {
-        if s[k] == x {
+    for (k, b) in s.iter().enumerate() {
+        if *b == x {
             return k;
         }
-        k += 1;
     }
-    k
+    s.len()
 }
 
 // The group of a letter, or `GROUP_COUNT`.

@@ -10,9 +10,8 @@ use lib.Seq.{take-suc-set, take_all, take-append-le}
 use lib.Dec.{eqb}
 use borrow.Author.Tests.{ne_eqb, lt-leb}
 use native.Mathlib.Nat.{mul-zero}
-use Rattle.refusals.specs.declared.Verdict.TheVariants.{Fine, Bad}
 use Rattle.refusals.specs.declared.Refusal.TheVariants.{Text as TextRefused}
-use Rattle.refusals.specs.Verdicts.{scan}
+use Rattle.refusals.specs.Verdicts.{scan, Bad, Fine}
 use Rattle.words.specs.Rows.{flat}
 use Rattle.words.specs.Inner.{part}
 use Rattle.words.proofs.Bools.{never}

@@ -11,10 +11,8 @@ use lib.ListN.{length, get_or, take, length-append, length-take, get_or-append}
 use lib.Seq.{take-suc, take-length}
 use lib.Dec.{T, eqb, leb, ltb, lit<, leb-suc-zero}
 use borrow.Author.Tests.{eq-eqb, ne_eqb, lt-ltb, le-ltb, eqb-true, ltb-false}
-use Rattle.refusals.specs.declared.Verdict.{Verdict}
-use Rattle.refusals.specs.declared.Verdict.TheVariants.{Fine, Bad}
 use Rattle.refusals.specs.declared.Refusal.TheVariants.{Count, Text as TextRefused}
-use Rattle.refusals.specs.Verdicts.{first, scan, check}
+use Rattle.refusals.specs.Verdicts.{first, scan, check, Bad, Fine, Verdict}
 use Rattle.refusals.proofs.Laws.{scan_fine, first_right, check_told}
 use Rattle.words.specs.Rows.{flat}
 use Rattle.words.specs.Inner.{part}

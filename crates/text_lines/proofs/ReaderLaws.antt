@@ -8,7 +8,6 @@ use lib.ListN.{length, get_or, drop}
 use lib.Dec.{ltb, leb}
 use borrow.Author.Tests.{eq-eqb, leb-true, leb-false, not-true, ltb-true}
 use Rattle.words.proofs.Bools.{and_both, or_neither, never}
-use Rattle.refusals.specs.declared.Verdict.TheVariants.{Fine, Bad}
 use Rattle.refusals.specs.declared.Refusal.TheVariants.{Text as TextRefused}
 use Rattle.text_grammar.specs.Groups.{group_at, group_count, may_follow, operand_group}
 use Rattle.text_grammar.specs.Lines.{line_group, line_fields}
@@ -21,6 +20,7 @@ use Rattle.text_lines.specs.Inner.{on_front, Meant, Storable, Put, Stored, Over,
 use Rattle.text_lines.specs.declared.job_rows.Reader.{Reader}
 use Rattle.text_lines.proofs.PutLaws.{front_meant, front_row}
 use Rattle.text_lines.proofs.TakeLaws.{storable, stored_more, lengths_more}
+use Rattle.refusals.specs.Verdicts.{Bad, Fine}
 
 -- more lines than rows stay more
 over_more : {ls : List (List ℕ)} (l : List ℕ) → Over ls → Over (ls ++ (l ∷ []))

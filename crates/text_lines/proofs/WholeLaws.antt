@@ -9,11 +9,9 @@ use lib.ListN.{length, get_or, take, drop, replicate, length-append, length-repl
 use lib.Seq.{take-take, take-append_seam, drop-append-add}
 use lib.Dec.{ltb}
 use borrow.Author.Tests.{lt-ltb, le-ltb, ltb-false}
-use Rattle.refusals.specs.declared.Verdict.{Verdict}
-use Rattle.refusals.specs.declared.Verdict.TheVariants.{Fine, Bad}
 use Rattle.refusals.specs.declared.Refusal.{Refusal}
 use Rattle.refusals.specs.declared.Refusal.TheVariants.{Count, Space, Text as TextRefused}
-use Rattle.refusals.specs.Verdicts.{first, in_order, check, rank_of}
+use Rattle.refusals.specs.Verdicts.{first, in_order, check, rank_of, Bad, Fine, Verdict}
 use Rattle.refusals.specs.Outcomes.{unless, numbered, after}
 use Rattle.refusals.specs.Orders.{Ordered}
 use Rattle.refusals.proofs.Laws.{first_fine, first_assoc, first_left, first_right, check_last, check_told, first_last}
@@ -31,6 +29,14 @@ use Rattle.text_lines.specs.Inner.{Records, Finished, padded, Copyable, Copied}
 use Rattle.text_lines.specs.Read.{read_checks, group_rows, rows_for, counts_for, TextRead}
 use Rattle.text_lines.proofs.EndLaws.{accepted_few}
 use Rattle.text_lines.proofs.CopyLaws.{starts, before_all, flat_before}
+use Rattle.std.specs.Result.{result_and}
+use Rattle.std.specs.Prelude.{Ok, Err}
+
+-- the library's `and` of two verdicts is the first that refuses
+pub and_first : (v w : Verdict) → result_and v w ≡ first v w
+unfolding first
+and_first (Ok u) w = refl
+and_first (Err e) w = refl
 
 -- ---- the refusals, 11 first
 

@@ -5,13 +5,11 @@ use Rattle.text_grammar.specs.Groups.{group_at, group_count, base_at, row_number
 use Rattle.text_grammar.specs.Lines.{comma, parts, fits, group_of, fields_of, formed, line_group, line_fields, meant, newline, longest, lines_of}
 use Rattle.words.specs.Inner.{Region, part}
 use Rattle.text_grammar.specs.Text.{row_with, read_verdict, rows_in, count_of, place_before, bad_line}
-use Rattle.refusals.specs.declared.Verdict.{Verdict}
-use Rattle.refusals.specs.declared.Verdict.TheVariants.{Fine, Bad}
 use Rattle.refusals.specs.Outcomes.{numbered}
 use Rattle.words.specs.Rows.{tabulate, flat}
 use Rattle.text_lines.specs.declared.job_rows.Reader.{Reader}
 use Rattle.refusals.specs.declared.Refusal.TheVariants.{Text as TextRefused}
-use Rattle.refusals.specs.Verdicts.{scan}
+use Rattle.refusals.specs.Verdicts.{scan, Bad, Fine, Verdict}
 
 -- What reading a line leaves: its group, and its fields in a lent list.
 

@@ -1,8 +1,7 @@
 -- A text read in pieces, and what a whole text is answered.
 use Rattle.std.specs.Prelude.{ℕ, ◌-◌, ◌*◌, ◌≡◌, ◌||◌, List, [], ◌∷◌, ◌++◌, length, replicate, ltb}
-use Rattle.refusals.specs.declared.Verdict.{Verdict}
 use Rattle.refusals.specs.declared.Refusal.TheVariants.{Count, Space}
-use Rattle.refusals.specs.Verdicts.{in_order, check}
+use Rattle.refusals.specs.Verdicts.{in_order, check, Verdict}
 use Rattle.refusals.specs.Outcomes.{unless, numbered, after}
 use Rattle.words.specs.Rows.{tabulate, flat}
 use Rattle.text_grammar.specs.Groups.{group_at, group_count, row_numbers}

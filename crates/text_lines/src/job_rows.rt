@@ -43,10 +43,8 @@ fn put_numbers(k: usize, n: usize, fields: &[u64], rows: &mut [u32], at: usize)
     requires { Meant k fields.now × (n ≡ length (group_at k).dashes) × (at + n ≤ length rows.old) }
     ensures { Region rows.old rows.new at n (λ j. get_or (numbers (group_at k).dashes fields.now) j 0) }
 {
-    let mut j = 0;
-    while j < n {
+    for j in 0..n {
         rows[at + j] = number(fields[j], dash_at(k, j));
-        j += 1;
     }
 }
 

@@ -15,9 +15,7 @@ fn value(s: &[u8]) -> u64
     ensures { result ≡ number_from 0 s.now }
 {
     let mut v: u64 = 0;
-    let mut i = 0;
-    while i < s.len() {
-        let b = s[i];
+    for &b in s {
         if b < 48 {
             return NO_FIELD;
         }
@@ -28,7 +26,6 @@ fn value(s: &[u8]) -> u64
         if LIMIT <= v {
             return NO_FIELD;
         }
-        i += 1;
     }
     v
 }
@@ -69,17 +66,15 @@ fn fields(s: &[u8], k: usize, out: &mut [u64]) -> bool
 {
     let n = entry_of(k).fields;
     let mut at = 0;
-    let mut j = 0;
-    while j < n {
+    for j in 0..n {
         let e = at + find(&s[at..], b',');
         let f = field(&s[at..e]);
         if !allowed(f, dash_at(k, j)) {
             return false;
         }
         out[j] = f;
-        j += 1;
         if e == s.len() {
-            return j == n;
+            return j + 1 == n;
         }
         at = e + 1;
     }

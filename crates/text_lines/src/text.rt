@@ -1,7 +1,5 @@
 // A job text, read byte by byte through a line buffer: nothing is cut off, and no line is kept but the one that is read.
-ghost use Rattle.std.specs.Prelude.{◌≡◌, ◌∷◌, [], ◌+◌, ◌≤◌, ◌<◌, ◌||◌, ltb, length, get_or};
-ghost use Rattle.refusals.specs.declared.Refusal.TheVariants.{Space};
-ghost use Rattle.refusals.specs.Verdicts.{check};
+ghost use Rattle.std.specs.Prelude.{◌≡◌, ◌∷◌, [], ◌+◌, ◌≤◌, ◌<◌, length, get_or};
 ghost use Rattle.words.specs.Inner.{Region, part};
 ghost use Rattle.text_grammar.specs.Groups.{group_count, row_numbers};
 ghost use Rattle.text_grammar.specs.Inner.{most_fields};
@@ -10,7 +8,7 @@ ghost use Rattle.text_lines.specs.Inner.{Reading, Ready, Feeds, Finishes, Finish
 ghost use Rattle.text_lines.specs.Read.{TextRead};
 
 use crate::job_rows::{Reader, malformed, take_line};
-use refusals::{Refusal, Verdict, earlier};
+use refusals::{Refusal, Refused, Verdict};
 use text_grammar::{ALLOWED, GROUP_COUNT, LONGEST, MOST_FIELDS, REGISTERS, ROW_NUMBERS, entry_of};
 
 // What is known of the lines so far, and how many bytes of the next one stand in the line buffer.
@@ -25,11 +23,7 @@ pub fn start(line: &mut [u8], rows: &mut [u32], counts: &mut [u32]) -> State
     requires { (length line.old ≡ longest) × (length rows.old ≡ row_numbers) × (length counts.old ≡ group_count) }
     ensures { Reading [] result.reader result.len line.new rows.new counts.new }
 {
-    let mut k = 0;
-    while k < GROUP_COUNT {
-        counts[k] = 0;
-        k += 1;
-    }
+    counts.fill(0);
     State {
         reader: Reader {
             lines: 0,
@@ -91,10 +85,8 @@ pub fn feed(
         result.reader result.len line.new fields.new rows.new counts.new }
 {
     let mut q = s;
-    let mut i = 0;
-    while i < piece.len() {
-        q = take_byte(q, piece[i], line, fields, rows, counts);
-        i += 1;
+    for &b in piece {
+        q = take_byte(q, b, line, fields, rows, counts);
     }
     q
 }
@@ -106,21 +98,21 @@ pub fn finish(s: State, rows: &[u32]) -> Verdict
 {
     let r = s.reader;
     if r.bad {
-        return Verdict::Bad(Refusal::Text, r.at);
+        return Err(Refused(Refusal::Text, r.at));
     }
     if 0 < s.len {
-        return Verdict::Bad(Refusal::Text, r.lines);
+        return Err(Refused(Refusal::Text, r.lines));
     }
     if r.lines == 0 {
-        return Verdict::Bad(Refusal::Text, 0);
+        return Err(Refused(Refusal::Text, 0));
     }
     if r.full {
-        return Verdict::Bad(Refusal::Count, 0);
+        return Err(Refused(Refusal::Count, 0));
     }
     if ALLOWED < rows[REGISTERS] {
-        return Verdict::Bad(Refusal::Count, 0);
+        return Err(Refused(Refusal::Count, 0));
     }
-    Verdict::Fine
+    Ok(())
 }
 
 // A whole text into the reader's own lists.
@@ -140,14 +132,11 @@ fn copy_group(held: &[u32], base: usize, len: usize, room: usize, rows: &mut [u3
     requires { (base + room ≤ length held.now) × (base + room ≤ length rows.old) }
     ensures { Region rows.old rows.new base room (λ j. get_or (part base len held.now) j 0) }
 {
-    let mut j = 0;
-    while j < room {
+    for j in 0..room {
         if j < len {
             rows[base + j] = held[base + j];
-            j += 1;
         } else {
             rows[base + j] = 0;
-            j += 1;
         }
     }
 }
@@ -157,27 +146,12 @@ fn copy_all(held: &[u32], counted: &[u32], rows: &mut [u32], counts: &mut [u32])
     requires { Copyable held.now counted.now rows.old counts.old }
     ensures { Copied held.now counted.now rows.old counts.old rows.new counts.new }
 {
-    let mut k = 0;
-    while k < GROUP_COUNT {
+    for k in 0..GROUP_COUNT {
         let e = entry_of(k);
         let n = counted[k];
         copy_group(held, e.base, e.width * n as usize, e.width * e.room, rows);
         counts[k] = n;
-        k += 1;
     }
-}
-
-// Lists of this many numbers: 7 where one is shorter than its answer.
-fn space(rows: usize, counts: usize) -> Verdict
-    ensures { result ≡ check Space (ltb rows row_numbers || ltb counts group_count) }
-{
-    if rows < ROW_NUMBERS {
-        return Verdict::Bad(Refusal::Space, 0);
-    }
-    if counts < GROUP_COUNT {
-        return Verdict::Bad(Refusal::Space, 0);
-    }
-    Verdict::Fine
 }
 
 // Reads a whole text: the rows of its groups, each group's at its place with zeros behind them, and how many there are. Refuses the first
@@ -188,11 +162,8 @@ pub fn read_text(text: &[u8], rows: &mut [u32], counts: &mut [u32]) -> Verdict
     let mut held = [0; ROW_NUMBERS];
     let mut counted = [0; GROUP_COUNT];
     let v = read_all(text, &mut held, &mut counted);
-    let s = space(rows.len(), counts.len());
-    let w = earlier(v, s);
-    if let Verdict::Bad(r, i) = w {
-        return Verdict::Bad(r, i);
-    }
+    let s = refusals::room(rows.len(), ROW_NUMBERS, counts.len(), GROUP_COUNT);
+    v.and(s)?;
     copy_all(&held, &counted, rows, counts);
-    w
+    Ok(())
 }

@@ -51,8 +51,8 @@ module _ (s : List ℕ) (at i : ℕ) (h : i < length s) {out out' : List ℕ} (a
   pub byte_out : length out' ≤ at + i → Puts (take (i + 1) s) out at out' (at + (i + 1))
   byte_out l = subst (λ (x : List ℕ). Puts (take (i + 1) s) out at x (at + (i + 1))) (set_out out' (at + i) (get_or s i 0) l) byte_in
 
-pub bytes_all : (s : List ℕ) (at i : ℕ) {out out' : List ℕ} → i ≡ length s → Puts (take i s) out at out' (at + i) → Puts s out at out' (at + i)
-bytes_all s at i e a = puts_as (ap (λ (n : ℕ). take n s) e ∙ take-length s) a
+pub bytes_all : (s : List ℕ) (at i : ℕ) {out out' : List ℕ} → i ≡ length s → Puts (take i s) out at out' (at + i) → Puts s out at out' (at + length s)
+bytes_all s at i e a = rw (← e) (puts_as (ap (λ (n : ℕ). take n s) e ∙ take-length s) a)
 
 -- rows one after another
 flat_snoc : (xs : List (List ℕ)) (x : List ℕ) → flat (xs ++ (x ∷ [])) ≡ flat xs ++ x

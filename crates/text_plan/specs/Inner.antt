@@ -1,10 +1,10 @@
 -- What the functions here promise each other. No public promise names these.
 use Rattle.std.specs.Prelude.{ℕ, ◌+◌, ◌≡◌, List, [], ◌∷◌, length}
 use Rattle.refusals.specs.Outcomes.{unless}
-use Rattle.refusals.specs.declared.Verdict.{Verdict}
 use Rattle.words.specs.Widths.{range_start, range_end}
 use Rattle.text_plan.specs.Lines.{line_text}
 use Rattle.std.proofs.lemmas.List.Edits.{sets}
+use Rattle.refusals.specs.Verdicts.{Verdict}
 
 -- the line of a row of the area list
 abbrev pub row_line : List ℕ → ℕ → ℕ → List ℕ

@@ -1,9 +1,8 @@
 -- Document 01, "Job text": the text of a plan or of a refusal.
 use Rattle.std.specs.Prelude.{ℕ, ◌+◌, ◌-◌, ◌≡◌, ◌||◌, List, [], ◌∷◌, ◌++◌, map, length, ltb}
 use Rattle.std.proofs.Math.Option.{Option, some, none}
-use Rattle.refusals.specs.Verdicts.{number_of, in_order, check}
-use Rattle.refusals.specs.Outcomes.{Outcome, given, refused, unless, after}
-use Rattle.refusals.specs.declared.Verdict.{Verdict}
+use Rattle.refusals.specs.Verdicts.{number_of, in_order, check, Verdict, Answer}
+use Rattle.refusals.specs.Outcomes.{Outcome, given, refused, unless, after, answered}
 use Rattle.refusals.specs.declared.Refusal.{Refusal}
 use Rattle.refusals.specs.declared.Refusal.TheVariants.{Count, Line, Edge, Inst, Stray, Piece, Space, List as ListFull, Want, Text, Align, Depth}
 use Rattle.words.specs.Rows.{tabulate, flat}
@@ -12,8 +11,6 @@ use Rattle.ranges.specs.declared.Range.{Range}
 use Rattle.fitting.specs.Queries.{slots_of, shared}
 use Rattle.query_checks.specs.Checks.{bad_count, bad_areas, parts_verdict, surplus}
 use Rattle.text_plan.specs.Lines.{line_text}
-use Rattle.text_plan.specs.declared.plan_text.Written.{Written}
-use Rattle.text_plan.specs.declared.plan_text.Written.TheVariants.{Bytes, Refused as WrittenRefused}
 
 -- `C`: cell, size, align
 abbrev pub cell_line : List ℕ → ℕ → List ℕ
@@ -86,17 +83,13 @@ print_rank Text = 4
 print_rank Align = 4
 print_rank Depth = 4
 
-abbrev pub written_of : Written → Outcome ℕ
-written_of (Bytes n) = given n
-written_of (WrittenRefused r i) = refused (number_of r) i
-
 abbrev pub counted : Outcome (List ℕ) → Outcome ℕ
 counted (given l) = given (length l)
 counted (refused n i) = refused n i
 
 -- the text's length, and the text in the list
-pub record PrintedTo (o : Outcome (List ℕ)) (out : List ℕ) (r : Written) (out' : List ℕ) : Type 0 where
-  pub answer : written_of r ≡ counted o
+pub record PrintedTo (o : Outcome (List ℕ)) (out : List ℕ) (r : Answer) (out' : List ℕ) : Type 0 where
+  pub answer : answered r ≡ counted o
   pub in_out : out' ≡ after o (λ l. l) out
 
 abbrev pub plan_text : List ℕ → List ℕ → List ℕ → ℕ → ℕ → ℕ → ℕ → Outcome (List ℕ)

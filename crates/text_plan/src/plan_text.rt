@@ -1,23 +1,16 @@
 // The text of a plan, or of a refusal, written into a lent list.
 ghost use Rattle.std.specs.Prelude.{◌≡◌, ◌+◌, ◌-◌, ◌≤◌, ◌<◌, length};
-ghost use Rattle.refusals.specs.declared.Verdict.TheVariants.{Fine};
 ghost use Rattle.words.specs.Rows.{tabulate, flat};
 ghost use Rattle.words.specs.Widths.{cell_count, item_row_count, range_count};
 ghost use Rattle.query_checks.specs.Checks.{shared_verdict};
 ghost use Rattle.text_plan.specs.Inner.{Puts, row_line, Alike};
 ghost use Rattle.text_plan.specs.Printed.{cell_lines, item_lines, shared_lines, printed, PrintedTo, plan_text, no_text};
+ghost use Rattle.refusals.specs.Verdicts.{Fine};
 
 use crate::printing::put_line;
-use queries::{Share, shared};
-use refusals::{Refusal, Verdict};
+use queries::{Stretch, shared};
+use refusals::{Answer, Refusal, Refused, Verdict};
 use words::widths::{cell, item, range};
-
-// How many bytes the text has, or a refusal.
-#[derive(Clone, Copy)]
-pub enum Written {
-    Bytes(usize),
-    Refused(Refusal, usize),
-}
 
 fn put_cells(cells: &[u32], out: &mut [u8], at: usize) -> usize
     requires { (at < 1152921504606846976) × (cell_count cells.now ≤ 4096) }
@@ -25,15 +18,13 @@ fn put_cells(cells: &[u32], out: &mut [u8], at: usize) -> usize
 {
     let n = cells.len() / cell::WIDTH;
     let mut next = at;
-    let mut i = 0;
-    while i < n {
+    for i in 0..n {
         let ns = [
             i as u64,
             cells[cell::WIDTH * i] as u64,
             cells[cell::WIDTH * i + cell::ALIGN] as u64,
         ];
         next = put_line(out, next, b'C', &ns);
-        i += 1;
     }
     next
 }
@@ -44,11 +35,9 @@ fn put_items(letter: u8, items: &[u32], base: usize, n: usize, out: &mut [u8], a
     ensures { Puts (item_lines letter items.now base n) out.old at out.new result }
 {
     let mut next = at;
-    let mut i = 0;
-    while i < n {
+    for i in 0..n {
         let ns = [i as u64, items[item::WIDTH * (base + i)] as u64];
         next = put_line(out, next, letter, &ns);
-        i += 1;
     }
     next
 }
@@ -59,12 +48,10 @@ fn put_area(areas: &[u32], local: u32, start: usize, n: usize, out: &mut [u8], a
     ensures { Puts (flat (tabulate n (λ j. row_line areas.now local (start + j)))) out.old at out.new result }
 {
     let mut next = at;
-    let mut j = 0;
-    while j < n {
+    for j in 0..n {
         let k = range::WIDTH * (start + j);
         let ns = [local as u64, areas[k] as u64, areas[k + range::END] as u64];
         next = put_line(out, next, b'G', &ns);
-        j += 1;
     }
     next
 }
@@ -82,20 +69,11 @@ fn put_shared(
     ensures { Puts (shared_lines cells.now items.now areas.now locals) out.old at out.new result × (result ≤ at + 34359738368) }
 {
     let mut next = at;
-    let mut i: u32 = 0;
-    while i < locals {
-        let s = shared(cells, items, areas, locals, i);
-        match s {
-            Share::Part(start, n) => {
-                next = put_area(areas, i, start, n, out, next);
-                i += 1;
-            }
-            Share::Absent => {
-                i += 1;
-            }
-            Share::Refused(_, _) => {
-                i += 1;
-            }
+    for i in 0..locals {
+        // The plan was checked, so nothing is refused.
+        let found = shared(cells, items, areas, locals, i).unwrap();
+        if let Some(part) = found {
+            next = put_area(areas, i, part.first, part.count, out, next);
         }
     }
     next
@@ -129,12 +107,8 @@ fn put_plan(
 fn plan_verdict(cells: &[u32], items: &[u32], areas: &[u32], locals: u32) -> Verdict
     ensures { Alike result (shared_verdict cells.now items.now areas.now locals) }
 {
-    let s = shared(cells, items, areas, locals, 0);
-    match s {
-        Share::Part(_, _) => Verdict::Fine,
-        Share::Absent => Verdict::Fine,
-        Share::Refused(r, k) => Verdict::Bad(r, k),
-    }
+    shared(cells, items, areas, locals, 0)?;
+    Ok(())
 }
 
 // Writes the text of a plan: its cells, items, areas, probes and depth as the entries answer them. Refuses a plan as `shared` does (1 and 10), then a list that is
@@ -147,32 +121,29 @@ pub fn print_plan(
     probes: u64,
     depth: u64,
     out: &mut [u8],
-) -> Written
+) -> Answer
     ensures { PrintedTo (plan_text cells.now items.now areas.now locals probes depth (length out.old)) out.old result out.new }
 {
-    let v = plan_verdict(cells, items, areas, locals);
-    if let Verdict::Bad(r, k) = v {
-        return Written::Refused(r, k);
-    }
+    plan_verdict(cells, items, areas, locals)?;
     let mut scratch = [0; 1];
     let n = put_plan(cells, items, areas, locals, probes, depth, &mut scratch);
     if out.len() < n {
-        return Written::Refused(Refusal::Space, 0);
+        return Err(Refused(Refusal::Space, 0));
     }
     put_plan(cells, items, areas, locals, probes, depth, out);
-    Written::Bytes(n)
+    Ok(n)
 }
 
 // Writes the text of a refusal. Refuses a list that is shorter than the text (7).
-pub fn print_refusal(number: u32, index: u64, out: &mut [u8]) -> Written
+pub fn print_refusal(number: u32, index: u64, out: &mut [u8]) -> Answer
     ensures { PrintedTo (no_text number index (length out.old)) out.old result out.new }
 {
     let ns = [number as u64, index];
     let mut scratch = [0; 1];
     let len = put_line(&mut scratch, 0, b'N', &ns);
     if out.len() < len {
-        return Written::Refused(Refusal::Space, 0);
+        return Err(Refused(Refusal::Space, 0));
     }
     put_line(out, 0, b'N', &ns);
-    Written::Bytes(len)
+    Ok(len)
 }

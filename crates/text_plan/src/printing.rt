@@ -26,16 +26,12 @@ fn put(out: &mut [u8], at: usize, s: &[u8]) -> usize
     requires { at + length s.now < 2 ^ 64 }
     ensures { Puts s.now out.old at out.new result }
 {
-    let mut i = 0;
-    while i < s.len() {
+    for (i, &b) in s.iter().enumerate() {
         if at + i < out.len() {
-            out[at + i] = s[i];
-            i += 1;
-        } else {
-            i += 1;
+            out[at + i] = b;
         }
     }
-    at + i
+    at + s.len()
 }
 
 // A comma and a number.
@@ -56,10 +52,8 @@ pub fn put_line(out: &mut [u8], at: usize, letter: u8, ns: &[u64]) -> usize
 {
     let first = [letter; 1];
     let mut next = put(out, at, &first);
-    let mut i = 0;
-    while i < ns.len() {
-        next = put_field(out, next, ns[i]);
-        i += 1;
+    for &n in ns {
+        next = put_field(out, next, n);
     }
     put(out, next, b"\n")
 }

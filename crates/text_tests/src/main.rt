@@ -2,113 +2,84 @@
 // texts in lent lists. Then the text on standard input, in pieces of seven bytes, and its rows. Held to the file `stdout`.
 #![tactic(auto)]
 
-ghost use Rattle.std.specs.Prelude.{◌≤◌, ◌<◌, ◌≡◌, length};
+ghost use Rattle.std.specs.Prelude.{◌≡◌, length};
 ghost use Rattle.text_grammar.specs.Groups.{group_count, row_numbers};
 
 use planning::print_text;
-use refusals::{Refusal, Verdict, number};
+use refusals::{Answer, Refusal, Refused, Verdict, number};
 use std::io;
 use std::io::{Print, Stdout};
 use text_grammar::{GROUP_COUNT, INSTS, MOST_FIELDS, ROW_NUMBERS, entry_of};
 use text_lines::text::{feed, finish, read_text, start};
-use text_plan::plan_text::Written;
-
-fn say(stdout: Stdout, s: &[u8]) -> io::Result<()> {
-    stdout.write_all(s)
-}
 
 fn refused(stdout: Stdout, r: Refusal, i: usize) -> io::Result<()> {
-    say(stdout, b"N,")?;
-    stdout.print(number(r) as u64)?;
-    say(stdout, b",")?;
-    stdout.print(i as u64)?;
-    say(stdout, b"\n")
+    let n = number(r);
+    println!(stdout; "N,{n},{i}")
 }
 
+// A list, a line.
 fn counted(stdout: Stdout, counts: &[u32]) -> io::Result<()> {
-    let mut k = 0;
-    while k < counts.len() {
-        say(stdout, b" ")?;
-        stdout.print(counts[k] as u64)?;
-        k += 1;
-    }
-    say(stdout, b"\n")
+    cases::show(stdout, counts)?;
+    println!(stdout)
 }
 
 // What a reading answers: a word and the counts, or the refusal.
-fn told(stdout: Stdout, v: Verdict, word: &[u8], counts: &[u32]) -> io::Result<()> {
+fn told(stdout: Stdout, v: Verdict, word: &str, counts: &[u32]) -> io::Result<()> {
     match v {
-        Verdict::Fine => {
-            say(stdout, word)?;
-            counted(stdout, counts)?;
+        Ok(()) => {
+            print!(stdout; "{word}")?;
+            counted(stdout, counts)
         }
-        Verdict::Bad(r, i) => refused(stdout, r, i)?,
+        Err(Refused(r, i)) => refused(stdout, r, i),
     }
-    Ok(())
 }
 
 fn case(stdout: Stdout, text: &[u8]) -> io::Result<()> {
     let mut rows = [0; ROW_NUMBERS];
     let mut counts = [0; GROUP_COUNT];
     let v = read_text(text, &mut rows, &mut counts);
-    told(stdout, v, b"fine", &counts)
-}
-
-// Each of some texts: a bar stands after each.
-fn cases(stdout: Stdout, texts: &[u8]) -> io::Result<()> {
-    let mut from = 0;
-    let mut to = 0;
-    while to < texts.len() {
-        if texts[to] == b'|' {
-            case(stdout, &texts[from..to])?;
-            to += 1;
-            from = to;
-        } else {
-            to += 1;
-        }
-    }
-    Ok(())
+    told(stdout, v, "fine", &counts)
 }
 
 // The order of the lines, and then their fields.
 fn texts(stdout: Stdout) -> io::Result<()> {
-    cases(
-        stdout,
-        b"|\
-        H,20,0,1048576|\
-        H,20,0,1048576\n|\
-        H,20,65,1048576\n|\
-        H,20,0,1048576\nH,20,0,1048576\n|\
-        B,0,0,19\n|\
-        H,20,0,0\nO,0,0\n|\
-        H,20,0,0\nI,-,2,3,0,0,-,-\nO,0,0\nO,1,1\nI,0,2,3,0,0,-,-\nX,5\n|\
-        H,20,0,0\nX,5\nI,0,2,3,0,0,-,-\n|\
-        H,20,0,0\n\nX,5\n|",
-    )?;
-    cases(
-        stdout,
-        b"H,20,0,0\r\n|\
-        H,020,0,0\n|\
-        H,4294967295,0,0\n|\
-        H,4294967296,0,0\n|\
-        H,20,0\n|\
-        H,20,0,0,0\n|\
-        H,-,0,0\n|\
-        H,20,0,0\nP,0,-\nM,0,1,-,-\n|\
-        H,20,0,0\nP,-,0\n|\
-        H,20,0,0\nQ,0\n|\
-        H,20,0,0\nX,1111111111111111111111111111111111111111111111111111111111111111111111111111111111111111111111111111111111111111111111111111111111\nX,1\n|",
-    )
+    let texts: [&str; 21] = [
+        "",
+        "H,20,0,1048576",
+        "H,20,0,1048576\n",
+        "H,20,65,1048576\n",
+        "H,20,0,1048576\nH,20,0,1048576\n",
+        "B,0,0,19\n",
+        "H,20,0,0\nO,0,0\n",
+        "H,20,0,0\nI,-,2,3,0,0,-,-\nO,0,0\nO,1,1\nI,0,2,3,0,0,-,-\nX,5\n",
+        "H,20,0,0\nX,5\nI,0,2,3,0,0,-,-\n",
+        "H,20,0,0\n\nX,5\n",
+        "H,20,0,0\r\n",
+        "H,020,0,0\n",
+        "H,4294967295,0,0\n",
+        "H,4294967296,0,0\n",
+        "H,20,0\n",
+        "H,20,0,0,0\n",
+        "H,-,0,0\n",
+        "H,20,0,0\nP,0,-\nM,0,1,-,-\n",
+        "H,20,0,0\nP,-,0\n",
+        "H,20,0,0\nQ,0\n",
+        "H,20,0,0\nX,1111111111111111111111111111111111111111111111111111111111111111111111111111111111111111111111111111111111111111111111111111111111\nX,1\n",
+    ];
+    for text in texts {
+        case(stdout, text.as_bytes())?;
+    }
+    Ok(())
 }
 
-fn written(stdout: Stdout, w: Written, out: &[u8]) -> io::Result<()> {
+fn written(stdout: Stdout, w: Answer, out: &[u8]) -> io::Result<()> {
     match w {
-        Written::Bytes(n) => {
+        Ok(n) => {
             if n <= out.len() {
-                say(stdout, &out[0..n])?;
+                stdout.write_all(&out[0..n])?;
             }
         }
-        Written::Refused(r, i) => refused(stdout, r, i)?,
+        Err(Refused(r, i)) => refused(stdout, r, i)?,
     }
     Ok(())
 }
@@ -136,33 +107,20 @@ fn plans(stdout: Stdout) -> io::Result<()> {
 }
 
 // How many numbers are no longer 7.
-fn changed(s: &[u32]) -> u64
-    ensures { result ≤ length s.now }
-{
-    let mut n = 0;
-    let mut k = 0;
-    while k < s.len() {
-        if s[k] != 7 {
-            n += 1;
-            k += 1;
-        } else {
-            k += 1;
-        }
-    }
-    n
+fn changed(s: &[u32]) -> usize {
+    s.iter().filter(|x| **x != 7).count()
 }
 
 // What is answered, and how many numbers of each list are written.
 fn lent(stdout: Stdout, text: &[u8], rows: &mut [u32], counts: &mut [u32]) -> io::Result<()> {
     let v = read_text(text, rows, counts);
     match v {
-        Verdict::Fine => say(stdout, b"fine\n")?,
-        Verdict::Bad(r, i) => refused(stdout, r, i)?,
+        Ok(()) => println!(stdout; "fine")?,
+        Err(Refused(r, i)) => refused(stdout, r, i)?,
     }
-    stdout.print(changed(rows))?;
-    say(stdout, b" ")?;
-    stdout.print(changed(counts))?;
-    say(stdout, b"\n")
+    let of_rows = changed(rows);
+    let of_counts = changed(counts);
+    println!(stdout; "{of_rows} {of_counts}")
 }
 
 // 11 before 1 before 7: a refusal leaves both lists as they were, and so do numbers past the answer.
@@ -183,14 +141,13 @@ fn lists(stdout: Stdout) -> io::Result<()> {
 fn printed(stdout: Stdout, text: &[u8], out: &mut [u8]) -> io::Result<()> {
     let w = print_text(text, out);
     match w {
-        Written::Bytes(n) => {
-            stdout.print(n as u64)?;
-            say(stdout, b"\n")?;
+        Ok(n) => {
+            println!(stdout; "{n}")?;
         }
-        Written::Refused(r, i) => refused(stdout, r, i)?,
+        Err(Refused(r, i)) => refused(stdout, r, i)?,
     }
-    say(stdout, out)?;
-    say(stdout, b"|\n")
+    stdout.write_all(out)?;
+    println!(stdout; "|")
 }
 
 fn star(stdout: Stdout, out: &mut [u8]) -> io::Result<()> {
@@ -216,17 +173,6 @@ fn programs(stdout: Stdout) -> io::Result<()> {
     printed(stdout, b"H,20,0,0\nB,1,0,19\n", &mut less)
 }
 
-// Where the piece ends that begins there: seven bytes on, or with the text.
-fn piece_end(from: usize, len: usize) -> usize
-    requires { from < len }
-    ensures { (from < result) × (result ≤ len) }
-{
-    if len - from < 7 {
-        return len;
-    }
-    from + 7
-}
-
 // A text, seven bytes at a time.
 fn pieces(text: &[u8], rows: &mut [u32], counts: &mut [u32]) -> Verdict
     requires { (length rows.old ≡ row_numbers) × (length counts.old ≡ group_count) }
@@ -234,11 +180,11 @@ fn pieces(text: &[u8], rows: &mut [u32], counts: &mut [u32]) -> Verdict
     let mut line = [0; 128];
     let mut fields = [0; MOST_FIELDS];
     let mut s = start(&mut line, rows, counts);
-    let mut from = 0;
-    while from < text.len() {
-        let to = piece_end(from, text.len());
-        s = feed(s, &text[from..to], &mut line, &mut fields, rows, counts);
-        from = to;
+    let mut rest = text;
+    while !rest.is_empty() {
+        let (piece, more) = rest.split_at(rest.len().min(7));
+        s = feed(s, piece, &mut line, &mut fields, rows, counts);
+        rest = more;
     }
     finish(s, rows)
 }
@@ -247,7 +193,7 @@ fn input(stdout: Stdout, text: &[u8]) -> io::Result<()> {
     let mut rows = [0; ROW_NUMBERS];
     let mut counts = [0; GROUP_COUNT];
     let v = pieces(text, &mut rows, &mut counts);
-    told(stdout, v, b"", &counts)?;
+    told(stdout, v, "", &counts)?;
     let insts = entry_of(INSTS).base;
     counted(stdout, &rows[insts..insts + 18])
 }

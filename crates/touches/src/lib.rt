@@ -25,11 +25,9 @@ pub fn of_registers(
     ensures { Gathered pieces.now from count to work.old work.new result }
 {
     let mut m = 0;
-    let mut k = 0;
-    while k < count {
+    for k in 0..count {
         let register = work[from + k] as u32;
         m += live::fetch(pieces, work, keys, register, to + m);
-        k += 1;
     }
     m
 }

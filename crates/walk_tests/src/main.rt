@@ -6,51 +6,41 @@
 // an odd number left over; firsts and counts whose sum is over 32 bits; every list of up to three ranges, and of two at the highest points.
 #![tactic(auto)]
 
-ghost use Rattle.std.specs.Prelude.{◌≡◌, ◌≤◌, length};
-ghost use Rattle.cases.specs.Inner.{Ordered};
+ghost use Rattle.std.specs.Prelude.{◌≤◌};
 
-use cases::Cuts;
+use cases::Case;
 use range_walk::Look;
 use std::io;
-use std::io::Stdout;
+use std::io::{Print, Stdout};
 
 fn told(out: Stdout, look: Look) -> io::Result<()> {
-    if look.fine {
-        cases::put(out, b" fine ", look.looked as u64)?;
-    } else {
-        cases::put(out, b" bad ", look.looked as u64)?;
-    }
-    cases::text(out, b"\n")
-}
-
-fn letter(out: Stdout, looked: usize) -> io::Result<()> {
-    match looked {
-        1 => cases::text(out, b"a"),
-        2 => cases::text(out, b"b"),
-        3 => cases::text(out, b"c"),
-        _ => cases::text(out, b"?"),
-    }
+    let said = if look.fine { "fine" } else { "bad" };
+    let looked = look.looked;
+    println!(out; " {said} {looked}")
 }
 
 fn mark(out: Stdout, look: Look) -> io::Result<()> {
+    let looked = look.looked;
     if look.fine {
-        cases::put(out, b"", look.looked as u64)?;
-    } else {
-        letter(out, look.looked)?;
+        return print!(out; "{looked}");
     }
-    Ok(())
+    let letter = match looked {
+        1 => "a",
+        2 => "b",
+        3 => "c",
+        _ => "?",
+    };
+    print!(out; "{letter}")
 }
 
 // List k of those over four points: its digits to the base of four.
 fn fill(list: &mut [u32], k: usize, low: u32)
     requires { low ≤ 4294967292 }
 {
-    let mut x = k;
-    let mut i = list.len();
-    while 0 < i {
-        i -= 1;
-        list[i] = low + (x % 4) as u32;
-        x = x / 4;
+    let mut rest = k;
+    for x in list.iter_mut().rev() {
+        *x = low + (rest % 4) as u32;
+        rest = rest / 4;
     }
 }
 
@@ -58,16 +48,14 @@ fn fill(list: &mut [u32], k: usize, low: u32)
 fn lists(out: Stdout, list: &mut [u32], ranges: u32, count: usize, low: u32) -> io::Result<()>
     requires { low ≤ 4294967292 }
 {
-    let mut k = 0;
-    while k < count {
+    for k in 0..count {
         if k % 64 == 0 {
-            cases::text(out, b"\n")?;
+            println!(out)?;
         }
         fill(list, k, low);
         mark(out, range_walk::walk(list, 1, 0, ranges))?;
-        k += 1;
     }
-    cases::text(out, b"\n")
+    println!(out)
 }
 
 fn every(out: Stdout, ranges: u32, low: u32) -> io::Result<()> {
@@ -84,34 +72,17 @@ fn every(out: Stdout, ranges: u32, low: u32) -> io::Result<()> {
 }
 
 // Runs what a case asks, by the first letter of its name.
-fn ask(out: Stdout, name: u8, areas: &[u32], x: u32, y: u32, z: u32) -> io::Result<()> {
-    if name == b'w' {
-        told(out, range_walk::walk(areas, x, y, z))?;
-    } else {
-        every(out, x, y)?;
+fn run(out: Stdout, case: &Case) -> io::Result<()> {
+    let x = case.number(0);
+    let y = case.number(1);
+    match case.letter {
+        b'w' => told(out, range_walk::walk(case.column(1), x, y, case.number(2))),
+        _ => every(out, x, y),
     }
-    Ok(())
-}
-
-fn run(out: Stdout, name: u8, n: &[u32], e: Cuts) -> io::Result<()>
-    requires { (length n.now ≡ 1024) × Ordered e 1024 }
-{
-    let c0 = e.c0;
-    let c1 = e.c1;
-    ask(out, name, &n[c0..c1], n[0], n[1], n[2])
 }
 
 fn main(rt: HostRuntime) -> io::Result<()> {
     let out = rt.stdout();
-    let mut text = [0u8; 8192];
-    let mut n = [0u32; 1024];
-    let len = cases::input(rt.stdin(), &mut text)?;
-    let mut i = 0;
-    while i < len {
-        cases::name(out, &text, i)?;
-        let e = cases::case(&text, i, &mut n);
-        run(out, text[i], &n, e)?;
-        i = e.next;
-    }
-    Ok(())
+    let mut text = [0; 8192];
+    cases::each(rt.stdin(), out, &mut text, |case| run(out, case))
 }

@@ -7,11 +7,9 @@ use mathlib.Core.List.{List, [], ◌∷◌}
 use lib.ListN.{length}
 use lib.Dec.{ltb, eqb}
 use borrow.Author.Tests.{ltb-false, eqb-true, not-false}
-use Rattle.refusals.specs.declared.Verdict.{Verdict}
-use Rattle.refusals.specs.declared.Verdict.TheVariants.{Fine, Bad}
 use Rattle.refusals.specs.declared.Refusal.{Refusal}
 use Rattle.refusals.specs.declared.Refusal.TheVariants.{Count, Space, Want as WantRefused}
-use Rattle.refusals.specs.Verdicts.{in_order, check}
+use Rattle.refusals.specs.Verdicts.{in_order, check, Bad, Fine, Verdict}
 use Rattle.refusals.proofs.Laws.{three_first, three_second, three_third, scan_fine}
 use Rattle.words.specs.Rows.{whole_rows}
 use Rattle.words.specs.Widths.{cell_width, item_width, range_width, range_count, want_width, want_count}

@@ -3,9 +3,8 @@ use Prim.Native.Nat.{ℕ}
 use mathlib.Core.Path.{◌≡◌, refl}
 use mathlib.Core.Bool.{true, false}
 use mathlib.Core.List.{List, [], ◌∷◌}
-use Rattle.refusals.specs.declared.Verdict.TheVariants.{Fine, Bad}
 use Rattle.refusals.specs.declared.Refusal.TheVariants.{Count, Space, Want as WantRefused}
-use Rattle.refusals.specs.Verdicts.{first, in_order, scan}
+use Rattle.refusals.specs.Verdicts.{first, in_order, scan, Bad, Fine}
 use Rattle.words.specs.Rows.{tabulate}
 use Rattle.ranges.specs.Lent.{list_verdict}
 use Rattle.want_checks.specs.Checks.{wants_verdict, over_limit, bad_count, space_of, bad_space, verdict}

@@ -1,8 +1,7 @@
 -- Document 01, "Fitting alone, over given wants": what the entry refuses before it fits (numbers 1, 7 and 10), and W.
 use Rattle.std.specs.Prelude.{ℕ, ◌+◌, ◌-◌, ◌*◌, ◌/◌, ◌%◌, Bool, not, ◌||◌, List, [], ◌∷◌, ltb, eqb}
-use Rattle.refusals.specs.declared.Verdict.{Verdict}
 use Rattle.refusals.specs.declared.Refusal.TheVariants.{Count, Space, Want as WantRefused}
-use Rattle.refusals.specs.Verdicts.{in_order, scan, check}
+use Rattle.refusals.specs.Verdicts.{in_order, scan, check, Verdict}
 use Rattle.words.specs.Rows.{whole_rows}
 use Rattle.words.specs.Widths.{cell_width, item_width, range_width, range_count, want_width, want_count, want_present, want_first, want_ranges}
 use Rattle.ranges.specs.declared.Range.{Range}

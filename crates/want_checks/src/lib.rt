@@ -5,7 +5,7 @@ ghost use Rattle.std.specs.Prelude.{◌≡◌, ◌≤◌};
 ghost use Rattle.words.specs.Widths.{range_count, want_count};
 ghost use Rattle.want_checks.specs.Checks.{wants_verdict, over_limit, bad_count, bad_space, verdict};
 
-use refusals::{Refusal, Verdict};
+use refusals::{Refusal, Refused, Verdict};
 use words::widths::{cell, item, range, want};
 
 // The most wants of locals and of slots, ranges, and probes.
@@ -20,8 +20,7 @@ fn bad_wants(wants: &[u32], areas: &[u32]) -> Verdict
     ensures { result ≡ wants_verdict areas.now wants.now }
 {
     let n = wants.len() / want::WIDTH;
-    let mut i = 0;
-    while i < n {
+    for i in 0..n {
         let at = want::WIDTH * i;
         let look = range_walk::walk(
             areas,
@@ -30,11 +29,10 @@ fn bad_wants(wants: &[u32], areas: &[u32]) -> Verdict
             wants[at + want::RANGES],
         );
         if !look.fine {
-            return Verdict::Bad(Refusal::Want, i);
+            return Err(Refused(Refusal::Want, i));
         }
-        i += 1;
     }
-    Verdict::Fine
+    Ok(())
 }
 
 // Whether a list is no whole rows, or a count is over its limit.
@@ -125,10 +123,10 @@ pub fn refusal(
     ensures { result ≡ verdict wants.now areas.now locals budget cells items offsets work }
 {
     if bad_count(wants, areas, locals, budget, cells, items) {
-        return Verdict::Bad(Refusal::Count, 0);
+        return Err(Refused(Refusal::Count, 0));
     }
     if bad_space(wants, areas, cells, items, offsets, work) {
-        return Verdict::Bad(Refusal::Space, 0);
+        return Err(Refused(Refusal::Space, 0));
     }
     bad_wants(wants, areas)
 }

@@ -6,22 +6,22 @@ use mathlib.Core.List.{List, [], ◌∷◌}
 use lib.IntN.{ℤ}
 use lib.ListN.{length, drop, replicate}
 use borrow.Author.Tests.{lt-ltb, le-ltb}
-use Rattle.refusals.specs.declared.Verdict.{Verdict}
-use Rattle.refusals.specs.declared.Verdict.TheVariants.{Bad}
 use Rattle.refusals.specs.declared.Refusal.{Refusal}
 use Rattle.refusals.specs.declared.Refusal.TheVariants.{Count, Space}
-use Rattle.refusals.specs.Verdicts.{number_of, in_order, check}
-use Rattle.refusals.specs.Outcomes.{Outcome, given, refused, unless, after}
+use Rattle.refusals.specs.Verdicts.{number_of, in_order, check, Bad, Verdict}
+use Rattle.refusals.specs.Outcomes.{Outcome, given, refused, unless, after, answered}
 use Rattle.refusals.proofs.Laws.{first_bad, three_first, three_second}
 use Rattle.words.proofs.Bools.{or_right}
 use Rattle.fitting.specs.Plan.{Plan}
 use Rattle.fitting.specs.Layout.{rooms_in, layout_verdict}
 use Rattle.want_checks.specs.Checks.{bad_count, bad_space, wants_verdict, space_of, verdict}
-use Rattle.wants.specs.declared.Fitted.{Fitted}
-use Rattle.wants.specs.Entry.{Tally, tally_of, answer_of, plan_for, cell_rows, item_rows, cell_offsets, FittedAlone}
+use Rattle.wants.specs.Entry.{tally_of, plan_for, cell_rows, item_rows, cell_offsets, FittedAlone}
 use Rattle.codes.specs.Codes.{refusal_code, code_of}
 use Rattle.want_codes.specs.Plans.{counts_of, few_counts, coded_verdict, PlanCoded}
 use Rattle.want_codes.specs.Inner.{PlanTold}
+use Rattle.refusals.specs.declared.Refused.{Refused}
+use Rattle.wants.specs.declared.Tally.{Tally}
+use Rattle.std.specs.Prelude.{Result}
 
 module _ {counts : List ℕ} {o : Outcome Tally} where
   pub plan_told : {counts' : List ℕ} {c p d : ℕ} → o ≡ given (record { cells = c; probes = p; depth = d }) → counts' ≡ c ∷ p ∷ d ∷ drop 3 counts → PlanTold counts o 0 counts'
@@ -56,9 +56,9 @@ module _ (wants areas : List ℕ) (locals budget : ℕ) (cells items : List ℕ)
   enough h = ap (λ (b : Bool). in_order (check Count (bad_count wants areas locals budget (length cells) (length items)) ∷ check Space b ∷ wants_verdict areas wants ∷ []))
       (sym (or_none (bad_space wants areas (length cells) (length items) (length offsets) (length work)) (few_counts (length counts)) (le-ltb (length counts) 3 h)))
 
-  pub plan_coded : {cells' items' counts' work' : List ℕ} {offsets' : List ℤ} {f : Fitted} {r : ℕ} → 3 ≤ length counts
+  pub plan_coded : {cells' items' counts' work' : List ℕ} {offsets' : List ℤ} {f : (Result Tally Refused)} {r : ℕ} → 3 ≤ length counts
       → FittedAlone wants areas (verdict wants areas locals budget (length cells) (length items) (length offsets) (length work)) plan_now cells items offsets work f cells' items' offsets' work'
-      → PlanTold counts (answer_of f) r counts' → PlanCoded wants areas verdict_for plan_now cells items offsets counts work r cells' items' offsets' counts' work'
+      → PlanTold counts (answered f) r counts' → PlanCoded wants areas verdict_for plan_now cells items offsets counts work r cells' items' offsets' counts' work'
   plan_coded {cells'} {items'} {counts'} {work'} {offsets'} {f} {r} h a t =
       subst (λ (v : Verdict). PlanCoded wants areas v plan_now cells items offsets counts work r cells' items' offsets' counts' work') (enough h)
       (record {

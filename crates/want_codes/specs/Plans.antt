@@ -1,14 +1,14 @@
 -- How a plan is told in one number and its counts, and what fitting alone promises so.
 use Rattle.std.specs.Prelude.{ℕ, ◌≡◌, Bool, ◌||◌, List, [], ◌∷◌, ltb, ℤ, replicate}
-use Rattle.refusals.specs.declared.Verdict.{Verdict}
 use Rattle.refusals.specs.declared.Refusal.TheVariants.{Count, Space}
-use Rattle.refusals.specs.Verdicts.{in_order, check}
+use Rattle.refusals.specs.Verdicts.{in_order, check, Verdict}
 use Rattle.refusals.specs.Outcomes.{unless, after}
 use Rattle.fitting.specs.Plan.{Plan}
 use Rattle.fitting.specs.Layout.{laid_verdict}
-use Rattle.wants.specs.Entry.{Tally, tally_of, cell_rows, item_rows, cell_offsets}
+use Rattle.wants.specs.Entry.{tally_of, cell_rows, item_rows, cell_offsets}
 use Rattle.want_checks.specs.Checks.{bad_count, bad_space, wants_verdict, space_of}
 use Rattle.codes.specs.Codes.{code_of}
+use Rattle.wants.specs.declared.Tally.{Tally}
 
 -- a plan's counts: cells, probes, depth
 abbrev pub counts_of : Tally → List ℕ

@@ -2,26 +2,27 @@
 #![tactic(auto)]
 
 ghost use Rattle.std.specs.Prelude.{◌≤◌, length};
-ghost use Rattle.wants.specs.Entry.{answer_of, plan_for};
+ghost use Rattle.wants.specs.Entry.{plan_for};
 ghost use Rattle.want_codes.specs.Inner.{PlanTold};
 ghost use Rattle.want_codes.specs.Plans.{coded_verdict, PlanCoded};
+ghost use Rattle.refusals.specs.Outcomes.{answered};
 
 use codes::{refused, tell};
 use fitting::Terms;
-use refusals::Refusal;
-use wants::Fitted;
+use refusals::{Refusal, Refused};
+use wants::Tally;
 
 // A plan's counts are told, or the refusal is answered.
-fn plan(counts: &mut [u64], f: Fitted) -> u64
+pub fn plan(counts: &mut [u64], f: Result<Tally, Refused>) -> u64
     requires { 3 ≤ length counts.old }
-    ensures { PlanTold counts.old (answer_of f) result counts.new }
+    ensures { PlanTold counts.old (answered f) result counts.new }
 {
     match f {
-        Fitted::Plan(c, p, d) => {
-            tell(counts, c, p, d);
+        Ok(t) => {
+            tell(counts, t.cells, t.probes, t.depth);
             0
         }
-        Fitted::Refused(r, i) => refused(r, i),
+        Err(Refused(r, i)) => refused(r, i),
     }
 }
 

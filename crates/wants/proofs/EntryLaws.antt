@@ -6,8 +6,6 @@ use mathlib.Core.Logic.{inr}
 use mathlib.Core.List.{List, ◌++◌}
 use lib.IntN.{ℤ}
 use lib.ListN.{length, get_or, drop, replicate, length-replicate}
-use Rattle.refusals.specs.declared.Verdict.{Verdict}
-use Rattle.refusals.specs.declared.Verdict.TheVariants.{Fine, Bad}
 use Rattle.refusals.specs.declared.Refusal.{Refusal}
 use Rattle.refusals.proofs.Laws.{first_fine, first_bad}
 use Rattle.words.specs.Rows.{flat}
@@ -29,22 +27,24 @@ use Rattle.fit_tables.specs.declared.Tables.{Tables}
 use Rattle.fit_tables.proofs.WantLaws.{item_wide}
 use Rattle.fit_layout.specs.Inner.{rooms_at}
 use Rattle.want_checks.specs.Inner.{Granted}
-use Rattle.wants.specs.declared.Fitted.TheVariants.{Plan as Planned, Refused}
-use Rattle.wants.specs.declared.Fitted.{Fitted as Answer}
 use Rattle.wants.specs.Entry.{wants_of, plan_for, item_rows, PlanListed, FittedAlone}
 use Rattle.wants.specs.Inner.{tables_for, Listable}
 use Rattle.wants.proofs.ListLaws.{cells_told, offsets_told, counts_told, layout_told}
+use Rattle.refusals.specs.Verdicts.{Bad, Fine, Verdict}
+use Rattle.refusals.specs.declared.Refused.{Refused}
+use Rattle.wants.specs.declared.Tally.{Tally}
+use Rattle.std.specs.Prelude.{Ok, Err, Result}
 
 -- ---- a refusal
 
 -- nothing is written
 refused_lists : (wants : List ℕ) (v : Verdict) (p : Plan) (cells items : List ℕ) (offsets : List ℤ) (r : Refusal) (i : ℕ) → v ≡ Bad r i
-    → PlanListed wants v p cells items offsets (Refused r i) cells items offsets
+    → PlanListed wants v p cells items offsets (Err (r, i)) cells items offsets
 refused_lists wants v p cells items offsets r i e =
-    subst (λ (x : Verdict). PlanListed wants x p cells items offsets (Refused r i) cells items offsets) (sym e) (record { answer = refl; in_cells = refl; in_items = refl; in_offsets = refl })
+    subst (λ (x : Verdict). PlanListed wants x p cells items offsets (Err (r, i)) cells items offsets) (sym e) (record { answer = refl; in_cells = refl; in_items = refl; in_offsets = refl })
 
 pub refused_alone : (wants areas : List ℕ) (v : Verdict) (p : Plan) (cells items : List ℕ) (offsets : List ℤ) (work : List ℕ) (r : Refusal) (i : ℕ) → v ≡ Bad r i
-    → FittedAlone wants areas v p cells items offsets work (Refused r i) cells items offsets work
+    → FittedAlone wants areas v p cells items offsets work (Err (r, i)) cells items offsets work
 refused_alone wants areas v p cells items offsets work r i e = record {
   lists = refused_lists wants (laid_verdict v p) p cells items offsets r i (first_bad v (layout_verdict (rooms_in p)) r i e);
   in_work = rw e refl;
@@ -85,7 +85,7 @@ module _ (wants areas : List ℕ) (cells items offsets : ℕ) (work w₁ w₂ : 
       ap (λ (l : List ℕ). replicate (8 * (want_count wants + range_count areas)) 0 ++ l)
       (drop_same (8 * (want_count wants + range_count areas)) work w₂ (F.len ∙ L.len) (λ x h. F.rest x (inr (omega arith)) ∙ L.rest x (omega arith)))
 
-  pub answered : {p : Plan} {cells₀ items₀ cells' items' work' : List ℕ} {offsets₀ offsets' : List ℤ} {r : Answer}
+  pub answered : {p : Plan} {cells₀ items₀ cells' items' work' : List ℕ} {offsets₀ offsets' : List ℤ} {r : (Result Tally Refused)}
       → PlanListed wants (layout_verdict (rooms_in p)) p cells₀ items₀ offsets₀ r cells' items' offsets'
       → work' ≡ cleared (8 * (want_count wants + range_count areas)) w₂ → FittedAlone wants areas Fine p cells₀ items₀ offsets₀ work r cells' items' offsets' work'
   answered {p} {cells₀} {items₀} {cells'} {items'} {work'} {offsets₀} {offsets'} {r} A Z = record {
@@ -94,7 +94,7 @@ module _ (wants areas : List ℕ) (cells items offsets : ℕ) (work w₁ w₂ : 
   }
 
 -- where nothing is refused before fitting
-pub answered_alone : {wants areas : List ℕ} (v : Verdict) {p : Plan} {cells items work cells' items' work' : List ℕ} {offsets offsets' : List ℤ} {r : Answer} → v ≡ Fine
+pub answered_alone : {wants areas : List ℕ} (v : Verdict) {p : Plan} {cells items work cells' items' work' : List ℕ} {offsets offsets' : List ℤ} {r : (Result Tally Refused)} → v ≡ Fine
     → FittedAlone wants areas Fine p cells items offsets work r cells' items' offsets' work' → FittedAlone wants areas v p cells items offsets work r cells' items' offsets' work'
 answered_alone {wants} {areas} v {p} {cells} {items} {work} {cells'} {items'} {work'} {offsets} {offsets'} {r} e A =
     subst (λ (x : Verdict). FittedAlone wants areas x p cells items offsets work r cells' items' offsets' work') (sym e) A
@@ -103,7 +103,7 @@ answered_alone {wants} {areas} v {p} {cells} {items} {work} {cells'} {items'} {w
 
 module _ (wants areas : List ℕ) {p : Plan} {w : List ℕ} {f : Counts} (M : Made p (want_count wants) (range_count areas) w f) (cells items : List ℕ) (offsets : List ℤ) where
   pub refused_layout : (r : Refusal) (i : ℕ) → Bad r i ≡ layout_verdict (rooms_at w (cell_table (tables_at (range_count areas) (want_count wants))) f.cells)
-      → PlanListed wants (layout_verdict (rooms_in p)) p cells items offsets (Refused r i) cells items offsets
+      → PlanListed wants (layout_verdict (rooms_in p)) p cells items offsets (Err (r, i)) cells items offsets
   refused_layout r i e = refused_lists wants (layout_verdict (rooms_in p)) p cells items offsets r i (layout_told M e)
 
   items_are : item_rows_in w wants (home_table (tables_at (range_count areas) (want_count wants))) (want_count wants) ≡ item_rows wants p
@@ -117,9 +117,9 @@ module _ (wants areas : List ℕ) {p : Plan} {w : List ℕ} {f : Counts} (M : Ma
       → items' ≡ item_rows_in w wants (home_table (tables_at (range_count areas) (want_count wants))) (want_count wants) ++ drop (item_width * want_count wants) items
       → d ≡ depth_of (rooms_at w (cell_table (tables_at (range_count areas) (want_count wants))) f.cells)
       → offsets' ≡ offsets_of (rooms_at w (cell_table (tables_at (range_count areas) (want_count wants))) f.cells) ++ drop f.cells offsets
-      → PlanListed wants (layout_verdict (rooms_in p)) p cells items offsets (Planned f.cells f.probes d) cells' items' offsets'
+      → PlanListed wants (layout_verdict (rooms_in p)) p cells items offsets (Ok (record { cells = f.cells; probes = f.probes; depth = d })) cells' items' offsets'
   listed {cells'} {items'} {offsets'} {d} e C I D O =
-      subst (λ (x : Verdict). PlanListed wants x p cells items offsets (Planned f.cells f.probes d) cells' items' offsets') (sym (layout_told M e)) (record {
+      subst (λ (x : Verdict). PlanListed wants x p cells items offsets (Ok (record { cells = f.cells; probes = f.probes; depth = d })) cells' items' offsets') (sym (layout_told M e)) (record {
         answer = counts_told M D;
         in_cells = cells_told M cells C;
         in_items = I ∙ ap (λ (l : List ℕ). l ++ drop (item_width * want_count wants) items) items_are ∙ ap (λ (k : ℕ). item_rows wants p ++ drop k items) (sym items_long);

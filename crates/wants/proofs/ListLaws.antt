@@ -5,7 +5,6 @@ use mathlib.Core.Option.{none}
 use mathlib.Core.List.{List, [], ◌∷◌, ◌++◌, map}
 use lib.IntN.{ℤ}
 use lib.ListN.{length, get_or, drop}
-use Rattle.refusals.specs.declared.Verdict.{Verdict}
 use Rattle.refusals.specs.Outcomes.{given}
 use Rattle.words.specs.Rows.{tabulate, flat}
 use Rattle.words.specs.Widths.{cell_width}
@@ -19,6 +18,7 @@ use Rattle.fit_tables.specs.declared.Counts.{Counts}
 use Rattle.fit_layout.specs.Inner.{rooms_at}
 use Rattle.wants.specs.Entry.{tallied, cell_rows, cell_offsets}
 use Rattle.wants.specs.Inner.{cell_row}
+use Rattle.refusals.specs.Verdicts.{Verdict}
 
 abbrev no_cell : Cell
 no_cell = record { size = 0; align = 0; area = none }

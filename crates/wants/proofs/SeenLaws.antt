@@ -11,8 +11,6 @@ use lib.ListN.{length, get_or, take, drop, get_or-append}
 use lib.Seq.{take_at}
 use lib.Dec.{eqb}
 use borrow.Author.Tests.{eq-eqb, ne_eqb}
-use Rattle.refusals.specs.declared.Verdict.{Verdict}
-use Rattle.refusals.specs.declared.Verdict.TheVariants.{Fine}
 use Rattle.refusals.specs.Outcomes.{Outcome, given, refused, unless, after}
 use Rattle.refusals.proofs.Laws.{first_left, first_right}
 use Rattle.words.specs.Rows.{field}
@@ -36,11 +34,13 @@ use Rattle.want_checks.proofs.CheckLaws.{granted, counts_fine}
 use Rattle.range_walk.proofs.PartLaws.{part_fine, areas_length}
 use Rattle.fit_tables.specs.WantTables.{item_row}
 use Rattle.fit_tables.proofs.WantLaws.{item_wide, row_absent, row_present}
-use Rattle.wants.specs.declared.Fitted.TheVariants.{Plan as Planned}
-use Rattle.wants.specs.Entry.{wants_of, plan_for, Tally, tallied, tally_of, cell_rows, item_rows, cell_offsets, FittedAlone}
+use Rattle.wants.specs.Entry.{wants_of, plan_for, tallied, tally_of, cell_rows, item_rows, cell_offsets, FittedAlone}
 use Rattle.wants.specs.Inner.{cell_row}
 use Rattle.wants.proofs.ListLaws.{rows_cells, rooms_cells, rooms_count, cells_long, offsets_long}
 use Rattle.wants.proofs.TallyLaws.{not_refused}
+use Rattle.refusals.specs.Verdicts.{Fine, Verdict}
+use Rattle.std.specs.Prelude.{Ok}
+use Rattle.wants.specs.declared.Tally.{Tally}
 
 -- ---- a plan's cell rows
 
@@ -183,7 +183,7 @@ module _ (p : Plan) (fine : layout_verdict (rooms_in p) ≡ Fine) (cells : List 
 
 -- what a call wrote
 module _ (locals budget : ℕ) {wants areas cells items work cells' items' work' : List ℕ} {offsets offsets' : List ℤ} {c p d : ℕ}
-    (E : FittedAlone wants areas (verdict wants areas locals budget (length cells) (length items) (length offsets) (length work)) (plan_for wants areas budget) cells items offsets work (Planned c p d) cells' items' offsets' work') where
+    (E : FittedAlone wants areas (verdict wants areas locals budget (length cells) (length items) (length offsets) (length work)) (plan_for wants areas budget) cells items offsets work (Ok (record { cells = c; probes = p; depth = d })) cells' items' offsets' work') where
   whole : laid_verdict (verdict wants areas locals budget (length cells) (length items) (length offsets) (length work)) (plan_for wants areas budget) ≡ Fine
   whole =
       not_refused (laid_verdict (verdict wants areas locals budget (length cells) (length items) (length offsets) (length work)) (plan_for wants areas budget)) (plan_for wants areas budget)

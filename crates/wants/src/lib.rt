@@ -2,7 +2,6 @@
 #![tactic(auto)]
 
 ghost use Rattle.std.specs.Prelude.{length};
-ghost use Rattle.refusals.specs.declared.Verdict.TheVariants.{Fine};
 ghost use Rattle.words.specs.Widths.{range_count, want_count};
 ghost use Rattle.fitting.specs.Plan.{Plan};
 ghost use Rattle.fitting.specs.Layout.{rooms_in, layout_verdict};
@@ -11,17 +10,19 @@ ghost use Rattle.want_checks.specs.Checks.{verdict};
 ghost use Rattle.want_checks.specs.Inner.{Granted};
 ghost use Rattle.wants.specs.Entry.{plan_for, PlanListed, FittedAlone};
 ghost use Rattle.wants.specs.Inner.{Listable};
+ghost use Rattle.refusals.specs.Verdicts.{Fine};
 
 use fit_tables::{CELLS, Counts, HOMES, Tables};
 use fitting::Terms;
-use refusals::{Refusal, Verdict};
+use refusals::Refused;
 use words::widths::{range, want};
 
-// A plan's cells, the probes spent and its depth, or a refusal.
+// A plan's counts: its cells, the probes spent, and its depth.
 #[derive(Clone, Copy)]
-pub enum Fitted {
-    Plan(usize, u64, u64),
-    Refused(Refusal, usize),
+pub struct Tally {
+    pub cells: usize,
+    pub probes: u64,
+    pub depth: u64,
 }
 
 // Puts each want into the lowest cell that has an area and doesn't clash with it, while budget is left: alignment falling, size falling, index rising.
@@ -40,7 +41,7 @@ pub fn fit_wants(
     items: &mut [u32],
     offsets: &mut [i32],
     work: &mut [u64],
-) -> Fitted
+) -> Result<Tally, Refused>
     ensures { FittedAlone wants.now areas.now
         (verdict wants.now areas.now locals terms.budget
         (length cells.old) (length items.old) (length offsets.old) (length work.old))
@@ -48,7 +49,7 @@ pub fn fit_wants(
         cells.old items.old offsets.old work.old result
         cells.new items.new offsets.new work.new }
 {
-    let v = want_checks::refusal(
+    want_checks::refusal(
         wants,
         areas,
         locals,
@@ -57,10 +58,7 @@ pub fn fit_wants(
         items.len(),
         offsets.len(),
         work.len(),
-    );
-    if let Verdict::Bad(r, i) = v {
-        return Fitted::Refused(r, i);
-    }
+    )?;
     answer(wants, areas, terms, cells, items, offsets, work)
 }
 
@@ -73,7 +71,7 @@ fn answer(
     items: &mut [u32],
     offsets: &mut [i32],
     work: &mut [u64],
-) -> Fitted
+) -> Result<Tally, Refused>
     requires { Granted wants.now areas.now (length cells.old) (length items.old) (length offsets.old) (length work.old) }
     ensures { FittedAlone wants.now areas.now Fine (plan_for wants.now areas.now terms.budget)
         cells.old items.old offsets.old work.old result
@@ -104,7 +102,7 @@ fn list(
     items: &mut [u32],
     offsets: &mut [i32],
     work: &[u64],
-) -> Fitted
+) -> Result<Tally, Refused>
     requires { Listable wants.now areas.now (length cells.old) (length items.old) (length offsets.old) work.now f }
     ensures { (p : Plan) → Made p (want_count wants.now) (range_count areas.now) work.now f
         → PlanListed wants.now (layout_verdict (rooms_in p)) p
@@ -113,12 +111,13 @@ fn list(
     let n = wants.len() / want::WIDTH;
     let ranges = areas.len() / range::WIDTH;
     let from = ranges + CELLS * n;
-    let v = fit_layout::refusal(work, from, f.cells);
-    if let Verdict::Bad(r, i) = v {
-        return Fitted::Refused(r, i);
-    }
+    fit_layout::refusal(work, from, f.cells)?;
     fit_tables::want_tables::write_cells(cells, work, from, f.cells);
     fit_tables::want_tables::write_items(items, work, wants, ranges + HOMES * n, n);
     let depth = fit_layout::write(offsets, work, from, f.cells);
-    Fitted::Plan(f.cells, f.probes, depth)
+    Ok(Tally {
+        cells: f.cells,
+        probes: f.probes,
+        depth,
+    })
 }

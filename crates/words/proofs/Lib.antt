@@ -8,3 +8,4 @@ pub mod PasteLaws
 pub mod SearchLaws
 pub mod FlatLaws
 pub mod FitLaws
+pub mod GallopLaws

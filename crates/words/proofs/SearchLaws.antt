@@ -1,9 +1,13 @@
 -- Laws of binary search: one for every test that holds at the front only.
-use mathlib.Core.Path.{◌≡◌, refl, ap, ◌∙◌}
+use mathlib.Core.Path.{◌≡◌, refl, sym, ap, ◌∙◌}
 use mathlib.Core.Bool.{Bool, true, false, cond}
 use Prim.Native.Nat.{ℕ, ◌+◌, ◌-◌, ◌*◌, ◌/◌, ◌^◌, ◌≤◌, ◌<◌}
 use native.Mathlib.Omega.{arith}
 use lib.Dec.{leb, ltb}
+use lib.ListN.{length, get_or}
+use mathlib.Core.List.{List}
+use Rattle.std.specs.List.Sorted.{IsPartitionedBy, IsPartitionPoint}
+use Rattle.std.proofs.lemmas.List.{get_or_default}
 use borrow.Author.Tests.{ltb-true, leb-true, leb-false, le-leb, lt-ltb}
 use Rattle.words.specs.Inner.{Rising, Splits}
 use Rattle.words.proofs.Points.{cut}
@@ -26,9 +30,6 @@ pub record Between (t : ℕ → Bool) (n lo hi : ℕ) : Type 0 where
   pub hi_le : hi ≤ n
   pub holds : (i : ℕ) → i < lo → t i ≡ true
   pub fails : (i : ℕ) → hi ≤ i → i < n → t i ≡ false
-
-pub between_start : (t : ℕ → Bool) (n : ℕ) → Front t n → Between t n 0 n
-between_start t n f = record { front = f; lo_le = omega arith; hi_le = omega arith; holds = λ i h. absurd (omega arith); fails = λ i h l. absurd (omega arith) }
 
 module _ {t : ℕ → Bool} {n lo hi : ℕ} (b : Between t n lo hi) where
   pub between_up : (m : ℕ) → lo ≤ m → m < hi → t m ≡ true → Between t n (m + 1) hi
@@ -55,6 +56,20 @@ module _ {t : ℕ → Bool} {n lo hi : ℕ} (b : Between t n lo hi) where
 
   pub between_done : hi ≤ lo → Splits t n lo
   between_done h = record { within = omega arith; holds = b.holds; fails = λ i q r. b.fails i (omega arith) r }
+
+-- where a list's items are tested, as its `partition_point` counts them
+pub splits_point : {X : Type 0} (p : X → Bool) (d : X) (xs : List X) (t : ℕ → Bool) (n r : ℕ) → length xs ≡ n → ((i : ℕ) → i < n → p (get_or xs i d) ≡ t i)
+    → Front t n → r ≤ length xs → (IsPartitionedBy p xs → IsPartitionPoint (λ y. p y ≡ true) (λ y. p y ≡ false) xs r) → Splits t n r
+splits_point {X} p d xs t n r len same front bound point =
+    let q = point (λ i j e l h s. at e i (omega arith) ∙ front i j l (omega arith) (sym (at e j (omega arith)) ∙ s)) in
+    record {
+      within = omega arith;
+      holds = λ i l. sym (same i (omega arith)) ∙ q.0 i d (omega arith) l;
+      fails = λ i l h. sym (same i h) ∙ q.1 i d l (omega arith);
+    }
+  where
+    at : (e : X) (i : ℕ) → i < n → p (get_or xs i e) ≡ t i
+    at e i l = ap p (get_or_default xs i e d (omega arith)) ∙ same i l
 
 -- x ≤ y as a number, by a sum that reaches 2 to the 32 or not
 pub no_more : (x y : ℕ) → x < 2 ^ 32 → y < 2 ^ 32 → (y + 4294967296 - x) / 4294967296 ≡ cond (leb x y) 1 0

@@ -8,11 +8,7 @@ pub fn fill(w: &mut [u64], at: usize, n: usize, v: u64)
     requires { at + n ≤ length w.old }
     ensures { Region w.old w.new at n (λ i. v) }
 {
-    let mut i = 0;
-    while i < n {
-        w[at + i] = v;
-        i += 1;
-    }
+    w[at..at + n].fill(v);
 }
 
 // The first `n` numbers zero.
@@ -28,10 +24,8 @@ pub fn copy(w: &mut [u64], from: usize, to: usize, n: usize)
     requires { (from + n ≤ length w.old) × (to + n ≤ length w.old) × Disjoint to from n }
     ensures { Region w.old w.new to n (λ i. get_or w.old (from + i) 0) }
 {
-    let mut i = 0;
-    while i < n {
+    for i in 0..n {
         w[to + i] = w[from + i];
-        i += 1;
     }
 }
 
@@ -40,11 +34,7 @@ pub fn copy_from(w: &mut [u64], to: usize, s: &[u64], from: usize, n: usize)
     requires { (to + n ≤ length w.old) × (from + n ≤ length s.now) }
     ensures { Region w.old w.new to n (λ i. get_or s.now (from + i) 0) }
 {
-    let mut i = 0;
-    while i < n {
-        w[to + i] = s[from + i];
-        i += 1;
-    }
+    w[to..to + n].copy_from_slice(&s[from..from + n]);
 }
 
 // The same into a list of smaller numbers, where each fits.
@@ -52,21 +42,7 @@ pub fn narrow(w: &mut [u32], to: usize, s: &[u64], from: usize, n: usize)
     requires { (to + n ≤ length w.old) × (from + n ≤ length s.now) × ((i : ℕ) → i < n → get_or s.now (from + i) 0 < 2 ^ 32) }
     ensures { Region w.old w.new to n (λ i. get_or s.now (from + i) 0) }
 {
-    let mut i = 0;
-    while i < n {
+    for i in 0..n {
         w[to + i] = s[from + i] as u32;
-        i += 1;
-    }
-}
-
-// The same, of smaller numbers only.
-pub fn copy_u32(w: &mut [u32], to: usize, s: &[u32], from: usize, n: usize)
-    requires { (to + n ≤ length w.old) × (from + n ≤ length s.now) }
-    ensures { Region w.old w.new to n (λ i. get_or s.now (from + i) 0) }
-{
-    let mut i = 0;
-    while i < n {
-        w[to + i] = s[from + i];
-        i += 1;
     }
 }

@@ -7,17 +7,5 @@ use Rattle.answer_rows.proofs.part.Goals as goal
 pub returns-then-x-eq0 : goal.returns-then-x-eq0
 returns-then-x-eq0 c = item_none c.args.x (omega (arith, c.if-x-eq0.true))
 
-pub overflow_sub-result : goal.overflow_sub-result
-overflow_sub-result c = omega arith
-
-pub overflow_cast-result : goal.overflow_cast-result
-overflow_cast-result c = omega arith
-
-pub overflow_sub-result-2 : goal.overflow_sub-result-2
-overflow_sub-result-2 c = omega arith
-
-pub overflow_cast-result-2 : goal.overflow_cast-result-2
-overflow_cast-result-2 c = omega arith
-
 pub returns : goal.returns
 returns c = item_some c.args.x _ _ (omega (arith, c.if-x-eq0.false)) refl refl

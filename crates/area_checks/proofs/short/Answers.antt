@@ -1,11 +1,7 @@
 -- `short` meets its contract: one law for each way out.
 use native.Mathlib.Omega.{arith}
-use Rattle.area_layout.proofs.FitLaws.{small_numbers}
 use Rattle.area_checks.proofs.CheckLaws.{short_work, short_items, enough}
 use Rattle.area_checks.proofs.short.Goals as goal
-
-pub needed-requires : goal.needed-requires
-needed-requires c = small_numbers c.requires
 
 pub returns-then-work-needed : goal.returns-then-work-needed
 returns-then-work-needed c =

@@ -7,8 +7,7 @@ use Rattle.ranges.specs.Inner.{unpack}
 use Rattle.areas.specs.Blocks.{block_of, cover}
 use Rattle.spots.specs.Spots.{line_of}
 use Rattle.spots.specs.Inner.{ends_at}
-use lib.ListN.{length-set}
-use Rattle.area_ends.proofs.CoverLaws.{ends_set, stand_set, covered_one, covered_two, covered_three}
+use Rattle.area_ends.proofs.CoverLaws.{ends_set, covered_one, covered_two, covered_three}
 use Rattle.area_ends.proofs.cover_touch.Goals as goal
 
 pub returns-then-last-first : goal.returns-then-last-first
@@ -19,28 +18,6 @@ returns-then-last-first c =
     (λ (y : ℕ). block_of (line_of c.args.blocks.now es) y) c.end_of.ensures) c.args.work.now c.requires.count_bound.2 _
     c.cover-one.ensures (omega arith)
 
-pub cover-two-requires : goal.cover-two-requires
-cover-two-requires c = (
-  c.holding-last.ensures.below,
-  stand_set c.args.t c.args.s.to c.args.work.now c.requires.sound.1 c.requires.count_bound.0 c.requires.count_bound.1
-      (c.args.s.to + c.args.m) c.cover-one.result (omega arith) (omega arith),
-)
-
-pub overflow_add-work-2 : goal.overflow_add-work-2
-overflow_add-work-2 c =
-    omega (arith, c.requires.count_bound.2)
-
-pub offset_bounds-work-s-2 : goal.offset_bounds-work-s-2
-offset_bounds-work-s-2 c =
-    omega (arith, c.requires.count_bound.2)
-
-pub bounds-work-s-2 : goal.bounds-work-s-2
-bounds-work-s-2 c = simp length-set (omega (arith, c.requires.count_bound.2))
-
-pub overflow_add-third : goal.overflow_add-third
-overflow_add-third c =
-    omega (arith, c.requires.count_bound.2)
-
 pub returns-then-last-first-2 : goal.returns-then-last-first-2
 returns-then-last-first-2 c =
     λ es. covered_two (line_of c.args.blocks.now es) c.requires.sound.0 (ends_at c.args.t c.args.work.now) c.args.s c.args.x c.args.m c.requires.sound.2 _ _
@@ -49,21 +26,6 @@ returns-then-last-first-2 c =
     c.cover-one.ensures _ (c.cover-two.ensures ∙ ap (λ (l : List ℕ). cover (line_of c.args.blocks.now es) l c.holding-last.result.0 (unpack c.args.x))
     (ends_set c.args.t c.args.s.to c.args.work.now c.requires.sound.1 c.requires.count_bound.0 c.requires.count_bound.1 (c.args.s.to + c.args.m) c.cover-one.result
     (omega (arith, c.requires.count_bound.2)) (omega (arith, c.requires.count_bound.2)))) (omega arith) (omega arith)
-
-pub overflow_add-work-3 : goal.overflow_add-work-3
-overflow_add-work-3 c =
-    omega (arith, c.requires.count_bound.2)
-
-pub offset_bounds-work-s-3 : goal.offset_bounds-work-s-3
-offset_bounds-work-s-3 c =
-    omega (arith, c.requires.count_bound.2)
-
-pub bounds-work-s-3 : goal.bounds-work-s-3
-bounds-work-s-3 c = simp length-set (omega (arith, c.requires.count_bound.2))
-
-pub overflow_add-result : goal.overflow_add-result
-overflow_add-result c =
-    omega (arith, c.requires.count_bound.2)
 
 pub returns : goal.returns
 returns c =

@@ -1,6 +1,5 @@
 -- `covers` meets its contract: the first i touches are put.
 use native.Mathlib.Omega.{arith}
-use Prim.Native.Nat.{◌-◌}
 use mathlib.Core.Path.{refl}
 use mathlib.Core.List.{[]}
 use Rattle.area_pieces.proofs.SpanLaws.{touch_in_line}
@@ -9,15 +8,6 @@ use Rattle.area_ends.proofs.covers.Goals as goal
 
 pub loop-i-init : goal.loop-i-init
 loop-i-init c = (c.requires.3, λ es. cover_begin _ _ _ _ _ c.requires.1 c.requires.2)
-
-pub overflow_add-x : goal.overflow_add-x
-overflow_add-x c = let p = cover_stand (c.loop-i.invariant.1 []) in omega arith
-
-pub offset_bounds-work-t : goal.offset_bounds-work-t
-offset_bounds-work-t c = let p = cover_stand (c.loop-i.invariant.1 []) in omega arith
-
-pub bounds-work-t : goal.bounds-work-t
-bounds-work-t c = let p = cover_stand (c.loop-i.invariant.1 []) in omega arith
 
 pub cover_touch-m-requires : goal.cover_touch-m-requires
 cover_touch-m-requires c =
@@ -36,18 +26,9 @@ cover_touch-m-requires c =
       ));
     }
 
-pub overflow_add-i : goal.overflow_add-i
-overflow_add-i c = omega arith
-
-pub loop-i-smaller : goal.loop-i-smaller
-loop-i-smaller c = omega arith
-
 pub loop-i-preserved : goal.loop-i-preserved
 loop-i-preserved c =
     (c.loop-i.invariant.0, λ es. cover_more (c.loop-i.invariant.1 es) _ (omega arith) refl (c.cover_touch-m.ensures es))
-
-pub shape_of-work : goal.shape_of-work
-shape_of-work c = (c.loop-i.invariant.1 []).listed.len
 
 pub returns : goal.returns
 returns c = λ es. cover_done (c.loop-i.invariant.1 es) (omega arith)

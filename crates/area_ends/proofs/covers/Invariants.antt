@@ -1,5 +1,4 @@
 -- `covers` meets its contract: the first i touches are put.
-use Prim.Native.Nat.{◌-◌}
 use mathlib.Core.List.{List}
 use Rattle.graph.specs.Paths.{Edge}
 use Rattle.graph.specs.Line.{blocks_of}
@@ -12,6 +11,3 @@ use Rattle.area_ends.proofs.covers.Given as goal
 
 abbrev pub invariant-loop-i : goal.invariant-loop-i
 invariant-loop-i l = AllInLine (blocks_of l.blocks) (touches_at l.t l.initial.work) × ((es : List Edge) → Covering (line_of l.blocks es) l.t l.s (block_count l.blocks) l.initial.work l.work l.i l.m)
-
-abbrev pub decreases-loop-i : goal.decreases-loop-i
-decreases-loop-i l = l.t.count - l.i

@@ -1,12 +1,7 @@
 -- `ending` meets its contract: the pieces of the touches, behind them the blocks arrived at, merged.
 use native.Mathlib.Omega.{arith}
-use Rattle.area_pieces.proofs.AreaLaws.{laid_less}
 use Rattle.area_ends.proofs.EndAreaLaws.{ending_asked, ending_room, ending_done}
 use Rattle.area_ends.proofs.ending.Goals as goal
-
-pub covers-m-requires : goal.covers-m-requires
-covers-m-requires c =
-    (c.requires.sound.0, laid_less _ c.requires.sound.1 (omega arith), c.requires.sound.2, c.requires.bounded.1)
 
 pub overflow_add-s : goal.overflow_add-s
 overflow_add-s c =

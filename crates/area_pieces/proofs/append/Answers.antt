@@ -1,11 +1,7 @@
 -- `append` meets its contract: all of the area is copied, or nothing is stored.
 use native.Mathlib.Omega.{arith}
-use Rattle.area_pieces.proofs.PushLaws.{append_clear, append_put, append_full}
+use Rattle.area_pieces.proofs.PushLaws.{append_put, append_full}
 use Rattle.area_pieces.proofs.append.Goals as goal
-
-pub copy-requires : goal.copy-requires
-copy-requires c =
-    (omega arith, omega arith, append_clear c.args.base c.args.room c.args.total c.args.from c.args.count (omega arith) c.requires.3)
 
 pub returns-then-sum-room : goal.returns-then-sum-room
 returns-then-sum-room c =

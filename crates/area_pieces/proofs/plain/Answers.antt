@@ -1,12 +1,8 @@
 -- `plain` meets its contract: the between-pieces, behind them the pieces in line order, merged.
 use native.Mathlib.Omega.{arith}
 use mathlib.Core.Path.{refl}
-use Rattle.area_pieces.proofs.AreaLaws.{laid_less, plain_asked, plain_both, plain_room, plain_done}
+use Rattle.area_pieces.proofs.AreaLaws.{plain_asked, plain_both, plain_room, plain_done}
 use Rattle.area_pieces.proofs.plain.Goals as goal
-
-pub spans-m-requires : goal.spans-m-requires
-spans-m-requires c =
-    (c.requires.sound.0, laid_less _ c.requires.sound.1 (omega arith), c.requires.unmarked.0, c.requires.unmarked.2)
 
 pub overflow_add-s : goal.overflow_add-s
 overflow_add-s c =

@@ -8,15 +8,6 @@ use Rattle.area_pieces.proofs.spans.Goals as goal
 pub loop-i-init : goal.loop-i-init
 loop-i-init c = (c.requires.3, λ es. span_start _ _ _ _ _ c.requires.1 c.requires.2)
 
-pub overflow_add-x : goal.overflow_add-x
-overflow_add-x c = omega (arith, c.loop-i.invariant.1 [])
-
-pub offset_bounds-work-t : goal.offset_bounds-work-t
-offset_bounds-work-t c = omega arith
-
-pub bounds-work-t : goal.bounds-work-t
-bounds-work-t c = omega (arith, c.loop-i.invariant.1 [])
-
 pub touch-m-requires : goal.touch-m-requires
 touch-m-requires c = (
   c.requires.0,
@@ -25,18 +16,9 @@ touch-m-requires c = (
       (omega (arith, c.loop-i.invariant.1 [])) c.loop-i.invariant.0 (omega arith) (span_word (c.loop-i.invariant.1 []) (omega arith)),
 )
 
-pub overflow_add-i : goal.overflow_add-i
-overflow_add-i c = omega arith
-
-pub loop-i-smaller : goal.loop-i-smaller
-loop-i-smaller c = omega arith
-
 pub loop-i-preserved : goal.loop-i-preserved
 loop-i-preserved c =
     (c.loop-i.invariant.0, λ es. span_more (c.loop-i.invariant.1 es) _ (omega arith) refl (c.touch-m.ensures es))
-
-pub shape_of-work : goal.shape_of-work
-shape_of-work c = (c.loop-i.invariant.1 []).kept.len
 
 pub returns : goal.returns
 returns c = λ es. span_done (c.loop-i.invariant.1 es) (omega arith)

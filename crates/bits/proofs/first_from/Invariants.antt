@@ -1,10 +1,6 @@
 -- `bits::first_from` meets its contract: a turn keeps `Unset`.
 use Rattle.bits.proofs.BitLaws.{Unset}
-use Prim.Native.Nat.{◌-◌}
 use Rattle.bits.proofs.first_from.Given as goal
 
 abbrev pub invariant-loop-k : goal.invariant-loop-k
 invariant-loop-k l = Unset l.w l.base l.n l.start l.k
-
-abbrev pub decreases-loop-k : goal.decreases-loop-k
-decreases-loop-k l = l.n - l.k

@@ -1,5 +1,5 @@
 -- `bits::row_or` meets its contract: a turn keeps `Done`, and the row's next words are as they were.
-use Prim.Native.Nat.{◌+◌, ◌-◌}
+use Prim.Native.Nat.{◌+◌}
 use lib.Bits.{bit_or}
 use lib.ListN.{get_or}
 use Rattle.words.proofs.RegionLaws.{Done}
@@ -7,6 +7,3 @@ use Rattle.bits.proofs.row_or.Given as goal
 
 abbrev pub invariant-loop-k : goal.invariant-loop-k
 invariant-loop-k l = Done l.initial.w l.w l.to l.n (λ i. bit_or (get_or l.initial.w (l.to + i) 0) (get_or l.initial.w (l.from + i) 0)) l.k
-
-abbrev pub decreases-loop-k : goal.decreases-loop-k
-decreases-loop-k l = l.n - l.k

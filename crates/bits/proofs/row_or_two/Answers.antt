@@ -11,55 +11,10 @@ use Rattle.bits.proofs.row_or_two.Goals as goal
 pub loop-k-init : goal.loop-k-init
 loop-k-init c = done_start _ _ _ _ (omega arith)
 
-pub overflow_add-w : goal.overflow_add-w
-overflow_add-w c = omega arith
-
-pub offset_bounds-w-to : goal.offset_bounds-w-to
-offset_bounds-w-to c = omega arith
-
-pub bounds-w-to : goal.bounds-w-to
-bounds-w-to c = omega arith
-
-pub overflow_add-w-in-loop-k : goal.overflow_add-w-in-loop-k
-overflow_add-w-in-loop-k c = omega arith
-
-pub offset_bounds-w-one : goal.offset_bounds-w-one
-offset_bounds-w-one c = omega arith
-
-pub bounds-w-one : goal.bounds-w-one
-bounds-w-one c = omega arith
-
-pub overflow_add-w-in-loop-k-2 : goal.overflow_add-w-in-loop-k-2
-overflow_add-w-in-loop-k-2 c = omega arith
-
-pub offset_bounds-w-two : goal.offset_bounds-w-two
-offset_bounds-w-two c = omega arith
-
-pub bounds-w-two : goal.bounds-w-two
-bounds-w-two c = omega arith
-
-pub overflow_add-w-in-loop-k-3 : goal.overflow_add-w-in-loop-k-3
-overflow_add-w-in-loop-k-3 c = omega arith
-
-pub offset_bounds-w-to-in-loop-k : goal.offset_bounds-w-to-in-loop-k
-offset_bounds-w-to-in-loop-k c = omega arith
-
-pub bounds-w-to-in-loop-k : goal.bounds-w-to-in-loop-k
-bounds-w-to-in-loop-k c = omega arith
-
-pub overflow_add-k : goal.overflow_add-k
-overflow_add-k c = omega arith
-
-pub loop-k-smaller : goal.loop-k-smaller
-loop-k-smaller c = omega arith
-
 pub loop-k-preserved : goal.loop-k-preserved
 loop-k-preserved c =
     let d = c.loop-k.invariant in let e = done_next d _ refl in let f = done_aligned d c.requires.3 (omega arith) in let g = done_aligned d c.requires.4 (omega arith) in
     done_more d _ _ (omega arith) refl (rw (e, f, g))
-
-pub shape_of-w : goal.shape_of-w
-shape_of-w c = omega arith
 
 pub returns : goal.returns
 returns c =

@@ -2,7 +2,7 @@
 use mathlib.Core.List.{List}
 use Rattle.bits.proofs.BitLaws.{Growing}
 use lib.Bits.{bit_or, bit_and}
-use Prim.Native.Nat.{ℕ, ◌+◌, ◌-◌}
+use Prim.Native.Nat.{ℕ, ◌+◌}
 use lib.ListN.{get_or}
 use Rattle.bits.proofs.row_pass.Given as goal
 
@@ -12,6 +12,3 @@ passed w from pass leave i = bit_or (bit_and (get_or w (from + i) 0) (get_or w (
 
 abbrev pub invariant-loop-k : goal.invariant-loop-k
 invariant-loop-k l = Growing l.initial.w l.w l.to l.n (passed l.initial.w l.from l.pass l.leave) l.k l.came
-
-abbrev pub decreases-loop-k : goal.decreases-loop-k
-decreases-loop-k l = l.n - l.k

@@ -3,8 +3,5 @@ use Rattle.bits.proofs.DigitLaws.{without_is}
 use native.Mathlib.Omega.{arith}
 use Rattle.bits.proofs.without_lowest.Goals as goal
 
-pub overflow_sub-result : goal.overflow_sub-result
-overflow_sub-result c = omega arith
-
 pub returns : goal.returns
 returns c = without_is c.args.x (omega arith) (omega arith)

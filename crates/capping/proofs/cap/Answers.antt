@@ -1,5 +1,4 @@
 -- `cap` meets its contract: refused, or each row lowered.
-use native.Mathlib.Omega.{arith}
 use borrow.Author.Tests.{lt-ltb, le-ltb, eq-eqb, ne_eqb}
 use Rattle.capping.proofs.CapLaws.{capped_refused, capped_told}
 use Rattle.capping.proofs.cap.Goals as goal
@@ -12,12 +11,6 @@ returns-then-cells-count c = let a = c.args in capped_refused a.cells.now a.coun
 
 pub returns-then-count-gt4096 : goal.returns-then-count-gt4096
 returns-then-count-gt4096 c = let a = c.args in capped_refused a.cells.now a.count a.most (simp (eq-eqb _ _ c.if-cells-ne0.false, le-ltb _ _ c.if-cells-count.false, lt-ltb _ _ c.if-count-gt4096.true))
-
-pub lower-requires : goal.lower-requires
-lower-requires c = omega arith
-
-pub shape_of-cells : goal.shape_of-cells
-shape_of-cells c = omega arith
 
 pub returns : goal.returns
 returns c =

@@ -1,5 +1,5 @@
 -- `rest` meets its contract: so far the columns rise.
-use Prim.Native.Nat.{◌-◌, ◌≤◌}
+use Prim.Native.Nat.{◌≤◌}
 use mathlib.Core.Path.{◌≡◌}
 use lib.ListN.{length}
 use Rattle.cases.specs.Inner.{RisingTo}
@@ -7,6 +7,3 @@ use Rattle.cases.proofs.rest.Given as goal
 
 abbrev pub invariant-loop-c : goal.invariant-loop-c
 invariant-loop-c l = (l.c ≤ length l.initial.ends) × (length l.ends ≡ length l.initial.ends) × RisingTo l.ends l.n l.c
-
-abbrev pub decreases-loop-c : goal.decreases-loop-c
-decreases-loop-c l = length l.initial.ends - l.c

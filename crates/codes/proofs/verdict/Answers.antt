@@ -1,5 +1,5 @@
 -- `codes::verdict` meets its contract.
 use Rattle.codes.proofs.verdict.Goals as goal
 
-pub returns-in-Bad : goal.returns-in-Bad
-returns-in-Bad c = rw c.in-Bad.is c.refused.ensures
+pub returns-in-Err : goal.returns-in-Err
+returns-in-Err c = rw c.in-Err.is c.refused.ensures

@@ -6,9 +6,6 @@ use borrow.Author.Tests.{ne_eqb, le-ltb}
 use Rattle.columns.proofs.TestLaws.{eqb_iff}
 use Rattle.columns.proofs.follows.Goals as goal
 
-pub overflow_sub-result : goal.overflow_sub-result
-overflow_sub-result c = omega arith
-
 pub returns-then-end-start : goal.returns-then-end-start
 returns-then-end-start c = let a = c.args in eqb_iff (a.start - a.end) 1 a.start (a.end + 1) (λ e. omega arith) (λ e. omega arith)
 

@@ -1,41 +1,11 @@
 -- `join_on` meets its contract: the copied list is lengthened or has the new range appended.
 use lib.ListN.{length-set}
-use mathlib.Core.Path.{sym, ◌∙◌}
+use mathlib.Core.Path.{refl, sym, ◌∙◌}
 use native.Mathlib.Omega.{arith}
 use borrow.Author.Tests.{eqb-true, eqb-false}
-use Rattle.columns.proofs.ColumnLaws.{join_longer, join_first, join_next}
+use Rattle.columns.proofs.ColumnLaws.{at_front, join_longer, join_first, join_next}
 use Rattle.columns.proofs.join_on.Goals.{else-n-gt0-via-then-n-gt0+else-follows, else-n-gt0-via-else-n-gt0}
 use Rattle.columns.proofs.join_on.Goals as goal
-
-pub copy_u32-requires : goal.copy_u32-requires
-copy_u32-requires c = omega arith
-
-pub copy_u32-requires-2 : goal.copy_u32-requires-2
-copy_u32-requires-2 c = omega arith
-
-pub overflow_sub-n : goal.overflow_sub-n
-overflow_sub-n c = omega arith
-
-pub offset_bounds-end-n : goal.offset_bounds-end-n
-offset_bounds-end-n c = omega arith
-
-pub bounds-end-n : goal.bounds-end-n
-bounds-end-n c = omega arith
-
-pub follows-requires : goal.follows-requires
-follows-requires c = tt
-
-pub overflow_sub-out_end : goal.overflow_sub-out_end
-overflow_sub-out_end c = omega arith
-
-pub offset_bounds-out_end-n : goal.offset_bounds-out_end-n
-offset_bounds-out_end-n c = omega arith
-
-pub bounds-out_end-n : goal.bounds-out_end-n
-bounds-out_end-n c = omega arith
-
-pub shape_of-out_start-then-follows : goal.shape_of-out_start-then-follows
-shape_of-out_start-then-follows c = omega arith
 
 pub shape_of-out_end-then-follows : goal.shape_of-out_end-then-follows
 shape_of-out_end-then-follows c = simp length-set (omega arith)
@@ -43,22 +13,9 @@ shape_of-out_end-then-follows c = simp length-set (omega arith)
 pub returns-then-follows : goal.returns-then-follows
 returns-then-follows c =
     let a = c.args in
-    join_longer a.start.now a.end.now a.out_start.now a.out_end.now c.requires.0 c.requires.1 c.requires.2 _ _ c.copy_u32.ensures c.copy_u32-2.ensures a.s a.e (omega arith) (eqb-true _ _ (sym c.follows.ensures ∙ c.if-follows.true))
-
-pub offset_bounds-out_start-n : goal.offset_bounds-out_start-n
-offset_bounds-out_start-n c = omega arith
-
-pub bounds-out_start-n : goal.bounds-out_start-n
-bounds-out_start-n c = omega arith
-
-pub offset_bounds-out_end-n-2 : goal.offset_bounds-out_end-n-2
-offset_bounds-out_end-n-2 c = omega arith
-
-pub bounds-out_end-n-2 : goal.bounds-out_end-n-2
-bounds-out_end-n-2 c = omega arith
-
-pub overflow_add-result : goal.overflow_add-result
-overflow_add-result c = omega arith
+    join_longer a.start.now a.end.now a.out_start.now a.out_end.now c.requires.0 c.requires.1 c.requires.2 _ _
+    (at_front _ _ _ _ c.copy_from_slice.ensures.after refl (omega arith)) (at_front _ _ _ _ c.copy_from_slice-2.ensures.after (sym c.requires.0) (omega arith))
+    a.s a.e (omega arith) (eqb-true _ _ (sym c.follows.ensures ∙ c.if-follows.true))
 
 pub shape_of-out_start : goal.shape_of-out_start
 shape_of-out_start c = simp length-set (omega arith)
@@ -69,11 +26,13 @@ shape_of-out_end c = simp length-set (omega arith)
 pub returns : goal.returns
 returns c =
     let a = c.args in
-    let copied = c.copy_u32.ensures in
-    let ends_copied = c.copy_u32-2.ensures in
     elim c.else-n-gt0.branch [
       | else-n-gt0-via-then-n-gt0+else-follows w ↦
-          join_next a.start.now a.end.now a.out_start.now a.out_end.now c.requires.0 c.requires.1 c.requires.2 _ _ copied ends_copied a.s a.e w.if-n-gt0.true (eqb-false _ _ (sym w.follows.ensures ∙ w.if-follows.false))
+          join_next a.start.now a.end.now a.out_start.now a.out_end.now c.requires.0 c.requires.1 c.requires.2 _ _
+          (at_front _ _ _ _ c.copy_from_slice.ensures.after refl (omega arith)) (at_front _ _ _ _ c.copy_from_slice-2.ensures.after (sym c.requires.0) (omega arith))
+          a.s a.e w.if-n-gt0.true (eqb-false _ _ (sym w.follows.ensures ∙ w.if-follows.false))
       | else-n-gt0-via-else-n-gt0 w ↦
-          join_first a.start.now a.end.now a.out_start.now a.out_end.now c.requires.0 c.requires.1 c.requires.2 _ _ copied ends_copied a.s a.e (omega arith)
+          join_first a.start.now a.end.now a.out_start.now a.out_end.now c.requires.0 c.requires.1 c.requires.2 _ _
+          (at_front _ _ _ _ c.copy_from_slice.ensures.after refl (omega arith)) (at_front _ _ _ _ c.copy_from_slice-2.ensures.after (sym c.requires.0) (omega arith))
+          a.s a.e (omega arith)
     ]

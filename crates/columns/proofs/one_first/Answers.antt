@@ -13,47 +13,11 @@ returns-then-i-start c =
     first_ended (column_view a.start.now a.end.now c.requires.0) (column_view a.other_start.now a.other_end.now c.requires.1) a.i a.j (omega arith)
     (omega arith)
 
-pub offset_bounds-start-i : goal.offset_bounds-start-i
-offset_bounds-start-i c = omega arith
-
-pub bounds-start-i : goal.bounds-start-i
-bounds-start-i c = omega arith
-
-pub offset_bounds-other_start-j : goal.offset_bounds-other_start-j
-offset_bounds-other_start-j c = omega arith
-
-pub bounds-other_start-j : goal.bounds-other_start-j
-bounds-other_start-j c = omega arith
-
 pub returns-then-start-i : goal.returns-then-start-i
 returns-then-start-i c =
     let a = c.args in
     first_less (column_view a.start.now a.end.now c.requires.0) (column_view a.other_start.now a.other_end.now c.requires.1) a.i a.j (omega arith) (omega arith)
     (omega arith)
-
-pub offset_bounds-start-i-2 : goal.offset_bounds-start-i-2
-offset_bounds-start-i-2 c = omega arith
-
-pub bounds-start-i-2 : goal.bounds-start-i-2
-bounds-start-i-2 c = omega arith
-
-pub offset_bounds-other_start-j-2 : goal.offset_bounds-other_start-j-2
-offset_bounds-other_start-j-2 c = omega arith
-
-pub bounds-other_start-j-2 : goal.bounds-other_start-j-2
-bounds-other_start-j-2 c = omega arith
-
-pub offset_bounds-end-i : goal.offset_bounds-end-i
-offset_bounds-end-i c = omega arith
-
-pub bounds-end-i : goal.bounds-end-i
-bounds-end-i c = omega arith
-
-pub offset_bounds-other_end-j : goal.offset_bounds-other_end-j
-offset_bounds-other_end-j c = omega arith
-
-pub bounds-other_end-j : goal.bounds-other_end-j
-bounds-other_end-j c = omega arith
 
 pub returns-then-start-i-2 : goal.returns-then-start-i-2
 returns-then-start-i-2 c =

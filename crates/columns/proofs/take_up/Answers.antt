@@ -6,29 +6,11 @@ use Rattle.columns.proofs.ColumnLaws.{take_first, take_next, take_wider, take_ke
 use Rattle.columns.proofs.take_up.Goals.{then-k-gt0+else-s-last, else-k-gt0}
 use Rattle.columns.proofs.take_up.Goals as goal
 
-pub overflow_sub-last : goal.overflow_sub-last
-overflow_sub-last c = omega arith
-
-pub offset_bounds-out_end-k : goal.offset_bounds-out_end-k
-offset_bounds-out_end-k c = omega arith
-
-pub bounds-out_end-k : goal.bounds-out_end-k
-bounds-out_end-k c = omega arith
-
 pub overflow_cast-last : goal.overflow_cast-last
 overflow_cast-last c = omega (arith, c.type_inv.out_end (c.args.k - 1))
 
 pub overflow_add-last : goal.overflow_add-last
 overflow_add-last c = omega (arith, c.type_inv.out_end (c.args.k - 1))
-
-pub overflow_sub-out_end : goal.overflow_sub-out_end
-overflow_sub-out_end c = omega arith
-
-pub offset_bounds-out_end-k-then-last-e : goal.offset_bounds-out_end-k-then-last-e
-offset_bounds-out_end-k-then-last-e c = omega arith
-
-pub bounds-out_end-k-then-last-e : goal.bounds-out_end-k-then-last-e
-bounds-out_end-k-then-last-e c = omega arith
 
 pub shape_of-out_end-then-s-last : goal.shape_of-out_end-then-s-last
 shape_of-out_end-then-s-last c = simp length-set
@@ -40,21 +22,6 @@ returns-then-last-e c =
 pub returns-else-last-e : goal.returns-else-last-e
 returns-else-last-e c =
     let a = c.args in take_kept a.out_start.now a.out_end.now c.requires.0 a.k (omega arith) a.s a.e (omega arith) (omega arith) (omega arith)
-
-pub offset_bounds-out_start-k : goal.offset_bounds-out_start-k
-offset_bounds-out_start-k c = omega arith
-
-pub bounds-out_start-k : goal.bounds-out_start-k
-bounds-out_start-k c = omega arith
-
-pub offset_bounds-out_end-k-2 : goal.offset_bounds-out_end-k-2
-offset_bounds-out_end-k-2 c = omega arith
-
-pub bounds-out_end-k-2 : goal.bounds-out_end-k-2
-bounds-out_end-k-2 c = omega arith
-
-pub overflow_add-result : goal.overflow_add-result
-overflow_add-result c = omega arith
 
 pub shape_of-out_start : goal.shape_of-out_start
 shape_of-out_start c = simp length-set

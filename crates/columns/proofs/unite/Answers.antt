@@ -118,11 +118,5 @@ loop-i-preserved c =
     to_two c.loop-i.invariant c.one_first.ensures c.take_up-k-else-one_first.auto.out_start
     c.take_up-k-else-one_first.auto.out_end c.if-one_first.false c.take_up-k-else-one_first.ensures
 
-pub shape_of-out_start : goal.shape_of-out_start
-shape_of-out_start c = c.loop-i.invariant.starts_len
-
-pub shape_of-out_end : goal.shape_of-out_end
-shape_of-out_end c = c.loop-i.invariant.ends_len
-
 pub returns : goal.returns
 returns c = to_done c.loop-i.invariant c.loop-i-test.false

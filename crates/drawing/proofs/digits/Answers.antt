@@ -6,10 +6,6 @@ use Rattle.drawing.proofs.digits.Goals as goal
 pub loop-top-init : goal.loop-top-init
 loop-top-init c = counted_start _ (omega arith)
 
--- src/lib.rt:176:15
-pub overflow_mul-top : goal.overflow_mul-top
-overflow_mul-top c = omega arith
-
 -- src/lib.rt:177:9
 pub overflow_add-k : goal.overflow_add-k
 overflow_add-k c = let h = counted_few c.loop-top.invariant in omega arith

@@ -3,33 +3,15 @@ use Rattle.fit_cells.proofs.EachLaws.{going_start, lent_in, order_in_lem, cells_
 use native.Mathlib.Omega.{arith}
 use Rattle.fit_cells.proofs.each.Goals as goal
 
-pub overflow_mul-top : goal.overflow_mul-top
-overflow_mul-top c =
-    omega (arith, c.requires.0.low, c.requires.0.high)
-
-pub overflow_add-top : goal.overflow_add-top
-overflow_add-top c =
-    omega (arith, c.requires.0.low, c.requires.0.high)
-
 pub loop-k-init : goal.loop-k-init
 loop-k-init c =
     going_start c.requires.0 c.requires.1 c.requires.2
-
-pub overflow_mul-at : goal.overflow_mul-at
-overflow_mul-at c = omega (arith, row_in c.loop-k.invariant c.loop-k-test.true)
-
-pub overflow_add-at : goal.overflow_add-at
-overflow_add-at c = omega (arith, row_in c.loop-k.invariant c.loop-k-test.true)
 
 pub draw-own-requires : goal.draw-own-requires
 draw-own-requires c =
     let S = c.loop-k.invariant in
     let h = c.loop-k-test.true in
     (lent_in S h, order_in_lem S h, h, low_in_row S h, row_in S h, S.grid.narrow, S.grid.some_step, S.grid.step_le)
-
-pub overflow_add-base : goal.overflow_add-base
-overflow_add-base c =
-    omega (arith, row_in c.loop-k.invariant c.loop-k-test.true, c.draw-own.ensures.fits)
 
 pub put-next-requires : goal.put-next-requires
 put-next-requires c =
@@ -43,18 +25,9 @@ join_row-requires c =
     let P = c.put-next.ensures in
     (low_in S h, end_put S h D P, h, cells_in S h, order_in_put S h D P, cell_in_put S h D P)
 
-pub overflow_add-k : goal.overflow_add-k
-overflow_add-k c = omega arith
-
-pub loop-k-smaller : goal.loop-k-smaller
-loop-k-smaller c = omega arith
-
 pub loop-k-preserved : goal.loop-k-preserved
 loop-k-preserved c =
     going_more c.loop-k.invariant c.loop-k-test.true c.draw-own.ensures c.put-next.ensures c.join_row.ensures
-
-pub shape_of-w : goal.shape_of-w
-shape_of-w c = c.loop-k.invariant.holds.len
 
 pub returns : goal.returns
 returns c = going_done c.loop-k.invariant (omega arith)

@@ -3,34 +3,8 @@ use Rattle.fit_cells.proofs.EachLaws.{in_order_below, step_fits, step_word}
 use native.Mathlib.Omega.{arith}
 use Rattle.fit_cells.proofs.place.Goals as goal
 
-pub overflow_mul-t : goal.overflow_mul-t
-overflow_mul-t c = omega arith
-
-pub overflow_add-t : goal.overflow_add-t
-overflow_add-t c = omega arith
-
-pub overflow_sub-t : goal.overflow_sub-t
-overflow_sub-t c = omega arith
-
-pub width_for-width-requires : goal.width_for-width-requires
-width_for-width-requires c = tt
-
-pub overflow_mul-step : goal.overflow_mul-step
-overflow_mul-step c = omega arith
-
-pub overflow_add-step : goal.overflow_add-step
-overflow_add-step c = omega arith
-
 pub overflow_add-step-2 : goal.overflow_add-step-2
 overflow_add-step-2 c = record { fits = step_word _ _ c.reach.ensures }
-
-pub overflow_mul-end : goal.overflow_mul-end
-overflow_mul-end c =
-    omega (arith, c.width_for-width.ensures.1, c.width_for-width.ensures.0, c.requires.0.low, c.requires.0.high)
-
-pub overflow_sub-end : goal.overflow_sub-end
-overflow_sub-end c =
-    omega (arith, c.width_for-width.ensures.1, c.width_for-width.ensures.0, c.requires.0.low, c.requires.0.high)
 
 pub each-requires : goal.each-requires
 each-requires c =
@@ -40,9 +14,6 @@ each-requires c =
       c.requires.1,
       record { rows_le = omega (arith, f.1, f.0, I.low, I.high); narrow = omega (arith, f.0); some_step = omega arith; step_le = step_fits _ _ c.reach.ensures },
     )
-
-pub shape_of-w : goal.shape_of-w
-shape_of-w c = omega arith
 
 pub returns : goal.returns
 returns c =

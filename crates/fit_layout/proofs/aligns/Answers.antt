@@ -7,26 +7,8 @@ use Rattle.fit_layout.proofs.aligns.Goals as goal
 pub loop-c-init : goal.loop-c-init
 loop-c-init c = aligned_start _ _ _
 
-pub overflow_add-from : goal.overflow_add-from
-overflow_add-from c = omega arith
-
-pub offset_bounds-w-from : goal.offset_bounds-w-from
-offset_bounds-w-from c = omega arith
-
-pub bounds-w-from : goal.bounds-w-from
-bounds-w-from c = omega arith
-
-pub power-requires : goal.power-requires
-power-requires c = tt
-
 pub returns-then-not-power : goal.returns-then-not-power
 returns-then-not-power c = aligned_bad _ _ _ c.loop-c.invariant (omega arith) (sym c.if-not-power.true ∙ c.power.ensures)
-
-pub overflow_add-c : goal.overflow_add-c
-overflow_add-c c = omega arith
-
-pub loop-c-smaller : goal.loop-c-smaller
-loop-c-smaller c = omega arith
 
 pub loop-c-preserved : goal.loop-c-preserved
 loop-c-preserved c = aligned_more _ _ _ c.loop-c.invariant (omega arith) (sym c.if-not-power.false ∙ c.power.ensures)

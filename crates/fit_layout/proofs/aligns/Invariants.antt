@@ -1,10 +1,6 @@
 -- `aligns` meets its contract: the first cell whose alignment is no power of two.
-use Prim.Native.Nat.{◌-◌}
 use Rattle.fit_layout.proofs.WordLaws.{Aligned}
 use Rattle.fit_layout.proofs.aligns.Given as goal
 
 abbrev pub invariant-loop-c : goal.invariant-loop-c
 invariant-loop-c l = Aligned l.w l.from l.cells l.c
-
-abbrev pub decreases-loop-c : goal.decreases-loop-c
-decreases-loop-c l = l.cells - l.c

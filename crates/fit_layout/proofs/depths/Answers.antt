@@ -6,27 +6,12 @@ use Rattle.fit_layout.proofs.depths.Goals as goal
 pub loop-c-init : goal.loop-c-init
 loop-c-init c = deep_start _ _ _
 
-pub overflow_add-from : goal.overflow_add-from
-overflow_add-from c = omega arith
-
-pub offset_bounds-w-from : goal.offset_bounds-w-from
-offset_bounds-w-from c = omega arith
-
-pub bounds-w-from : goal.bounds-w-from
-bounds-w-from c = omega arith
-
 pub deeper-depth-requires : goal.deeper-depth-requires
 deeper-depth-requires c =
     (c.loop-c.invariant.small, word_positive c.args.w.now c.args.from c.args.cells c.loop-c.c (omega arith) (c.requires.1 c.loop-c.c (omega arith)))
 
 pub returns-then-depth-gt-DEEPEST : goal.returns-then-depth-gt-DEEPEST
 returns-then-depth-gt-DEEPEST c = deep_bad _ _ _ c.loop-c.invariant (omega arith) c.deeper-depth.ensures (omega arith)
-
-pub overflow_add-c : goal.overflow_add-c
-overflow_add-c c = omega arith
-
-pub loop-c-smaller : goal.loop-c-smaller
-loop-c-smaller c = omega arith
 
 pub loop-c-preserved : goal.loop-c-preserved
 loop-c-preserved c = deep_more _ _ _ c.loop-c.invariant (omega arith) c.deeper-depth.ensures (omega arith)

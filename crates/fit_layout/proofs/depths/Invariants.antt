@@ -1,10 +1,6 @@
 -- `depths` meets its contract: the first cell that lies too deep.
-use Prim.Native.Nat.{◌-◌}
 use Rattle.fit_layout.proofs.WordLaws.{Deep}
 use Rattle.fit_layout.proofs.depths.Given as goal
 
 abbrev pub invariant-loop-c : goal.invariant-loop-c
 invariant-loop-c l = Deep l.w l.from l.cells l.c l.depth
-
-abbrev pub decreases-loop-c : goal.decreases-loop-c
-decreases-loop-c l = l.cells - l.c

@@ -5,20 +5,22 @@ use Rattle.fitting.proofs.LayoutLaws.{aligns_positive}
 use Rattle.fit_layout.specs.Inner.{rooms_at}
 use Rattle.fit_layout.proofs.WordLaws.{rooms_long, layout_bad, layout_depths}
 use Rattle.fit_layout.proofs.refusal.Goals as goal
+use Rattle.refusals.proofs.Laws.{handed_on}
 
-pub returns-in-Bad : goal.returns-in-Bad
-returns-in-Bad c =
-    let a = c.args in
-    layout_bad a.w.now a.from a.cells _ _ (sym c.aligns-v.ensures ∙ c.in-Bad.is)
+pub returns-in_err-aligns : goal.returns-in_err-aligns
+returns-in_err-aligns c =
+    rw (handed_on c.from_residual.ensures.1)
+    (let a = c.args in
+    layout_bad a.w.now a.from a.cells _ _ (sym c.aligns.ensures ∙ c.in_err-aligns.was))
 
 pub depths-requires : goal.depths-requires
 depths-requires c =
     let w = c.args.w.now in (
       c.requires,
-      λ i h. aligns_positive (rooms_at w c.args.from c.args.cells) (sym c.aligns-v.ensures ∙ c.in_default.is) i (omega (arith, rooms_long w c.args.from c.args.cells)),
+      λ i h. aligns_positive (rooms_at w c.args.from c.args.cells) (sym c.aligns.ensures ∙ c.in_ok-aligns.was) i (omega (arith, rooms_long w c.args.from c.args.cells)),
     )
 
 pub returns : goal.returns
 returns c =
     let a = c.args in
-    layout_depths a.w.now a.from a.cells (sym c.aligns-v.ensures ∙ c.in_default.is) c.depths.ensures
+    layout_depths a.w.now a.from a.cells (sym c.aligns.ensures ∙ c.in_ok-aligns.was) c.depths.ensures

@@ -8,15 +8,6 @@ use Rattle.fit_layout.proofs.write.Goals as goal
 pub loop-c-init : goal.loop-c-init
 loop-c-init c = write_start _ _ _ _ (omega arith)
 
-pub overflow_add-from : goal.overflow_add-from
-overflow_add-from c = omega arith
-
-pub offset_bounds-w-from : goal.offset_bounds-w-from
-offset_bounds-w-from c = omega arith
-
-pub bounds-w-from : goal.bounds-w-from
-bounds-w-from c = omega arith
-
 pub deeper-next-requires : goal.deeper-next-requires
 deeper-next-requires c =
     let a = c.args in
@@ -28,24 +19,9 @@ pub offset-o-requires : goal.offset-o-requires
 offset-o-requires c =
     next_small _ _ _ c.loop-c.invariant c.requires.2 (omega arith) c.deeper-next.ensures
 
-pub offset_bounds-offsets-c : goal.offset_bounds-offsets-c
-offset_bounds-offsets-c c = omega arith
-
-pub bounds-offsets-c : goal.bounds-offsets-c
-bounds-offsets-c c = omega arith
-
-pub overflow_add-c : goal.overflow_add-c
-overflow_add-c c = omega arith
-
-pub loop-c-smaller : goal.loop-c-smaller
-loop-c-smaller c = omega arith
-
 pub loop-c-preserved : goal.loop-c-preserved
 loop-c-preserved c =
     write_more _ _ _ c.loop-c.invariant c.requires.2 (omega arith) c.deeper-next.ensures (stored _ _ c.offset-o.ensures (next_small _ _ _ c.loop-c.invariant c.requires.2 (omega arith) c.deeper-next.ensures))
-
-pub shape_of-offsets : goal.shape_of-offsets
-shape_of-offsets c = omega arith
 
 pub returns : goal.returns
 returns c = write_done _ _ _ c.loop-c.invariant (omega arith)

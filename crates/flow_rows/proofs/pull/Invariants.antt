@@ -1,10 +1,6 @@
 -- `flow::rows::pull` meets its contract: the places before p are gathered.
-use Prim.Native.Nat.{◌-◌}
 use Rattle.flow_rows.proofs.Visits.{Pulling}
 use Rattle.flow_rows.proofs.pull.Given as goal
 
 abbrev pub invariant-loop-p : goal.invariant-loop-p
 invariant-loop-p l = Pulling l.f l.i l.j l.c l.x l.initial.work l.work l.p l.looped
-
-abbrev pub decreases-loop-p : goal.decreases-loop-p
-decreases-loop-p l = l.j - l.p

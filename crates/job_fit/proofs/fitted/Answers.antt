@@ -3,17 +3,6 @@ use native.Mathlib.Omega.{arith}
 use Rattle.job_fit.proofs.FitLaws.{lent, fitted_for}
 use Rattle.job_fit.proofs.fitted.Goals as goal
 
-pub overflow_add-n : goal.overflow_add-n
-overflow_add-n c = omega (arith, c.requires.few)
-
-pub overflow_add-room : goal.overflow_add-room
-overflow_add-room c =
-    omega (arith, c.requires.space, c.requires.inside)
-
-pub load-requires : goal.load-requires
-load-requires c =
-    omega (arith, c.requires.space, c.requires.inside)
-
 pub fit-requires : goal.fit-requires
 fit-requires c = (
   lent c.args.locals.now c.args.slots.now (λ x. (c.type_inv.locals x).fits) (λ x. (c.type_inv.slots x).fits) c.load.ensures

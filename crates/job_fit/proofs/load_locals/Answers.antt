@@ -1,71 +1,16 @@
 -- `load_locals` meets its contract: a turn keeps `Done`.
 use native.Mathlib.Omega.{arith}
-use Prim.Native.Nat.{◌+◌, ◌-◌, ◌*◌}
 use mathlib.Core.Path.{refl}
 use Rattle.words.proofs.RegionLaws.{done_start, done_more, done_all}
 use Rattle.job_fit.proofs.FitLaws.{local_word_lem}
-use Rattle.words.specs.Widths.{local_width}
 use Rattle.job_fit.proofs.load_locals.Goals as goal
 
 pub loop-i-init : goal.loop-i-init
 loop-i-init c = done_start _ _ _ _ (omega arith)
 
-pub overflow_mul-w : goal.overflow_mul-w
-overflow_mul-w c = omega arith
-
-pub offset_bounds-locals-i : goal.offset_bounds-locals-i
-offset_bounds-locals-i c = omega arith
-
-pub bounds-locals-i : goal.bounds-locals-i
-bounds-locals-i c = omega arith
-
-pub overflow_cast-w : goal.overflow_cast-w
-overflow_cast-w c = omega (arith, c.type_inv.locals (local_width * c.loop-i.i))
-
-pub overflow_mul-w-in-loop-i : goal.overflow_mul-w-in-loop-i
-overflow_mul-w-in-loop-i c = omega (arith, c.type_inv.locals (local_width * c.loop-i.i))
-
-pub overflow_mul-w-in-loop-i-2 : goal.overflow_mul-w-in-loop-i-2
-overflow_mul-w-in-loop-i-2 c = omega arith
-
-pub overflow_add-w : goal.overflow_add-w
-overflow_add-w c = omega arith
-
-pub offset_bounds-locals-i-in-loop-i : goal.offset_bounds-locals-i-in-loop-i
-offset_bounds-locals-i-in-loop-i c = omega arith
-
-pub bounds-locals-i-in-loop-i : goal.bounds-locals-i-in-loop-i
-bounds-locals-i-in-loop-i c = omega arith
-
-pub overflow_cast-w-in-loop-i : goal.overflow_cast-w-in-loop-i
-overflow_cast-w-in-loop-i c =
-    omega (arith, c.type_inv.locals (local_width * c.loop-i.i + 1), c.type_inv.locals (local_width * c.loop-i.i))
-
-pub overflow_add-w-in-loop-i : goal.overflow_add-w-in-loop-i
-overflow_add-w-in-loop-i c =
-    omega (arith, c.type_inv.locals (local_width * c.loop-i.i + 1), c.type_inv.locals (local_width * c.loop-i.i))
-
-pub overflow_add-w-in-loop-i-2 : goal.overflow_add-w-in-loop-i-2
-overflow_add-w-in-loop-i-2 c = omega arith
-
-pub offset_bounds-w-at : goal.offset_bounds-w-at
-offset_bounds-w-at c = omega arith
-
-pub bounds-w-at : goal.bounds-w-at
-bounds-w-at c = omega arith
-
-pub overflow_add-i : goal.overflow_add-i
-overflow_add-i c = omega arith
-
-pub loop-i-smaller : goal.loop-i-smaller
-loop-i-smaller c = omega arith
-
 pub loop-i-preserved : goal.loop-i-preserved
 loop-i-preserved c =
     done_more c.loop-i.invariant _ _ (omega arith) refl (local_word_lem c.args.locals.now c.loop-i.i)
-
-pub shape_of-w : goal.shape_of-w
-shape_of-w c = omega arith
 
 pub returns : goal.returns
 returns c = done_all c.loop-i.invariant (omega arith)

@@ -1,6 +1,5 @@
 -- `load_slots` meets its contract: a turn keeps `Done`.
 use native.Mathlib.Omega.{arith}
-use Prim.Native.Nat.{◌-◌}
 use mathlib.Core.Path.{refl}
 use Rattle.words.proofs.RegionLaws.{done_start, done_more, done_all}
 use Rattle.job_fit.proofs.load_slots.Goals as goal
@@ -8,52 +7,8 @@ use Rattle.job_fit.proofs.load_slots.Goals as goal
 pub loop-i-init : goal.loop-i-init
 loop-i-init c = done_start _ _ _ _ (omega arith)
 
-pub offset_bounds-slots-i : goal.offset_bounds-slots-i
-offset_bounds-slots-i c = omega arith
-
-pub bounds-slots-i : goal.bounds-slots-i
-bounds-slots-i c = omega arith
-
-pub overflow_cast-w : goal.overflow_cast-w
-overflow_cast-w c = omega (arith, c.type_inv.slots c.loop-i.i)
-
-pub overflow_mul-w : goal.overflow_mul-w
-overflow_mul-w c = omega (arith, c.type_inv.slots c.loop-i.i)
-
-pub offset_bounds-slots-i-in-loop-i : goal.offset_bounds-slots-i-in-loop-i
-offset_bounds-slots-i-in-loop-i c = omega arith
-
-pub bounds-slots-i-in-loop-i : goal.bounds-slots-i-in-loop-i
-bounds-slots-i-in-loop-i c = omega arith
-
-pub overflow_cast-w-in-loop-i : goal.overflow_cast-w-in-loop-i
-overflow_cast-w-in-loop-i c =
-    omega (arith, c.type_inv.slots c.loop-i.i, c.type_inv.slots c.loop-i.i)
-
-pub overflow_add-w : goal.overflow_add-w
-overflow_add-w c =
-    omega (arith, c.type_inv.slots c.loop-i.i, c.type_inv.slots c.loop-i.i)
-
-pub overflow_add-w-in-loop-i : goal.overflow_add-w-in-loop-i
-overflow_add-w-in-loop-i c = omega arith
-
-pub offset_bounds-w-at : goal.offset_bounds-w-at
-offset_bounds-w-at c = omega arith
-
-pub bounds-w-at : goal.bounds-w-at
-bounds-w-at c = omega arith
-
-pub overflow_add-i : goal.overflow_add-i
-overflow_add-i c = omega arith
-
-pub loop-i-smaller : goal.loop-i-smaller
-loop-i-smaller c = omega arith
-
 pub loop-i-preserved : goal.loop-i-preserved
 loop-i-preserved c = done_more c.loop-i.invariant _ _ (omega arith) refl refl
-
-pub shape_of-w : goal.shape_of-w
-shape_of-w c = omega arith
 
 pub returns : goal.returns
 returns c = done_all c.loop-i.invariant (omega arith)

@@ -3,10 +3,6 @@ use Rattle.carrying.specs.declared.Kind.TheVariants.{Plain, Ending}
 use Rattle.job_marks.proofs.MarkLaws.{plain_followed, ending_followed, standing, unmarked, marked}
 use Rattle.job_marks.proofs.mark_one.Goals as goal
 
-pub fetch-f-requires : goal.fetch-f-requires
-fetch-f-requires c =
-    (c.requires.0.locals, c.requires.1)
-
 pub mark_spots-requires : goal.mark_spots-requires
 mark_spots-requires c =
     standing c.requires.0 c.requires.1 c.fetch-f.ensures (plain_followed c.in-Plain.is)

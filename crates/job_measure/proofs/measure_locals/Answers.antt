@@ -20,22 +20,11 @@ pub measure_next-total-requires : goal.measure_next-total-requires
 measure_next-total-requires c =
     let a = c.args in record { ready = going_ready a.blocks.now a.insts.now a.addresses.now a.ends.now a.pieces.now a.lay a.p a.z a.g a.mark a.o c.loop-l.invariant; l_lt_locals = (c.loop-l-test.true, c.loop-l.invariant.most) }
 
-pub overflow_add-l : goal.overflow_add-l
-overflow_add-l c =
-    let few : Fits w64 c.args.z.locals = omega (arith, c.ranges) in
-    more _ _ c.loop-l-test.true (few)
-
-pub loop-l-smaller : goal.loop-l-smaller
-loop-l-smaller c = less _ _ c.loop-l-test.true
-
 pub loop-l-preserved : goal.loop-l-preserved
 loop-l-preserved c =
     let a = c.args in
     going_more a.blocks.now a.insts.now a.addresses.now a.ends.now a.pieces.now a.lay a.p a.z a.g a.mark a.o
     c.loop-l.invariant c.loop-l-test.true c.measure_next-total.ensures
-
-pub shape_of-work : goal.shape_of-work
-shape_of-work c = c.loop-l.invariant.spared.len
 
 pub returns : goal.returns
 returns c = let a = c.args in going_done a.blocks.now a.insts.now a.addresses.now a.ends.now a.pieces.now a.lay a.p a.z a.g a.mark a.o c.loop-l.invariant c.loop-l-test.false

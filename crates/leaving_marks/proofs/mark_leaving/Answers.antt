@@ -5,39 +5,13 @@ use Rattle.spots.specs.Spots.{line_of}
 use Rattle.spots.specs.Inner.{ends_at}
 use mathlib.Core.List.{[]}
 use Rattle.area_rows.proofs.MarkLaws.{sweep_start, sweep_more, sweep_done}
-use Rattle.leaving_marks.proofs.LeaveLaws.{still_stand, leave_as, leaves_done}
+use Rattle.leaving_marks.proofs.LeaveLaws.{leave_as, leaves_done}
 use native.Mathlib.Omega.{arith}
-use Prim.Native.Nat.{◌-◌}
 use Rattle.leaving_marks.proofs.mark_leaving.Goals as goal
 
 pub loop-i-init : goal.loop-i-init
 loop-i-init c =
     (sweep_start (λ t k. leaves_by (line_of c.args.blocks.now []) (ends_at c.args.s c.args.work.now) k t) c.requires.0, omega arith)
-
-pub overflow_add-x : goal.overflow_add-x
-overflow_add-x c = omega (arith, c.loop-i.invariant.0.stand, c.loop-i.invariant.0.put.kept.len)
-
-pub offset_bounds-work-at : goal.offset_bounds-work-at
-offset_bounds-work-at c = omega (arith, c.loop-i.invariant.0.stand, c.loop-i.invariant.0.put.kept.len)
-
-pub bounds-work-at : goal.bounds-work-at
-bounds-work-at c = omega (arith, c.loop-i.invariant.0.stand, c.loop-i.invariant.0.put.kept.len)
-
-pub start_of-requires : goal.start_of-requires
-start_of-requires c = omega arith
-
-pub end_of-requires : goal.end_of-requires
-end_of-requires c = omega arith
-
-pub mark_leave-requires : goal.mark_leave-requires
-mark_leave-requires c =
-    (c.requires.0.line, c.requires.0.places, c.loop-i.invariant.0.fits, still_stand c.requires.0 c.requires.1 c.loop-i.invariant.0.put.kept c.requires.2)
-
-pub overflow_add-i : goal.overflow_add-i
-overflow_add-i c = omega arith
-
-pub loop-i-smaller : goal.loop-i-smaller
-loop-i-smaller c = omega arith
 
 pub loop-i-preserved : goal.loop-i-preserved
 loop-i-preserved c = (
@@ -45,9 +19,6 @@ loop-i-preserved c = (
       (leave_as c.requires.0 c.requires.1 c.loop-i.invariant.0.put.kept (range c.start_of.result c.end_of.result) c.mark_leave.ensures),
   omega arith,
 )
-
-pub shape_of-work : goal.shape_of-work
-shape_of-work c = c.loop-i.invariant.0.put.kept.len
 
 pub returns : goal.returns
 returns c =

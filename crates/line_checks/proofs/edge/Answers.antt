@@ -9,48 +9,15 @@ use Rattle.line_checks.proofs.edge.Goals as goal
 pub loop-i-init : goal.loop-i-init
 loop-i-init c = (omega arith, omega arith, scan_none _ _)
 
-pub overflow_mul-i : goal.overflow_mul-i
-overflow_mul-i c = omega arith
-
-pub offset_bounds-edges-i : goal.offset_bounds-edges-i
-offset_bounds-edges-i c = omega arith
-
-pub bounds-edges-i : goal.bounds-edges-i
-bounds-edges-i c = omega arith
-
-pub wide-requires : goal.wide-requires
-wide-requires c = omega arith
-
 pub returns-then-n-wide : goal.returns-then-n-wide
 returns-then-n-wide c =
     sym
     (scan_hit _ _ _ _ c.loop-i.invariant.2 (from_bad c.args.n c.args.edges.now c.loop-i.i (omega arith) (omega arith)) (omega (arith, jumps_length c.args.edges.now)))
 
-pub overflow_mul-i-in-loop-i : goal.overflow_mul-i-in-loop-i
-overflow_mul-i-in-loop-i c = omega arith
-
-pub overflow_add-i : goal.overflow_add-i
-overflow_add-i c = omega arith
-
-pub offset_bounds-edges-i-in-loop-i : goal.offset_bounds-edges-i-in-loop-i
-offset_bounds-edges-i-in-loop-i c = omega arith
-
-pub bounds-edges-i-in-loop-i : goal.bounds-edges-i-in-loop-i
-bounds-edges-i-in-loop-i c = omega arith
-
-pub wide-requires-in-loop-i : goal.wide-requires-in-loop-i
-wide-requires-in-loop-i c = omega arith
-
 pub returns-then-n-wide-2 : goal.returns-then-n-wide-2
 returns-then-n-wide-2 c =
     sym (scan_hit _ _ _ _ c.loop-i.invariant.2 (to_bad c.args.n c.args.edges.now c.loop-i.i (omega arith) (omega arith) (omega arith))
     (omega (arith, jumps_length c.args.edges.now)))
-
-pub overflow_add-i-in-loop-i : goal.overflow_add-i-in-loop-i
-overflow_add-i-in-loop-i c = omega arith
-
-pub loop-i-smaller : goal.loop-i-smaller
-loop-i-smaller c = omega arith
 
 pub loop-i-preserved : goal.loop-i-preserved
 loop-i-preserved c =

@@ -12,18 +12,6 @@ use Rattle.line_checks.proofs.line.Goals as goal
 pub loop-i-init : goal.loop-i-init
 loop-i-init c = (omega arith, omega arith, scan_none _ _, refl, used_none (blocks_of c.args.blocks.now))
 
-pub overflow_mul-i : goal.overflow_mul-i
-overflow_mul-i c = omega arith
-
-pub offset_bounds-blocks-i : goal.offset_bounds-blocks-i
-offset_bounds-blocks-i c = omega arith
-
-pub bounds-blocks-i : goal.bounds-blocks-i
-bounds-blocks-i c = omega arith
-
-pub wide-number-requires : goal.wide-number-requires
-wide-number-requires c = omega arith
-
 pub returns-then-n-number : goal.returns-then-n-number
 returns-then-n-number c =
     let at_i : (block_at (blocks_of c.args.blocks.now) c.loop-i.i).number ≡ c.wide-number.result = number_is c.args.blocks.now c.loop-i.i (omega arith) ∙ sym c.wide-number.ensures in
@@ -34,9 +22,6 @@ returns-then-n-number c =
 pub slice_bounds-test-end : goal.slice_bounds-test-end
 slice_bounds-test-end c = omega (arith, c.loop-i.invariant.3)
 
-pub test-requires : goal.test-requires
-test-requires c = omega (arith, c.loop-i.invariant.3)
-
 pub returns-then-test : goal.returns-then-test
 returns-then-test c =
     let at_i : (block_at (blocks_of c.args.blocks.now) c.loop-i.i).number ≡ c.wide-number.result = number_is c.args.blocks.now c.loop-i.i (omega arith) ∙ sym c.wide-number.ensures in
@@ -45,9 +30,6 @@ returns-then-test c =
     sym (scan_hit _ _ _ _ c.loop-i.invariant.2 (by_use (blocks_of c.args.blocks.now) c.args.points c.loop-i.i
     (omega (arith, at_i, blocks_length c.args.blocks.now))
     (used-at ∙ sym c.test.ensures ∙ c.if-test.true)) (omega (arith, blocks_length c.args.blocks.now)))
-
-pub bad_span-requires : goal.bad_span-requires
-bad_span-requires c = omega arith
 
 pub returns-then-bad_span : goal.returns-then-bad_span
 returns-then-bad_span c =
@@ -61,15 +43,6 @@ returns-then-bad_span c =
 
 pub slice_bounds-set-end : goal.slice_bounds-set-end
 slice_bounds-set-end c = omega (arith, c.loop-i.invariant.3)
-
-pub set-requires : goal.set-requires
-set-requires c = omega (arith, c.loop-i.invariant.3)
-
-pub overflow_add-i : goal.overflow_add-i
-overflow_add-i c = omega arith
-
-pub loop-i-smaller : goal.loop-i-smaller
-loop-i-smaller c = omega arith
 
 pub loop-i-preserved : goal.loop-i-preserved
 loop-i-preserved c =

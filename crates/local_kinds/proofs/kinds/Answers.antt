@@ -1,6 +1,5 @@
 -- `local_kinds::kinds` meets its contract: the kinds of the first l locals.
 use native.Mathlib.Omega.{arith}
-use Prim.Native.Nat.{◌-◌}
 use mathlib.Core.Path.{refl}
 use Rattle.local_kinds.proofs.EntryLaws.{list_start, list_ready, list_more, list_done}
 use Rattle.local_kinds.proofs.kinds.Goals as goal
@@ -12,30 +11,8 @@ loop-l-init c =
 pub follow-f-requires : goal.follow-f-requires
 follow-f-requires c = (list_ready c.loop-l.invariant, omega arith)
 
-pub number-requires : goal.number-requires
-number-requires c = omega arith
-
-pub offset_bounds-answer-l : goal.offset_bounds-answer-l
-offset_bounds-answer-l c = omega arith
-
-pub bounds-answer-l : goal.bounds-answer-l
-bounds-answer-l c =
-    let q = c.loop-l.invariant.len in let r = c.loop-l.invariant.room in omega arith
-
-pub overflow_add-l : goal.overflow_add-l
-overflow_add-l c = let r = c.loop-l.invariant.room in omega arith
-
-pub loop-l-smaller : goal.loop-l-smaller
-loop-l-smaller c = omega arith
-
 pub loop-l-preserved : goal.loop-l-preserved
 loop-l-preserved c = list_more c.loop-l.invariant _ _ (omega arith) c.follow-f.ensures refl c.number.ensures
-
-pub shape_of-answer : goal.shape_of-answer
-shape_of-answer c = c.loop-l.invariant.len
-
-pub shape_of-work : goal.shape_of-work
-shape_of-work c = c.loop-l.invariant.kept.len
 
 pub returns : goal.returns
 returns c = list_done c.loop-l.invariant (omega arith)

@@ -1,10 +1,6 @@
 -- `local_marks::mark_all` meets its contract: the first l locals are marked.
 use Rattle.local_marks.proofs.SweepLaws.{Sweep}
-use Prim.Native.Nat.{◌-◌}
 use Rattle.local_marks.proofs.mark_all.Given as goal
 
 abbrev pub invariant-loop-l : goal.invariant-loop-l
 invariant-loop-l l = Sweep l.p l.g l.blocks l.kinds l.touches l.ends l.initial.work l.work l.l
-
-abbrev pub decreases-loop-l : goal.decreases-loop-l
-decreases-loop-l l = l.p.locals - l.l

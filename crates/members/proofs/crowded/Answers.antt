@@ -1,20 +1,10 @@
 -- `crowded` meets its contract: counted, then picked.
-use mathlib.Core.Path.{refl}
 use lib.ListN.{get_or-replicate}
 use native.Mathlib.Omega.{arith}
 use Rattle.members.proofs.crowded.Goals as goal
-
-pub slice_bounds-count-end : goal.slice_bounds-count-end
-slice_bounds-count-end c = refl
 
 pub count-requires : goal.count-requires
 count-requires c = (omega arith, λ i h. c.requires.2 i h, λ i h. get_or-replicate 4096 i 0 0 h)
 
 pub pick-requires : goal.pick-requires
 pick-requires c = (c.count.ensures, omega arith, omega arith, omega arith)
-
-pub shape_of-out : goal.shape_of-out
-shape_of-out c = omega arith
-
-pub returns : goal.returns
-returns c = c.pick.ensures

@@ -1,11 +1,7 @@
 -- `members` meets its contract: m of the first i items are in the cell.
 use Rattle.members.specs.Inner.{members}
-use Prim.Native.Nat.{◌-◌, ◌≤◌}
 use mathlib.Core.Path.{◌≡◌}
 use Rattle.members.proofs.members.Given as goal
 
 abbrev pub invariant-loop-i : goal.invariant-loop-i
-invariant-loop-i l = (l.i ≤ l.n) × (l.m ≡ members l.items l.cell l.i)
-
-abbrev pub decreases-loop-i : goal.decreases-loop-i
-decreases-loop-i l = l.n - l.i
+invariant-loop-i l = l.m ≡ members l.items l.cell l.i

@@ -8,6 +8,3 @@ use Rattle.members.proofs.pick.Given as goal
 
 abbrev pub invariant-loop-s : goal.invariant-loop-s
 invariant-loop-s l = (l.n ≡ item_row_count l.items - l.locals) × Picking (crowded_slot l.items l.locals) (item_row_count l.items - l.locals) l.initial.out l.out l.k l.s
-
-abbrev pub decreases-loop-s : goal.decreases-loop-s
-decreases-loop-s l = l.n - l.s

@@ -1,30 +1,15 @@
 -- `merge_by` meets its contract: packed, merged, and unpacked.
+use Prim.Native.Nat.{ℕ, ◌/◌, ◌%◌, ◌^◌}
 use native.Mathlib.Omega.{arith}
+use lib.ListN.{length-replicate}
+use Rattle.std.proofs.Common.{rules, of_calls}
+use Rattle.std.proofs.lemmas.Fn.{always_returns_same}
 use Rattle.merging.proofs.MergingLaws.{merged_columns}
 use Rattle.merging.proofs.merge_by.Goals as goal
 
-pub pack_columns-requires : goal.pack_columns-requires
-pack_columns-requires c = omega arith
-
-pub merge-k-requires : goal.merge-k-requires
-merge-k-requires c = omega arith
-
-pub unpack_starts-requires : goal.unpack_starts-requires
-unpack_starts-requires c = omega (arith, c.merge-k.ensures.within)
-
-pub unpack_ends-requires : goal.unpack_ends-requires
-unpack_ends-requires c = omega (arith, c.merge-k.ensures.within)
-
-pub shape_of-out_start : goal.shape_of-out_start
-shape_of-out_start c = omega arith
-
-pub shape_of-out_end : goal.shape_of-out_end
-shape_of-out_end c = omega arith
-
-pub shape_of-keys : goal.shape_of-keys
-shape_of-keys c = omega arith
-
 pub returns : goal.returns
-returns c =
+returns g c =
     let a = c.args in
-    merged_columns a.start.now a.end.now a.out_start.now a.out_end.now _ _ _ _ _ _ c.requires.0 (λ i. (c.type_inv.end i).fits) c.requires.1 c.requires.2 c.requires.3 c.pack_columns.ensures (omega arith) c.merge-k.ensures c.unpack_starts.ensures c.unpack_ends.ensures
+    merged_columns a.start.now a.end.now a.out_start.now a.out_end.now _ _ _ _ _ _ c.requires.0 (λ i. (c.type_inv.end i).fits) c.requires.1 c.requires.2 (omega (arith, length-replicate {A = ℕ} g.row.K 0)) c.pack_columns.ensures c.merge-k.auto.w c.merge-k.ensures
+    (c.unpack.ensures (λ x. x / 2 ^ 32) (always_returns_same _ _ _ (λ x r f k. search (rules, of_calls))))
+    (c.unpack-2.ensures (λ x. x % 2 ^ 32) (always_returns_same _ _ _ (λ x r f k. search (rules, of_calls))))

@@ -89,7 +89,7 @@ returns-then-from-slot c =
     wrote_as (wrote_then c.cover-k.ensures c.cover.ensures) (ap (λ (r : Range). (r ∷ []) ++ (r ∷ []))
     (point_is c.args.points (blocks_of (c.args.blocks.now)) (insts_of (c.args.insts.now) []) c.args.slot (move_row (c.args.moves.now) c.args.i) _ (move_fine
     (blocks_of (c.args.blocks.now)) (insts_of (c.args.insts.now) []) (c.args.moves.now) c.args.i c.requires.i_bound.1 c.requires.i_bound.0) (sym
-    c.in-At.is
+    c.in-Some.is
     ∙ c.position-at.ensures ∙ ap (λ (x : ℕ). position_at
     (blocks_of (c.args.blocks.now)) (insts_of (c.args.insts.now) []) (get_or (c.args.moves.now) x 0) (move_number (c.args.moves.now) c.args.i)) (sym
     (add-zero (move_width * c.args.i))))) ∙ sym (covers_both c.args.points (blocks_of (c.args.blocks.now)) (insts_of (c.args.insts.now) []) c.args.slot (move_row
@@ -102,7 +102,7 @@ pub returns-then-to-slot : goal.returns-then-to-slot
 returns-then-to-slot c =
     wrote_as c.cover-k.ensures (ap (λ (r : Range). r ∷ []) (point_is c.args.points (blocks_of (c.args.blocks.now)) (insts_of
     (c.args.insts.now) []) c.args.slot (move_row (c.args.moves.now) c.args.i) _ (move_fine (blocks_of (c.args.blocks.now)) (insts_of (c.args.insts.now) [])
-    (c.args.moves.now) c.args.i c.requires.i_bound.1 c.requires.i_bound.0) (sym c.in-At.is
+    (c.args.moves.now) c.args.i c.requires.i_bound.1 c.requires.i_bound.0) (sym c.in-Some.is
     ∙ c.position-at.ensures ∙ ap (λ (x : ℕ). position_at (blocks_of (c.args.blocks.now))
     (insts_of (c.args.insts.now) []) (get_or (c.args.moves.now) x 0) (move_number (c.args.moves.now) c.args.i)) (sym (add-zero (move_width * c.args.i))))) ∙ sym
     (covers_to c.args.points (blocks_of (c.args.blocks.now)) (insts_of (c.args.insts.now) []) c.args.slot (move_row (c.args.moves.now) c.args.i)
@@ -118,7 +118,7 @@ pub returns-then-from-slot-2 : goal.returns-then-from-slot-2
 returns-then-from-slot-2 c =
     wrote_as c.cover-then-from-slot-2.ensures (ap (λ (r : Range). r ∷ []) (point_is c.args.points (blocks_of (c.args.blocks.now)) (insts_of (c.args.insts.now) [])
     c.args.slot (move_row (c.args.moves.now) c.args.i) _ (move_fine (blocks_of (c.args.blocks.now)) (insts_of (c.args.insts.now) []) (c.args.moves.now)
-    c.args.i c.requires.i_bound.1 c.requires.i_bound.0) (sym c.in-At.is
+    c.args.i c.requires.i_bound.1 c.requires.i_bound.0) (sym c.in-Some.is
     ∙ c.position-at.ensures ∙ ap (λ (x : ℕ). position_at (blocks_of (c.args.blocks.now))
     (insts_of (c.args.insts.now) []) (get_or (c.args.moves.now) x 0) (move_number (c.args.moves.now) c.args.i)) (sym (add-zero (move_width * c.args.i))))) ∙ sym
     (covers_from c.args.points (blocks_of (c.args.blocks.now)) (insts_of (c.args.insts.now) []) c.args.slot (move_row (c.args.moves.now) c.args.i)

@@ -1,6 +1,5 @@
 -- `moved_ranges::all` meets its contract: what the moves passed cover.
 use native.Mathlib.Omega.{arith}
-use Prim.Native.Nat.{◌-◌}
 use mathlib.Core.Path.{◌≡◌}
 use Rattle.move_covers.proofs.MovedLaws.{wrote_none, wrote_then, gather_next, gather_none}
 use Rattle.move_points.proofs.MoveLaws.{covers_two}
@@ -22,16 +21,6 @@ loop-i-init c = (
       (wrote_none _ _),
 )
 
-pub covers-k-requires : goal.covers-k-requires
-covers-k-requires c =
-    record { sound = c.requires.sound; i_bound = (omega arith, c.requires.moves_value.0, let l = c.loop-i.invariant.3.len in let q = c.requires.moves_value.1 in omega arith) }
-
-pub overflow_add-i : goal.overflow_add-i
-overflow_add-i c = omega arith
-
-pub loop-i-smaller : goal.loop-i-smaller
-loop-i-smaller c = omega arith
-
 pub loop-i-preserved : goal.loop-i-preserved
 loop-i-preserved c = (
   omega arith,
@@ -43,9 +32,6 @@ loop-i-preserved c = (
   rw (gather_next (covering c.args.points (blocks_of (c.args.blocks.now)) (insts_of (c.args.insts.now) []) c.args.slot)
       (move_row (c.args.moves.now)) c.loop-i.i) (wrote_then c.loop-i.invariant.3 c.covers-k.ensures),
 )
-
-pub shape_of-out : goal.shape_of-out
-shape_of-out c = c.loop-i.invariant.3.len
 
 pub returns : goal.returns
 returns c = let q : c.loop-i.i ≡ move_count (c.args.moves.now) = omega arith in rw q at c.loop-i.invariant.3

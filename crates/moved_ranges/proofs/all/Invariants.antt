@@ -1,5 +1,5 @@
 -- `moved_ranges::all` meets its contract: what the moves passed cover.
-use Prim.Native.Nat.{◌-◌, ◌*◌, ◌≤◌}
+use Prim.Native.Nat.{◌*◌, ◌≤◌}
 use mathlib.Core.Path.{◌≡◌}
 use mathlib.Core.List.{[]}
 use Rattle.words.specs.Rows.{tabulate}
@@ -14,6 +14,3 @@ use Rattle.moved_ranges.proofs.all.Given as goal
 
 abbrev pub invariant-loop-i : goal.invariant-loop-i
 invariant-loop-i l = (l.m ≡ move_count l.moves) × (l.i ≤ l.m) × (l.k ≤ 2 * l.i) × Wrote l.initial.out l.out 0 l.k (gather (covering l.points (blocks_of l.blocks) (insts_of l.insts []) l.slot) (tabulate l.i (move_row l.moves)))
-
-abbrev pub decreases-loop-i : goal.decreases-loop-i
-decreases-loop-i l = l.m - l.i

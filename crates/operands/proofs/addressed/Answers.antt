@@ -10,22 +10,10 @@ use Rattle.operands.proofs.addressed.Goals as goal
 pub loop-p-init : goal.loop-p-init
 loop-p-init c = (omega arith, refl)
 
-pub overflow_add-from : goal.overflow_add-from
-overflow_add-from c = omega arith
-
-pub stray-requires : goal.stray-requires
-stray-requires c = omega arith
-
 pub returns-then-stray : goal.returns-then-stray
 returns-then-stray c =
     sym (c.loop-p.invariant.1 ∙ each_fail (addressing c.args.base c.args.index) c.args.r c.args.n (λ p. operand_at (c.args.operands.now) (c.args.from + p))
     c.loop-p.p (omega arith) (sym c.stray.ensures ∙ c.if-stray.true))
-
-pub overflow_add-p : goal.overflow_add-p
-overflow_add-p c = omega arith
-
-pub loop-p-smaller : goal.loop-p-smaller
-loop-p-smaller c = omega arith
 
 pub loop-p-preserved : goal.loop-p-preserved
 loop-p-preserved c = (

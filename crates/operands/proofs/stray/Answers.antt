@@ -13,30 +13,9 @@ use Rattle.words.specs.Widths.{operand_width}
 use Rattle.words.specs.Inner.{operand_def}
 use Rattle.operands.proofs.stray.Goals as goal
 
-pub overflow_mul-i : goal.overflow_mul-i
-overflow_mul-i c = omega arith
-
-pub overflow_add-i : goal.overflow_add-i
-overflow_add-i c = omega arith
-
-pub offset_bounds-operands-i : goal.offset_bounds-operands-i
-offset_bounds-operands-i c = omega arith
-
-pub bounds-operands-i : goal.bounds-operands-i
-bounds-operands-i c = omega arith
-
 pub returns-then-operands-i : goal.returns-then-operands-i
 returns-then-operands-i c =
     stray_other c.args.r (operand_at (c.args.operands.now) c.args.i) (not (address_position (addressing c.args.base c.args.index) c.args.p)) c.if-operands-i.true
-
-pub overflow_mul-i-2 : goal.overflow_mul-i-2
-overflow_mul-i-2 c = omega arith
-
-pub offset_bounds-operands-i-2 : goal.offset_bounds-operands-i-2
-offset_bounds-operands-i-2 c = omega arith
-
-pub bounds-operands-i-2 : goal.bounds-operands-i-2
-bounds-operands-i-2 c = omega arith
 
 pub returns-then-operands-i-eq1 : goal.returns-then-operands-i-eq1
 returns-then-operands-i-eq1 c =
@@ -44,9 +23,6 @@ returns-then-operands-i-eq1 c =
     (add-zero (operand_width * c.args.i)) in
     stray_def c.args.r (operand_at (c.args.operands.now) c.args.i) (not (address_position (addressing c.args.base c.args.index) c.args.p))
     c.if-operands-i.false (omega arith)
-
-pub part-requires : goal.part-requires
-part-requires c = omega arith
 
 pub returns : goal.returns
 returns c =

@@ -5,39 +5,6 @@ use Rattle.packed.proofs.PackedLaws.{put_first, put_next, put_wider, put_kept}
 use Rattle.packed.proofs.take_up.Goals.{then-k-gt0+else-start_of-end, else-k-gt0}
 use Rattle.packed.proofs.take_up.Goals as goal
 
-pub overflow_add-i : goal.overflow_add-i
-overflow_add-i c = omega arith
-
-pub overflow_sub-i : goal.overflow_sub-i
-overflow_sub-i c = omega arith
-
-pub offset_bounds-w-i : goal.offset_bounds-w-i
-offset_bounds-w-i c = omega arith
-
-pub bounds-w-i : goal.bounds-w-i
-bounds-w-i c = omega arith
-
-pub end_of-end-requires : goal.end_of-end-requires
-end_of-end-requires c = tt
-
-pub start_of-requires : goal.start_of-requires
-start_of-requires c = tt
-
-pub end_of-e-requires : goal.end_of-e-requires
-end_of-e-requires c = tt
-
-pub start_of-requires-then-end-e : goal.start_of-requires-then-end-e
-start_of-requires-then-end-e c = tt
-
-pub pack-requires : goal.pack-requires
-pack-requires c = tt
-
-pub offset_bounds-w-i-then-end-e : goal.offset_bounds-w-i-then-end-e
-offset_bounds-w-i-then-end-e c = omega arith
-
-pub bounds-w-i-then-end-e : goal.bounds-w-i-then-end-e
-bounds-w-i-then-end-e c = omega arith
-
 pub shape_of-w-then-start_of-end : goal.shape_of-w-then-start_of-end
 shape_of-w-then-start_of-end c = simp length-set
 
@@ -50,18 +17,6 @@ pub returns-else-end-e : goal.returns-else-end-e
 returns-else-end-e c =
     let a = c.args in
     put_kept a.w.now a.at a.k (omega arith) a.x (omega arith) (omega (arith, c.end_of-end.ensures, c.start_of.ensures)) (omega (arith, c.end_of-end.ensures, c.end_of-e.ensures))
-
-pub overflow_add-w : goal.overflow_add-w
-overflow_add-w c = omega arith
-
-pub offset_bounds-w-at : goal.offset_bounds-w-at
-offset_bounds-w-at c = omega arith
-
-pub bounds-w-at : goal.bounds-w-at
-bounds-w-at c = omega arith
-
-pub overflow_add-result : goal.overflow_add-result
-overflow_add-result c = omega arith
 
 pub shape_of-w : goal.shape_of-w
 shape_of-w c = simp length-set

@@ -15,24 +15,6 @@ returns-then-i-n c =
     let a = c.args in
     first_ended (part_view a.w.now a.one a.n c.requires.0) (part_view a.w.now a.two a.m c.requires.1) a.i a.j (omega arith) (omega arith)
 
-pub overflow_add-result : goal.overflow_add-result
-overflow_add-result c = omega arith
-
-pub offset_bounds-w-one : goal.offset_bounds-w-one
-offset_bounds-w-one c = omega arith
-
-pub bounds-w-one : goal.bounds-w-one
-bounds-w-one c = omega arith
-
-pub overflow_add-result-2 : goal.overflow_add-result-2
-overflow_add-result-2 c = omega arith
-
-pub offset_bounds-w-two : goal.offset_bounds-w-two
-offset_bounds-w-two c = omega arith
-
-pub bounds-w-two : goal.bounds-w-two
-bounds-w-two c = omega arith
-
 pub returns : goal.returns
 returns c =
     let a = c.args in

@@ -4,17 +4,11 @@ use native.Mathlib.Omega.{arith}
 use Rattle.packed_pairs.proofs.UnitedLaws.{united_start, counts, next_is, united_one_in, united_two_in, united_room, united_one, united_two, united_done}
 use Rattle.packed_pairs.proofs.unite.Goals as goal
 
-pub overflow_add-total : goal.overflow_add-total
-overflow_add-total c = omega arith
-
 pub loop-i-init : goal.loop-i-init
 loop-i-init c = (refl, united_start _ _ _ _ _ _ c.requires.0 c.requires.1 c.requires.3 c.requires.4 c.requires.2 c.requires.5 c.requires.6)
 
 pub overflow_add-i : goal.overflow_add-i
 overflow_add-i c = omega (arith, counts c.loop-i.invariant.1)
-
-pub one_first-requires : goal.one_first-requires
-one_first-requires c = omega arith
 
 pub overflow_add-x : goal.overflow_add-x
 overflow_add-x c =
@@ -93,9 +87,6 @@ loop-i-preserved c = (
   united_two c.loop-i.invariant.1 (omega arith) c.take_up-k-else-one_first.ensures
       (sym (next_is c.loop-i.invariant.1) ∙ sym c.one_first.ensures ∙ c.if-one_first.false) refl,
 )
-
-pub shape_of-w : goal.shape_of-w
-shape_of-w c = omega arith
 
 pub returns : goal.returns
 returns c = united_done c.loop-i.invariant.1 (omega arith)

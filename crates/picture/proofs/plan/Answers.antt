@@ -18,19 +18,12 @@ pub overflow_cast-c : goal.overflow_cast-c
 overflow_cast-c c =
     let a = c.args in
     let p = c.requires in
-    let k = cells_in a.rows.now a.counts.now p.0 p.2 _ _ _ _ _ _ _ _ _ _ _ c.planned-r.ensures refl refl refl refl refl _ _ _ c.in-Plan.is in
-    omega arith
-
-pub overflow_cast-c-in-Plan : goal.overflow_cast-c-in-Plan
-overflow_cast-c-in-Plan c =
-    let a = c.args in
-    let p = c.requires in
-    let k = cells_in a.rows.now a.counts.now p.0 p.2 _ _ _ _ _ _ _ _ _ _ _ c.planned-r.ensures refl refl refl refl refl _ _ _ c.in-Plan.is in
+    let k = cells_in a.rows.now a.counts.now p.0 p.2 _ _ _ _ _ _ _ _ _ _ _ c.planned-r.ensures refl refl refl refl refl _ _ _ c.in-Ok.is in
     omega arith
 
 pub show-requires : goal.show-requires
 show-requires c =
     let a = c.args in
     let p = c.requires in
-    let k = cells_in a.rows.now a.counts.now p.0 p.2 _ _ _ _ _ _ _ _ _ _ _ c.planned-r.ensures refl refl refl refl refl _ _ _ c.in-Plan.is in
+    let k = cells_in a.rows.now a.counts.now p.0 p.2 _ _ _ _ _ _ _ _ _ _ _ c.planned-r.ensures refl refl refl refl refl _ _ _ c.in-Ok.is in
     (omega arith, omega arith)

@@ -6,4 +6,4 @@ use Rattle.planning.proofs.AnswerLaws.{printed_as}
 use Rattle.planning.proofs.refuse.Goals as goal
 
 pub returns : goal.returns
-returns c = printed_as (ap (λ (k : ℕ). refusal_text k c.args.i) c.number.ensures) c.print_refusal.ensures
+returns c = printed_as (ap (λ (k : ℕ). refusal_text k c.args.e.1) c.number.ensures) c.print_refusal.ensures

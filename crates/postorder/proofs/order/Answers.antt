@@ -2,6 +2,7 @@
 use mathlib.Core.Path.{refl}
 use Rattle.postorder.proofs.Roots.{roots_start, roots_walk, roots_skip, roots_done}
 use Rattle.postorder.proofs.Bounds.{start, at_root}
+use Rattle.postorder.proofs.order.Goals.{then-work-next-eq0, else-work-next-eq0}
 use Rattle.postorder.proofs.order.Goals as goal
 
 pub overflow_add-next : goal.overflow_add-next
@@ -12,9 +13,6 @@ overflow_add-next-2 c = (start c.requires c.well_formed.0.1).stack
 
 pub overflow_add-next-3 : goal.overflow_add-next-3
 overflow_add-next-3 c = (start c.requires c.well_formed.0.1).next
-
-pub fill-requires : goal.fill-requires
-fill-requires c = c.requires.room
 
 pub loop-root-init : goal.loop-root-init
 loop-root-init c = (refl, roots_start (c.requires) c.fill.ensures)
@@ -33,33 +31,14 @@ bounds-work-next c =
 pub walk-left-requires : goal.walk-left-requires
 walk-left-requires c = record { root_lt_n = (c.loop-root-test.true, c.if-work-next-eq0.true); ready = c.loop-root.invariant.1.ready }
 
-pub overflow_add-root : goal.overflow_add-root
-overflow_add-root c =
-    (at_root _ _ c.loop-root.invariant.1 c.loop-root.invariant.0 c.fill.ensures.len c.well_formed.0.1
-    c.loop-root-test.true).more
-
-pub loop-root-smaller-then-work-next-eq0 : goal.loop-root-smaller-then-work-next-eq0
-loop-root-smaller-then-work-next-eq0 c =
-    (at_root _ _ c.loop-root.invariant.1 c.loop-root.invariant.0 c.fill.ensures.len c.well_formed.0.1
-    c.loop-root-test.true).less
-
-pub loop-root-preserved-then-work-next-eq0 : goal.loop-root-preserved-then-work-next-eq0
-loop-root-preserved-then-work-next-eq0 c =
-    (c.loop-root.invariant.0, roots_walk c.loop-root.invariant.1 c.loop-root-test.true c.walk-left.ensures)
-
-pub overflow_add-root-else-work-next-eq0 : goal.overflow_add-root-else-work-next-eq0
-overflow_add-root-else-work-next-eq0 c =
-    (at_root _ _ c.loop-root.invariant.1 c.loop-root.invariant.0 c.fill.ensures.len c.well_formed.0.1
-    c.loop-root-test.true).more
-
-pub loop-root-smaller : goal.loop-root-smaller
-loop-root-smaller c =
-    (at_root _ _ c.loop-root.invariant.1 c.loop-root.invariant.0 c.fill.ensures.len c.well_formed.0.1
-    c.loop-root-test.true).less
-
 pub loop-root-preserved : goal.loop-root-preserved
 loop-root-preserved c =
-    (c.loop-root.invariant.0, roots_skip c.loop-root.invariant.1 c.loop-root-test.true c.if-work-next-eq0.false)
+    let inv = c.loop-root.invariant in
+    let more = c.loop-root-test.true in
+    elim c.if-work-next-eq0.branch [
+      | then-work-next-eq0 w ↦ (inv.0, rw (w.work-is, w.left-is) (roots_walk inv.1 more w.walk-left.ensures))
+      | else-work-next-eq0 w ↦ (inv.0, rw (w.work-is, w.left-is) (roots_skip inv.1 more w.if-work-next-eq0.false))
+    ]
 
 pub returns : goal.returns
 returns c = roots_done (c.requires) c.fill.ensures c.loop-root.invariant.1 c.loop-root-test.false

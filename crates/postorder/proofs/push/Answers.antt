@@ -1,5 +1,4 @@
 -- `postorder::push` meets its contract: two stores.
-use mathlib.Core.Path.{refl}
 use lib.ListN.{length-set}
 use Rattle.postorder.proofs.Bounds.{at_push}
 use Rattle.postorder.proofs.push.Goals as goal
@@ -45,6 +44,3 @@ bounds-w-next c = simp length-set (at_push _ _ _ c.args.w.now _ _ c.requires.0 c
 
 pub shape_of-w : goal.shape_of-w
 shape_of-w c = simp length-set
-
-pub returns : goal.returns
-returns c = refl

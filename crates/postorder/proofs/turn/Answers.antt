@@ -8,9 +8,6 @@ use Rattle.postorder.proofs.Turns.{top_of, next_of, top, v_ok, first_ok, room_fo
 use Rattle.postorder.proofs.Bounds.{Turning, AtEdge, turning, edge, deeper, few}
 use Rattle.postorder.proofs.turn.Goals as goal
 
-pub overflow_sub-top : goal.overflow_sub-top
-overflow_sub-top c = c.requires.depth_nonzero
-
 pub overflow_add-stack : goal.overflow_add-stack
 overflow_add-stack c =
     let turns : Turning c.args.n c.args.at c.args.base c.args.w.now c.args.z.depth = turning c.requires.depth_nonzero c.requires.ready c.well_formed.0.1 in

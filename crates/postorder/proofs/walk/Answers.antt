@@ -14,9 +14,6 @@ loop-z-init c =
 pub turn-z-requires : goal.turn-z-requires
 turn-z-requires c = record { depth_nonzero = c.loop-z-test.true; ready = c.loop-z.invariant.0 }
 
-pub loop-z-smaller : goal.loop-z-smaller
-loop-z-smaller c = c.turn-z.ensures.falls
-
 pub loop-z-preserved : goal.loop-z-preserved
 loop-z-preserved c =
     (ready_more c.loop-z.invariant.0 c.turn-z.ensures, going_more c.loop-z.invariant.1 c.turn-z.ensures)

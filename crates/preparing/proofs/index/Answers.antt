@@ -1,12 +1,8 @@
 -- `preparing::index` meets its contract: sorted, then indexed.
 use native.Mathlib.Omega.{arith}
 use Prim.Native.Nat.{◌+◌}
-use mathlib.Core.Path.{◌∙◌}
 use Rattle.preparing.proofs.StepLaws.{index_rising, index_done}
 use Rattle.preparing.proofs.index.Goals as goal
-
-pub sort_part-requires : goal.sort_part-requires
-sort_part-requires c = omega arith
 
 pub firsts-requires : goal.firsts-requires
 firsts-requires c =
@@ -19,9 +15,6 @@ firsts-requires c =
             omega arith,
       ));
     }
-
-pub shape_of-work : goal.shape_of-work
-shape_of-work c = c.firsts.ensures.kept.len ∙ c.sort_part.ensures.len
 
 pub returns : goal.returns
 returns c =

@@ -5,9 +5,6 @@ use native.Mathlib.Omega.{arith}
 use mathlib.Core.Path.{sym, ◌∙◌}
 use Rattle.query_checks.proofs.crowd.Goals as goal
 
-pub bad_count-requires : goal.bad_count-requires
-bad_count-requires c = tt
-
 pub returns-then-bad_count : goal.returns-then-bad_count
 returns-then-bad_count c = let a = c.args in crowd_count a.cells.now a.items.now a.locals a.room (sym c.bad_count.ensures ∙ c.if-bad_count.true)
 
@@ -16,9 +13,6 @@ overflow_sub-items c = let a = c.args in omega (arith, locals_fit a.cells.now a.
 
 pub returns-then-room-items : goal.returns-then-room-items
 returns-then-room-items c = let a = c.args in crowd_space a.cells.now a.items.now a.locals a.room (sym c.bad_count.ensures ∙ c.if-bad_count.false) c.if-room-items.true
-
-pub plan-requires : goal.plan-requires
-plan-requires c = tt
 
 pub returns : goal.returns
 returns c = let a = c.args in c.plan.ensures ∙ crowd_plan a.cells.now a.items.now a.locals a.room (sym c.bad_count.ensures ∙ c.if-bad_count.false) c.if-room-items.false

@@ -4,4 +4,4 @@ use Rattle.codes.specs.Codes.{option_code}
 use Rattle.query_codes.proofs.slot.Goals as goal
 
 pub returns : goal.returns
-returns c = c.place.ensures ∙ ap option_code c.slot.ensures
+returns c = c.found.ensures ∙ ap option_code c.slot.ensures

@@ -7,16 +7,10 @@ use Rattle.range_checks.specs.Verdicts.{bad_list}
 use Rattle.range_checks.proofs.VerdictLaws.{even_list, or_false, entry_count, test_lists}
 use Rattle.range_checks.proofs.clashes.Goals as goal
 
-pub bad_list-requires : goal.bad_list-requires
-bad_list-requires c = tt
-
 pub returns-then-bad_list : goal.returns-then-bad_list
 returns-then-bad_list c =
     let a = c.args in
     entry_count _ _ (or_left (bad_list a.start.now a.end.now) (bad_list a.other_start.now a.other_end.now) (sym c.bad_list.ensures ∙ c.if-bad_list.true))
-
-pub bad_list-requires-2 : goal.bad_list-requires-2
-bad_list-requires-2 c = tt
 
 pub returns-then-bad_list-2 : goal.returns-then-bad_list-2
 returns-then-bad_list-2 c =

@@ -21,23 +21,11 @@ verdict_is o ss es h = ap (scan Want (wrong_at o (columns ss es))) (columns_leng
 pub loop-i-init : goal.loop-i-init
 loop-i-init c = (omega arith, scan_none _ _)
 
-pub wrong-requires : goal.wrong-requires
-wrong-requires c = omega arith
-
-pub overflow_add-result : goal.overflow_add-result
-overflow_add-result c = omega arith
-
 pub returns-then-wrong : goal.returns-then-wrong
 returns-then-wrong c =
     let a = c.args in
     ap (counted_on a.from) (sym (verdict_is a.ordered a.start.now a.end.now c.requires.0
     ∙ scan_hit Want _ _ _ c.loop-i.invariant.1 (sym c.wrong.ensures ∙ c.if-wrong.true) (omega arith)))
-
-pub overflow_add-i : goal.overflow_add-i
-overflow_add-i c = omega arith
-
-pub loop-i-smaller : goal.loop-i-smaller
-loop-i-smaller c = omega arith
 
 pub loop-i-preserved : goal.loop-i-preserved
 loop-i-preserved c = (omega arith, scan_miss Want _ _ c.loop-i.invariant.1 (sym c.wrong.ensures ∙ c.if-wrong.false))

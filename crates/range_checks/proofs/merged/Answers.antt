@@ -9,9 +9,6 @@ use Rattle.range_checks.specs.Verdicts.{bad_list, uneven}
 use Rattle.range_checks.proofs.VerdictLaws.{even_list, uneven_true, uneven_false, or_false, entry_count, entry_space, entry_lists}
 use Rattle.range_checks.proofs.merged.Goals as goal
 
-pub bad_list-requires : goal.bad_list-requires
-bad_list-requires c = tt
-
 pub returns-then-bad_list : goal.returns-then-bad_list
 returns-then-bad_list c =
     let a = c.args in

@@ -9,16 +9,10 @@ use Rattle.range_checks.specs.Verdicts.{bad_list, uneven}
 use Rattle.range_checks.proofs.VerdictLaws.{even_list, uneven_true, uneven_false, or_false, entry_count, entry_space, entry_lists}
 use Rattle.range_checks.proofs.union.Goals as goal
 
-pub bad_list-requires : goal.bad_list-requires
-bad_list-requires c = tt
-
 pub returns-then-bad_list : goal.returns-then-bad_list
 returns-then-bad_list c =
     let a = c.args in
     entry_count _ _ (or_left (bad_list a.start.now a.end.now) (bad_list a.other_start.now a.other_end.now || uneven a.n a.m) (sym c.bad_list.ensures ∙ c.if-bad_list.true))
-
-pub bad_list-requires-2 : goal.bad_list-requires-2
-bad_list-requires-2 c = tt
 
 pub returns-then-bad_list-2 : goal.returns-then-bad_list-2
 returns-then-bad_list-2 c =
@@ -29,9 +23,6 @@ pub returns-then-n-m : goal.returns-then-n-m
 returns-then-n-m c =
     let a = c.args in
     entry_count _ _ (or_right (bad_list a.start.now a.end.now) (bad_list a.other_start.now a.other_end.now || uneven a.n a.m) (or_right (bad_list a.other_start.now a.other_end.now) (uneven a.n a.m) (uneven_true a.n a.m c.if-n-m.true)))
-
-pub overflow_add-start : goal.overflow_add-start
-overflow_add-start c = omega arith
 
 pub returns-then-n-start : goal.returns-then-n-start
 returns-then-n-start c =

@@ -14,16 +14,7 @@ use Rattle.range_walk.proofs.WalkLaws.{told_wrong, told_right}
 use Rattle.range_walk.proofs.along.Goals as goal
 
 pub loop-i-init : goal.loop-i-init
-loop-i-init c = (omega arith, scan_none _ _)
-
-pub wrong-requires : goal.wrong-requires
-wrong-requires c = omega arith
-
-pub overflow_add-i : goal.overflow_add-i
-overflow_add-i c = omega arith
-
-pub tell-requires : goal.tell-requires
-tell-requires c = tt
+loop-i-init c = scan_none _ _
 
 pub returns-then-wrong : goal.returns-then-wrong
 returns-then-wrong c =
@@ -32,15 +23,9 @@ returns-then-wrong c =
     let rs = drop a.first (areas_of a.areas.now) in
     let i = c.loop-i.i in
     let l : i < n = c.loop-i-test.true in
-    let hit = scan_hit Want (wrong_at true (take n rs)) i n c.loop-i.invariant.1 (wrong_take true n rs i l ∙ sym c.wrong.ensures ∙ c.if-wrong.true) l in
+    let hit = scan_hit Want (wrong_at true (take n rs)) i n c.loop-i.invariant (wrong_take true n rs i l ∙ sym c.wrong.ensures ∙ c.if-wrong.true) l in
     let t = told_wrong (take n rs) n i (part_length a.areas.now a.first n c.requires) hit in
     (c.tell.ensures.0 ∙ t.0, c.tell.ensures.1 ∙ t.1)
-
-pub overflow_add-i-in-loop-i : goal.overflow_add-i-in-loop-i
-overflow_add-i-in-loop-i c = omega arith
-
-pub loop-i-smaller : goal.loop-i-smaller
-loop-i-smaller c = omega arith
 
 pub loop-i-preserved : goal.loop-i-preserved
 loop-i-preserved c =
@@ -48,15 +33,12 @@ loop-i-preserved c =
     let rs = drop a.first (areas_of a.areas.now) in
     let i = c.loop-i.i in
     let l : i < a.count = c.loop-i-test.true in
-    (omega arith, scan_miss Want (wrong_at true (take a.count rs)) i c.loop-i.invariant.1 (wrong_take true a.count rs i l ∙ sym c.wrong.ensures ∙ c.if-wrong.false))
-
-pub tell-requires-2 : goal.tell-requires-2
-tell-requires-2 c = tt
+    scan_miss Want (wrong_at true (take a.count rs)) i c.loop-i.invariant (wrong_take true a.count rs i l ∙ sym c.wrong.ensures ∙ c.if-wrong.false)
 
 pub returns : goal.returns
 returns c =
     let a = c.args in
     let n = a.count in
     let rs = drop a.first (areas_of a.areas.now) in
-    let t = told_right (take n rs) n (part_length a.areas.now a.first n c.requires) (scan_end Want (wrong_at true (take n rs)) c.loop-i.i n c.loop-i.invariant.1 c.loop-i.invariant.0 (omega arith)) in
+    let t = told_right (take n rs) n (part_length a.areas.now a.first n c.requires) (scan_end Want (wrong_at true (take n rs)) c.loop-i.i n c.loop-i.invariant (omega arith) (omega arith)) in
     (c.tell-2.ensures.0 ∙ t.0, c.tell-2.ensures.1 ∙ t.1)

@@ -1,17 +1,12 @@
 -- `along` meets its contract: no range before i is wrong.
-use Prim.Native.Nat.{◌-◌, ◌≤◌}
 use mathlib.Core.Path.{◌≡◌}
 use mathlib.Core.Bool.{true}
 use lib.ListN.{take, drop}
-use Rattle.refusals.specs.declared.Verdict.TheVariants.{Fine}
 use Rattle.refusals.specs.declared.Refusal.TheVariants.{Want}
-use Rattle.refusals.specs.Verdicts.{scan}
+use Rattle.refusals.specs.Verdicts.{scan, Fine}
 use Rattle.ranges.specs.Lent.{wrong_at}
 use Rattle.ranges.specs.Forms.{areas_of}
 use Rattle.range_walk.proofs.along.Given as goal
 
 abbrev pub invariant-loop-i : goal.invariant-loop-i
-invariant-loop-i l = (l.i ≤ l.count) × (scan Want (wrong_at true (take l.count (drop l.first (areas_of l.areas)))) l.i ≡ Fine)
-
-abbrev pub decreases-loop-i : goal.decreases-loop-i
-decreases-loop-i l = l.count - l.i
+invariant-loop-i l = scan Want (wrong_at true (take l.count (drop l.first (areas_of l.areas)))) l.i ≡ Fine

@@ -31,12 +31,6 @@ returns-then-n-eq0-clause-read c = read_of c.loop-turn.invariant.2 c.finish.ensu
 pub slice_bounds-feed-count : goal.slice_bounds-feed-count
 slice_bounds-feed-count c = omega arith
 
-pub overflow_add-turn : goal.overflow_add-turn
-overflow_add-turn c = let t = c.loop-turn-test.true in omega arith
-
-pub loop-turn-smaller : goal.loop-turn-smaller
-loop-turn-smaller c = let t = c.loop-turn-test.true in omega arith
-
 pub finish-requires-2 : goal.finish-requires-2
 finish-requires-2 c = c.loop-turn.invariant.2.reading.held.taken.rows_length
 

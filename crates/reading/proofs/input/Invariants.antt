@@ -7,6 +7,3 @@ use Rattle.reading.proofs.input.Given as goal
 
 abbrev pub invariant-loop-turn : goal.invariant-loop-turn
 invariant-loop-turn l = (length l.fields ≡ 7) × (length l.piece ≡ 4096) × Ready l.s.reader l.s.len l.line l.rows l.counts (4096 * (2251799813685248 - l.turn))
-
-abbrev pub decreases-loop-turn : goal.decreases-loop-turn
-decreases-loop-turn l = 2251799813685248 - l.turn

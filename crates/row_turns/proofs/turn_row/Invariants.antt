@@ -4,7 +4,4 @@ use Prim.Native.Nat.{◌-◌}
 use Rattle.row_turns.proofs.turn_row.Given as goal
 
 abbrev pub invariant-loop-i : goal.invariant-loop-i
-invariant-loop-i l = Rowing l.t l.k l.initial.work l.work l.i
-
-abbrev pub decreases-loop-i : goal.decreases-loop-i
-decreases-loop-i l = l.t.words - l.i
+invariant-loop-i l = Rowing l.fn.t l.k l.initial.work l.work l.i

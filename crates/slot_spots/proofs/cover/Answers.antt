@@ -28,6 +28,6 @@ pub returns : goal.returns
 returns c =
     cover_is c.args.points (blocks_of c.args.blocks.now) (insts_of c.args.insts.now []) (move_row c.args.moves.now c.args.i) _ _ _ _ (move_fine
     (blocks_of c.args.blocks.now) (insts_of c.args.insts.now []) c.args.moves.now c.args.i c.requires.i_bound.1 c.requires.i_bound.0) (sym
-    c.in-At.is ∙ c.position-at.ensures ∙ ap
+    c.in-Some.is ∙ c.position-at.ensures ∙ ap
     (λ (x : ℕ). position_at (blocks_of c.args.blocks.now) (insts_of c.args.insts.now []) (get_or c.args.moves.now x 0) (move_number c.args.moves.now c.args.i))
     (sym (add-zero (move_width * c.args.i)))) c.preceding-start.ensures c.beyond-end.ensures c.pack.ensures

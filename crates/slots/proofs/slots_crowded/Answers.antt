@@ -3,4 +3,4 @@ use Rattle.slots.proofs.CodeLaws.{crowd_coded}
 use Rattle.slots.proofs.slots_crowded.Goals as goal
 
 pub returns : goal.returns
-returns c = crowd_coded c.crowded.ensures c.crowd.ensures
+returns c = crowd_coded c.crowded.ensures c.answer.ensures

@@ -4,4 +4,4 @@ use Rattle.codes.specs.Codes.{count_code}
 use Rattle.slots.proofs.slots_saved.Goals as goal
 
 pub returns : goal.returns
-returns c = c.saving.ensures ∙ ap count_code c.saved.ensures
+returns c = c.answer.ensures ∙ ap count_code c.saved.ensures

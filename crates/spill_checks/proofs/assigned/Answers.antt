@@ -1,5 +1,4 @@
 -- `spill_checks::assigned` meets its contract: rows of two numbers.
-use native.Mathlib.Omega.{arith}
 use Prim.Native.Nat.{ℕ}
 use mathlib.Core.Path.{ap, ◌∙◌}
 use Rattle.refusals.specs.Verdicts.{scan}
@@ -9,12 +8,6 @@ use Rattle.words.specs.Inner.{assigned_register}
 use Rattle.spill_checks.proofs.CheckLaws.{assigned_is}
 use lib.Dec.{leb}
 use Rattle.spill_checks.proofs.assigned.Goals as goal
-
-pub wide-requires : goal.wide-requires
-wide-requires c = omega arith
-
-pub below-requires : goal.below-requires
-below-requires c = omega arith
 
 pub returns : goal.returns
 returns c =

@@ -1,6 +1,6 @@
 -- `spill_checks::bad_move` meets its contract: only a stray position is refused.
 use native.Mathlib.Omega.{arith}
-use Prim.Native.Nat.{ℕ, ◌-◌}
+use Prim.Native.Nat.{ℕ}
 use mathlib.Core.Path.{◌≡◌, sym, ◌∙◌}
 use mathlib.Core.List.{[]}
 use Rattle.graph.specs.Line.{blocks_of}

@@ -1,5 +1,4 @@
 -- `spill_checks::bad_piece` meets its contract: a law for each way out.
-use native.Mathlib.Omega.{arith}
 use native.Mathlib.Nat.{add-zero}
 use Prim.Native.Nat.{ℕ, ◌*◌}
 use mathlib.Core.Path.{sym, ap, ◌∙◌}
@@ -11,21 +10,9 @@ use Rattle.spill_checks.specs.Inner.{piece_at}
 use Rattle.spill_checks.proofs.CheckLaws.{piece_off, piece_on}
 use Rattle.spill_checks.proofs.bad_piece.Goals as goal
 
-pub off_line-requires : goal.off_line-requires
-off_line-requires c = c.requires
-
 pub returns-then-off_line : goal.returns-then-off_line
 returns-then-off_line c =
     piece_off (blocks_of c.args.blocks.now) c.args.v (piece_at c.args.pieces.now c.args.i) (sym c.off_line.ensures ∙ c.if-off_line.true)
-
-pub overflow_mul-result : goal.overflow_mul-result
-overflow_mul-result c = omega arith
-
-pub offset_bounds-pieces-i : goal.offset_bounds-pieces-i
-offset_bounds-pieces-i c = omega arith
-
-pub bounds-pieces-i : goal.bounds-pieces-i
-bounds-pieces-i c = omega arith
 
 pub returns : goal.returns
 returns c =

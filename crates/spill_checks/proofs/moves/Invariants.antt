@@ -1,8 +1,7 @@
 -- `spill_checks::moves` meets its contract: no move before i is refused.
-use Prim.Native.Nat.{◌-◌, ◌≤◌}
+use Prim.Native.Nat.{◌≤◌}
 use mathlib.Core.Path.{◌≡◌}
-use Rattle.refusals.specs.Verdicts.{scan}
-use Rattle.refusals.specs.declared.Verdict.TheVariants.{Fine}
+use Rattle.refusals.specs.Verdicts.{scan, Fine}
 use Rattle.refusals.specs.declared.Refusal.TheVariants.{Stray}
 use mathlib.Core.List.{[]}
 use Rattle.graph.specs.Line.{blocks_of}
@@ -13,6 +12,3 @@ use Rattle.spill_checks.proofs.moves.Given as goal
 
 abbrev pub invariant-loop-i : goal.invariant-loop-i
 invariant-loop-i l = (l.n ≡ move_count l.moves) × (l.i ≤ l.n) × (scan Stray (λ k. bad_move (blocks_of l.blocks) (insts_of l.insts []) (move_at (moves_of l.moves) k).kind (move_at (moves_of l.moves) k).number) l.i ≡ Fine)
-
-abbrev pub decreases-loop-i : goal.decreases-loop-i
-decreases-loop-i l = l.n - l.i

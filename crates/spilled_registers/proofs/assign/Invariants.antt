@@ -1,5 +1,5 @@
 -- `spilled_registers::assign` meets its contract: the last of the assignments passed.
-use Prim.Native.Nat.{◌-◌, ◌≤◌}
+use Prim.Native.Nat.{◌≤◌}
 use mathlib.Core.Path.{◌≡◌}
 use Rattle.spilled_registers.proofs.SpilledLaws.{Held}
 use Rattle.spill_checks.proofs.AssignedLaws.{assigned_at}
@@ -8,6 +8,3 @@ use Rattle.spilled_registers.proofs.assign.Given as goal
 
 abbrev pub invariant-loop-i : goal.invariant-loop-i
 invariant-loop-i l = (l.m ≡ assigned_count l.assigned) × (l.i ≤ l.m) × Held (assigned_at l.assigned) l.initial.answer l.answer l.n l.i
-
-abbrev pub decreases-loop-i : goal.decreases-loop-i
-decreases-loop-i l = l.m - l.i

@@ -6,16 +6,18 @@ use Rattle.spread.proofs.Entries.{as_wide, rows_refused, known, rows_given}
 use Rattle.flow.proofs.Entries.{Sums, sums, Known, copied, cleared_length}
 use Rattle.words.specs.Widths.{block_count, edge_count}
 use Rattle.spread.proofs.spread.Goals as goal
+use Rattle.refusals.proofs.Laws.{handed_on}
 
-pub returns-in-Bad : goal.returns-in-Bad
-returns-in-Bad c =
-    rows_refused c.args.blocks.now c.args.edges.now c.args.points c.args.leaves.now c.args.passes.now c.args.words c.args.out.now
-    c.args.work.now _ _ (sym c.refusal-v.ensures ∙ c.in-Bad.is)
+pub returns-in_err-refusal : goal.returns-in_err-refusal
+returns-in_err-refusal c =
+    rw (handed_on c.from_residual.ensures.1)
+    (rows_refused c.args.blocks.now c.args.edges.now c.args.points c.args.leaves.now c.args.passes.now c.args.words c.args.out.now
+    c.args.work.now _ _ (sym c.refusal.ensures ∙ c.in_err-refusal.was))
 
 pub solve-at-requires : goal.solve-at-requires
 solve-at-requires c =
     let k = known c.args.blocks.now c.args.edges.now c.args.points (length c.args.leaves.now) (length c.args.passes.now) c.args.words (length
-    c.args.out.now) (length c.args.work.now) (sym c.refusal-v.ensures ∙ c.in_default.is) in
+    c.args.out.now) (length c.args.work.now) (sym c.refusal.ensures ∙ c.in_ok-refusal.was) in
     record {
       sound = (k.rest.graph.sound, k.rest.graph.edges_fine, k.rest.graph.counts.few);
       leaves_len = omega (arith, k.rest.rows, k.passing_rows);
@@ -25,7 +27,7 @@ solve-at-requires c =
 pub copy_from-requires : goal.copy_from-requires
 copy_from-requires c =
     let k = known c.args.blocks.now c.args.edges.now c.args.points (length c.args.leaves.now) (length c.args.passes.now) c.args.words
-    (length c.args.out.now) (length c.args.work.now) (sym c.refusal-v.ensures ∙ c.in_default.is) in
+    (length c.args.out.now) (length c.args.work.now) (sym c.refusal.ensures ∙ c.in_ok-refusal.was) in
     (copied _ _ k.rest.answer_fits, omega (arith, c.solve-at.ensures.inside, c.solve-at.ensures.kept.len, k.rest.rows, k.passing_rows, k.rest.work_fits))
 
 pub overflow_add-blocks : goal.overflow_add-blocks
@@ -33,8 +35,8 @@ overflow_add-blocks c =
     let fit : Known c.args.blocks.now c.args.edges.now c.args.points (length c.args.leaves.now) c.args.words (length c.args.out.now) (length c.args.work.now) → Sums (block_count
     c.args.blocks.now) (edge_count c.args.edges.now) (length c.args.leaves.now) = λ k. sums _ _ _ (length c.args.work.now) k.graph.counts.some k.work_fits (omega (arith, c.well_formed)) in
     let k = known c.args.blocks.now c.args.edges.now c.args.points (length c.args.leaves.now) (length c.args.passes.now) c.args.words (length
-    c.args.out.now) (length c.args.work.now) (sym c.refusal-v.ensures
-    ∙ c.in_default.is) in
+    c.args.out.now) (length c.args.work.now) (sym c.refusal.ensures
+    ∙ c.in_ok-refusal.was) in
     (fit k.rest).graph
 
 pub overflow_add-blocks-2 : goal.overflow_add-blocks-2
@@ -42,8 +44,8 @@ overflow_add-blocks-2 c =
     let fit : Known c.args.blocks.now c.args.edges.now c.args.points (length c.args.leaves.now) c.args.words (length c.args.out.now) (length c.args.work.now) → Sums (block_count
     c.args.blocks.now) (edge_count c.args.edges.now) (length c.args.leaves.now) = λ k. sums _ _ _ (length c.args.work.now) k.graph.counts.some k.work_fits (omega (arith, c.well_formed)) in
     let k = known c.args.blocks.now c.args.edges.now c.args.points (length c.args.leaves.now) (length c.args.passes.now) c.args.words (length
-    c.args.out.now) (length c.args.work.now) (sym c.refusal-v.ensures
-    ∙ c.in_default.is) in
+    c.args.out.now) (length c.args.work.now) (sym c.refusal.ensures
+    ∙ c.in_ok-refusal.was) in
     (fit k.rest).all
 
 pub overflow_mul-blocks : goal.overflow_mul-blocks
@@ -51,15 +53,15 @@ overflow_mul-blocks c =
     let fit : Known c.args.blocks.now c.args.edges.now c.args.points (length c.args.leaves.now) c.args.words (length c.args.out.now) (length c.args.work.now) → Sums (block_count
     c.args.blocks.now) (edge_count c.args.edges.now) (length c.args.leaves.now) = λ k. sums _ _ _ (length c.args.work.now) k.graph.counts.some k.work_fits (omega (arith, c.well_formed)) in
     let k = known c.args.blocks.now c.args.edges.now c.args.points (length c.args.leaves.now) (length c.args.passes.now) c.args.words (length
-    c.args.out.now) (length c.args.work.now) (sym c.refusal-v.ensures
-    ∙ c.in_default.is) in
+    c.args.out.now) (length c.args.work.now) (sym c.refusal.ensures
+    ∙ c.in_ok-refusal.was) in
     (fit k.rest).space
 
 pub clear-requires : goal.clear-requires
 clear-requires c =
     let k = known c.args.blocks.now c.args.edges.now c.args.points (length c.args.leaves.now) (length c.args.passes.now) c.args.words (length
-    c.args.out.now) (length c.args.work.now) (sym c.refusal-v.ensures
-    ∙ c.in_default.is) in
+    c.args.out.now) (length c.args.work.now) (sym c.refusal.ensures
+    ∙ c.in_ok-refusal.was) in
     as_wide _ _ _ c.solve-at.ensures.kept.len k.rest.work_fits
 
 pub shape_of-out : goal.shape_of-out
@@ -68,13 +70,13 @@ shape_of-out c = c.copy_from.ensures.len
 pub shape_of-work : goal.shape_of-work
 shape_of-work c =
     let k = known c.args.blocks.now c.args.edges.now c.args.points (length c.args.leaves.now) (length c.args.passes.now) c.args.words
-    (length c.args.out.now) (length c.args.work.now) (sym c.refusal-v.ensures ∙ c.in_default.is) in
+    (length c.args.out.now) (length c.args.work.now) (sym c.refusal.ensures ∙ c.in_ok-refusal.was) in
     ap length c.clear.ensures ∙ cleared_length _ _ (as_wide _ _ _ c.solve-at.ensures.kept.len k.rest.work_fits) ∙ c.solve-at.ensures.kept.len
 
 pub returns : goal.returns
 returns c =
     rows_given c.args.blocks.now c.args.edges.now c.args.points c.args.leaves.now c.args.passes.now c.args.words _ _ _ _ _ (sym
-    c.refusal-v.ensures
-    ∙ c.in_default.is)
+    c.refusal.ensures
+    ∙ c.in_ok-refusal.was)
     c.solve-at.ensures (λ i. (c.type_inv.out i).fits)
     c.copy_from.ensures c.clear.ensures

@@ -1,7 +1,6 @@
 -- `spread::rows::begin` meets its contract: the first r ranks wait.
-use native.Mathlib.Omega.{arith}
 use Rattle.spread_rows.proofs.Turns.{begin_start, begin_more, begin_done}
-use Rattle.spread_rows.proofs.Bounds.{filled, begin_word, next}
+use Rattle.spread_rows.proofs.Bounds.{filled, begin_word}
 use mathlib.Core.Path.{◌∙◌}
 use Rattle.spread_rows.proofs.begin.Goals as goal
 
@@ -25,12 +24,6 @@ loop-r-init c = begin_start _ _ _ _ _ c.requires.out_fits c.fill.ensures
 
 pub set-requires : goal.set-requires
 set-requires c = begin_word c.loop-r.invariant c.loop-r-test.true
-
-pub overflow_add-r : goal.overflow_add-r
-overflow_add-r c = next _ _ c.loop-r-test.true c.requires.few
-
-pub loop-r-smaller : goal.loop-r-smaller
-loop-r-smaller c = omega arith
 
 pub loop-r-preserved : goal.loop-r-preserved
 loop-r-preserved c = begin_more c.loop-r.invariant c.loop-r-test.true c.set.ensures

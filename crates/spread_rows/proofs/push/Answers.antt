@@ -7,6 +7,7 @@ use Rattle.spread_rows.specs.Inner.{ends}
 use Rattle.spread_rows.proofs.Pushes.{push_start, push_same, push_grew, push_done, push_laid, target_lt}
 use Rattle.spread_rows.proofs.Kept.{below_aligned}
 use Rattle.spread_rows.proofs.Bounds.{before_edges, rows_of, target_rows, own_rows, at_edge, ranks_in, wait_at}
+use Rattle.spread_rows.proofs.push.Goals.{then-row_pass, else-row_pass}
 use Rattle.spread_rows.proofs.push.Goals as goal
 
 pub overflow_add-to : goal.overflow_add-to
@@ -53,10 +54,6 @@ offset_bounds-work-s c =
 pub bounds-work-s : goal.bounds-work-s
 bounds-work-s c =
     (before_edges c.requires.0 c.well_formed.0.1 _ c.requires.1).end.inside
-
-pub overflow_add-k : goal.overflow_add-k
-overflow_add-k c =
-    (before_edges c.requires.0 c.well_formed.0.1 _ c.requires.1).begin.fits
 
 pub offset_bounds-work-s-2 : goal.offset_bounds-work-s-2
 offset_bounds-work-s-2 c =
@@ -142,41 +139,14 @@ set-requires c =
     wait_at c.loop-k.invariant.1 (before-end _ _ _ c.loop-k.invariant.0 c.loop-k-test.true) c.well_formed.0.1 c.row_pass.ensures _
     (omega (arith, target_lt c.loop-k.invariant.1 (before-end _ _ _ c.loop-k.invariant.0 c.loop-k-test.true), c.requires.1))
 
-pub overflow_add-k-then-row_pass : goal.overflow_add-k-then-row_pass
-overflow_add-k-then-row_pass c =
-    (at_edge c.loop-k.invariant.1
-    (before-end _ _ _ c.loop-k.invariant.0 c.loop-k-test.true)
-    c.well_formed.0.1).next
-
-pub loop-k-smaller-then-row_pass : goal.loop-k-smaller-then-row_pass
-loop-k-smaller-then-row_pass c = omega arith
-
-pub loop-k-preserved-then-row_pass : goal.loop-k-preserved-then-row_pass
-loop-k-preserved-then-row_pass c = (
-  c.loop-k.invariant.0,
-  push_grew c.loop-k.invariant.1
-      (before-end _ _ _ c.loop-k.invariant.0 c.loop-k-test.true)
-      (rw c.if-row_pass.true at c.row_pass.ensures)
-      c.set.ensures,
-)
-
-pub overflow_add-k-else-row_pass : goal.overflow_add-k-else-row_pass
-overflow_add-k-else-row_pass c =
-    (at_edge c.loop-k.invariant.1 (before-end _ _ _ c.loop-k.invariant.0 c.loop-k-test.true)
-    c.well_formed.0.1).next
-
-pub loop-k-smaller : goal.loop-k-smaller
-loop-k-smaller c = omega arith
-
 pub loop-k-preserved : goal.loop-k-preserved
-loop-k-preserved c = (
-  c.loop-k.invariant.0,
-  push_same c.loop-k.invariant.1 (before-end _ _ _ c.loop-k.invariant.0 c.loop-k-test.true)
-      (rw c.if-row_pass.false at c.row_pass.ensures),
-)
-
-pub shape_of-work : goal.shape_of-work
-shape_of-work c = c.loop-k.invariant.1.kept.len
+loop-k-preserved c =
+    let inv = c.loop-k.invariant.1 in
+    let left : c.loop-k.k < ends c.args.s c.args.work.now c.args.u = omega arith in
+    elim c.if-row_pass.branch [
+      | then-row_pass w ↦ (c.loop-k.invariant.0, rw w.work-is (push_grew inv left (rw w.if-row_pass.true at c.row_pass.ensures) w.set.ensures))
+      | else-row_pass w ↦ (c.loop-k.invariant.0, rw w.work-is (push_same inv left (rw w.if-row_pass.false at c.row_pass.ensures)))
+    ]
 
 pub returns : goal.returns
 returns c = push_done c.loop-k.invariant.1 (all_seen _ _ _ c.loop-k.invariant.0 c.loop-k-test.false)

@@ -5,9 +5,6 @@ use Rattle.words.proofs.FitLaws.{as_long}
 use Rattle.spread_rows.proofs.Bounds.{filled, waits_again, spread_word, order_at_lem}
 use Rattle.spread_rows.proofs.spread.Goals as goal
 
-pub begin-requires : goal.begin-requires
-begin-requires c = c.requires
-
 pub overflow_add-words : goal.overflow_add-words
 overflow_add-words c =
     (filled _ _ c.args.s.words _ c.requires.out_fits c.well_formed.0.1).waits

@@ -1,11 +1,8 @@
 -- `tarjan::leave` meets its contract: each of its two ways out is a law of `Parts`.
 use native.Mathlib.Omega.{arith}
-use Rattle.tarjan.proofs.Bounds.{AtEnd, end, few, below, below_low, to_close}
+use Rattle.tarjan.proofs.Bounds.{AtEnd, end, few, below_low, to_close}
 use Rattle.tarjan.proofs.Parts.{left_held, left_closed}
 use Rattle.tarjan.proofs.leave.Goals as goal
-
-pub overflow_sub-d : goal.overflow_sub-d
-overflow_sub-d c = c.requires.some
 
 pub offset_bounds-w-low : goal.offset_bounds-w-low
 offset_bounds-w-low c =
@@ -17,23 +14,11 @@ bounds-w-low c =
     let at_end : AtEnd c.args.n c.args.base c.args.w.now c.args.z.s c.args.z.c c.args.z.e c.args.p c.args.low = end c.requires c.well_formed.0.1 in
     (at_end).low_at.inside
 
-pub overflow_sub-low : goal.overflow_sub-low
-overflow_sub-low c = below c.requires c.well_formed.0.1 c.if-l-p.true
-
 pub lower-requires : goal.lower-requires
 lower-requires c = below_low c.requires c.well_formed.0.1
 
 pub returns-then-l-p : goal.returns-then-l-p
 returns-then-l-p c = rw c.lower.ensures (left_held c.requires c.if-l-p.true)
-
-pub shape_of-w-then-l-p : goal.shape_of-w-then-l-p
-shape_of-w-then-l-p c =
-    (returns-then-l-p c c.requires.at c.requires.to c.requires.ready c.requires.done).kept.len
-
-pub overflow_add-n : goal.overflow_add-n
-overflow_add-n c =
-    let at_end : AtEnd c.args.n c.args.base c.args.w.now c.args.z.s c.args.z.c c.args.z.e c.args.p c.args.low = end c.requires c.well_formed.0.1 in
-    (at_end).shut
 
 pub overflow_add-n-2 : goal.overflow_add-n-2
 overflow_add-n-2 c = omega (arith, few c.requires c.well_formed.0.1)
@@ -46,11 +31,6 @@ overflow_add-result c =
     let at_end : AtEnd c.args.n c.args.base c.args.w.now c.args.z.s c.args.z.c c.args.z.e c.args.p c.args.low = end c.requires c.well_formed.0.1 in
     (at_end).pieces
 
-pub overflow_sub-result : goal.overflow_sub-result
-overflow_sub-result c =
-    let at_end : AtEnd c.args.n c.args.base c.args.w.now c.args.z.s c.args.z.c c.args.z.e c.args.p c.args.low = end c.requires c.well_formed.0.1 in
-    (at_end).above
-
 pub overflow_add-result-2 : goal.overflow_add-result-2
 overflow_add-result-2 c =
     let at_end : AtEnd c.args.n c.args.base c.args.w.now c.args.z.s c.args.z.c c.args.z.e c.args.p c.args.low = end c.requires c.well_formed.0.1 in
@@ -58,7 +38,3 @@ overflow_add-result-2 c =
 
 pub returns : goal.returns
 returns c = left_closed c.requires c.if-l-p.false c.close.ensures
-
-pub shape_of-w : goal.shape_of-w
-shape_of-w c =
-    (returns c c.requires.at c.requires.to c.requires.ready c.requires.done).kept.len

@@ -2,22 +2,10 @@ use Rattle.tarjan.proofs.Roots.{going_start, going_more, ready_more, root_ready,
 use native.Mathlib.Omega.{arith}
 use Rattle.tarjan.proofs.walk.Goals as goal
 
--- src/lib.rt:106:5
-pub push-requires : goal.push-requires
-push-requires c = (c.requires.root_lt_n.0, omega arith, omega arith, omega (arith, c.requires.ready.held.reads.room))
-
 -- src/lib.rt:108:5
 pub loop-z-init : goal.loop-z-init
 loop-z-init c =
     rw c.push.ensures (root_ready _ _ _ _ _ _ _ _ c.requires.ready c.requires.root_lt_n.0 c.requires.root_lt_n.1, going_start _ _ _ _ _ _ _ _ _)
-
--- src/lib.rt:109:9
-pub turn-z-requires : goal.turn-z-requires
-turn-z-requires c = record { d_nonzero = c.loop-z-test.true; ready = c.loop-z.invariant.0 }
-
--- src/lib.rt:108:5
-pub loop-z-smaller : goal.loop-z-smaller
-loop-z-smaller c = c.turn-z.ensures.falls
 
 -- src/lib.rt:108:5
 pub loop-z-preserved : goal.loop-z-preserved
@@ -29,7 +17,3 @@ pub returns : goal.returns
 returns c =
     walk_done _ _ _ _ _ _ _ _ c.requires.ready c.requires.root_lt_n.0 c.requires.root_lt_n.1 _ _ _ _ _ (rw c.push.ensures at c.loop-z.invariant.1)
     (omega arith)
-
--- src/lib.rt:101:1
-pub shape_of-w : goal.shape_of-w
-shape_of-w c = (returns c).kept.len

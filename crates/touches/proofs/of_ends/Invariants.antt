@@ -1,5 +1,4 @@
 -- `touches::of_ends` meets its contract: the placed ends behind `next` stand there.
-use Prim.Native.Nat.{◌-◌}
 use Rattle.touches.specs.Inner.{end_at}
 use Rattle.touches.proofs.EntryLaws.{Walking}
 use Rattle.touches.proofs.of_ends.Given as goal

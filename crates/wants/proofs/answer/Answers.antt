@@ -23,14 +23,6 @@ list-r-requires c =
     let a = c.args in
     listable a.wants.now a.areas.now (length a.cells.now) (length a.items.now) (length a.offsets.now) a.work.now _ _ _ _ c.requires c.load.ensures c.fit-f.ensures
 
-pub clear-requires : goal.clear-requires
-clear-requires c =
-    omega (arith, c.requires.space, c.load.ensures.len, c.fit-f.ensures.len)
-
-pub shape_of-work : goal.shape_of-work
-shape_of-work c =
-    omega (arith, c.clear.auto.w, c.load.ensures.len, c.fit-f.ensures.len)
-
 pub returns : goal.returns
 returns c =
     let a = c.args in

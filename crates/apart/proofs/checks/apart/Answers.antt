@@ -1,20 +1,10 @@
 -- `apart` meets its contract: one law for each way out.
-use native.Mathlib.Omega.{arith}
 use Rattle.apart.proofs.ApartLaws.{apart_count_lem, apart_space_lem, apart_fine}
 use mathlib.Core.Path.{sym, ◌∙◌}
 use Rattle.apart.proofs.checks.apart.Goals as goal
 
-pub apart_count-requires : goal.apart_count-requires
-apart_count-requires c = tt
-
 pub returns-then-apart_count : goal.returns-then-apart_count
 returns-then-apart_count c = let a = c.args in apart_count_lem a.locals.now a.slots.now a.cells a.items (sym c.apart_count.ensures ∙ c.if-apart_count.true)
-
-pub overflow_add-locals : goal.overflow_add-locals
-overflow_add-locals c = omega arith
-
-pub apart_space-requires : goal.apart_space-requires
-apart_space-requires c = tt
 
 pub returns-then-apart_space : goal.returns-then-apart_space
 returns-then-apart_space c =

@@ -1,6 +1,5 @@
 -- `measure_all` meets its contract: the areas of one local more, each turn.
 use native.Mathlib.Omega.{arith}
-use Prim.Native.Nat.{◌-◌}
 use Rattle.area_measure.proofs.LocalLaws.{going_start, going_ready, going_more, going_done}
 use Rattle.area_measure.proofs.locals.measure_all.Goals as goal
 
@@ -13,20 +12,11 @@ measure_next-total-requires c =
     let a = c.args in
     record { sound = (c.requires.0, going_ready a.blocks.now a.kinds.now a.touches.now a.ends.now a.p a.g a.mark a.o c.loop-l.invariant); l_in_bounds = (omega arith, c.loop-l.invariant.most) }
 
-pub overflow_add-l : goal.overflow_add-l
-overflow_add-l c = omega arith
-
-pub loop-l-smaller : goal.loop-l-smaller
-loop-l-smaller c = omega arith
-
 pub loop-l-preserved : goal.loop-l-preserved
 loop-l-preserved c =
     let a = c.args in
     going_more a.blocks.now a.kinds.now a.touches.now a.ends.now a.p a.g a.mark a.o c.loop-l.invariant
     (omega arith) c.measure_next-total.ensures
-
-pub shape_of-work : goal.shape_of-work
-shape_of-work c = c.loop-l.invariant.spared.len
 
 pub returns : goal.returns
 returns c = let a = c.args in going_done a.blocks.now a.kinds.now a.touches.now a.ends.now a.p a.g a.mark a.o c.loop-l.invariant (omega arith)

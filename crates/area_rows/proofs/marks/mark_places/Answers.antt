@@ -6,20 +6,8 @@ use Rattle.area_rows.proofs.marks.mark_places.Goals as goal
 pub loop-k-init : goal.loop-k-init
 loop-k-init c = places_start _ _ _ _ c.requires.0
 
-pub mark-requires : goal.mark-requires
-mark-requires c = (c.loop-k.invariant.fits, omega arith)
-
-pub overflow_add-k : goal.overflow_add-k
-overflow_add-k c = omega arith
-
-pub loop-k-smaller : goal.loop-k-smaller
-loop-k-smaller c = omega arith
-
 pub loop-k-preserved : goal.loop-k-preserved
 loop-k-preserved c = places_more c.loop-k.invariant (omega arith) c.mark.ensures
-
-pub shape_of-work : goal.shape_of-work
-shape_of-work c = c.loop-k.invariant.put.kept.len
 
 pub returns : goal.returns
 returns c = places_done c.loop-k.invariant c.loop-k-test.false

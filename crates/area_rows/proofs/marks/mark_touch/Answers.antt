@@ -6,13 +6,6 @@ use Rattle.area_rows.proofs.MarkLaws.{touch_spans}
 use native.Mathlib.Omega.{arith}
 use Rattle.area_rows.proofs.marks.mark_touch.Goals as goal
 
-pub overflow_add-last : goal.overflow_add-last
-overflow_add-last c = omega (arith, c.holding-last.ensures.below)
-
-pub mark_places-requires : goal.mark_places-requires
-mark_places-requires c =
-    (c.requires.2, let z = c.requires.1 in omega (arith, c.holding-last.ensures.below))
-
 pub returns : goal.returns
 returns c =
     touch_spans (line_of c.args.blocks.now []) (range c.args.start c.args.end) _ _ (c.holding-first.ensures.is [])

@@ -9,36 +9,8 @@ use Rattle.area_rows.proofs.marks.mark_touched.Goals as goal
 pub loop-i-init : goal.loop-i-init
 loop-i-init c = (sweep_start (λ t k. spans (line_of c.args.blocks.now []) t k) c.requires.0, omega arith)
 
-pub overflow_add-x : goal.overflow_add-x
-overflow_add-x c = omega (arith, c.loop-i.invariant.0.stand, c.loop-i.invariant.0.put.kept.len)
-
-pub offset_bounds-work-at : goal.offset_bounds-work-at
-offset_bounds-work-at c = omega (arith, c.loop-i.invariant.0.stand, c.loop-i.invariant.0.put.kept.len)
-
-pub bounds-work-at : goal.bounds-work-at
-bounds-work-at c = omega (arith, c.loop-i.invariant.0.stand, c.loop-i.invariant.0.put.kept.len)
-
-pub start_of-requires : goal.start_of-requires
-start_of-requires c = omega arith
-
-pub end_of-requires : goal.end_of-requires
-end_of-requires c = omega arith
-
-pub mark_touch-requires : goal.mark_touch-requires
-mark_touch-requires c =
-    (c.requires.0.line, c.requires.0.places, c.loop-i.invariant.0.fits)
-
-pub overflow_add-i : goal.overflow_add-i
-overflow_add-i c = omega arith
-
-pub loop-i-smaller : goal.loop-i-smaller
-loop-i-smaller c = omega arith
-
 pub loop-i-preserved : goal.loop-i-preserved
 loop-i-preserved c = (sweep_more c.loop-i.invariant.0 _ _ (omega arith) c.start_of.ensures c.end_of.ensures c.mark_touch.ensures, omega arith)
-
-pub shape_of-work : goal.shape_of-work
-shape_of-work c = c.loop-i.invariant.0.put.kept.len
 
 pub returns : goal.returns
 returns c =

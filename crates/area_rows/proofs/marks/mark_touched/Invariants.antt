@@ -8,7 +8,4 @@ use mathlib.Core.Path.{◌≡◌}
 use Rattle.area_rows.proofs.marks.mark_touched.Given as goal
 
 abbrev pub invariant-loop-i : goal.invariant-loop-i
-invariant-loop-i l = Sweeping (λ t k. spans (line_of l.blocks []) t k) l.s l.c l.initial.work l.work l.i × (l.at ≡ l.s.at)
-
-abbrev pub decreases-loop-i : goal.decreases-loop-i
-decreases-loop-i l = l.s.count - l.i
+invariant-loop-i l = Sweeping (λ t k. spans (line_of l.blocks []) t k) l.fn.s l.c l.initial.work l.work l.i × (l.at ≡ l.fn.s.at)

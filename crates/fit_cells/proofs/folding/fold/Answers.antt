@@ -2,7 +2,6 @@
 use Rattle.words.proofs.FitLaws.{as_long}
 use Rattle.fit_cells.proofs.FoldLaws.{folded_none, folded_then}
 use Rattle.fit_cells.proofs.FoldBounds.{own_place, next_place, meets}
-use native.Mathlib.Omega.{arith}
 use mathlib.Core.Path.{refl}
 use Rattle.fit_cells.proofs.folding.fold.Goals as goal
 
@@ -29,9 +28,6 @@ bounds-w-t c =
 pub loop-p-init : goal.loop-p-init
 loop-p-init c =
     (refl, folded_none c.requires)
-
-pub overflow_sub-q : goal.overflow_sub-q
-overflow_sub-q c = c.loop-p-test.true
 
 pub overflow_mul-t : goal.overflow_mul-t
 overflow_mul-t c =
@@ -73,21 +69,6 @@ pub bounds-w-t-in-loop-p-2 : goal.bounds-w-t-in-loop-p-2
 bounds-w-t-in-loop-p-2 c =
     (next_place c.loop-p.invariant.1.topped (as_long _ _ c.loop-p.invariant.1.len c.well_formed.0.1) _ c.loop-p.invariant.0 c.loop-p-test.true).list.inside
 
-pub together-need-requires : goal.together-need-requires
-together-need-requires c = tt
-
-pub overflow_sub-room : goal.overflow_sub-room
-overflow_sub-room c =
-    c.loop-p.invariant.1.topped.top_end
-
-pub shape_of-w-then-room-need : goal.shape_of-w-then-room-need
-shape_of-w-then-room-need c =
-    c.loop-p.invariant.1.len
-
-pub returns-then-room-need : goal.returns-then-room-need
-returns-then-room-need c =
-    c.loop-p.invariant.1
-
 pub unite_top-e-requires : goal.unite_top-e-requires
 unite_top-e-requires c =
     (c.loop-p.invariant.1.topped, meets c.loop-p.invariant.1.topped c.loop-p.invariant.0 c.loop-p-test.true c.together-need.ensures c.if-room-need.false)
@@ -112,16 +93,6 @@ pub bounds-w-t-in-loop-p-3 : goal.bounds-w-t-in-loop-p-3
 bounds-w-t-in-loop-p-3 c =
     (own_place c.unite_top-e.ensures.0.topped (as_long _ _ c.unite_top-e.ensures.0.len (as_long _ _ c.loop-p.invariant.1.len c.well_formed.0.1))).link.inside
 
-pub loop-p-smaller : goal.loop-p-smaller
-loop-p-smaller c =
-    omega (arith, c.unite_top-e.ensures.1)
-
 pub loop-p-preserved : goal.loop-p-preserved
 loop-p-preserved c =
     (refl, folded_then c.loop-p.invariant.1 c.unite_top-e.ensures.0)
-
-pub shape_of-w : goal.shape_of-w
-shape_of-w c = c.loop-p.invariant.1.len
-
-pub returns : goal.returns
-returns c = c.loop-p.invariant.1

@@ -3,7 +3,6 @@ use mathlib.Core.Logic.{inl}
 use Rattle.fit_cells.proofs.FoldLaws.{one_end, two_end, one_listed, two_listed, folded, next_falls}
 use Rattle.fit_cells.proofs.FoldBounds.{own_place, met_place, as_long}
 use native.Mathlib.Omega.{arith}
-use lib.ListN.{length-set}
 use Rattle.fit_cells.proofs.folding.unite_top.Goals as goal
 
 pub overflow_mul-y : goal.overflow_mul-y
@@ -66,30 +65,6 @@ pub bounds-w-t-3 : goal.bounds-w-t-3
 bounds-w-t-3 c =
     (met_place c.requires.0 c.well_formed.0.1 _ c.requires.1).link.inside
 
-pub overflow_sub-one : goal.overflow_sub-one
-overflow_sub-one c =
-    c.requires.1.one
-
-pub overflow_add-one : goal.overflow_add-one
-overflow_add-one c =
-    omega (arith, one_end c.requires.0 c.requires.1, c.requires.0.linked.top_le)
-
-pub overflow_sub-two : goal.overflow_sub-two
-overflow_sub-two c =
-    c.requires.1.two
-
-pub overflow_add-two : goal.overflow_add-two
-overflow_add-two c =
-    omega (arith, two_end c.requires.0 c.requires.1, c.requires.0.linked.top_le)
-
-pub overflow_sub-ones : goal.overflow_sub-ones
-overflow_sub-ones c =
-    c.requires.1.one
-
-pub overflow_sub-twos : goal.overflow_sub-twos
-overflow_sub-twos c =
-    c.requires.1.two
-
 pub unite-r-requires : goal.unite-r-requires
 unite-r-requires c =
     let T = c.requires.0 in
@@ -102,22 +77,6 @@ unite-r-requires c =
       (one_listed T M).neat,
       (two_listed T M).neat,
     )
-
-pub overflow_sub-w : goal.overflow_sub-w
-overflow_sub-w c =
-    omega (arith, one_end c.requires.0 c.requires.1)
-
-pub overflow_mul-w : goal.overflow_mul-w
-overflow_mul-w c =
-    omega (arith, c.requires.0.small, c.requires.0.top_end)
-
-pub overflow_add-w : goal.overflow_add-w
-overflow_add-w c =
-    omega (arith, c.requires.0.small, c.requires.0.top_end, c.requires.1.room, c.unite-r.ensures.within)
-
-pub overflow_add-w-2 : goal.overflow_add-w-2
-overflow_add-w-2 c =
-    omega (arith, c.requires.0.small, c.requires.0.top_end, c.requires.1.room, c.unite-r.ensures.within)
 
 pub overflow_mul-w-2 : goal.overflow_mul-w-2
 overflow_mul-w-2 c =
@@ -154,18 +113,6 @@ overflow_add-w-6 c =
 pub offset_bounds-w-t-5 : goal.offset_bounds-w-t-5
 offset_bounds-w-t-5 c =
     (own_place c.requires.0 c.well_formed.0.1).link.in_bytes
-
-pub bounds-w-t-5 : goal.bounds-w-t-5
-bounds-w-t-5 c =
-    simp length-set (as_long c.unite-r.auto.w (own_place c.requires.0 c.well_formed.0.1)).link.inside
-
-pub overflow_add-result : goal.overflow_add-result
-overflow_add-result c =
-    omega (arith, c.requires.0.small, c.requires.0.top_end, c.requires.1.room, c.unite-r.ensures.within)
-
-pub shape_of-w : goal.shape_of-w
-shape_of-w c =
-    simp length-set c.unite-r.auto.w
 
 pub returns : goal.returns
 returns c =

@@ -9,28 +9,6 @@ use Rattle.fit_cells.proofs.probing.free.Goals as goal
 pub returns-then-x-lt1 : goal.returns-then-x-lt1
 returns-then-x-lt1 c = let g = c.args in absent g.w.now g.t.at g.x (ranges_of g.w.now g.a) (omega arith)
 
-pub overflow_add-first : goal.overflow_add-first
-overflow_add-first c = omega (arith, (c.requires.0 (omega arith)).inside)
-
-pub overflow_add-end : goal.overflow_add-end
-overflow_add-end c = omega (arith, (c.requires.0 (omega arith)).inside)
-
-pub overflow_add-to : goal.overflow_add-to
-overflow_add-to c = omega arith
-
-pub offset_bounds-w-first : goal.offset_bounds-w-first
-offset_bounds-w-first c =
-    omega (arith, (c.requires.0 (omega arith)).inside)
-
-pub slice_bounds-clash-count : goal.slice_bounds-clash-count
-slice_bounds-clash-count c = omega arith
-
-pub offset_bounds-w-from : goal.offset_bounds-w-from
-offset_bounds-w-from c = omega arith
-
-pub slice_bounds-clash-count-2 : goal.slice_bounds-clash-count-2
-slice_bounds-clash-count-2 c = omega arith
-
 pub clash-requires : goal.clash-requires
 clash-requires c =
     let g = c.args in

@@ -10,29 +10,6 @@ use Rattle.fit_cells.proofs.probing.joins.Goals as goal
 pub loop-m-init : goal.loop-m-init
 loop-m-init c = (omega arith, refl)
 
-pub overflow_sub-q : goal.overflow_sub-q
-overflow_sub-q c = omega arith
-
-pub overflow_mul-t : goal.overflow_mul-t
-overflow_mul-t c =
-    omega (arith, c.requires.0.low, c.requires.0.top_le, c.requires.0.k_le)
-
-pub overflow_add-t : goal.overflow_add-t
-overflow_add-t c =
-    omega (arith, c.requires.0.low, c.requires.0.top_le, c.requires.0.k_le)
-
-pub overflow_add-t-in-loop-m : goal.overflow_add-t-in-loop-m
-overflow_add-t-in-loop-m c =
-    omega (arith, c.requires.0.low, c.requires.0.top_le, c.requires.0.k_le)
-
-pub offset_bounds-w-t : goal.offset_bounds-w-t
-offset_bounds-w-t c =
-    omega (arith, c.requires.0.low, c.requires.0.top_le, c.requires.0.k_le)
-
-pub bounds-w-t : goal.bounds-w-t
-bounds-w-t c =
-    omega (arith, c.requires.0.low, c.requires.0.top_le, c.requires.0.k_le)
-
 pub free-requires : goal.free-requires
 free-requires c =
     ((λ h. listed_proper (omega (arith, c.requires.0.low)) (c.requires.0.lists (c.loop-m.m - 1) (omega arith) h)), c.requires.0.top_le, c.requires.1, c.requires.2)
@@ -45,30 +22,6 @@ returns-then-not-free c =
     let area = area_at g.w.now g.t in
     let rs = ranges_of g.w.now g.a in
     sym (c.loop-m.invariant.1 ∙ walk_no next area rs m (m - 1) (omega arith) (λ q h. c.requires.0.falls q (omega arith)) (sym c.free.ensures ∙ c.if-not-free.true))
-
-pub overflow_mul-m : goal.overflow_mul-m
-overflow_mul-m c =
-    omega (arith, c.requires.0.low, c.requires.0.top_le, c.requires.0.k_le)
-
-pub overflow_add-m : goal.overflow_add-m
-overflow_add-m c =
-    omega (arith, c.requires.0.low, c.requires.0.top_le, c.requires.0.k_le)
-
-pub overflow_add-m-in-loop-m : goal.overflow_add-m-in-loop-m
-overflow_add-m-in-loop-m c =
-    omega (arith, c.requires.0.low, c.requires.0.top_le, c.requires.0.k_le)
-
-pub offset_bounds-w-t-in-loop-m : goal.offset_bounds-w-t-in-loop-m
-offset_bounds-w-t-in-loop-m c =
-    omega (arith, c.requires.0.low, c.requires.0.top_le, c.requires.0.k_le)
-
-pub bounds-w-t-in-loop-m : goal.bounds-w-t-in-loop-m
-bounds-w-t-in-loop-m c =
-    omega (arith, c.requires.0.low, c.requires.0.top_le, c.requires.0.k_le)
-
-pub loop-m-smaller : goal.loop-m-smaller
-loop-m-smaller c =
-    omega (arith, c.requires.0.falls (c.loop-m.m - 1) (omega arith))
 
 pub loop-m-preserved : goal.loop-m-preserved
 loop-m-preserved c =

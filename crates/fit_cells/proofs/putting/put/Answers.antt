@@ -6,7 +6,7 @@ use native.Mathlib.Omega.{arith}
 use mathlib.Core.Path.{refl}
 use Rattle.fit_tables.specs.Inner.{order_at}
 use Rattle.fit_cells.proofs.BelowLaws.{linked_wide}
-use Rattle.fit_cells.proofs.PutBounds.{item_proper, item_inside, entering, met, at_item, at_cell}
+use Rattle.fit_cells.proofs.PutBounds.{item_proper, item_inside, met, at_item, at_cell}
 use Rattle.fit_cells.proofs.putting.put.Goals as goal
 
 pub overflow_mul-i : goal.overflow_mul-i
@@ -72,13 +72,6 @@ returns-then-x-lt1 c =
 pub shape_of-w-then-x-lt1 : goal.shape_of-w-then-x-lt1
 shape_of-w-then-x-lt1 c = (returns-then-x-lt1 c).len
 
-pub least-most-requires : goal.least-most-requires
-least-most-requires c = tt
-
-pub overflow_add-from : goal.overflow_add-from
-overflow_add-from c =
-    omega (arith, item_inside c.requires.0 (omega arith))
-
 pub probe-c-requires : goal.probe-c-requires
 probe-c-requires c = (
   linked_wide c.requires.0,
@@ -129,25 +122,10 @@ pub bounds-w-t-then-c-most-2 : goal.bounds-w-t-then-c-most-2
 bounds-w-t-then-c-most-2 c =
     (at_cell c.requires.0 c.well_formed.0.1 _ (met c.requires.0 _ _ c.least-most.ensures c.probe-c.ensures.within)).size.inside
 
-pub wider-wide-requires : goal.wider-wide-requires
-wider-wide-requires c = tt
-
-pub enter-requires-then-c-most : goal.enter-requires-then-c-most
-enter-requires-then-c-most c =
-    omega (arith, entering c.requires.0 (met c.requires.0 _ _ c.least-most.ensures c.probe-c.ensures.within))
-
 pub fold-top-requires : goal.fold-top-requires
 fold-top-requires c =
     entered_topped c.requires.0 (order_at c.args.w.now c.args.t c.args.k) _ _ _ (c.requires.0.known c.args.k c.requires.0.k_lt)
     (met c.requires.0 _ _ c.least-most.ensures c.probe-c.ensures.within) (c.requires.0.heads _ (omega (arith, c.if-c-most.true, c.least-most.ensures))) c.enter-then-c-most.ensures
-
-pub overflow_add-result-then-c-most : goal.overflow_add-result-then-c-most
-overflow_add-result-then-c-most c =
-    omega (arith, met c.requires.0 _ _ c.least-most.ensures c.probe-c.ensures.within, c.requires.0.linked.low, c.requires.0.linked.top_le)
-
-pub overflow_sub-result : goal.overflow_sub-result
-overflow_sub-result c =
-    omega (arith, c.least-most.ensures)
 
 pub returns-then-c-most : goal.returns-then-c-most
 returns-then-c-most c =
@@ -163,10 +141,6 @@ enter-requires-2 c =
 pub overflow_add-result-2 : goal.overflow_add-result-2
 overflow_add-result-2 c =
     (at_item c.requires.0 c.well_formed.0.1).more
-
-pub overflow_sub-result-2 : goal.overflow_sub-result-2
-overflow_sub-result-2 c =
-    omega (arith, c.least-most.ensures)
 
 pub returns : goal.returns
 returns c =

@@ -5,38 +5,6 @@ use native.Mathlib.Omega.{arith}
 use Rattle.fit_tables.specs.Inner.{order_at}
 use Rattle.fit_tables.proofs.sample_rows.draw.Goals as goal
 
-pub overflow_mul-i : goal.overflow_mul-i
-overflow_mul-i c =
-    omega (arith, c.requires.1, c.requires.2, c.requires.3, c.requires.4)
-
-pub overflow_add-i : goal.overflow_add-i
-overflow_add-i c =
-    omega (arith, c.requires.1, c.requires.2, c.requires.3, c.requires.4)
-
-pub overflow_add-i-2 : goal.overflow_add-i-2
-overflow_add-i-2 c =
-    omega (arith, c.requires.1, c.requires.2, c.requires.3, c.requires.4)
-
-pub offset_bounds-w-t : goal.offset_bounds-w-t
-offset_bounds-w-t c =
-    omega (arith, c.requires.1, c.requires.2, c.requires.3, c.requires.4)
-
-pub bounds-w-t : goal.bounds-w-t
-bounds-w-t c =
-    omega (arith, c.requires.1, c.requires.2, c.requires.3, c.requires.4)
-
-pub overflow_add-x : goal.overflow_add-x
-overflow_add-x c =
-    omega (arith, c.requires.1, c.requires.2, c.requires.3, c.requires.4)
-
-pub offset_bounds-w-t-2 : goal.offset_bounds-w-t-2
-offset_bounds-w-t-2 c =
-    omega (arith, c.requires.1, c.requires.2, c.requires.3, c.requires.4)
-
-pub bounds-w-t-2 : goal.bounds-w-t-2
-bounds-w-t-2 c =
-    omega (arith, c.requires.1, c.requires.2, c.requires.3, c.requires.4)
-
 pub returns-then-x-lt1 : goal.returns-then-x-lt1
 returns-then-x-lt1 c =
     drawn_none c.args.w.now c.args.t c.args.k c.args.row.at c.args.row.width c.args.row.step (inl (omega arith))
@@ -44,14 +12,6 @@ returns-then-x-lt1 c =
 pub returns-then-row-lt1 : goal.returns-then-row-lt1
 returns-then-row-lt1 c =
     drawn_none c.args.w.now c.args.t c.args.k c.args.row.at c.args.row.width c.args.row.step (inr (omega arith))
-
-pub overflow_add-from : goal.overflow_add-from
-overflow_add-from c =
-    omega (arith, (c.requires.0.proper (order_at c.args.w.now c.args.t c.args.k) c.requires.1 (omega arith)).inside, c.requires.3, c.requires.4)
-
-pub fill-requires : goal.fill-requires
-fill-requires c =
-    omega (arith, c.requires.4)
 
 pub first_point-first-requires : goal.first_point-first-requires
 first_point-first-requires c =
@@ -82,9 +42,6 @@ bounds-w-at c =
     let the-fill = c.fill in
     let the-points = c.points-last in
     omega (arith, c.requires.4, c.choose-word.ensures, (the-points).ensures.len, (the-fill).auto.w)
-
-pub shape_of-w : goal.shape_of-w
-shape_of-w c = omega arith
 
 pub returns : goal.returns
 returns c =

@@ -1,5 +1,4 @@
 -- `follow::walks::begin` meets its contract: the entries from c on were taken.
-use Prim.Native.Nat.{◌-◌}
 use Rattle.follow.proofs.BeginLaws.{Beginning}
 use Rattle.follow.proofs.walks.begin.Given as goal
 

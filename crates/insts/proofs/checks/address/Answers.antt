@@ -9,29 +9,11 @@ use Rattle.insts.proofs.checks.address.Goals as goal
 pub loop-i-init : goal.loop-i-init
 loop-i-init c = (omega arith, omega arith, scan_none _ _)
 
-pub overflow_mul-i : goal.overflow_mul-i
-overflow_mul-i c = omega arith
-
-pub offset_bounds-addresses-i : goal.offset_bounds-addresses-i
-offset_bounds-addresses-i c = omega arith
-
-pub bounds-addresses-i : goal.bounds-addresses-i
-bounds-addresses-i c = omega arith
-
-pub unplaced-requires : goal.unplaced-requires
-unplaced-requires c = omega arith
-
 pub returns-then-unplaced : goal.returns-then-unplaced
 returns-then-unplaced c =
     sym (scan_hit _ _ _ _ c.loop-i.invariant.2
     (address_is (c.args.insts.now) [] (c.args.addresses.now) c.loop-i.i c.unplaced.result (omega arith) c.unplaced.ensures ∙ c.if-unplaced.true)
     (omega (arith, mentions_length (c.args.insts.now) [] (c.args.addresses.now))))
-
-pub overflow_add-i : goal.overflow_add-i
-overflow_add-i c = omega arith
-
-pub loop-i-smaller : goal.loop-i-smaller
-loop-i-smaller c = omega arith
 
 pub loop-i-preserved : goal.loop-i-preserved
 loop-i-preserved c = (

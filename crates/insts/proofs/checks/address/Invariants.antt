@@ -1,8 +1,7 @@
 -- `insts::checks::address` meets its contract: no address before i is refused.
-use Prim.Native.Nat.{◌-◌, ◌≤◌}
+use Prim.Native.Nat.{◌≤◌}
 use mathlib.Core.Path.{◌≡◌}
-use Rattle.refusals.specs.Verdicts.{scan}
-use Rattle.refusals.specs.declared.Verdict.TheVariants.{Fine}
+use Rattle.refusals.specs.Verdicts.{scan, Fine}
 use Rattle.refusals.specs.declared.Refusal.TheVariants.{Stray}
 use mathlib.Core.Bool.{not, ◌||◌}
 use Rattle.carrying.specs.Insts.{insts_of, inst_at, is_set}
@@ -14,6 +13,3 @@ use Rattle.insts.proofs.checks.address.Given as goal
 
 abbrev pub invariant-loop-i : goal.invariant-loop-i
 invariant-loop-i l = (l.n ≡ address_count l.addresses) × (l.i ≤ l.n) × (scan Stray (λ k. absent (insts_of l.insts []) (mention_at (mentions_of l.addresses) k).inst || not (is_set (inst_at (insts_of l.insts []) (mention_at (mentions_of l.addresses) k).inst).placed)) l.i ≡ Fine)
-
-abbrev pub decreases-loop-i : goal.decreases-loop-i
-decreases-loop-i l = l.n - l.i

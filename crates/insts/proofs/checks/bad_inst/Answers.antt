@@ -19,28 +19,10 @@ returns-then-bad_points c =
     by_points (blocks_of (c.args.blocks.now)) c.args.v (c.args.insts.now) (c.args.operands.now) c.args.i c.requires.sound.2 (omega arith)
     (sym c.bad_points.ensures ∙ c.if-bad_points.true)
 
-pub bad_fields-requires : goal.bad_fields-requires
-bad_fields-requires c = omega arith
-
 pub returns-then-bad_fields : goal.returns-then-bad_fields
 returns-then-bad_fields c =
     by_fields (blocks_of (c.args.blocks.now)) c.args.v (c.args.insts.now) (c.args.operands.now) c.args.i c.requires.sound.2 (omega arith)
     (sym c.bad_points.ensures ∙ c.if-bad_points.false) (sym c.bad_fields.ensures ∙ c.if-bad_fields.true)
-
-pub overflow_mul-i : goal.overflow_mul-i
-overflow_mul-i c = omega arith
-
-pub overflow_add-i : goal.overflow_add-i
-overflow_add-i c = omega arith
-
-pub offset_bounds-insts-i : goal.offset_bounds-insts-i
-offset_bounds-insts-i c = omega arith
-
-pub bounds-insts-i : goal.bounds-insts-i
-bounds-insts-i c = omega arith
-
-pub wide-requires : goal.wide-requires
-wide-requires c = omega arith
 
 pub bad_operands-requires : goal.bad_operands-requires
 bad_operands-requires c =

@@ -11,22 +11,10 @@ use Rattle.insts.proofs.checks.bad_operands.Goals as goal
 pub loop-p-init : goal.loop-p-init
 loop-p-init c = (omega arith, any_none _ _)
 
-pub overflow_add-from : goal.overflow_add-from
-overflow_add-from c = omega arith
-
-pub bad_operand-requires : goal.bad_operand-requires
-bad_operand-requires c = omega arith
-
 pub returns-then-bad_operand : goal.returns-then-bad_operand
 returns-then-bad_operand c =
     sym (any_hit (bad_operand c.args.v) (λ p. operand_at c.args.operands.now (c.args.from + p)) c.loop-p.p c.args.n
     c.loop-p-test.true (sym c.bad_operand.ensures ∙ c.if-bad_operand.true))
-
-pub overflow_add-p : goal.overflow_add-p
-overflow_add-p c = omega arith
-
-pub loop-p-smaller : goal.loop-p-smaller
-loop-p-smaller c = omega arith
 
 pub loop-p-preserved : goal.loop-p-preserved
 loop-p-preserved c = (

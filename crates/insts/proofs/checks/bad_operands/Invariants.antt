@@ -1,5 +1,5 @@
 -- `insts::checks::bad_operands` meets its contract: no operand before p is refused.
-use Prim.Native.Nat.{◌-◌, ◌≤◌}
+use Prim.Native.Nat.{◌≤◌}
 use mathlib.Core.Path.{◌≡◌}
 use mathlib.Core.Bool.{false}
 use Rattle.carrying.specs.Lists.{any}
@@ -9,6 +9,3 @@ use Rattle.insts.proofs.checks.bad_operands.Given as goal
 
 abbrev pub invariant-loop-p : goal.invariant-loop-p
 invariant-loop-p l = (l.p ≤ l.n) × (any (bad_operand l.v) (operands_from l.operands l.from l.p) ≡ false)
-
-abbrev pub decreases-loop-p : goal.decreases-loop-p
-decreases-loop-p l = l.n - l.p

@@ -12,36 +12,9 @@ use Rattle.carrying.specs.Checks.{misplaced}
 use Rattle.insts.specs.Inner.{row_inst}
 use Rattle.insts.proofs.checks.bad_points.Goals as goal
 
-pub overflow_mul-at : goal.overflow_mul-at
-overflow_mul-at c = omega arith
-
-pub overflow_add-early : goal.overflow_add-early
-overflow_add-early c = omega arith
-
-pub offset_bounds-insts-at : goal.offset_bounds-insts-at
-offset_bounds-insts-at c = omega arith
-
-pub bounds-insts-at : goal.bounds-insts-at
-bounds-insts-at c = omega arith
-
-pub overflow_add-late : goal.overflow_add-late
-overflow_add-late c = omega arith
-
-pub offset_bounds-insts-at-2 : goal.offset_bounds-insts-at-2
-offset_bounds-insts-at-2 c = omega arith
-
-pub bounds-insts-at-2 : goal.bounds-insts-at-2
-bounds-insts-at-2 c = omega arith
-
 pub returns-then-late-early : goal.returns-then-late-early
 returns-then-late-early c =
     points_1 (inst_late (c.args.insts.now) c.args.i) (inst_early (c.args.insts.now) c.args.i) _ (omega arith)
-
-pub offset_bounds-insts-at-3 : goal.offset_bounds-insts-at-3
-offset_bounds-insts-at-3 c = omega arith
-
-pub bounds-insts-at-3 : goal.bounds-insts-at-3
-bounds-insts-at-3 c = omega arith
 
 pub returns-then-insts-at-ne1 : goal.returns-then-insts-at-ne1
 returns-then-insts-at-ne1 c =
@@ -49,15 +22,6 @@ returns-then-insts-at-ne1 c =
     (add-zero (inst_width * c.args.i)) in
     points_2 (inst_late (c.args.insts.now) c.args.i) (inst_early (c.args.insts.now) c.args.i) (inst_placed (c.args.insts.now) c.args.i) _ (omega arith)
     (λ q. c.if-insts-at-ne1.true (omega arith)))
-
-pub overflow_add-at : goal.overflow_add-at
-overflow_add-at c = omega arith
-
-pub offset_bounds-insts-at-4 : goal.offset_bounds-insts-at-4
-offset_bounds-insts-at-4 c = omega arith
-
-pub bounds-insts-at-4 : goal.bounds-insts-at-4
-bounds-insts-at-4 c = omega arith
 
 pub outside-requires : goal.outside-requires
 outside-requires c =

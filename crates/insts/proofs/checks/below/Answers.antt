@@ -5,7 +5,6 @@ use mathlib.Core.Path.{sym}
 use lib.ListN.{length}
 use Rattle.refusals.proofs.Laws.{scan_none, scan_miss, scan_hit, scan_end}
 use Rattle.words.specs.Rows.{field}
-use native.Mathlib.Nat.{div-le_self}
 use borrow.Author.Tests.{le-leb, lt-leb}
 use Rattle.words.proofs.RowLaws.{field_within, rows_within}
 use Rattle.insts.proofs.checks.below.Goals as goal
@@ -33,19 +32,9 @@ bounds-s-width c =
     let within : c.args.width * c.loop-i.i + c.args.f < length (c.args.s.now) = field_within c.args.width (length (c.args.s.now) / c.args.width) c.loop-i.i c.args.f (length (c.args.s.now)) (omega arith) (omega arith) (rows_within c.args.width (c.args.s.now)) in
     omega (arith, within)
 
-pub wide-requires : goal.wide-requires
-wide-requires c = omega arith
-
 pub returns-then-limit-wide : goal.returns-then-limit-wide
 returns-then-limit-wide c =
     sym (scan_hit _ _ _ _ c.loop-i.invariant.2 (le-leb c.args.limit (field c.args.width (c.args.s.now) c.loop-i.i c.args.f) (omega arith)) (omega arith))
-
-pub overflow_add-i : goal.overflow_add-i
-overflow_add-i c =
-    omega (arith, div-le_self (length (c.args.s.now)) c.args.width)
-
-pub loop-i-smaller : goal.loop-i-smaller
-loop-i-smaller c = omega arith
 
 pub loop-i-preserved : goal.loop-i-preserved
 loop-i-preserved c =

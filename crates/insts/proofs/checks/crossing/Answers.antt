@@ -1,5 +1,4 @@
 -- `insts::checks::crossing` meets its contract: rows of one number.
-use native.Mathlib.Omega.{arith}
 use Prim.Native.Nat.{ℕ, ◌+◌}
 use mathlib.Core.Path.{ap, ◌∙◌}
 use Rattle.insts.proofs.CheckLaws.{crossing_is}
@@ -8,15 +7,6 @@ use Rattle.refusals.specs.Verdicts.{scan}
 use Rattle.refusals.specs.declared.Refusal.TheVariants.{Inst as InstWord}
 use lib.Dec.{leb}
 use Rattle.insts.proofs.checks.crossing.Goals as goal
-
-pub wide-requires : goal.wide-requires
-wide-requires c = omega arith
-
-pub overflow_add-wide : goal.overflow_add-wide
-overflow_add-wide c = omega arith
-
-pub below-requires : goal.below-requires
-below-requires c = omega arith
 
 pub returns : goal.returns
 returns c =

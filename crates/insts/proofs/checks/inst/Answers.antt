@@ -12,18 +12,6 @@ use Rattle.insts.proofs.checks.inst.Goals as goal
 pub loop-i-init : goal.loop-i-init
 loop-i-init c = (omega arith, omega arith, omega arith, sum_start _, scan_none _ _)
 
-pub overflow_mul-i : goal.overflow_mul-i
-overflow_mul-i c = omega arith
-
-pub overflow_add-i : goal.overflow_add-i
-overflow_add-i c = omega arith
-
-pub offset_bounds-insts-i : goal.offset_bounds-insts-i
-offset_bounds-insts-i c = omega arith
-
-pub bounds-insts-i : goal.bounds-insts-i
-bounds-insts-i c = omega arith
-
 pub near-k-requires : goal.near-k-requires
 near-k-requires c = (c.requires.0, c.loop-i.invariant.0)
 
@@ -36,30 +24,9 @@ returns-then-bad_inst c =
     sym (scan_hit _ _ _ _ c.loop-i.invariant.4 (sym c.bad_inst.ensures ∙ c.if-bad_inst.true)
     (omega (arith, insts_length (c.args.insts.now) (c.args.operands.now))))
 
-pub overflow_mul-i-in-loop-i : goal.overflow_mul-i-in-loop-i
-overflow_mul-i-in-loop-i c = omega arith
-
-pub overflow_add-i-in-loop-i : goal.overflow_add-i-in-loop-i
-overflow_add-i-in-loop-i c = omega arith
-
-pub offset_bounds-insts-i-in-loop-i : goal.offset_bounds-insts-i-in-loop-i
-offset_bounds-insts-i-in-loop-i c = omega arith
-
-pub bounds-insts-i-in-loop-i : goal.bounds-insts-i-in-loop-i
-bounds-insts-i-in-loop-i c = omega arith
-
-pub wide-from-requires : goal.wide-from-requires
-wide-from-requires c = omega arith
-
 pub overflow_add-from : goal.overflow_add-from
 overflow_add-from c =
     omega (arith, operands_within (c.args.insts.now) (c.args.operands.now) c.requires.1 c.loop-i.i (omega arith))
-
-pub overflow_add-i-in-loop-i-2 : goal.overflow_add-i-in-loop-i-2
-overflow_add-i-in-loop-i-2 c = omega arith
-
-pub loop-i-smaller : goal.loop-i-smaller
-loop-i-smaller c = omega arith
 
 pub loop-i-preserved : goal.loop-i-preserved
 loop-i-preserved c = (

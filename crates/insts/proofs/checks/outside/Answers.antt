@@ -14,9 +14,6 @@ returns-then-k-eq0 c =
     not_in (c.args.blocks.now) c.requires.0 c.args.number c.args.early c.args.late
     (λ k h e a b. let q = search_found (c.args.blocks.now) c.requires.0 _ k c.args.early c.requires.2 h a (omega arith) in omega arith)
 
-pub overflow_sub-at : goal.overflow_sub-at
-overflow_sub-at c = omega arith
-
 pub overflow_mul-at : goal.overflow_mul-at
 overflow_mul-at c = let w = c.requires.2.within in omega arith
 

@@ -12,21 +12,9 @@ use Rattle.words.specs.Widths.{inst_width, inst_count}
 use Rattle.words.specs.Inner.{inst_placed}
 use Rattle.insts.proofs.checks.unplaced.Goals as goal
 
-pub wide-at-requires : goal.wide-at-requires
-wide-at-requires c = omega arith
-
 pub returns-then-insts-at : goal.returns-then-insts-at
 returns-then-insts-at c =
     unplaced_1 (inst_count (c.args.insts.now)) c.args.number (not (is_set (inst_placed (c.args.insts.now) c.args.number))) (omega arith)
-
-pub overflow_mul-result : goal.overflow_mul-result
-overflow_mul-result c = omega arith
-
-pub offset_bounds-insts-at : goal.offset_bounds-insts-at
-offset_bounds-insts-at c = omega arith
-
-pub bounds-insts-at : goal.bounds-insts-at
-bounds-insts-at c = omega arith
 
 pub returns : goal.returns
 returns c =

@@ -3,9 +3,6 @@ use mathlib.Core.Path.{sym, ◌∙◌}
 use Rattle.insts.proofs.CheckLaws.{sum_off, sum_fine}
 use Rattle.insts.proofs.counts.add_up.Goals as goal
 
-pub operand_sum-requires : goal.operand_sum-requires
-operand_sum-requires c = c.requires
-
 pub returns-then-operand_sum-n : goal.returns-then-operand_sum-n
 returns-then-operand_sum-n c =
     sum_off (c.args.insts.now) (c.args.operands.now) (λ q. c.if-operand_sum-n.true (c.operand_sum.ensures ∙ q))

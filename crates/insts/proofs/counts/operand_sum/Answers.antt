@@ -10,29 +10,11 @@ use Rattle.insts.proofs.counts.operand_sum.Goals as goal
 pub loop-i-init : goal.loop-i-init
 loop-i-init c = (omega arith, omega arith, omega arith, sum_start _, omega arith)
 
-pub overflow_mul-sum : goal.overflow_mul-sum
-overflow_mul-sum c = omega arith
-
-pub overflow_add-sum : goal.overflow_add-sum
-overflow_add-sum c = omega arith
-
-pub offset_bounds-insts-i : goal.offset_bounds-insts-i
-offset_bounds-insts-i c = omega arith
-
-pub bounds-insts-i : goal.bounds-insts-i
-bounds-insts-i c = omega arith
-
 pub overflow_cast-sum : goal.overflow_cast-sum
 overflow_cast-sum c = omega (arith, c.type_inv.insts (inst_width * c.loop-i.i + 8))
 
 pub overflow_add-sum-in-loop-i : goal.overflow_add-sum-in-loop-i
 overflow_add-sum-in-loop-i c = omega (arith, c.type_inv.insts (inst_width * c.loop-i.i + 8))
-
-pub overflow_add-i : goal.overflow_add-i
-overflow_add-i c = omega arith
-
-pub loop-i-smaller : goal.loop-i-smaller
-loop-i-smaller c = omega arith
 
 pub loop-i-preserved : goal.loop-i-preserved
 loop-i-preserved c = (

@@ -1,18 +1,11 @@
 -- `short` meets its contract: one law for each way out.
 use native.Mathlib.Omega.{arith}
-use Rattle.job_space.proofs.SpaceLaws.{small_counted}
 use Rattle.item_areas.proofs.CheckLaws.{short_work, short_items, enough}
 use Rattle.item_areas.proofs.checks.short.Goals as goal
-
-pub needed-requires : goal.needed-requires
-needed-requires c = small_counted c.requires
 
 pub returns-then-work-needed : goal.returns-then-work-needed
 returns-then-work-needed c =
     short_work c.args.z c.args.items c.args.work (omega (arith, c.needed.ensures))
-
-pub overflow_add-z : goal.overflow_add-z
-overflow_add-z c = omega (arith, c.requires.few_locals, c.requires.few_slots)
 
 pub returns-then-items-z : goal.returns-then-items-z
 returns-then-items-z c =

@@ -1,33 +1,19 @@
 -- `short` meets its contract: one law for each way out.
 use native.Mathlib.Omega.{arith}
-use Rattle.job_space.proofs.SpaceLaws.{small_counted}
 use Rattle.job.proofs.CheckLaws.{short_work, short_cells, short_items, short_offsets, enough}
 use Rattle.job.proofs.checks.short.Goals as goal
-
-pub needed-requires : goal.needed-requires
-needed-requires c = small_counted c.requires
 
 pub returns-then-work-needed : goal.returns-then-work-needed
 returns-then-work-needed c =
     short_work c.args.z c.args.cells c.args.items c.args.offsets c.args.work (omega (arith, c.needed.ensures))
 
-pub overflow_add-z : goal.overflow_add-z
-overflow_add-z c = omega (arith, c.requires.few_locals, c.requires.few_slots)
-
 pub returns-then-cells-z : goal.returns-then-cells-z
 returns-then-cells-z c =
     short_cells c.args.z c.args.cells c.args.items c.args.offsets c.args.work (omega (arith, c.needed.ensures)) (omega arith)
 
-pub overflow_add-z-2 : goal.overflow_add-z-2
-overflow_add-z-2 c = omega (arith, c.requires.few_locals, c.requires.few_slots)
-
 pub returns-then-items-z : goal.returns-then-items-z
 returns-then-items-z c =
     short_items c.args.z c.args.cells c.args.items c.args.offsets c.args.work (omega (arith, c.needed.ensures)) (omega arith) (omega arith)
-
-pub overflow_add-z-3 : goal.overflow_add-z-3
-overflow_add-z-3 c =
-    omega (arith, c.requires.few_locals, c.requires.few_slots)
 
 pub returns-then-offsets-z : goal.returns-then-offsets-z
 returns-then-offsets-z c =

@@ -64,9 +64,6 @@ pub records-requires-12 : goal.records-requires-12
 records-requires-12 c =
     (c.requires.0, c.requires.1, c.requires.2, lit< tt)
 
-pub share-requires : goal.share-requires
-share-requires c = tt
-
 pub returns : goal.returns
 returns c =
     let a = c.args in

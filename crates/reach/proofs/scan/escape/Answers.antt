@@ -1,90 +1,26 @@
 -- `reach::scan::escape` meets its contract: of the first p operands the registers were marked.
-use native.Mathlib.Omega.{arith}
-use Prim.Native.Nat.{◌+◌, ◌-◌, ◌*◌, ◌^◌, ◌<◌}
+use Prim.Native.Nat.{◌+◌}
 use mathlib.Core.Path.{sym, ◌∙◌}
-use lib.ListN.{length, set}
 use Rattle.insts.specs.Inner.{operand_at}
-use Rattle.reach.proofs.Bounds.{operand_at_lem}
 use Rattle.reach.proofs.UseLaws.{straying_found, straying_low}
 use Rattle.reach.proofs.MarkLaws.{mark_start, mark_skip, mark_put, mark_done}
+use Rattle.reach.proofs.scan.escape.Goals.{then-strays, else-strays}
 use Rattle.reach.proofs.scan.escape.Goals as goal
 
 pub loop-p-init : goal.loop-p-init
 loop-p-init c = mark_start _ _ _ _ _ _ c.requires.1
 
-pub overflow_add-from : goal.overflow_add-from
-overflow_add-from c =
-    let room : length c.args.operands.now * 4 < 2 ^ 63 = omega (arith, c.well_formed) in
-    (operand_at_lem _ _ _ _ c.requires.0 c.loop-p-test.true (room)).place
-
-pub strays-requires : goal.strays-requires
-strays-requires c =
-    let room : length c.args.operands.now * 4 < 2 ^ 63 = omega (arith, c.well_formed) in
-    (operand_at_lem _ _ _ _ c.requires.0 c.loop-p-test.true (room)).low
-
-pub overflow_add-from-then-strays : goal.overflow_add-from-then-strays
-overflow_add-from-then-strays c =
-    let room : length c.args.operands.now * 4 < 2 ^ 63 = omega (arith, c.well_formed) in
-    (operand_at_lem _ _ _ _ c.requires.0 c.loop-p-test.true (room)).place
-
-pub overflow_mul-from : goal.overflow_mul-from
-overflow_mul-from c =
-    let room : length c.args.operands.now * 4 < 2 ^ 63 = omega (arith, c.well_formed) in
-    (operand_at_lem _ _ _ _ c.requires.0 c.loop-p-test.true (room)).row
-
-pub overflow_add-from-then-strays-2 : goal.overflow_add-from-then-strays-2
-overflow_add-from-then-strays-2 c =
-    let room : length c.args.operands.now * 4 < 2 ^ 63 = omega (arith, c.well_formed) in
-    (operand_at_lem _ _ _ _ c.requires.0 c.loop-p-test.true (room)).fits
-
-pub offset_bounds-operands-from : goal.offset_bounds-operands-from
-offset_bounds-operands-from c =
-    let room : length c.args.operands.now * 4 < 2 ^ 63 = omega (arith, c.well_formed) in
-    (operand_at_lem _ _ _ _ c.requires.0 c.loop-p-test.true (room)).in_bytes
-
-pub bounds-operands-from : goal.bounds-operands-from
-bounds-operands-from c =
-    let room : length c.args.operands.now * 4 < 2 ^ 63 = omega (arith, c.well_formed) in
-    (operand_at_lem _ _ _ _ c.requires.0 c.loop-p-test.true (room)).inside
-
-pub wide-r-requires : goal.wide-r-requires
-wide-r-requires c = tt
-
-pub set-requires : goal.set-requires
-set-requires c =
-    let q = straying_low c.args.v c.args.mem c.args.base c.args.index c.args.n (λ k. operand_at c.args.operands.now (c.args.from + k)) c.loop-p.p
-    (sym c.strays.ensures ∙ c.if-strays.true) in
-    let r = c.loop-p.invariant.room in
-    let l = c.loop-p.invariant.kept.len in
-    omega arith
-
-pub overflow_add-p : goal.overflow_add-p
-overflow_add-p c =
-    let room : length c.args.operands.now * 4 < 2 ^ 63 = omega (arith, c.well_formed) in
-    (operand_at_lem _ _ _ _ c.requires.0 c.loop-p-test.true (room)).next
-
-pub loop-p-smaller-then-strays : goal.loop-p-smaller-then-strays
-loop-p-smaller-then-strays c = omega arith
-
-pub loop-p-preserved-then-strays : goal.loop-p-preserved-then-strays
-loop-p-preserved-then-strays c =
-    mark_put c.loop-p.invariant c.set.ensures c.loop-p-test.true (sym c.strays.ensures ∙ c.if-strays.true)
-    c.wide-r.ensures (straying_low c.args.v c.args.mem c.args.base c.args.index c.args.n
-    (λ k. operand_at c.args.operands.now (c.args.from + k)) c.loop-p.p (sym c.strays.ensures ∙ c.if-strays.true))
-
-pub overflow_add-p-else-strays : goal.overflow_add-p-else-strays
-overflow_add-p-else-strays c =
-    let room : length c.args.operands.now * 4 < 2 ^ 63 = omega (arith, c.well_formed) in
-    (operand_at_lem _ _ _ _ c.requires.0 c.loop-p-test.true (room)).next
-
-pub loop-p-smaller : goal.loop-p-smaller
-loop-p-smaller c = omega arith
-
 pub loop-p-preserved : goal.loop-p-preserved
-loop-p-preserved c = mark_skip c.loop-p.invariant c.loop-p-test.true (sym c.strays.ensures ∙ c.if-strays.false)
-
-pub shape_of-work : goal.shape_of-work
-shape_of-work c = c.loop-p.invariant.kept.len
+loop-p-preserved c =
+    let inv = c.loop-p.invariant in
+    let more = c.loop-p-test.true in
+    elim c.if-strays.branch [
+      | then-strays w ↦
+          let stray = sym c.strays.ensures ∙ w.if-strays.true in
+          rw w.work-is
+          (mark_put inv w.set.ensures more stray w.wide-r.ensures (straying_low c.args.v c.args.mem c.args.base c.args.index c.args.n (λ k. operand_at c.args.operands.now (c.args.from + k)) c.loop-p.p stray))
+      | else-strays w ↦ rw w.work-is (mark_skip inv more (sym c.strays.ensures ∙ w.if-strays.false))
+    ]
 
 pub returns : goal.returns
 returns c =

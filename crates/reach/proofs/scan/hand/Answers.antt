@@ -1,40 +1,9 @@
 -- `reach::scan::hand` meets its contract: a law for each way out.
-use native.Mathlib.Omega.{arith}
 use mathlib.Core.Path.{sym, ◌∙◌}
 use Rattle.carrying.specs.Insts.{def_of}
 use Rattle.reach.specs.Inner.{row_of}
 use Rattle.reach.proofs.ScanLaws.{no_lea, placed_lea, none_number, some_number, hand_none, hand_stuck, hand_linked}
 use Rattle.reach.proofs.scan.hand.Goals as goal
-
-pub handing-requires : goal.handing-requires
-handing-requires c = c.requires.i_bound.0
-
-pub overflow_mul-at : goal.overflow_mul-at
-overflow_mul-at c = omega arith
-
-pub overflow_add-base : goal.overflow_add-base
-overflow_add-base c = omega arith
-
-pub offset_bounds-insts-at : goal.offset_bounds-insts-at
-offset_bounds-insts-at c = omega arith
-
-pub bounds-insts-at : goal.bounds-insts-at
-bounds-insts-at c = omega arith
-
-pub overflow_add-index : goal.overflow_add-index
-overflow_add-index c = omega arith
-
-pub offset_bounds-insts-at-then-handing : goal.offset_bounds-insts-at-then-handing
-offset_bounds-insts-at-then-handing c = omega arith
-
-pub bounds-insts-at-then-handing : goal.bounds-insts-at-then-handing
-bounds-insts-at-then-handing c = omega arith
-
-pub stick-requires : goal.stick-requires
-stick-requires c = (c.requires.i_bound.2, omega arith)
-
-pub shape_of-work-then-def-eq0 : goal.shape_of-work-then-def-eq0
-shape_of-work-then-def-eq0 c = c.stick.ensures.kept.len
 
 pub returns-then-def-eq0 : goal.returns-then-def-eq0
 returns-then-def-eq0 c =
@@ -43,13 +12,6 @@ returns-then-def-eq0 c =
     (sym c.handing.ensures ∙ c.if-handing.true) _
     c.requires.i_bound.1) (none_number (def_of c.args.v (row_of c.args.insts.now c.args.operands.now c.args.i c.args.from))
     (sym c.requires.def_value ∙ c.if-def-eq0.true))
-
-pub link-requires : goal.link-requires
-link-requires c =
-    (c.requires.i_bound.2, c.requires.v_bound.1, c.requires.i_bound.3, c.requires.i_bound.4)
-
-pub shape_of-work-then-handing : goal.shape_of-work-then-handing
-shape_of-work-then-handing c = c.link.ensures.kept.len
 
 pub returns-then-handing : goal.returns-then-handing
 returns-then-handing c =

@@ -9,45 +9,15 @@ use Rattle.operands.specs.Inner.{addressing}
 use Rattle.reach.proofs.LeafLaws.{test_def, test_physical, test_use, both_of, neither_of}
 use Rattle.reach.proofs.scan.handed.Goals as goal
 
-pub overflow_add-i : goal.overflow_add-i
-overflow_add-i c = omega arith
-
-pub overflow_mul-i : goal.overflow_mul-i
-overflow_mul-i c = omega arith
-
-pub offset_bounds-operands-i : goal.offset_bounds-operands-i
-offset_bounds-operands-i c = omega arith
-
-pub bounds-operands-i : goal.bounds-operands-i
-bounds-operands-i c = omega arith
-
 pub returns-then-operands-i-eq1 : goal.returns-then-operands-i-eq1
 returns-then-operands-i-eq1 c =
     test_def c.args.operands.now (c.args.from + c.args.p) c.args.v _ c.if-operands-i-eq1.true
-
-pub overflow_mul-r : goal.overflow_mul-r
-overflow_mul-r c = omega arith
-
-pub overflow_add-r : goal.overflow_add-r
-overflow_add-r c = omega arith
-
-pub offset_bounds-operands-i-2 : goal.offset_bounds-operands-i-2
-offset_bounds-operands-i-2 c = omega arith
-
-pub bounds-operands-i-2 : goal.bounds-operands-i-2
-bounds-operands-i-2 c = omega arith
 
 pub returns-then-v-r : goal.returns-then-v-r
 returns-then-v-r c =
     test_physical c.args.operands.now (c.args.from + c.args.p) c.args.v ((address_position (addressing c.args.base c.args.index) c.args.p) && (each_address
     (addressing c.args.base c.args.index) (operand_at c.args.operands.now (c.args.from + c.args.p)).register 0
     (operands_from c.args.operands.now c.args.from c.args.n))) c.if-operands-i-eq1.false (omega arith)
-
-pub part-requires : goal.part-requires
-part-requires c = tt
-
-pub addressed-requires : goal.addressed-requires
-addressed-requires c = omega arith
 
 pub returns-then-part : goal.returns-then-part
 returns-then-part c =

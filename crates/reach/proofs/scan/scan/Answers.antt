@@ -1,11 +1,8 @@
 -- `reach::scan::scan` meets its contract: what the first i instructions leave.
 use native.Mathlib.Omega.{arith}
-use Prim.Native.Nat.{◌-◌, ◌*◌, ◌^◌, ◌<◌}
 use mathlib.Core.Path.{◌≡◌, refl}
-use lib.ListN.{length}
 use Rattle.words.specs.Widths.{inst_count, inst_operands}
 use Rattle.graph.proofs.Sums.{sum_start, sum_next}
-use Rattle.reach.proofs.Bounds.{count_at_lem}
 use Rattle.reach.proofs.ScanLaws.{scan_start, scan_more}
 use Rattle.insts.proofs.DealtLaws.{operands_within}
 use Rattle.words.proofs.FitLaws.{within}
@@ -22,41 +19,12 @@ one-count-requires c =
     let l = c.loop-i.invariant.3.kept.len in
     record { i_bound = omega arith; v_bound = omega arith }
 
-pub overflow_mul-i : goal.overflow_mul-i
-overflow_mul-i c =
-    let room : length c.args.insts.now * 4 < 2 ^ 63 = omega (arith, c.well_formed) in
-    (count_at_lem _ _ (within _ _ _ c.loop-i.invariant.0 c.loop-i-test.true) (room)).row
-
-pub overflow_add-i : goal.overflow_add-i
-overflow_add-i c =
-    let room : length c.args.insts.now * 4 < 2 ^ 63 = omega (arith, c.well_formed) in
-    (count_at_lem _ _ (within _ _ _ c.loop-i.invariant.0 c.loop-i-test.true) (room)).fits
-
-pub offset_bounds-insts-i : goal.offset_bounds-insts-i
-offset_bounds-insts-i c =
-    let room : length c.args.insts.now * 4 < 2 ^ 63 = omega (arith, c.well_formed) in
-    (count_at_lem _ _ (within _ _ _ c.loop-i.invariant.0 c.loop-i-test.true) (room)).in_bytes
-
-pub bounds-insts-i : goal.bounds-insts-i
-bounds-insts-i c =
-    let room : length c.args.insts.now * 4 < 2 ^ 63 = omega (arith, c.well_formed) in
-    (count_at_lem _ _ (within _ _ _ c.loop-i.invariant.0 c.loop-i-test.true) (room)).inside
-
-pub wide-from-requires : goal.wide-from-requires
-wide-from-requires c = tt
-
 pub overflow_add-from : goal.overflow_add-from
 overflow_add-from c =
     let z = operands_within c.args.insts.now c.args.operands.now c.requires.adds_up.0 c.loop-i.i
     (within _ _ _ c.loop-i.invariant.0 c.loop-i-test.true) in
     let y = c.wide-from.ensures in
     omega arith
-
-pub overflow_add-i-in-loop-i : goal.overflow_add-i-in-loop-i
-overflow_add-i-in-loop-i c = omega arith
-
-pub loop-i-smaller : goal.loop-i-smaller
-loop-i-smaller c = omega arith
 
 pub loop-i-preserved : goal.loop-i-preserved
 loop-i-preserved c =
@@ -68,9 +36,6 @@ loop-i-preserved c =
       scan_more _ c.args.insts.now c.args.operands.now _ c.requires.adds_up.0 (omega arith) c.loop-i.invariant.3 (omega arith) c.loop-i.from
           c.loop-i.invariant.2 c.one-count.ensures,
     )
-
-pub shape_of-work : goal.shape_of-work
-shape_of-work c = c.loop-i.invariant.3.kept.len
 
 pub returns : goal.returns
 returns c = let z : c.loop-i.i ≡ inst_count c.args.insts.now = omega arith in rw z at c.loop-i.invariant.3

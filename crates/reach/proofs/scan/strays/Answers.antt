@@ -7,30 +7,9 @@ use Rattle.operands.specs.Inner.{addressing}
 use Rattle.reach.proofs.LeafLaws.{test_def, test_physical, test_use, not_memory, in_memory}
 use Rattle.reach.proofs.scan.strays.Goals as goal
 
-pub overflow_mul-i : goal.overflow_mul-i
-overflow_mul-i c = omega arith
-
-pub offset_bounds-operands-i : goal.offset_bounds-operands-i
-offset_bounds-operands-i c = omega arith
-
-pub bounds-operands-i : goal.bounds-operands-i
-bounds-operands-i c = omega arith
-
 pub returns-then-operands-i-eq1 : goal.returns-then-operands-i-eq1
 returns-then-operands-i-eq1 c =
     test_def c.args.operands.now c.args.i c.args.v _ c.if-operands-i-eq1.true
-
-pub overflow_mul-i-2 : goal.overflow_mul-i-2
-overflow_mul-i-2 c = omega arith
-
-pub overflow_add-i : goal.overflow_add-i
-overflow_add-i c = omega arith
-
-pub offset_bounds-operands-i-2 : goal.offset_bounds-operands-i-2
-offset_bounds-operands-i-2 c = omega arith
-
-pub bounds-operands-i-2 : goal.bounds-operands-i-2
-bounds-operands-i-2 c = omega arith
 
 pub returns-then-v-operands : goal.returns-then-v-operands
 returns-then-v-operands c =
@@ -41,9 +20,6 @@ pub returns-then-mem-ne1 : goal.returns-then-mem-ne1
 returns-then-mem-ne1 c =
     test_use c.args.operands.now c.args.i c.args.v (not (is_set c.args.mem && address_position (addressing c.args.base c.args.index) c.args.p)) _
     c.if-operands-i-eq1.false (omega arith) (not_memory c.args.mem (address_position (addressing c.args.base c.args.index) c.args.p) c.if-mem-ne1.true)
-
-pub part-requires : goal.part-requires
-part-requires c = tt
 
 pub returns : goal.returns
 returns c =

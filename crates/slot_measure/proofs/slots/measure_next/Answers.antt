@@ -1,7 +1,6 @@
 -- `measure_next` meets its contract: the slot's area is made, and put behind the others.
 use native.Mathlib.Omega.{arith}
-use mathlib.Core.Path.{◌∙◌}
-use Rattle.slot_measure.proofs.AllLaws.{placeable, next_done}
+use Rattle.slot_measure.proofs.AllLaws.{next_done}
 use Rattle.slot_measure.proofs.slots.measure_next.Goals as goal
 
 pub slot_area-f-requires : goal.slot_area-f-requires
@@ -15,21 +14,6 @@ slot_area-f-requires c =
       in_order = (R.order, omega (arith, R.keys_fit, R.held_fits, L.table_fits, L.heads_fit, L.nexts_fit), R.fits, R.few_pieces, R.few_moves);
       slot_in_bounds = (omega (arith, R.held_fits, L.table_fits, L.heads_fit, L.nexts_fit, L.fits), R.held_small _ h);
     }
-
-pub overflow_add-first : goal.overflow_add-first
-overflow_add-first c =
-    let R = c.requires.ready in
-    let L = R.laid in
-    omega (arith, c.requires.s_lt_slots.0, R.items_fit, R.keys_fit, R.held_fits, L.table_fits, L.heads_fit, L.nexts_fit, L.fits)
-
-pub place-requires : goal.place-requires
-place-requires c =
-    let a = c.args in
-    placeable a.points a.blocks.now a.insts.now a.moves.now a.pieces.now a.p a.keys a.held a.o a.first a.s a.total c.requires.ready
-    c.requires.s_lt_slots.0 c.requires.s_lt_slots.1 c.slot_area-f.ensures
-
-pub shape_of-work : goal.shape_of-work
-shape_of-work c = c.place.ensures.len ∙ c.slot_area-f.ensures.kept.len
 
 pub returns : goal.returns
 returns c =

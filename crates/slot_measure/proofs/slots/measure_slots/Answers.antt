@@ -1,6 +1,5 @@
 -- `measure_slots` meets its contract: the area of one slot more, each turn.
 use native.Mathlib.Omega.{arith}
-use Prim.Native.Nat.{◌-◌}
 use Rattle.slot_measure.proofs.AllLaws.{going_start, going_ready, going_small, going_more, going_done}
 use Rattle.slot_measure.proofs.slots.measure_slots.Goals as goal
 
@@ -18,20 +17,11 @@ measure_next-n-requires c =
           (omega arith, going_small a.points a.blocks.now a.insts.now a.moves.now a.pieces.now a.p a.keys a.held a.o a.first G (omega arith));
     }
 
-pub overflow_add-s : goal.overflow_add-s
-overflow_add-s c = omega arith
-
-pub loop-s-smaller : goal.loop-s-smaller
-loop-s-smaller c = omega arith
-
 pub loop-s-preserved : goal.loop-s-preserved
 loop-s-preserved c =
     let a = c.args in
     going_more a.points a.blocks.now a.insts.now a.moves.now a.pieces.now a.p a.keys a.held a.o a.first
     c.loop-s.invariant (omega arith) c.measure_next-n.ensures
-
-pub shape_of-work : goal.shape_of-work
-shape_of-work c = c.loop-s.invariant.spared.len
 
 pub returns : goal.returns
 returns c = let a = c.args in going_done a.points a.blocks.now a.insts.now a.moves.now a.pieces.now a.p a.keys a.held a.o a.first c.loop-s.invariant (omega arith)

@@ -1,10 +1,6 @@
 -- `measure_slots` meets its contract: the area of one slot more, each turn.
-use Prim.Native.Nat.{◌-◌}
 use Rattle.slot_measure.proofs.AllLaws.{Going}
 use Rattle.slot_measure.proofs.slots.measure_slots.Given as goal
 
 abbrev pub invariant-loop-s : goal.invariant-loop-s
 invariant-loop-s l = Going l.points l.blocks l.insts l.moves l.pieces l.p l.keys l.held l.o l.first l.total l.initial.work l.work l.s l.n
-
-abbrev pub decreases-loop-s : goal.decreases-loop-s
-decreases-loop-s l = l.p.slots - l.s

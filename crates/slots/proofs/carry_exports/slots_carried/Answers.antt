@@ -3,4 +3,4 @@ use Rattle.slots.proofs.carry_exports.slots_carried.Goals as goal
 
 pub returns : goal.returns
 returns c =
-    record { told = c.carried.result; answer = c.carried_code.ensures; holds = c.carried.ensures }
+    record { told = c.carried.result; answer = c.found.ensures; holds = c.carried.ensures }

@@ -3,4 +3,4 @@ use Rattle.slots.proofs.text_exports.slots_print_text.Goals as goal
 
 pub returns : goal.returns
 returns c =
-    record { told = c.print_text.result; answer = c.text_code.ensures; holds = c.print_text.ensures }
+    record { told = c.print_text.result; answer = c.answer.ensures; holds = c.print_text.ensures }

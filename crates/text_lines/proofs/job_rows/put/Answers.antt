@@ -15,16 +15,10 @@ put_inst-requires c =
     let w : (k : ℕ) → k ≡ inst_group → Meant k a.fields.now × (a.at + (group_at k).width ≤ length a.rows.now) → Meant 3 a.fields.now ×
     (a.at + 9 ≤ length a.rows.now) = (λ k e p. rw e at p) in w a.k c.if-k-eq-INSTS.true p'
 
-pub shape_of-rows-then-k-eq-INSTS : goal.shape_of-rows-then-k-eq-INSTS
-shape_of-rows-then-k-eq-INSTS c = c.put_inst.ensures.len
-
 pub returns-then-k-eq-INSTS : goal.returns-then-k-eq-INSTS
 returns-then-k-eq-INSTS c =
     let a = c.args in
     inst_is a.k a.fields.now _ _ _ c.if-k-eq-INSTS.true c.put_inst.ensures
-
-pub entry_of-requires : goal.entry_of-requires
-entry_of-requires c = c.requires.0.group
 
 pub put_numbers-requires : goal.put_numbers-requires
 put_numbers-requires c =
@@ -33,9 +27,6 @@ put_numbers-requires c =
       c.entry_of.ensures.fields,
       (let h = c.requires.1 in let w = (plain_row a.k a.fields.now c.requires.0.group c.if-k-eq-INSTS.false).1 in let e = c.entry_of.ensures.fields in omega arith),
     )
-
-pub shape_of-rows : goal.shape_of-rows
-shape_of-rows c = c.put_numbers.ensures.len
 
 pub returns : goal.returns
 returns c =

@@ -1,34 +1,14 @@
 -- `put_inst` meets its contract: the numbers, and a flag and a 0 around them.
 use native.Mathlib.Omega.{arith}
-use Prim.Native.Nat.{◌≤◌}
 use mathlib.Core.Path.{refl, sym, ap}
-use lib.ListN.{length, length-set}
+use lib.ListN.{length-set}
 use borrow.Author.Tests.{eq-eqb, ne_eqb}
 use mathlib.Core.Bool.{Bool, cond}
 use Rattle.text_lines.proofs.PutLaws.{inst_region}
 use Rattle.text_lines.proofs.job_rows.put_inst.Goals as goal
 
-pub overflow_add-at : goal.overflow_add-at
-overflow_add-at c = let h = c.requires.1 in omega arith
-
 pub put_numbers-requires : goal.put_numbers-requires
 put_numbers-requires c = (c.requires.0, refl, (let h = c.requires.1 in omega arith))
-
-pub overflow_add-rows : goal.overflow_add-rows
-overflow_add-rows c = let h = c.requires.1 in omega arith
-
-pub offset_bounds-rows-at : goal.offset_bounds-rows-at
-offset_bounds-rows-at c = let h = c.requires.1 in omega arith
-
-pub bounds-rows-at : goal.bounds-rows-at
-bounds-rows-at c = let h = c.requires.1 in let l = c.put_numbers.ensures.len in omega arith
-
-pub bounds-fields-0 : goal.bounds-fields-0
-bounds-fields-0 c =
-    let e : 7 ≤ length c.args.fields.now = c.requires.0.enough in omega arith
-
-pub offset_bounds-rows-at-then-fields-eq-DASH : goal.offset_bounds-rows-at-then-fields-eq-DASH
-offset_bounds-rows-at-then-fields-eq-DASH c = let h = c.requires.1 in omega arith
 
 pub bounds-rows-at-then-fields-eq-DASH : goal.bounds-rows-at-then-fields-eq-DASH
 bounds-rows-at-then-fields-eq-DASH c = simp length-set (let h = c.requires.1 in let l = c.put_numbers.ensures.len in omega arith)
@@ -42,9 +22,6 @@ returns-then-fields-eq-DASH c =
     let p = c.requires in
     inst_region a.fields.now a.rows.now _ a.at p.0.enough p.1 c.put_numbers.ensures 0
     (sym (ap (λ (t : Bool). cond t 0 1) (eq-eqb _ _ c.if-fields-eq-DASH.true)))
-
-pub offset_bounds-rows-at-2 : goal.offset_bounds-rows-at-2
-offset_bounds-rows-at-2 c = let h = c.requires.1 in omega arith
 
 pub bounds-rows-at-2 : goal.bounds-rows-at-2
 bounds-rows-at-2 c = simp length-set (let h = c.requires.1 in let l = c.put_numbers.ensures.len in omega arith)

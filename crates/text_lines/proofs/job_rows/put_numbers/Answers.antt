@@ -1,6 +1,6 @@
 -- `put_numbers` meets its contract: a number more is written each turn.
 use native.Mathlib.Omega.{arith}
-use Prim.Native.Nat.{ℕ, ◌-◌}
+use Prim.Native.Nat.{ℕ}
 use mathlib.Core.Path.{refl, sym, ap, ◌∙◌}
 use lib.ListN.{get_or}
 use Rattle.text_lines.proofs.PutLaws.{numbers_at_lem}
@@ -12,13 +12,6 @@ use Rattle.text_lines.proofs.job_rows.put_numbers.Goals as goal
 pub loop-j-init : goal.loop-j-init
 loop-j-init c = done_start _ _ _ _ c.requires.2
 
-pub offset_bounds-fields-j : goal.offset_bounds-fields-j
-offset_bounds-fields-j c = let e = c.requires.0.enough in let q = c.requires.1 in omega arith
-
-pub bounds-fields-j : goal.bounds-fields-j
-bounds-fields-j c =
-    let e = c.requires.0.enough in let q = c.requires.1 in omega arith
-
 pub dash_at-requires : goal.dash_at-requires
 dash_at-requires c =
     (c.requires.0.group, (let q = c.requires.1 in omega arith))
@@ -27,22 +20,6 @@ pub number-requires : goal.number-requires
 number-requires c =
     rw c.dash_at.ensures (c.requires.0.number c.loop-j.j (let q = c.requires.1 in omega arith))
 
-pub overflow_add-rows : goal.overflow_add-rows
-overflow_add-rows c = let h = c.requires.2 in omega arith
-
-pub offset_bounds-rows-at : goal.offset_bounds-rows-at
-offset_bounds-rows-at c =
-    let e = c.requires.0.enough in let q = c.requires.1 in omega arith
-
-pub bounds-rows-at : goal.bounds-rows-at
-bounds-rows-at c = let h = c.requires.2 in let l = c.loop-j.invariant.now_is.len in omega arith
-
-pub overflow_add-j : goal.overflow_add-j
-overflow_add-j c = omega arith
-
-pub loop-j-smaller : goal.loop-j-smaller
-loop-j-smaller c = omega arith
-
 pub loop-j-preserved : goal.loop-j-preserved
 loop-j-preserved c =
     let a = c.args in
@@ -50,9 +27,6 @@ loop-j-preserved c =
     done_more c.loop-j.invariant _ _ (omega arith) refl
     (c.number.ensures ∙ ap (λ (d : ℕ). meant d (get_or a.fields.now c.loop-j.j 0)) c.dash_at.ensures ∙ sym
     (numbers_at_lem (group_at a.k).dashes a.fields.now c.loop-j.j (let q = p.1 in omega arith) p.0.enough))
-
-pub shape_of-rows : goal.shape_of-rows
-shape_of-rows c = c.loop-j.invariant.now_is.len
 
 pub returns : goal.returns
 returns c = done_all c.loop-j.invariant (omega arith)

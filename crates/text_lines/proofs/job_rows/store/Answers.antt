@@ -3,65 +3,8 @@ use native.Mathlib.Omega.{arith}
 use Prim.Native.Nat.{ℕ, ◌*◌}
 use mathlib.Core.Path.{refl, ap, ◌∙◌}
 use lib.ListN.{length, get_or, length-set}
-use Rattle.text_grammar.specs.Lines.{meant}
-use Rattle.text_lines.proofs.StoreLaws.{row_room, few, last_fine, put_operand, put_plain, placed_at}
+use Rattle.text_lines.proofs.StoreLaws.{row_room, last_fine, put_operand, put_plain, placed_at}
 use Rattle.text_lines.proofs.job_rows.store.Goals as goal
-
-pub entry_of-e-requires : goal.entry_of-e-requires
-entry_of-e-requires c = c.requires.meant.group
-
-pub offset_bounds-counts-k : goal.offset_bounds-counts-k
-offset_bounds-counts-k c =
-    let g = c.requires.meant.group in let l = c.requires.counts_length in let f = few c.requires in omega arith
-
-pub bounds-counts-k : goal.bounds-counts-k
-bounds-counts-k c =
-    let p = c.requires in
-    let g = p.meant.group in
-    let l = p.counts_length in
-    let f = few p in
-    omega arith
-
-pub bounds-counts-3 : goal.bounds-counts-3
-bounds-counts-3 c =
-    let p = c.requires in
-    let g = p.meant.group in
-    let l = p.counts_length in
-    let f = few p in
-    omega arith
-
-pub overflow_cast-insts : goal.overflow_cast-insts
-overflow_cast-insts c = omega (arith, c.type_inv.counts 3)
-
-pub overflow_cast-n : goal.overflow_cast-n
-overflow_cast-n c =
-    let p = c.requires in
-    let g = p.meant.group in
-    let l = p.counts_length in
-    let f = few p in
-    omega arith
-
-pub overflow_mul-e : goal.overflow_mul-e
-overflow_mul-e c =
-    let a = c.args in
-    let p = c.requires in
-    let w = ap (λ (x : ℕ). x * get_or a.counts.now a.k 0) c.entry_of-e.ensures.width in
-    let b = c.entry_of-e.ensures.base in
-    let r = row_room p in
-    let f = few p in
-    let l = p.rows_length in
-    omega arith
-
-pub overflow_add-e : goal.overflow_add-e
-overflow_add-e c =
-    let a = c.args in
-    let p = c.requires in
-    let w = ap (λ (x : ℕ). x * get_or a.counts.now a.k 0) c.entry_of-e.ensures.width in
-    let b = c.entry_of-e.ensures.base in
-    let r = row_room p in
-    let f = few p in
-    let l = p.rows_length in
-    omega arith
 
 pub put-requires : goal.put-requires
 put-requires c =
@@ -71,30 +14,6 @@ put-requires c =
       (let w = ap (λ (x : ℕ). x * get_or a.counts.now a.k 0) c.entry_of-e.ensures.width in let b = c.entry_of-e.ensures.base in let r = row_room p in let l = p.rows_length
           in omega arith),
     )
-
-pub overflow_add-counts : goal.overflow_add-counts
-overflow_add-counts c =
-    let p = c.requires in
-    let g = p.meant.group in
-    let l = p.counts_length in
-    let f = few p in
-    omega arith
-
-pub offset_bounds-counts-k-2 : goal.offset_bounds-counts-k-2
-offset_bounds-counts-k-2 c =
-    let p = c.requires in
-    let g = p.meant.group in
-    let l = p.counts_length in
-    let f = few p in
-    omega arith
-
-pub bounds-counts-k-2 : goal.bounds-counts-k-2
-bounds-counts-k-2 c =
-    let p = c.requires in
-    let g = p.meant.group in
-    let l = p.counts_length in
-    let f = few p in
-    omega arith
 
 pub raise-requires : goal.raise-requires
 raise-requires c =
@@ -116,9 +35,6 @@ returns-then-k-eq-OPERANDS c =
     put_operand p c.if-k-eq-OPERANDS.true _
     (placed_at a.k (get_or a.counts.now a.k 0) _ _ _ c.entry_of-e.ensures.base c.entry_of-e.ensures.width refl c.put.ensures) _ refl c.raise.ensures
     refl
-
-pub shape_of-rows : goal.shape_of-rows
-shape_of-rows c = c.put.ensures.len
 
 pub shape_of-counts : goal.shape_of-counts
 shape_of-counts c = simp length-set

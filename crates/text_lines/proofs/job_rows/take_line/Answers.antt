@@ -1,22 +1,9 @@
 -- `take_line` meets its contract: a malformed line, one without room, and one that is stored.
-use native.Mathlib.Omega.{arith}
 use Prim.Native.Nat.{◌+◌}
 use mathlib.Core.Path.{refl, sym, ◌∙◌}
 use mathlib.Core.Bool.{false}
 use Rattle.text_lines.proofs.ReaderLaws.{line_malformed, line_known, line_full, line_ready, line_stored}
 use Rattle.text_lines.proofs.job_rows.take_line.Goals as goal
-
-pub read_line-k-requires : goal.read_line-k-requires
-read_line-k-requires c = c.requires.0
-
-pub accepted-requires : goal.accepted-requires
-accepted-requires c = tt
-
-pub malformed-requires : goal.malformed-requires
-malformed-requires c = c.requires.1
-
-pub shape_of-fields-then-not-accepted : goal.shape_of-fields-then-not-accepted
-shape_of-fields-then-not-accepted c = c.read_line-k.ensures.kept
 
 pub returns-then-not-accepted : goal.returns-then-not-accepted
 returns-then-not-accepted c =
@@ -27,29 +14,6 @@ pub entry_of-e-requires : goal.entry_of-e-requires
 entry_of-e-requires c =
     let a = c.args in
     (line_known c.requires.2 a.line.now c.read_line-k.ensures.answer (sym c.accepted.ensures ∙ c.if-not-accepted.false))
-
-pub offset_bounds-counts-k : goal.offset_bounds-counts-k
-offset_bounds-counts-k c =
-    let a = c.args in
-    let g = (line_known c.requires.2 a.line.now c.read_line-k.ensures.answer (sym c.accepted.ensures ∙ c.if-not-accepted.false)) in
-    let n = c.requires.2.taken.counts_length in
-    omega arith
-
-pub bounds-counts-k : goal.bounds-counts-k
-bounds-counts-k c =
-    let a = c.args in
-    let g = (line_known c.requires.2 a.line.now c.read_line-k.ensures.answer (sym c.accepted.ensures ∙ c.if-not-accepted.false)) in
-    let n = c.requires.2.taken.counts_length in
-    omega arith
-
-pub crowded-requires : goal.crowded-requires
-crowded-requires c = tt
-
-pub overflow_add-result : goal.overflow_add-result
-overflow_add-result c = let h = c.requires.1 in omega arith
-
-pub shape_of-fields-then-crowded : goal.shape_of-fields-then-crowded
-shape_of-fields-then-crowded c = c.read_line-k.ensures.kept
 
 pub returns-then-crowded : goal.returns-then-crowded
 returns-then-crowded c =
@@ -63,12 +27,6 @@ store-requires c =
     line_ready c.requires.2 a.line.now c.read_line-k.ensures.answer (sym c.accepted.ensures ∙ c.if-not-accepted.false) _ c.entry_of-e.ensures.room
     (sym c.crowded.ensures ∙ c.if-crowded.false) _ a.fields.now
     (c.read_line-k.ensures.fields (line_known c.requires.2 a.line.now c.read_line-k.ensures.answer (sym c.accepted.ensures ∙ c.if-not-accepted.false)))
-
-pub overflow_add-result-2 : goal.overflow_add-result-2
-overflow_add-result-2 c = let h = c.requires.1 in omega arith
-
-pub shape_of-fields : goal.shape_of-fields
-shape_of-fields c = c.read_line-k.ensures.kept
 
 pub shape_of-rows : goal.shape_of-rows
 shape_of-rows c =

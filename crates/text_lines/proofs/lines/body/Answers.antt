@@ -13,9 +13,6 @@ use Rattle.text_lines.proofs.lines.body.Goals as goal
 longer : (n : ℕ) → 1 ≤ n → (n ≡ 1 → ⊥) → 1 < n
 longer n h d = cut n 1 (λ a. absurd (d (omega arith))) (λ a. a)
 
-pub find-e-requires : goal.find-e-requires
-find-e-requires c = tt
-
 pub returns-then-e-ne1 : goal.returns-then-e-ne1
 returns-then-e-ne1 c =
     let a = c.args in
@@ -23,9 +20,6 @@ returns-then-e-ne1 c =
 
 pub bounds-b-0 : goal.bounds-b-0
 bounds-b-0 c = let i = index_within 44 c.args.b.now in let o = (sym c.find-e.ensures ∙ c.if-e-ne1.false) in omega arith
-
-pub group_of-k-requires : goal.group_of-k-requires
-group_of-k-requires c = tt
 
 pub returns-then-k-eq-GROUP_COUNT : goal.returns-then-k-eq-GROUP_COUNT
 returns-then-k-eq-GROUP_COUNT c =
@@ -54,9 +48,6 @@ slice_bounds-fields-start c =
 pub fields-requires : goal.fields-requires
 fields-requires c = ((group_within _ _ c.group_of-k.ensures c.if-k-eq-GROUP_COUNT.false), c.requires)
 
-pub shape_of-out-then-fields : goal.shape_of-out-then-fields
-shape_of-out-then-fields c = c.fields.ensures.kept
-
 pub returns-then-fields : goal.returns-then-fields
 returns-then-fields c =
     let a = c.args in
@@ -65,9 +56,6 @@ returns-then-fields c =
     (fields_are a.b.now (sym c.find-e.ensures ∙ c.if-e-ne1.false)
     (let i = index_within 44 a.b.now in let o = (sym c.find-e.ensures ∙ c.if-e-ne1.false) in longer _ (omega arith) c.if-b-eq1.false) ∙ sym
     (ap fields_in (take_all (length a.b.now - 2) (drop 2 a.b.now) (let l = length-drop 2 a.b.now in omega arith)))) c.fields.ensures c.if-fields.true
-
-pub shape_of-out : goal.shape_of-out
-shape_of-out c = c.fields.ensures.kept
 
 pub returns : goal.returns
 returns c =

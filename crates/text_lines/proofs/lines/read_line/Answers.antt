@@ -12,27 +12,9 @@ returns-then-n-gt-LONGEST c = line_long c.args.line.now c.args.out.now c.if-n-gt
 pub returns-then-n-eq0 : goal.returns-then-n-eq0
 returns-then-n-eq0 c = line_empty c.args.line.now c.args.out.now c.if-n-eq0.true
 
-pub overflow_sub-n : goal.overflow_sub-n
-overflow_sub-n c = omega arith
-
-pub bounds-line-n : goal.bounds-line-n
-bounds-line-n c = omega arith
-
 pub returns-then-line-n-ne10 : goal.returns-then-line-n-ne10
 returns-then-line-n-ne10 c =
     line_open c.args.line.now c.args.out.now c.if-line-n-ne10.true
-
-pub overflow_sub-n-2 : goal.overflow_sub-n-2
-overflow_sub-n-2 c = omega arith
-
-pub slice_bounds-body-count : goal.slice_bounds-body-count
-slice_bounds-body-count c = omega arith
-
-pub body-requires : goal.body-requires
-body-requires c = c.requires
-
-pub shape_of-out : goal.shape_of-out
-shape_of-out c = c.body.ensures.kept
 
 pub returns : goal.returns
 returns c =

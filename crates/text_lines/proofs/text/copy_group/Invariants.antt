@@ -1,5 +1,4 @@
 -- `copy_group` meets its contract: each number of the group's room is a record's, or zero.
-use Prim.Native.Nat.{◌-◌}
 use lib.ListN.{get_or}
 use Rattle.words.specs.Inner.{part}
 use Rattle.words.proofs.RegionLaws.{Done}
@@ -7,6 +6,3 @@ use Rattle.text_lines.proofs.text.copy_group.Given as goal
 
 abbrev pub invariant-loop-j : goal.invariant-loop-j
 invariant-loop-j l = Done l.initial.rows l.rows l.base l.room (λ i. get_or (part l.base l.len l.held) i 0) l.j
-
-abbrev pub decreases-loop-j : goal.decreases-loop-j
-decreases-loop-j l = l.room - l.j

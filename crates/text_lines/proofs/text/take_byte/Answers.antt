@@ -22,12 +22,6 @@ returns-then-n-ge-LONGEST c =
     let a = c.args in
     record { feeds = λ t d. byte_past d a.b c.if-b-eq10.false c.if-n-ge-LONGEST.true; line_kept = refl; fields_kept = refl; rows_kept = refl; counts_kept = refl }
 
-pub bounds-line-n : goal.bounds-line-n
-bounds-line-n c = let l = c.requires.1.reading.held.buffer in omega arith
-
-pub overflow_add-result : goal.overflow_add-result
-overflow_add-result c = let l = c.requires.1.reading.held.buffer in omega arith
-
 pub shape_of-line-then-b-ne10 : goal.shape_of-line-then-b-ne10
 shape_of-line-then-b-ne10 c = simp length-set
 
@@ -37,12 +31,6 @@ returns-then-b-ne10 c =
     record
     { feeds = λ t d. byte_kept d a.b c.if-b-ne10.true (omega arith); line_kept = length-set a.line.now _ _; fields_kept = refl; rows_kept = refl; counts_kept = refl }
 
-pub overflow_add-n : goal.overflow_add-n
-overflow_add-n c = let l = c.requires.1.reading.held.buffer in omega arith
-
-pub slice_bounds-take_line-count : goal.slice_bounds-take_line-count
-slice_bounds-take_line-count c = let l = c.requires.1.reading.held.buffer in omega arith
-
 pub take_line-q-requires : goal.take_line-q-requires
 take_line-q-requires c =
     let a = c.args in
@@ -50,12 +38,6 @@ take_line-q-requires c =
 
 pub shape_of-line : goal.shape_of-line
 shape_of-line c = simp length-set
-
-pub shape_of-rows : goal.shape_of-rows
-shape_of-rows c = c.take_line-q.ensures.rows_kept
-
-pub shape_of-counts : goal.shape_of-counts
-shape_of-counts c = c.take_line-q.ensures.counts_kept
 
 pub returns : goal.returns
 returns c =

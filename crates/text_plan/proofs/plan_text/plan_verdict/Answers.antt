@@ -1,21 +1,14 @@
 -- `plan_verdict` meets its contract, by what `shared` answers.
-use Rattle.text_plan.proofs.PlanLaws.{part_alike, absent_alike, bad_alike}
+use Rattle.refusals.proofs.Laws.{handed_on}
+use Rattle.text_plan.proofs.PlanLaws.{found_alike, bad_alike}
 use Rattle.text_plan.proofs.plan_text.plan_verdict.Goals as goal
 
-pub shared-s-requires : goal.shared-s-requires
-shared-s-requires c = tt
-
-pub returns-in-Part : goal.returns-in-Part
-returns-in-Part c =
+pub returns-in_err-shared : goal.returns-in_err-shared
+returns-in_err-shared c =
     let a = c.args in
-    part_alike a.cells.now a.items.now a.areas.now a.locals c.shared-s.ensures _ _ c.in-Part.is
+    rw (handed_on c.from_residual.ensures.1) (bad_alike a.cells.now a.items.now a.areas.now a.locals c.shared.ensures _ _ c.in_err-shared.was)
 
-pub returns-in-Absent : goal.returns-in-Absent
-returns-in-Absent c =
+pub returns : goal.returns
+returns c =
     let a = c.args in
-    absent_alike a.cells.now a.items.now a.areas.now a.locals c.shared-s.ensures c.in-Absent.is
-
-pub returns-in-Refused : goal.returns-in-Refused
-returns-in-Refused c =
-    let a = c.args in
-    bad_alike a.cells.now a.items.now a.areas.now a.locals c.shared-s.ensures _ _ c.in-Refused.is
+    found_alike a.cells.now a.items.now a.areas.now a.locals c.shared.ensures _ c.in_ok-shared.was

@@ -1,6 +1,6 @@
 -- `put_area` meets its contract: a line more is written each turn.
 use native.Mathlib.Omega.{arith}
-use Prim.Native.Nat.{ℕ, ◌+◌, ◌-◌, ◌*◌}
+use Prim.Native.Nat.{ℕ, ◌+◌, ◌*◌}
 use mathlib.Core.Path.{sym, ap}
 use lib.ListN.{get_or}
 use lib.Dec.{lit≤}
@@ -17,42 +17,9 @@ pub loop-j-init : goal.loop-j-init
 loop-j-init c =
     lines_start (λ j. row_line c.args.areas.now c.args.local (c.args.start + j)) 128 _ _ _ (λ j. line_length 71 _ (lit≤ tt))
 
-pub overflow_add-k : goal.overflow_add-k
-overflow_add-k c = omega arith
-
-pub overflow_mul-k : goal.overflow_mul-k
-overflow_mul-k c = omega arith
-
-pub offset_bounds-areas-k : goal.offset_bounds-areas-k
-offset_bounds-areas-k c = omega arith
-
-pub bounds-areas-k : goal.bounds-areas-k
-bounds-areas-k c = omega arith
-
-pub overflow_cast-ns-in-loop-j : goal.overflow_cast-ns-in-loop-j
-overflow_cast-ns-in-loop-j c = omega (arith, c.type_inv.areas (range_width * (c.args.start + c.loop-j.j)))
-
-pub overflow_add-ns : goal.overflow_add-ns
-overflow_add-ns c = omega arith
-
-pub offset_bounds-areas-k-in-loop-j : goal.offset_bounds-areas-k-in-loop-j
-offset_bounds-areas-k-in-loop-j c = omega arith
-
-pub bounds-areas-k-in-loop-j : goal.bounds-areas-k-in-loop-j
-bounds-areas-k-in-loop-j c = omega arith
-
-pub overflow_cast-ns-in-loop-j-2 : goal.overflow_cast-ns-in-loop-j-2
-overflow_cast-ns-in-loop-j-2 c = omega (arith, c.type_inv.areas ((range_width * (c.args.start + c.loop-j.j)) + 1))
-
 pub put_line-next-requires : goal.put_line-next-requires
 put_line-next-requires c =
     (let l = lines_near c.loop-j.invariant in let h = c.requires.0 in let g = c.requires.1 in let f = c.requires.2 in omega arith, lit≤ tt)
-
-pub overflow_add-j : goal.overflow_add-j
-overflow_add-j c = omega arith
-
-pub loop-j-smaller : goal.loop-j-smaller
-loop-j-smaller c = omega arith
 
 pub loop-j-preserved : goal.loop-j-preserved
 loop-j-preserved c =

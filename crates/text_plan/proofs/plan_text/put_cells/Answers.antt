@@ -1,6 +1,6 @@
 -- `put_cells` meets its contract: a line more is written each turn.
 use native.Mathlib.Omega.{arith}
-use Prim.Native.Nat.{ℕ, ◌+◌, ◌-◌, ◌*◌}
+use Prim.Native.Nat.{ℕ, ◌*◌}
 use mathlib.Core.Path.{sym, ap}
 use lib.ListN.{get_or}
 use lib.Dec.{lit≤}
@@ -16,42 +16,9 @@ use Rattle.text_plan.proofs.plan_text.put_cells.Goals as goal
 pub loop-i-init : goal.loop-i-init
 loop-i-init c = lines_start (cell_line c.args.cells.now) 128 _ _ _ (λ j. line_length 67 _ (lit≤ tt))
 
-pub overflow_mul-ns : goal.overflow_mul-ns
-overflow_mul-ns c = omega arith
-
-pub offset_bounds-cells-i : goal.offset_bounds-cells-i
-offset_bounds-cells-i c = omega arith
-
-pub bounds-cells-i : goal.bounds-cells-i
-bounds-cells-i c = omega arith
-
-pub overflow_cast-ns : goal.overflow_cast-ns
-overflow_cast-ns c = omega (arith, c.type_inv.cells (cell_width * c.loop-i.i))
-
-pub overflow_mul-ns-in-loop-i : goal.overflow_mul-ns-in-loop-i
-overflow_mul-ns-in-loop-i c = omega arith
-
-pub overflow_add-ns : goal.overflow_add-ns
-overflow_add-ns c = omega arith
-
-pub offset_bounds-cells-i-in-loop-i : goal.offset_bounds-cells-i-in-loop-i
-offset_bounds-cells-i-in-loop-i c = omega arith
-
-pub bounds-cells-i-in-loop-i : goal.bounds-cells-i-in-loop-i
-bounds-cells-i-in-loop-i c = omega arith
-
-pub overflow_cast-ns-in-loop-i : goal.overflow_cast-ns-in-loop-i
-overflow_cast-ns-in-loop-i c = omega (arith, c.type_inv.cells (cell_width * c.loop-i.i + 1))
-
 pub put_line-next-requires : goal.put_line-next-requires
 put_line-next-requires c =
     (let l = lines_near c.loop-i.invariant in let h = c.requires.0 in let g = c.requires.1 in omega arith, lit≤ tt)
-
-pub overflow_add-i : goal.overflow_add-i
-overflow_add-i c = omega arith
-
-pub loop-i-smaller : goal.loop-i-smaller
-loop-i-smaller c = omega arith
 
 pub loop-i-preserved : goal.loop-i-preserved
 loop-i-preserved c =

@@ -1,11 +1,7 @@
 -- `put_cells` meets its contract: a line more is written each turn.
-use Prim.Native.Nat.{◌-◌}
 use Rattle.text_plan.proofs.LineLaws.{Lines}
 use Rattle.text_plan.specs.Printed.{cell_line}
 use Rattle.text_plan.proofs.plan_text.put_cells.Given as goal
 
 abbrev pub invariant-loop-i : goal.invariant-loop-i
 invariant-loop-i l = Lines (cell_line l.cells) 128 l.initial.out l.at l.n l.out l.next l.i
-
-abbrev pub decreases-loop-i : goal.decreases-loop-i
-decreases-loop-i l = l.n - l.i

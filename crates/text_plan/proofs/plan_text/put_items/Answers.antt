@@ -1,6 +1,6 @@
 -- `put_items` meets its contract: a line more is written each turn.
 use native.Mathlib.Omega.{arith}
-use Prim.Native.Nat.{ℕ, ◌+◌, ◌-◌, ◌*◌}
+use Prim.Native.Nat.{ℕ, ◌+◌, ◌*◌}
 use mathlib.Core.Path.{sym, ap}
 use lib.ListN.{get_or}
 use lib.Dec.{lit≤}
@@ -17,30 +17,9 @@ pub loop-i-init : goal.loop-i-init
 loop-i-init c =
     lines_start (item_line c.args.letter c.args.items.now c.args.base) 128 _ _ _ (λ j. line_length c.args.letter _ (lit≤ tt))
 
-pub overflow_add-ns : goal.overflow_add-ns
-overflow_add-ns c = omega arith
-
-pub overflow_mul-ns : goal.overflow_mul-ns
-overflow_mul-ns c = omega arith
-
-pub offset_bounds-items-base : goal.offset_bounds-items-base
-offset_bounds-items-base c = omega arith
-
-pub bounds-items-base : goal.bounds-items-base
-bounds-items-base c = omega arith
-
-pub overflow_cast-ns : goal.overflow_cast-ns
-overflow_cast-ns c = omega (arith, c.type_inv.items (item_width * (c.args.base + c.loop-i.i)))
-
 pub put_line-next-requires : goal.put_line-next-requires
 put_line-next-requires c =
     (let l = lines_near c.loop-i.invariant in let h = c.requires.0 in let g = c.requires.1 in omega arith, lit≤ tt)
-
-pub overflow_add-i : goal.overflow_add-i
-overflow_add-i c = omega arith
-
-pub loop-i-smaller : goal.loop-i-smaller
-loop-i-smaller c = omega arith
 
 pub loop-i-preserved : goal.loop-i-preserved
 loop-i-preserved c =

@@ -1,18 +1,9 @@
 -- `put_field` meets its contract.
 use native.Mathlib.Omega.{arith}
-use mathlib.Core.Path.{refl, ◌∙◌}
+use mathlib.Core.Path.{◌∙◌}
 use lib.ListN.{length-take, length-drop}
 use Rattle.text_plan.proofs.PutLaws.{puts_length, field_put}
 use Rattle.text_plan.proofs.printing.put_field.Goals as goal
-
-pub digits-i-requires : goal.digits-i-requires
-digits-i-requires c = refl
-
-pub put-next-requires : goal.put-next-requires
-put-next-requires c = omega arith
-
-pub slice_bounds-put-count : goal.slice_bounds-put-count
-slice_bounds-put-count c = let h = c.digits-i.ensures.0 in omega arith
 
 pub put-requires : goal.put-requires
 put-requires c =

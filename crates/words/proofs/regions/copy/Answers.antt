@@ -7,35 +7,8 @@ use Rattle.words.proofs.regions.copy.Goals as goal
 pub loop-i-init : goal.loop-i-init
 loop-i-init c = done_start _ _ _ _ (omega arith)
 
-pub overflow_add-w : goal.overflow_add-w
-overflow_add-w c = omega arith
-
-pub offset_bounds-w-from : goal.offset_bounds-w-from
-offset_bounds-w-from c = omega arith
-
-pub bounds-w-from : goal.bounds-w-from
-bounds-w-from c = omega arith
-
-pub overflow_add-w-in-loop-i : goal.overflow_add-w-in-loop-i
-overflow_add-w-in-loop-i c = omega arith
-
-pub offset_bounds-w-to : goal.offset_bounds-w-to
-offset_bounds-w-to c = omega arith
-
-pub bounds-w-to : goal.bounds-w-to
-bounds-w-to c = omega arith
-
-pub overflow_add-i : goal.overflow_add-i
-overflow_add-i c = omega arith
-
-pub loop-i-smaller : goal.loop-i-smaller
-loop-i-smaller c = omega arith
-
 pub loop-i-preserved : goal.loop-i-preserved
 loop-i-preserved c = let d = c.loop-i.invariant in done_more d _ _ (omega arith) refl (done_source d c.requires.2 _ (omega arith) (omega arith))
-
-pub shape_of-w : goal.shape_of-w
-shape_of-w c = omega arith
 
 pub returns : goal.returns
 returns c = done_all c.loop-i.invariant c.loop-i-test.false

@@ -11,9 +11,6 @@ use Rattle.words.proofs.search.at_most_in_rows.Goals as goal
 pub loop-left-init : goal.loop-left-init
 loop-left-init c = between_all _ _ (front_le (λ i. field c.args.width c.args.s.now i c.args.f) _ _ c.requires.2)
 
-pub overflow_add-x : goal.overflow_add-x
-overflow_add-x c = omega arith
-
 pub overflow_mul-x : goal.overflow_mul-x
 overflow_mul-x c =
     let within : c.args.width * (c.loop-left.lo + c.loop-left.left / 2) + c.args.f < length c.args.s.now = field_within c.args.width c.args.n (c.loop-left.lo + c.loop-left.left / 2) c.args.f (length c.args.s.now) (omega arith) (omega arith) (omega arith) in
@@ -34,9 +31,6 @@ bounds-s-width c =
     let within : c.args.width * (c.loop-left.lo + c.loop-left.left / 2) + c.args.f < length c.args.s.now = field_within c.args.width c.args.n (c.loop-left.lo + c.loop-left.left / 2) c.args.f (length c.args.s.now) (omega arith) (omega arith) (omega arith) in
     within
 
-pub no_more-requires : goal.no_more-requires
-no_more-requires c = tt
-
 pub overflow_mul-lo : goal.overflow_mul-lo
 overflow_mul-lo c =
     omega (
@@ -52,12 +46,6 @@ overflow_add-lo c =
       taken_le (c.loop-left.left / 2) c.no_more.result (leb (field c.args.width c.args.s.now (c.loop-left.lo + c.loop-left.left / 2) c.args.f) c.args.point)
           c.no_more.ensures,
     )
-
-pub overflow_sub-left : goal.overflow_sub-left
-overflow_sub-left c = omega arith
-
-pub loop-left-smaller : goal.loop-left-smaller
-loop-left-smaller c = omega arith
 
 pub loop-left-preserved : goal.loop-left-preserved
 loop-left-preserved c =
@@ -85,9 +73,6 @@ pub bounds-s-width-2 : goal.bounds-s-width-2
 bounds-s-width-2 c =
     let lastly : c.args.width * c.loop-left.lo + c.args.f < length c.args.s.now = field_within c.args.width c.args.n c.loop-left.lo c.args.f (length c.args.s.now) (omega arith) (omega arith) (omega arith) in
     lastly
-
-pub no_more-requires-2 : goal.no_more-requires-2
-no_more-requires-2 c = tt
 
 pub overflow_add-result : goal.overflow_add-result
 overflow_add-result c =

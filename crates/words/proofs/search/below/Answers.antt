@@ -1,43 +1,19 @@
--- `words::search::below` meets its contract: a turn keeps `Between`.
-use Rattle.words.proofs.SearchLaws.{between_start, between_up, between_down, between_done, front_lt}
-use borrow.Author.Tests.{lt-ltb, le-ltb}
-use native.Mathlib.Omega.{arith}
-use Prim.Native.Nat.{◌+◌}
-use lib.ListN.{get_or}
+-- `words::search::below` meets its contract: the library's partition point of the part.
+use mathlib.Core.List.{List}
+use mathlib.Core.Path.{ap, refl, ◌∙◌}
+use Prim.Native.Nat.{ℕ, ◌+◌}
+use lib.ListN.{get_or, length}
+use lib.Dec.{ltb}
+use Rattle.std.proofs.Common.{rules}
+use Rattle.std.proofs.lemmas.List.Sorted.{IsPartitionPoint-from_clause}
+use Rattle.words.proofs.SearchLaws.{splits_point, front_lt}
+use Rattle.words.proofs.RegionLaws.{lent_part, length_part, get_d_part}
 use Rattle.words.proofs.search.below.Goals as goal
 
-pub loop-lo-init : goal.loop-lo-init
-loop-lo-init c = between_start _ _ (front_lt (λ i. get_or c.args.w.now (c.args.base + i) 0) _ _ c.requires.1)
-
-pub overflow_sub-m : goal.overflow_sub-m
-overflow_sub-m c = omega arith
-
-pub overflow_add-m : goal.overflow_add-m
-overflow_add-m c = omega arith
-
-pub overflow_add-base : goal.overflow_add-base
-overflow_add-base c = omega arith
-
-pub offset_bounds-w-base : goal.offset_bounds-w-base
-offset_bounds-w-base c = omega arith
-
-pub bounds-w-base : goal.bounds-w-base
-bounds-w-base c = omega arith
-
-pub overflow_add-lo : goal.overflow_add-lo
-overflow_add-lo c = omega arith
-
-pub loop-lo-smaller-then-w-base : goal.loop-lo-smaller-then-w-base
-loop-lo-smaller-then-w-base c = omega arith
-
-pub loop-lo-preserved-then-w-base : goal.loop-lo-preserved-then-w-base
-loop-lo-preserved-then-w-base c = between_up c.loop-lo.invariant _ (omega arith) (omega arith) (lt-ltb _ _ c.if-w-base.true)
-
-pub loop-lo-smaller : goal.loop-lo-smaller
-loop-lo-smaller c = omega arith
-
-pub loop-lo-preserved : goal.loop-lo-preserved
-loop-lo-preserved c = between_down c.loop-lo.invariant _ (omega arith) (omega arith) (le-ltb _ _ c.if-w-base.false)
-
 pub returns : goal.returns
-returns c = between_done c.loop-lo.invariant c.loop-lo-test.false
+returns c =
+    splits_point (λ x. ltb x c.args.point) 0 _ _ c.args.n _
+    (ap length (lent_part c.args.w.now c.args.base (c.args.base + c.args.n) c.args.n refl) ∙ length_part _ _ _ c.requires.0)
+    (λ i l. ap (λ (q : List ℕ). ltb (get_or q i 0) c.args.point) (lent_part c.args.w.now c.args.base (c.args.base + c.args.n) c.args.n refl) ∙ ap (λ (x : ℕ). ltb x c.args.point) (get_d_part _ _ _ i l))
+    (front_lt (λ i. get_or c.args.w.now (c.args.base + i) 0) _ _ c.requires.1) c.partition_point.ensures.bound
+    (λ h. IsPartitionPoint-from_clause (λ x. ltb x c.args.point) _ _ c.partition_point.ensures.partitioned h (λ a r q k. search rules))

@@ -3,11 +3,5 @@ use Rattle.words.proofs.SearchLaws.{no_more}
 use native.Mathlib.Omega.{arith}
 use Rattle.words.proofs.search.no_more.Goals as goal
 
-pub overflow_add-result : goal.overflow_add-result
-overflow_add-result c = omega arith
-
-pub overflow_sub-result : goal.overflow_sub-result
-overflow_sub-result c = omega arith
-
 pub returns : goal.returns
 returns c = no_more _ _ (omega arith) (omega arith)

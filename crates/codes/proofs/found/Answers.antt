@@ -1,0 +1,5 @@
+-- `found` meets its contract.
+use Rattle.codes.proofs.found.Goals as goal
+
+pub returns-in-Err : goal.returns-in-Err
+returns-in-Err c = rw c.in-Err.is c.refused.ensures

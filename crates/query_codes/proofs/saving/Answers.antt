@@ -1,5 +1,0 @@
--- `saving` meets its contract.
-use Rattle.query_codes.proofs.saving.Goals as goal
-
-pub returns-in-Refused : goal.returns-in-Refused
-returns-in-Refused c = rw c.in-Refused.is c.refused.ensures

@@ -1,9 +1,0 @@
--- `show` is safe and ends: it counts up to six.
-use Prim.Native.Nat.{◌≤◌, ◌-◌}
-use Rattle.range_tests.proofs.show.Given as goal
-
-abbrev pub invariant-loop-i : goal.invariant-loop-i
-invariant-loop-i l = l.i ≤ 6
-
-abbrev pub decreases-loop-i : goal.decreases-loop-i
-decreases-loop-i l = 6 - l.i
