@@ -1,8 +1,8 @@
 // What the test programs share. A case is a line: its name, a blank, and columns of numbers, a comma after each number and a bar after each column.
 #![tactic(auto)]
 
-ghost use Rattle.std.specs.Prelude.{◌≤◌, ◌<◌, length, ◌≡◌, IfOk};
-ghost use Rattle.cases.specs.Inner.{RisingTo, Rising};
+ghost use Rattle.std.specs.Prelude.{◌≤◌, ◌<◌, length, ◌≡◌, IfOk, get_or};
+ghost use Rattle.cases.specs.Inner.{RisingTo, Rising, column_of};
 
 use refusals::{Answer, Refusal, Refused, Verdict, number};
 use std::fmt::Display;
@@ -178,6 +178,7 @@ impl Case {
     // The number at a place among all of them.
     pub fn number(&self, k: usize) -> u32
         requires { k < 1024 }
+        ensures { result ≡ get_or self.now.numbers k 0 }
     {
         self.numbers[k]
     }
@@ -185,7 +186,8 @@ impl Case {
     // A column: from where the one before it ends to where it does.
     pub fn column(&self, k: usize) -> &[u32]
         requires { k < 13 }
-        ensures { length result.now ≤ 1024 }
+        ensures few { length result.now ≤ 1024 }
+        ensures column { result.now ≡ column_of self.now.numbers self.now.ends k }
     {
         let from = if k == 0 { 0 } else { self.ends[k - 1] };
         &self.numbers[from..self.ends[k]]

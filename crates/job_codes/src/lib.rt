@@ -11,7 +11,6 @@ ghost use Rattle.job_codes.specs.Job.{JobCoded};
 
 use job_space::Head;
 use refusals::{Refusal, Refused};
-use wants::Tally;
 
 // What is refused where there is too little room for the counts: numbers 1 to 6, else 7.
 #[tactic(auto, unfolding(refusals::specs::Verdicts::first))]

@@ -1,7 +1,7 @@
 // The entry `reach`: what becomes of each local.
 #![tactic(auto)]
 
-ghost use Rattle.std.specs.Prelude.{◌+◌, ◌/◌, ◌≤◌, ◌<◌, length};
+ghost use Rattle.std.specs.Prelude.{◌/◌, ◌≤◌, length};
 ghost use Rattle.reach.specs.Prepared.{code_of};
 ghost use Rattle.follow.specs.Inner.{Ready};
 ghost use Rattle.local_kinds.specs.Inner.{Kinds, Measured};

@@ -1,7 +1,7 @@
 // What the moves of a slot cover: the point of each, and the points either side of it.
 #![tactic(auto)]
 
-ghost use Rattle.std.specs.Prelude.{◌≡◌, not, [], ◌+◌, ◌-◌, ◌*◌, ◌/◌, ◌%◌, ◌≤◌, ◌<◌, length, eqb};
+ghost use Rattle.std.specs.Prelude.{◌≡◌, not, [], ◌+◌, ◌-◌, ◌*◌, ◌/◌, ◌%◌, ◌≤◌, length, eqb};
 ghost use Rattle.refusals.specs.declared.Refusal.TheVariants.{Count};
 ghost use Rattle.refusals.specs.Verdicts.{check, Fine};
 ghost use Rattle.graph.specs.Line.{blocks_of, Sound};

@@ -5,7 +5,7 @@
 ghost use Rattle.std.specs.Prelude.{◌≡◌, ◌≤◌, Bool, length};
 ghost use Rattle.std.specs.Fn.{ComputesKey};
 ghost use Rattle.range_forms.specs.Lent.{joined_of, taken_up, last_after, Joins, clashes_of};
-ghost use Rattle.range_forms.specs.Inner.{point_of, Column, clashes_over, clashes_within};
+ghost use Rattle.range_forms.specs.Inner.{point_of, Column, clashes_within};
 ghost use Rattle.refusals.specs.Outcomes.{answered};
 
 use ranges::Range;

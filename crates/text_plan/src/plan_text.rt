@@ -8,7 +8,7 @@ ghost use Rattle.text_plan.specs.Printed.{cell_lines, item_lines, shared_lines, 
 ghost use Rattle.refusals.specs.Verdicts.{Fine};
 
 use crate::printing::put_line;
-use queries::{Stretch, shared};
+use queries::shared;
 use refusals::{Answer, Refusal, Refused, Verdict};
 use words::widths::{cell, item, range};
 
