@@ -140,7 +140,7 @@ fn read(case: &[u8], numbers: &mut [u32], ends: &mut [usize])
 }
 
 // A case: the first letter of its name, its numbers, of which there is room for 1,024, and where thirteen columns of them end.
-#[derive(Drop)]
+#[derive(Clone, Copy)]
 pub struct Case {
     pub letter: u8,
     numbers: [u32; 1024],

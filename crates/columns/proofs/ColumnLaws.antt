@@ -5,8 +5,9 @@ use Prim.Native.Nat.{ℕ, suc, ◌+◌, ◌-◌, ◌≤◌, ◌<◌}
 use native.Mathlib.Omega.{arith}
 use lib.ListN.{length, get_or, take, drop, set, length-drop, length-map}
 use lib.Seq.{set-get_or}
+use native.Mathlib.Nat.{zero-add}
 use Rattle.words.specs.Inner.{Region}
-use Rattle.words.proofs.RegionLaws.{part_is, drop_same, region_lent}
+use Rattle.words.proofs.RegionLaws.{part_is, drop_same}
 use Rattle.ranges.specs.declared.Range.{Range}
 use Rattle.ranges.specs.Points.{range, range_at}
 use Rattle.ranges.specs.Merged.{joined}
@@ -74,19 +75,16 @@ module _ (os₀ oe₀ os oe : List ℕ) {k : ℕ} {rs : List Range} (even₀ : l
 
 -- ---- one range joined on: the list was copied to the front of the answer
 
-pub at_front : (ss t os : List ℕ) (n : ℕ) → t ≡ ss → length ss ≡ n → n ≤ length os → Region os (t ++ drop n os) 0 n (λ i. get_or ss i 0)
-at_front ss t os n e l h = rw e (region_lent os ss 0 n (omega arith) l)
-
 module _ (ss es os oe : List ℕ) (even : length ss ≡ length es) (even' : length os ≡ length oe) (room : length ss + 1 ≤ length os) (os₁ oe₁ : List ℕ)
-    (copied : Region os os₁ 0 (length ss) (λ i. get_or ss i 0)) (copied' : Region oe oe₁ 0 (length ss) (λ i. get_or es i 0)) (s e : ℕ) where
+    (copied : Region os os₁ 0 (length ss) (λ i. get_or ss (0 + i) 0)) (copied' : Region oe oe₁ 0 (length ss) (λ i. get_or es (0 + i) 0)) (s e : ℕ) where
   abbrev n : ℕ
   n = length ss
 
   front_is : take n os₁ ≡ ss
-  front_is = part_is 0 n os₁ ss (let a = copied.len in omega arith) refl (λ i h. copied.inside (0 + i) i refl h)
+  front_is = part_is 0 n os₁ ss (let a = copied.len in omega arith) refl (λ i h. copied.inside (0 + i) i refl h ∙ ap (λ (k : ℕ). get_or ss k 0) (zero-add i))
 
   front_is' : take n oe₁ ≡ es
-  front_is' = part_is 0 n oe₁ es (let a = copied'.len in omega arith) (sym even) (λ i h. copied'.inside (0 + i) i refl h)
+  front_is' = part_is 0 n oe₁ es (let a = copied'.len in omega arith) (sym even) (λ i h. copied'.inside (0 + i) i refl h ∙ ap (λ (k : ℕ). get_or es k 0) (zero-add i))
 
   rest_is : drop n os₁ ≡ drop n os
   rest_is = drop_same n os os₁ copied.len (λ i h. copied.after i (omega arith))
@@ -117,7 +115,7 @@ module _ (ss es os oe : List ℕ) (even : length ss ≡ length es) (even' : leng
       raised =
           ap (λ (q : List ℕ). columns q (set oe₁ (n - 1) e)) (sym (set-get_or os₁ (n - 1) 0)) ∙ columns_set os₁ oe₁ (n - 1) (get_or os₁ (n - 1) 0) e
           ∙ ap (λ (x : ℕ). set (columns os₁ oe₁) (n - 1) (range x e))
-          (copied.inside (n - 1) (n - 1) (omega arith) (omega arith) ∙ sym (start_at ss es even (n - 1)))
+          (copied.inside (n - 1) (n - 1) (omega arith) (omega arith) ∙ ap (λ (k : ℕ). get_or ss k 0) (zero-add (n - 1)) ∙ sym (start_at ss es even (n - 1)))
 
   appended : joined (columns ss es) (range s e) ≡ columns ss es ++ (range s e ∷ []) → Listing (columns os oe) (columns (set os₁ n s) (set oe₁ n e)) (n + 1) (joined (columns ss es) (range s e))
   appended q = rw (q, columns_set os₁ oe₁ n s e) (listing_push copied_list (range s e) (rw (columns_length os oe even') (omega arith)))

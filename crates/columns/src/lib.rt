@@ -96,8 +96,8 @@ pub fn join_on(
         (joined (columns start.now end.now) (range s e)) }
 {
     let n = start.len();
-    out_start[..n].copy_from_slice(start);
-    out_end[..n].copy_from_slice(end);
+    words::copy_u32(out_start, 0, start, 0, n);
+    words::copy_u32(out_end, 0, end, 0, n);
     if 0 < n && follows(end[n - 1], s) {
         out_end[n - 1] = e;
         return n;

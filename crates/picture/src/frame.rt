@@ -1,5 +1,5 @@
 // What stands around the rows: the head with the styles, the totals, the key to the grounds; and the picture of a refusal.
-ghost use Rattle.std.specs.Prelude.{◌≤◌};
+ghost use Rattle.std.specs.Prelude.{◌≤◌, length};
 
 use drawing::height;
 use refusals::{Refusal, Refused, number};
@@ -66,7 +66,10 @@ pub fn close(out: Stdout, height: u64) -> io::Result<()>
     )
 }
 
-fn word(r: Refusal) -> &'static str {
+// The word of a refusal, which is printed in eight columns.
+fn word(r: Refusal) -> &'static str
+    ensures { length result.now ≤ 8 }
+{
     match r {
         Refusal::Count => "count",
         Refusal::Line => "line",

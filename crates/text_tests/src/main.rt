@@ -2,7 +2,7 @@
 // texts in lent lists. Then the text on standard input, in pieces of seven bytes, and its rows. Held to the file `stdout`.
 #![tactic(auto)]
 
-ghost use Rattle.std.specs.Prelude.{◌≡◌, length};
+ghost use Rattle.std.specs.Prelude.{◌≡◌, ◌≤◌, length};
 ghost use Rattle.text_grammar.specs.Groups.{group_count, row_numbers};
 
 use planning::print_text;
@@ -107,7 +107,9 @@ fn plans(stdout: Stdout) -> io::Result<()> {
 }
 
 // How many numbers are no longer 7.
-fn changed(s: &[u32]) -> usize {
+fn changed(s: &[u32]) -> usize
+    ensures { result ≤ length s.now }
+{
     s.iter().filter(|x| **x != 7).count()
 }
 

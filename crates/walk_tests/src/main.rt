@@ -22,15 +22,14 @@ fn told(out: Stdout, look: Look) -> io::Result<()> {
 fn mark(out: Stdout, look: Look) -> io::Result<()> {
     let looked = look.looked;
     if look.fine {
-        return print!(out; "{looked}");
+        return out.print(looked as u64);
     }
-    let letter = match looked {
-        1 => "a",
-        2 => "b",
-        3 => "c",
-        _ => "?",
-    };
-    print!(out; "{letter}")
+    match looked {
+        1 => out.write_all(b"a"),
+        2 => out.write_all(b"b"),
+        3 => out.write_all(b"c"),
+        _ => out.write_all(b"?"),
+    }
 }
 
 // List k of those over four points: its digits to the base of four.

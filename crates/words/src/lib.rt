@@ -7,5 +7,5 @@ mod search; // search.rt: binary search
 pub mod widths; // widths.rt: rows by name
 
 pub use numbers::{HALF, wide};
-pub use regions::{clear, copy, copy_from, fill, narrow};
+pub use regions::{clear, copy, copy_from, copy_u32, fill, narrow};
 pub use search::{at_most_in_rows, below, gallop};

@@ -34,7 +34,9 @@ pub fn copy_from(w: &mut [u64], to: usize, s: &[u64], from: usize, n: usize)
     requires { (to + n ≤ length w.old) × (from + n ≤ length s.now) }
     ensures { Region w.old w.new to n (λ i. get_or s.now (from + i) 0) }
 {
-    w[to..to + n].copy_from_slice(&s[from..from + n]);
+    for i in 0..n {
+        w[to + i] = s[from + i];
+    }
 }
 
 // The same into a list of smaller numbers, where each fits.
@@ -44,5 +46,15 @@ pub fn narrow(w: &mut [u32], to: usize, s: &[u64], from: usize, n: usize)
 {
     for i in 0..n {
         w[to + i] = s[from + i] as u32;
+    }
+}
+
+// The same, of smaller numbers only.
+pub fn copy_u32(w: &mut [u32], to: usize, s: &[u32], from: usize, n: usize)
+    requires { (to + n ≤ length w.old) × (from + n ≤ length s.now) }
+    ensures { Region w.old w.new to n (λ i. get_or s.now (from + i) 0) }
+{
+    for i in 0..n {
+        w[to + i] = s[from + i];
     }
 }
